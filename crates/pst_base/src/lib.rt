@@ -5,13 +5,20 @@
 
 mod blocks;
 mod bytes;
+mod checksum;
+mod fields;
 mod ids;
 mod places;
 mod steps;
 mod stops;
+mod tables;
+#[cfg(test)]
+mod tests;
 
 pub use blocks::Blocks;
 pub use bytes::Bytes;
+pub use checksum::{crc, sig};
+pub use fields::{part, put_u8, put_u16, put_u32, put_u64, u8_at, u16_at, u32_at, u64_at};
 pub use ids::{Bid, Bref, Nid, make_nid};
 pub use places::Place;
 pub use steps::{Ledger, Steps};

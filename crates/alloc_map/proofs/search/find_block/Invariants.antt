@@ -1,0 +1,13 @@
+use Rattle.std.proofs.Common.{◌≡◌, length, sum}
+use Rattle.alloc_map.specs.Rooms.{AreBounds}
+use Rattle.alloc_map.proofs.search.find_block.Given as goal
+
+abbrev pub invariant-loop-region : goal.invariant-loop-region
+invariant-loop-region l = record {
+  same : length l.bounds ≡ length l.initial.bounds;
+  sound : AreBounds l.used l.bounds;
+}
+
+-- each turn lowers a bound
+abbrev pub decreases-loop-region : goal.decreases-loop-region
+decreases-loop-region l = sum l.bounds

@@ -1,0 +1,16 @@
+-- The free cells of a file. A region has 30 cells of 8192 bytes, the first at its byte 2048.
+use Rattle.std.specs.Prelude.{ℕ, ◌+◌, ◌*◌, ◌/◌, ◌%◌, Bool, not, List, slice_range, count_by}
+use Rattle.std.specs.List.{list_all, range_with_len}
+use Rattle.alloc_map.specs.Slots.{regions_of}
+
+-- whether each of n slots from a slot on is free
+unfoldable pub are_free : List Bool → ℕ → ℕ → Bool
+are_free used slot n = list_all not (slice_range used slot (slot + n))
+
+-- the first slot of a cell: 30 cells of a region are counted, then those of the next
+abbrev pub cell_slot : ℕ → ℕ
+cell_slot cell = 3968 * (cell / 30) + 32 + 128 * (cell % 30)
+
+-- how many cells have no used slot
+unfoldable pub free_cells_of : List Bool → ℕ
+free_cells_of used = count_by (λ cell. are_free used (cell_slot cell) 128) (range_with_len 0 (30 * regions_of used))

@@ -1,0 +1,6 @@
+pub mod Words
+pub mod Lines
+pub mod Limits
+pub mod Refusals
+pub mod Replies
+pub mod Refused

@@ -1,0 +1,19 @@
+//! The lines that a session reads and the replies that it gives, as text.
+//!
+//! Promises: `read_line` gives the command that `Lines` says a line is, or its refusal; `reply_text` gives the bytes that `Replies` says of a reply.
+//!
+//! Leaves to others: cutting the input into lines, and what a command does.
+#![tactic(auto)]
+
+mod command;
+mod printing;
+mod reading;
+mod reply;
+#[cfg(test)]
+mod tests;
+mod words;
+
+pub use command::{Command, LineRefusal};
+pub use printing::reply_text;
+pub use reading::read_line;
+pub use reply::{CommandRefusal, DataLine, DataLines, LastLine, Limit, Reply};

@@ -1,0 +1,154 @@
+//! What a session answers to a line.
+ghost use Rattle.std.specs.Prelude.{◌≡◌, [], length};
+
+use crate::command::LineRefusal;
+use mapi_values::Units;
+use pst_base::Nid;
+use std::alloc::Global;
+use std::marker::Model;
+
+/// A line of data in a reply, one variant for each form.
+#[derive(Debug, Drop)]
+pub enum DataLine {
+    /// A plain folder.
+    Folder { id: Nid, name: Units },
+    /// A search folder of our own.
+    Search { id: Nid, name: Units },
+    /// A search folder that another program made.
+    Foreign { id: Nid, name: Units },
+}
+
+/// The lines of data of a reply. Contracts see their list.
+#[derive(Debug, Drop)]
+pub struct DataLines {
+    lines: Vec<DataLine>,
+}
+
+impl Model for DataLines {
+    ghost use Rattle.std.specs.Prelude.{List};
+    ghost use Rattle.command_text.specs.declared.reply.DataLine.{DataLine};
+
+    ghost Value = { List DataLine };
+
+    ghost view = { λ d. d.lines.items };
+}
+
+impl DataLines {
+    /// The lines of a vector, which it keeps.
+    pub fn from_vec(lines: Vec<DataLine>) -> DataLines
+        ensures { result ≡ lines.items }
+    {
+        DataLines { lines }
+    }
+
+    /// The vector that keeps the lines.
+    pub fn into_vec(self) -> Vec<DataLine>
+        ensures { result.items ≡ self }
+    {
+        self.lines
+    }
+
+    /// The lines.
+    pub fn as_slice(&self) -> &[DataLine]
+        ensures value { result.now ≡ self.now }
+        ensures len { length result.now ≡ length self.now }
+    {
+        self.lines.as_slice()
+    }
+}
+
+/// Which limit a command would pass.
+#[derive(Clone, Copy, Debug, PartialEq, Eq)]
+pub enum Limit {
+    Line,
+    Depth,
+    Rows,
+    Properties,
+    Value,
+    Searches,
+    Names,
+}
+
+/// Why a command is refused. It has then changed nothing.
+#[derive(Clone, Copy, Debug, PartialEq, Eq)]
+pub enum CommandRefusal {
+    /// An id names nothing of the kind that the command takes.
+    Object,
+    /// Another child of the parent has an equal name.
+    NameTaken,
+    /// The folder holds something.
+    NotEmpty,
+    /// The folder would lie below itself.
+    Cycle,
+    /// The folder is of another kind than the command takes.
+    Reserved,
+    /// There is no property of that id and kind.
+    Property,
+    /// A name or a value isn't of its form.
+    Value,
+    /// The line has none of the forms.
+    Line,
+    /// The folder or the property isn't to be changed.
+    Protected,
+    /// The restriction can't be read from this offset on.
+    Restriction { at: u64 },
+    /// The scope names a folder twice, or something else.
+    Scope,
+    /// The flags hold unknown bits, or bits that exclude each other.
+    Flags,
+    /// A limit would be passed.
+    Limit(Limit),
+    /// No number is left for a new object.
+    Ids,
+    /// The file has fewer free cells than the command needs.
+    Full { free: u64, need: u64 },
+}
+
+impl From<LineRefusal> for CommandRefusal {
+    ghost use Rattle.std.specs.Prelude.{◌≡◌};
+    ghost use Rattle.command_text.specs.Refused.{refusal_of};
+
+    ghost from_gives = { λ line refusal. refusal ≡ refusal_of line };
+
+    fn from(line: LineRefusal) -> CommandRefusal {
+        match line {
+            LineRefusal::Line => CommandRefusal::Line,
+            LineRefusal::Value => CommandRefusal::Value,
+        }
+    }
+}
+
+/// The last line of a reply, one variant for each form.
+#[derive(Clone, Copy, Debug, PartialEq, Eq)]
+pub enum LastLine {
+    /// `ok`
+    Done,
+    /// `ok` and the id of what was made.
+    Made(Nid),
+    /// `ok` and how many lines of data stand before it.
+    Count(u64),
+    /// `no` and the refusal.
+    Refused(CommandRefusal),
+    /// `no memory`
+    NoMemory,
+}
+
+/// An answer: lines of data, and a last line.
+#[derive(Debug, Drop)]
+pub struct Reply {
+    pub lines: DataLines,
+    pub last: LastLine,
+}
+
+impl Reply {
+    /// A reply without lines of data. Takes no memory.
+    pub fn without_data(alloc: Global, last: LastLine) -> Reply
+        ensures lines { result.lines ≡ [] }
+        ensures last { result.last ≡ last }
+    {
+        Reply {
+            lines: DataLines::from_vec(Vec::new(alloc)),
+            last,
+        }
+    }
+}

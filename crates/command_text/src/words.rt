@@ -1,0 +1,88 @@
+//! The words of a line, and what stands in them.
+ghost use Rattle.std.specs.Prelude.{◌≡◌, ◌≤◌, ◌<◌, Bool, true, false, Option, Some, None, Ok, Err, ok_or, option_map, MatchOption, length};
+ghost use Rattle.std.specs.Str.{is_utf8};
+ghost use Rattle.pst_base.specs.Stops.{Gives};
+ghost use Rattle.command_text.specs.declared.command.LineRefusal.{LineRefusal};
+ghost use Rattle.command_text.specs.Words.{cut, hex_value, hex_number, id_of, name_of};
+
+use crate::command::LineRefusal;
+use mapi_values::{Units, parse_units};
+use pst_base::{MemOr, Nid};
+use std::alloc::Global;
+
+/// The text that bytes are, if they are UTF-8.
+pub fn as_text(line: &[u8]) -> Option<&str>
+    ensures { MatchOption result (is_utf8 line.now ≡ false) (λ text. (text.now ≡ line.now) × (is_utf8 line.now ≡ true)) }
+{
+    match str::from_utf8(line) {
+        Ok(text) => Some(text),
+        Err(_) => None,
+    }
+}
+
+/// What stands before and after the first space, if there is one.
+#[tactic(auto, unfolding(crate::specs::Words::cut))]
+pub fn cut(text: &str) -> Option<(&str, &str)>
+    ensures { MatchOption result (cut text.now ≡ None) (λ parts. cut text.now ≡ Some (parts.0.now, parts.1.now)) }
+{
+    text.split_once(' ')
+}
+
+/// The number that at most 8 hex digits write.
+fn hex_value(digits: &[u8]) -> Option<u32>
+    requires { length digits.now ≤ 8 }
+    ensures { result ≡ hex_value digits.now }
+{
+    let mut number = 0u32;
+    for digit in digits {
+        let Some(value) = char::from(*digit).to_digit(16) else {
+            return None;
+        };
+        number = number * 16 + value;
+    }
+    Some(number)
+}
+
+/// The number that 1 to 8 hex digits write.
+#[tactic(auto, unfolding(crate::specs::Words::hex_number))]
+fn hex_number(digits: &[u8]) -> Option<u32>
+    ensures { result ≡ hex_number digits.now }
+{
+    if 1 <= digits.len() && digits.len() <= 8 {
+        hex_value(digits)
+    } else {
+        None
+    }
+}
+
+/// The id that a word writes: `0x` and 1 to 8 hex digits.
+#[tactic(auto, unfolding(crate::specs::Words::id_of))]
+pub fn read_id(word: &str) -> Option<Nid>
+    ensures { option_map (λ nid. nid.bits) result ≡ id_of word.now }
+{
+    match word.as_bytes() {
+        [b'0', b'x', digits @ ..] => match hex_number(digits) {
+            Some(bits) => Some(Nid { bits }),
+            None => None,
+        },
+        _ => None,
+    }
+}
+
+/// The units of a name: a text with good escapes, of 1 to 255 units.
+#[tactic(auto, unfolding(crate::specs::Words::name_of))]
+pub fn read_name(alloc: Global, text: &str) -> Result<Units, MemOr<LineRefusal>>
+    ensures { Gives (λ units. units) result (ok_or (name_of text.now) LineRefusal.Value) }
+{
+    match parse_units(alloc, text) {
+        Ok(units) => {
+            if 1 <= units.len() && units.len() <= 255 {
+                Ok(units)
+            } else {
+                Err(MemOr::Refused(LineRefusal::Value))
+            }
+        }
+        Err(MemOr::Refused(_)) => Err(MemOr::Refused(LineRefusal::Value)),
+        Err(MemOr::Memory) => Err(MemOr::Memory),
+    }
+}

@@ -1,0 +1,76 @@
+//! Computes the checksum of a buffer by the store's own kernel or by one table, so that their rates can be compared.
+//!
+//! Both are proved to be the checksum that `pst_base` defines. The words of the command line are the kernel, `sliced` or `one-table`, how many MiB the buffer has, and how often it is gone through. `bench/crc.sh` times it.
+#![tactic(auto)]
+
+mod one_table;
+mod table;
+
+ghost use Rattle.std.specs.Prelude.{◌≡◌};
+ghost use Rattle.pst_base.specs.Crc.{crc_of};
+
+use one_table::crc_by_one_table;
+use pst_base::crc;
+use std::alloc::{AllocError, Global};
+use std::{env, io};
+
+/// How the checksum is computed.
+#[derive(Clone, Copy)]
+enum Kernel {
+    OneTable,
+    Sliced,
+}
+
+impl Kernel {
+    /// The checksum of the bytes.
+    fn checksum(self, bytes: &[u8]) -> u32
+        ensures { result ≡ crc_of bytes.now }
+    {
+        match self {
+            Kernel::OneTable => crc_by_one_table(bytes),
+            Kernel::Sliced => crc(bytes),
+        }
+    }
+
+    /// The sum of the checksums of so many passes, each over a buffer with another first byte.
+    fn passes(self, bytes: &mut [u8], count: u32) -> u32 {
+        let mut sum = 0;
+        for pass in 0..count {
+            if let Some(first) = bytes.first_mut() {
+                *first = (pass & 0xff) as u8;
+            }
+            sum ^= self.checksum(bytes);
+        }
+        sum
+    }
+}
+
+/// A buffer of so many MiB, whose bytes aren't all the same.
+fn buffer(alloc: Global, mebibytes: u16) -> Result<Vec<u8>, AllocError> {
+    let mut bytes = vec![in alloc; 0u8; usize::from(mebibytes) << 20]?;
+    let mut value = 1u8;
+    for b in bytes.iter_mut() {
+        *b = value;
+        value = value.wrapping_mul(5).wrapping_add(17);
+    }
+    Ok(bytes)
+}
+
+fn main(rt: HostRuntime) -> io::Result<()> {
+    let mut words = env::args(&rt)?.skip(1);
+    let kernel = match words.next() {
+        Some(word) if word.as_str() == "one-table" => Kernel::OneTable,
+        _ => Kernel::Sliced,
+    };
+    let mebibytes = words
+        .next()
+        .and_then(|word| word.as_str().parse().ok())
+        .unwrap_or(1);
+    let count = words
+        .next()
+        .and_then(|word| word.as_str().parse().ok())
+        .unwrap_or(1);
+    let mut bytes = buffer(rt.alloc(), mebibytes)?;
+    let sum = kernel.passes(bytes.as_mut_slice(), count);
+    println!(rt; "{sum:08x}")
+}

@@ -1,0 +1,98 @@
+-- How a session goes on from call to call without touching the disk.
+use Rattle.std.proofs.Common.{List, ◌≡◌, ◌⊎◌, ◌∙◌, ◌≤◌, ℕ, inl, inr, refl, arith, subst, sym}
+use Rattle.pst_outside.specs.World.{Image, World, SameDisk}
+use Rattle.pst_outside.specs.Calls.{NeverFall, NoMore, Elapses, LeavesOnly, StaysButInput, StaysButSaid, SaysSome, Untouched}
+use Rattle.pst_outside.proofs.Moments.{goes_on, continues, at_end, started}
+use Rattle.mail_session.specs.Worlds.{HasDiskOf, Listens, KeepsDisk}
+
+pub same_disk : (c : Image) → SameDisk c c
+same_disk c = record { main = refl; side = refl; copy = refl }
+
+pub same_disk_along : {a b c : Image} → SameDisk a b → SameDisk b c → SameDisk a c
+same_disk_along p q = record { main = q.main ∙ p.main; side = q.side ∙ p.side; copy = q.copy ∙ p.copy }
+
+-- what has the disk of an image that has the disk of the world has it too
+pub disk_along : (world : World) {b c : Image} → HasDiskOf world b → SameDisk b c → HasDiskOf world c
+disk_along world p q = elim p [ inl here ↦ inl (same_disk_along here q) | inr left ↦ inr (left.0, left.1, same_disk_along left.2 q) ]
+
+pub falls_along : {a b c : World} → NeverFall a b → NeverFall b c → NeverFall a c
+falls_along p q = record { in_faults = omega arith; out_faults = omega arith; disk_faults = omega arith }
+
+-- before the first call
+pub keeps_started : (world : World) → KeepsDisk world world
+keeps_started world = record {
+  counts = record { in_faults = omega arith; out_faults = omega arith; disk_faults = omega arith };
+  written = refl;
+  told = λ t. t;
+  disk = started world (HasDiskOf world) (λ told. inl (same_disk world.here)) (λ c left. inr (c, left, same_disk c));
+}
+
+-- one call more, which takes input
+pub keeps_listens : {old mid new : World} → KeepsDisk old mid → Listens mid new → KeepsDisk old new
+keeps_listens {old} so_far call = record {
+  counts = falls_along so_far.counts call.counts;
+  written = call.stays.written ∙ so_far.written;
+  told = λ t. so_far.told (call.stays.told t);
+  disk = goes_on so_far.disk call.time
+      (λ t. subst (HasDiskOf old) (sym (call.stays.here t)) (so_far.disk.here (call.stays.told t)))
+      (λ c left. at_end so_far.disk c (call.crash c left));
+}
+
+-- one call more, which says a part of a text
+pub keeps_says : {old mid new : World} {text : List ℕ} → KeepsDisk old mid → NeverFall mid new → StaysButSaid mid new → LeavesOnly mid new (SaysSome mid text) → KeepsDisk old new
+keeps_says {old} so_far counts stays moments = record {
+  counts = falls_along so_far.counts counts;
+  written = stays.written ∙ so_far.written;
+  told = λ t. so_far.told (stays.told t);
+  disk = continues so_far.disk moments (λ c told some.
+      elim some.was [
+        inl left ↦ disk_along old (at_end so_far.disk some.from left) some.disk
+      | inr is ↦ disk_along old (subst (HasDiskOf old) (sym is) (so_far.disk.here (stays.told told))) some.disk
+      ]);
+}
+
+-- one call more, which changes nothing
+pub keeps_untouched : {old mid new : World} → KeepsDisk old mid → Untouched mid new → KeepsDisk old new
+keeps_untouched {old} so_far call = record {
+  counts = falls_along so_far.counts call.counts;
+  written = call.stays.written ∙ so_far.written;
+  told = λ t. so_far.told (call.stays.told t);
+  disk = goes_on so_far.disk call.time
+      (λ t. subst (HasDiskOf old) (sym (call.stays.here t)) (so_far.disk.here (call.stays.told t)))
+      (λ c left. at_end so_far.disk c (call.crash c left));
+}
+
+-- two calls that take input
+pub listens_along : {old mid new : World} → Listens old mid → Listens mid new → Listens old new
+listens_along {old} p q = record {
+  counts = falls_along p.counts q.counts;
+  stays = record {
+    written = q.stays.written ∙ p.stays.written;
+    told = λ t. p.stays.told (q.stays.told t);
+    here = λ t. q.stays.here t ∙ p.stays.here (q.stays.told t);
+  };
+  keeps_told = λ t. q.keeps_told (p.keeps_told t);
+  crash = λ c left. p.crash c (q.crash c left);
+  time = record {
+    later = omega arith;
+    nothing_else = λ t c le left.
+        elim (q.time.nothing_else t c (omega arith) left) [
+          inl before ↦ elim (p.time.nothing_else t c le before) [ inl first ↦ inl first | inr then_ ↦ inl (old.counts_now t c le (p.crash c then_)) ]
+        | inr now ↦ inr now
+        ];
+    keeps = λ t c le left. q.time.keeps t c (omega arith) (p.time.keeps t c le left);
+  };
+}
+
+-- two runs of such calls
+pub keeps_along : {old mid new : World} → KeepsDisk old mid → KeepsDisk mid new → KeepsDisk old new
+keeps_along {old} p q = record {
+  counts = falls_along p.counts q.counts;
+  written = q.written ∙ p.written;
+  told = λ t. p.told (q.told t);
+  disk = continues p.disk q.disk (λ c told h.
+      elim h [
+        inl here ↦ disk_along old (p.disk.here (q.told told)) here
+      | inr left ↦ disk_along old (at_end p.disk left.0 left.1) left.2
+      ]);
+}

@@ -1,0 +1,13 @@
+pub mod AnswerLaws
+pub mod Answered
+pub mod Cuts
+pub mod EntryLaws
+pub mod EndLaws
+pub mod Feeds
+pub mod InfoLaws
+pub mod Inputs
+pub mod Pieces
+pub mod Ranges
+pub mod RunLaws
+pub mod TurnLaws
+pub mod Disks

@@ -1,0 +1,5 @@
+use Rattle.mail_session.proofs.AnswerLaws.{further_answers}
+use Rattle.mail_session.proofs.session.last_answer.Goals as goal
+
+pub returns-then-long-clause-answers : goal.returns-then-long-clause-answers
+returns-then-long-clause-answers c = let long = c.if-long.true in rw long (further_answers _ _ c.nothing.ensures.spoken)

@@ -1,0 +1,16 @@
+pub mod Entries
+pub mod Folders
+pub mod Fronts
+pub mod Info
+pub mod Lines
+pub mod Run
+pub mod Scratch
+pub mod Spoken
+pub mod States
+pub mod Statuses
+pub mod Step
+pub mod Taking
+pub mod Texts
+pub mod Turn
+pub mod Words
+pub mod Worlds

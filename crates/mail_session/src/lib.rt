@@ -1,0 +1,25 @@
+//! The program as one call: `run` takes the words of the command line and a world, and answers with a status.
+//!
+//! Promises, over any world that tells what it holds: `info` says exactly what the two files' bytes are (`InfoEnds`), and `scratch` answers lines as a plain tree of folders does (`ScratchEnds`, `Run`, `step`), cut from the input as `lines` says, however it comes in pieces. Nothing is written to the disk. Each status has its cause.
+//!
+//! Leaves to others: what a real file, terminal or pipe holds (`pst_outside::FileWorld`), and the texts on standard error (`pstore`).
+#![tactic(auto)]
+
+mod answers;
+mod call;
+mod exit;
+mod folder;
+mod info;
+mod input;
+mod lines;
+mod session;
+mod start;
+mod step;
+mod texts;
+mod tree;
+mod turns;
+mod words;
+
+pub use call::run;
+pub use exit::{ChangedAt, Exit, Status};
+pub use words::Form;

@@ -1,0 +1,4 @@
+pub mod CharacterLaws
+pub mod RangeLaws
+pub mod SpellingLaws
+pub mod PrintLaws

@@ -1,0 +1,4 @@
+pub mod Characters
+pub mod Range
+pub mod Spelling
+pub mod Texts

@@ -1,0 +1,5 @@
+pub mod Moments
+pub mod Bytes
+mod Disks
+mod Histories
+mod Picks
