@@ -1,5 +1,5 @@
 -- The map page of a region ([MS-PST] 2.2.2.7.2).
-use Rattle.std.specs.Prelude.{◌≡◌, ℕ, ◌+◌, ◌*◌, Bool, List, take, drop}
+use Rattle.std.specs.Prelude.{◌≡◌, ℕ, ◌*◌, Bool, List, take, drop}
 use Rattle.pst_base.specs.declared.ids.Bref.{Bref}
 use Rattle.page_frame.specs.Page.{IsPage}
 use Rattle.alloc_map.specs.Packed.{bits_of}

@@ -147,6 +147,9 @@ fn a_place_given_back_is_given_again(rt: HostRuntime) -> Result<(), Fail> {
     assert_eq!(rt; ib, 27_648);
     let page = Place { ib, len: 512 };
     slots.give_back(page);
+    slots.mark(page);
+    assert_eq!(rt; slots.place_block(64), Some(28_160));
+    slots.give_back(page);
     assert_eq!(rt; slots.place_block(64), Some(27_648));
     Ok(())
 }

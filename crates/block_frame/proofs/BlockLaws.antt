@@ -1,7 +1,7 @@
 -- A block that is written reads as its data.
-use Rattle.std.proofs.Common.{◌≡◌, ℕ, ◌+◌, ◌-◌, ◌<◌, ◌≤◌, eqb, List, ◌++◌, length, take, replicate, Ok, refl, sym, ap, ◌∙◌, arith}
+use Rattle.std.proofs.Common.{◌≡◌, ℕ, ◌+◌, ◌-◌, List, ◌++◌, length, take, replicate, Ok, refl, sym, ap, ◌∙◌, arith}
 use Rattle.std.proofs.lemmas.Bool.{eq-eqb}
-use Rattle.std.proofs.lemmas.List.{length-append, length-replicate, take-append-le, take_at, append_assoc}
+use Rattle.std.proofs.lemmas.List.{length-append, length-replicate, take_at, append_assoc}
 use Rattle.pst_base.specs.Cells.{Fit, is_apart, value_at}
 use Rattle.pst_base.specs.Crc.{crc_of}
 use Rattle.pst_base.specs.Fields.{number_at}

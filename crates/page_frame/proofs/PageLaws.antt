@@ -1,10 +1,10 @@
 -- A page reads as its content, and no other bytes do.
-use Rattle.std.proofs.Common.{◌≡◌, ℕ, ◌+◌, ◌<◌, ◌≤◌, Bool, true, false, eqb, not, cond, List, [], ◌∷◌, ◌++◌, length, get_or, take, drop, replicate, Result, Ok, Err, refl, sym, ap, ◌∙◌, inl, inr, arith}
+use Rattle.std.proofs.Common.{◌≡◌, ℕ, ◌+◌, ◌<◌, Bool, true, false, eqb, not, cond, List, ◌++◌, length, get_or, take, drop, replicate, Result, Ok, Err, refl, sym, ap, ◌∙◌, inl, inr, arith}
 use Rattle.std.proofs.lemmas.Bool.{eq-eqb, eqb-true, eqb-false, cases_Bool, cases_lt, agree_below_at, true≢false}
 use Rattle.std.proofs.lemmas.List.{append-nil, drop_all, drop_at, take_at, take-append-drop, drop-drop, length-drop, get_or-drop, get_or_past}
 use borrow.Rule.Slice.PartMut.{put_mid}
 use Rattle.byteorder.specs.Endian.{little_number}
-use Rattle.pst_base.specs.Cells.{Cell, Fit, is_apart, is_covered, value_at, written}
+use Rattle.pst_base.specs.Cells.{Fit, is_apart, is_covered, value_at, written}
 use Rattle.pst_base.specs.Crc.{crc_of}
 use Rattle.pst_base.specs.Fields.{number_at}
 use Rattle.pst_base.specs.declared.ids.Bref.{Bref}

@@ -5,3 +5,6 @@ pub mod Ids
 pub mod Lanes
 pub mod Sig
 pub mod Stops
+pub mod Flat
+pub mod Subs
+pub mod SubsFall

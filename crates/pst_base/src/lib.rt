@@ -1,6 +1,8 @@
-//! What every layer of the store speaks of: node and block ids, places in the file, lists of bytes and of blocks, and the words of answers that many crates give.
+//! What every layer of the store speaks of: ids, places, numbers in bytes, the checksum and the signature, lists of bytes, of blocks and of subnodes, and the answers that many crates give.
 //!
-//! Promises: ids are taken apart and put together as `Ids` says; a `Bytes` is its list of bytes, a `Blocks` its list of lists. What the bytes of a page or a block mean is left to the crates above.
+//! Promises: ids are taken apart and put together as `Ids` says; a number in bytes is `number_at` of them and is written as `replaced` says; `crc` is the register of `Crc`, bit by bit, and `sig` is `sig_of`; a `Bytes` is its list of bytes, a `Blocks` its list of lists, a `Subs` its flat list of `Flat`s.
+//!
+//! Leaves to others: what the bytes of a page or a block mean.
 #![tactic(auto)]
 
 mod blocks;
@@ -11,6 +13,7 @@ mod ids;
 mod places;
 mod steps;
 mod stops;
+mod subs;
 mod tables;
 #[cfg(test)]
 mod tests;
@@ -23,3 +26,4 @@ pub use ids::{Bid, Bref, Nid, make_nid};
 pub use places::Place;
 pub use steps::{Ledger, Steps};
 pub use stops::{MemOr, PageFault, SourceStop};
+pub use subs::{Sub, Subs};

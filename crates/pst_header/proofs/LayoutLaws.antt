@@ -1,17 +1,17 @@
 -- The header's cells: each field reads its own, and the bytes of the checksums have none of theirs.
-use Rattle.std.proofs.Common.{◌≡◌, ℕ, zero, suc, ◌+◌, ◌*◌, ◌-◌, ◌^◌, ◌<◌, ◌≤◌, Bool, true, false, List, [], ◌∷◌, ◌++◌, length, get_or, slice_index, take, drop, map, refl, sym, ap, ◌∙◌, arith, rules, add-one}
+use Rattle.std.proofs.Common.{◌≡◌, ℕ, ◌+◌, ◌*◌, ◌^◌, ◌<◌, ◌≤◌, true, false, List, ◌++◌, length, get_or, take, drop, map, refl, sym, ap, ◌∙◌, arith, rules, add-one}
 use Rattle.std.specs.List.{range_with_len}
-use Rattle.std.proofs.lemmas.Bool.{agree_below, agree_below_at}
+use Rattle.std.proofs.lemmas.Bool.{agree_below_at}
 use Rattle.std.proofs.lemmas.List.{ext_get_or, get_or-drop, get_or-take, length-drop, length-take-le}
 use Rattle.std.proofs.lemmas.List.FromFn.{fill_by_all, get_or-map-range_with_len}
 use Rattle.byteorder.specs.Endian.{little_bytes}
-use Rattle.pst_base.specs.Cells.{Cell, written, is_apart, value_at, is_covered, Fit, AllZero}
+use Rattle.pst_base.specs.Cells.{written, is_apart, value_at, is_covered, Fit, AllZero}
 use Rattle.pst_base.specs.Crc.{crc_of}
 use Rattle.pst_base.specs.Fields.{number_at, replaced}
 use Rattle.pst_base.proofs.CellLaws.{length-written, number_at-written}
-use Rattle.pst_base.proofs.CoverLaws.{Fit-from_reads, Reads, are_within, byte_uncovered, written-back, written-over}
+use Rattle.pst_base.proofs.CoverLaws.{byte_uncovered, written-over}
 use Rattle.pst_header.specs.declared.header.Header.{Header}
-use Rattle.pst_header.specs.Format.{all_cells, blank, blanked, crc_cells, full_of, header_of, index_cells, indexes_of, own_cells, partial_of, root_cells, with_crcs, with_fields}
+use Rattle.pst_header.specs.Format.{all_cells, blank, blanked, crc_cells, full_of, index_cells, indexes_of, own_cells, partial_of, root_cells, with_crcs, with_fields}
 
 -- ---- the indexes, one by one
 

@@ -1,7 +1,7 @@
 -- A header's bytes read as the header, and no others do.
-use Rattle.std.proofs.Common.{◌≡◌, ℕ, ◌+◌, ◌*◌, ◌<◌, ◌^◌, Bool, true, false, eqb, ◌&&◌, not, if◌then◌else◌, List, length, get_or, slice_index, Result, Ok, Err, refl, sym, ap, ◌∙◌, arith, rules}
-use Rattle.std.proofs.lemmas.Bool.{and_from, and_parts, eq-eqb, eqb-true}
-use Rattle.pst_base.specs.Cells.{Cell, written, is_covered, Fit}
+use Rattle.std.proofs.Common.{◌≡◌, ℕ, ◌<◌, Bool, true, false, eqb, ◌&&◌, not, if◌then◌else◌, List, length, get_or, Result, Ok, Err, refl, sym, ap, ◌∙◌, rules}
+use Rattle.std.proofs.lemmas.Bool.{and_parts, eq-eqb, eqb-true}
+use Rattle.pst_base.specs.Cells.{is_covered, Fit}
 use Rattle.pst_base.specs.Fields.{number_at}
 use Rattle.pst_base.proofs.CoverLaws.{Fit-from_reads, Reads, are_within, byte_uncovered, written-back}
 use Rattle.pst_header.specs.declared.header.Header.{Header}

@@ -1,5 +1,5 @@
 -- The header's bytes: its fields as cells at places, and how bytes read as a header.
-use Rattle.std.specs.Prelude.{◌≡◌, ℕ, zero, suc, ◌+◌, ◌*◌, ◌==◌, ◌&&◌, not, if◌then◌else◌, Bool, true, false, List, [], ◌∷◌, ◌++◌, map, take, drop, slice_index, replicate, Result, Ok, Err}
+use Rattle.std.specs.Prelude.{◌≡◌, ℕ, zero, suc, ◌+◌, ◌*◌, ◌==◌, ◌&&◌, not, if◌then◌else◌, true, false, List, [], ◌∷◌, ◌++◌, map, take, drop, slice_index, replicate, Result, Ok, Err}
 use Rattle.std.specs.List.{range_with_len}
 use Rattle.pst_base.specs.Cells.{Cell, written}
 use Rattle.pst_base.specs.Crc.{crc_of}

@@ -22,12 +22,14 @@ pub const AMAP_LAST: usize = 192;
 pub const AMAP_FREE: usize = 200;
 /// cbPMapFree, 8 bytes.
 pub const PMAP_FREE: usize = 208;
-/// BREFNBT: bid, 8 bytes, and ib, 8 bytes.
+/// The bid of BREFNBT, 8 bytes.
 pub const NBT_BID: usize = 216;
+/// Its ib, 8 bytes.
 
 pub const NBT_IB: usize = 224;
-/// BREFBBT: bid, 8 bytes, and ib, 8 bytes.
+/// The bid of BREFBBT, 8 bytes.
 pub const BBT_BID: usize = 232;
+/// Its ib, 8 bytes.
 
 pub const BBT_IB: usize = 240;
 /// fAMapValid, 1 byte.

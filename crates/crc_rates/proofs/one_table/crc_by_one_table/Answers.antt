@@ -1,7 +1,7 @@
-use Rattle.std.proofs.Common.{◌≡◌, ℕ, ◌<◌, ◌+◌, ◌%◌, ◌^◌, bit_xor, get_or, drop, ◌∷◌, arith, refl}
+use Rattle.std.proofs.Common.{◌≡◌, ◌<◌, ◌+◌, ◌%◌, ◌^◌, bit_xor, get_or, drop, ◌∷◌, arith, refl}
 use Rattle.std.proofs.lemmas.List.{drop_more, drop_all}
 use Rattle.std.proofs.lemmas.Nat.{and_mask, xor_lt}
-use Rattle.pst_base.specs.Crc.{crc_from, crc_of}
+use Rattle.pst_base.specs.Crc.{crc_of}
 use Rattle.pst_base.proofs.RegisterLaws.{after_bits-byte, crc_from-cons, crc_from-nil}
 use Rattle.crc_rates.proofs.TableRule.{entry_at}
 use Rattle.crc_rates.proofs.one_table.crc_by_one_table.Goals as goal

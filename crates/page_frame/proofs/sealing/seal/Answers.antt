@@ -1,5 +1,5 @@
-use Rattle.std.proofs.Common.{◌≡◌, ◌∙◌, ap, length, length-append, refl, sym, arith}
-use Rattle.page_frame.specs.Page.{page_of, reading, trailer_of}
+use Rattle.std.proofs.Common.{◌≡◌, ◌∙◌, ap, length, sym, arith}
+use Rattle.page_frame.specs.Page.{reading}
 use Rattle.page_frame.proofs.PageLaws.{page_only, page_reads}
 use Rattle.page_frame.proofs.sealing.seal.Goals as goal
 

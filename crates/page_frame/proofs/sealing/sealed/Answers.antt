@@ -1,4 +1,4 @@
-use Rattle.std.proofs.Common.{◌∙◌, ◌++◌, List, ℕ, ap, refl}
+use Rattle.std.proofs.Common.{◌∙◌, refl}
 use Rattle.page_frame.specs.Page.{page_of}
 use Rattle.page_frame.proofs.PageLaws.{put_end}
 use Rattle.page_frame.proofs.sealing.sealed.Goals as goal

@@ -1,5 +1,4 @@
 use Rattle.std.proofs.Common.{◌≡◌, length, arith}
-use Rattle.pst_header.specs.Format.{IsWritable}
 use Rattle.pst_header.proofs.ReadingLaws.{Passes, writable-passed}
 use Rattle.pst_header.proofs.codec.read.Goals as goal
 

@@ -1,4 +1,4 @@
-use Rattle.std.proofs.Common.{◌≡◌, ℕ, length, ap, sym, ◌∙◌, arith}
+use Rattle.std.proofs.Common.{◌≡◌, length, ap, sym, ◌∙◌, arith}
 use Rattle.pst_header.specs.Format.{reading}
 use Rattle.pst_header.proofs.ReadingLaws.{read_only, reads_back}
 use Rattle.pst_header.proofs.codec.write.Goals as goal

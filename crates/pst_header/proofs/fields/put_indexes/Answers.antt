@@ -1,6 +1,6 @@
-use Rattle.std.proofs.Common.{◌≡◌, ℕ, ◌<◌, ◌^◌, get_or, refl, sym, ap, ◌∙◌, arith}
+use Rattle.std.proofs.Common.{◌≡◌, ℕ, ◌<◌, ◌^◌, get_or, ap, ◌∙◌, arith}
 use Rattle.pst_header.specs.Format.{index_cells}
-use Rattle.pst_base.specs.Cells.{Fit, written}
+use Rattle.pst_base.specs.Cells.{written}
 use Rattle.pst_header.proofs.LayoutLaws.{fit_more, fit_none, indexes_more, indexes_none}
 use Rattle.pst_header.proofs.fields.put_indexes.Goals as goal
 

@@ -1,4 +1,4 @@
-use Rattle.std.proofs.Common.{◌≡◌, length}
+use Rattle.std.proofs.Common.{◌≡◌}
 use Rattle.pst_base.specs.Cells.{Fit, written}
 use Rattle.pst_header.specs.Format.{index_cells}
 use Rattle.pst_header.proofs.fields.put_indexes.Given as goal
