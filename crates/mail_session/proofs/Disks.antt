@@ -46,8 +46,8 @@ keeps_says {old} so_far counts stays moments = record {
   told = λ t. so_far.told (stays.told t);
   disk = continues so_far.disk moments (λ c told some.
       elim some.was [
-        inl left ↦ disk_along old (at_end so_far.disk some.from left) some.disk
-      | inr is ↦ disk_along old (subst (HasDiskOf old) (sym is) (so_far.disk.here (stays.told told))) some.disk
+        | inl left ↦ disk_along old (at_end so_far.disk some.from left) some.disk
+        | inr is ↦ disk_along old (subst (HasDiskOf old) (sym is) (so_far.disk.here (stays.told told))) some.disk
       ]);
 }
 
@@ -77,8 +77,8 @@ listens_along {old} p q = record {
     later = omega arith;
     nothing_else = λ t c le left.
         elim (q.time.nothing_else t c (omega arith) left) [
-          inl before ↦ elim (p.time.nothing_else t c le before) [ inl first ↦ inl first | inr then_ ↦ inl (old.counts_now t c le (p.crash c then_)) ]
-        | inr now ↦ inr now
+          | inl before ↦ elim (p.time.nothing_else t c le before) [ inl first ↦ inl first | inr then_ ↦ inl (old.counts_now t c le (p.crash c then_)) ]
+          | inr now ↦ inr now
         ];
     keeps = λ t c le left. q.time.keeps t c (omega arith) (p.time.keeps t c le left);
   };
@@ -92,7 +92,7 @@ keeps_along {old} p q = record {
   told = λ t. p.told (q.told t);
   disk = continues p.disk q.disk (λ c told h.
       elim h [
-        inl here ↦ disk_along old (p.disk.here (q.told told)) here
-      | inr left ↦ disk_along old (at_end p.disk left.0 left.1) left.2
+        | inl here ↦ disk_along old (p.disk.here (q.told told)) here
+        | inr left ↦ disk_along old (at_end p.disk left.0 left.1) left.2
       ]);
 }

@@ -135,8 +135,8 @@ ends_by_quit first mid now old new count few so_far turn =
     let rest = cut new.ended new.long [] (new.held ++ []) in
     let none : left_of g.piece rest ≡ [] = ap (λ b. cond b [] (up_to_quit rest)) quit in
     let all_said : now.tells → now.here.said ≡ first.here.said ++ concat (g.replies ++ turn.reply ∷ []) =
-        λ t. turn.said t ∙ ap (λ x. x ++ turn.reply) (g.said (turn.next.hears.keeps.told t)) ∙ append_assoc first.here.said (concat g.replies) turn.reply
-            ∙ ap (λ x. first.here.said ++ x) (sym (concat_on g.replies turn.reply)) in
+    λ t. turn.said t ∙ ap (λ x. x ++ turn.reply) (g.said (turn.next.hears.keeps.told t)) ∙ append_assoc first.here.said (concat g.replies) turn.reply
+    ∙ ap (λ x. first.here.said ++ x) (sym (concat_on g.replies turn.reply)) in
     record {
       keeps = g.keeps;
       taken = g.taken;
@@ -168,8 +168,8 @@ rests first mid now old count holds is so_far hears none =
     let allowed = allowed_before old.ended is more [] is hears.ends.stays hears.goes_on.none (here_allowed is) in
     ap (λ x. up_to_quit (cut is false [] x)) (ap (λ x. so_far.taken ++ x) (sym (append-nil more)))
     ∙ ap up_to_quit (so_far.cuts is (more ++ []) allowed
-        ∙ ap (λ x. so_far.done ++ cut is old.long [] x) (ap (λ x. old.held ++ x) (append-nil more) ∙ sym hears.goes_on.behind)
-        ∙ ap (λ x. so_far.done ++ x) none)
+    ∙ ap (λ x. so_far.done ++ cut is old.long [] x) (ap (λ x. old.held ++ x) (append-nil more) ∙ sym hears.goes_on.behind)
+    ∙ ap (λ x. so_far.done ++ x) none)
     ∙ up_to_quit-past so_far.done [] so_far.no_quit
 
 -- what is said at such an end
@@ -248,9 +248,11 @@ ends_by_output first mid now old new count few so_far turn =
       trees = g.trees ++ new.tree ∷ [];
       run = g.run;
       front = λ t.
-          let k = (turn.said t).0 in
-          (length (concat g.replies) + k, (turn.said t).1 ∙ ap (λ x. x ++ take k turn.reply) (g.said (turn.next.hears.keeps.told t)) ∙ append_assoc first.here.said (concat g.replies) (take k turn.reply)
-            ∙ ap (λ x. first.here.said ++ x) (sym (take-append_past (concat g.replies) turn.reply k) ∙ ap (take (length (concat g.replies) + k)) (sym (concat_on g.replies turn.reply))));
+          let k = (turn.said t).0 in (
+            length (concat g.replies) + k,
+            (turn.said t).1 ∙ ap (λ x. x ++ take k turn.reply) (g.said (turn.next.hears.keeps.told t)) ∙ append_assoc first.here.said (concat g.replies) (take k turn.reply)
+                ∙ ap (λ x. first.here.said ++ x) (sym (take-append_past (concat g.replies) turn.reply k) ∙ ap (take (length (concat g.replies) + k)) (sym (concat_on g.replies turn.reply))),
+          );
       whole = λ no t. absurd (no refl);
       statuses = inr (inr (inl refl));
       finished = λ is. absurd (cc);

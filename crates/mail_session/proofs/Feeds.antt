@@ -24,9 +24,9 @@ NotFound m rest = (k : ℕ) → 0 ≤ k → k < m → eqb (get_or rest k 0) 10 �
 pub no_feed_on : (n m : ℕ) (bytes : List ℕ) → NoFeedBelow n bytes → NotFound m (behind n bytes) → NoFeedBelow (n + m) bytes
 no_feed_on n m bytes clean none k low is =
     elim (cases_lt k n) [
-      inl l ↦ clean k l is
-    | inr l ↦ let same : n + (k - n) ≡ k = omega arith in
-        none (k - n) (omega arith) (omega arith) (eq-eqb _ _ (get_or-behind n (k - n) bytes ∙ ap (λ i. get_or bytes i 0) same ∙ is))
+      | inl l ↦ clean k l is
+      | inr l ↦ let same : n + (k - n) ≡ k = omega arith in
+          none (k - n) (omega arith) (omega arith) (eq-eqb _ _ (get_or-behind n (k - n) bytes ∙ ap (λ i. get_or bytes i 0) same ∙ is))
     ]
 
 pub no_feed : (n : ℕ) (bytes : List ℕ) → n ≤ length bytes → NoFeedBelow n bytes → NotFound (length (behind n bytes)) (behind n bytes) → NoFeedBelow (length bytes) bytes

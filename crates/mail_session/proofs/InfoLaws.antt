@@ -42,20 +42,25 @@ info_says {old} {mid} {new} {text} {meant} {status} call opened kind says = reco
   statuses = elim says.failed [ inl m ↦ elim kind [ inl d ↦ inl (m ∙ d) | inr r ↦ inr (inl (m ∙ r)) ] | inr f ↦ inr (inr (inr (inl f.0))) ];
   front = λ t. let k = (says.front t).0 in (k, (says.front t).1 ∙ (λ i. (call.stays.here (says.keeps.told t) i).said ++ take k ((bytes t) i)));
   whole = λ ends t.
-      let not_output : status ≡ Output → ⊥ = meant-output ends in
-      (elim says.failed [ inl m ↦ m ∙ ap (λ o. o.0) (sym (now t)) | inr f ↦ absurd (not_output f.0) ],
-        says.whole not_output t ∙ (λ i. (call.stays.here (says.keeps.told t) i).said ++ (bytes t) i));
+      let not_output : status ≡ Output → ⊥ = meant-output ends in (
+        elim says.failed [ inl m ↦ m ∙ ap (λ o. o.0) (sym (now t)) | inr f ↦ absurd (not_output f.0) ],
+        says.whole not_output t ∙ (λ i. (call.stays.here (says.keeps.told t) i).said ++ (bytes t) i),
+      );
 }
   where
     now : new.tells → outcome_in old.here ≡ (meant, text)
     now t = sym (same_outcome call (says.keeps.told t)) ∙ opened (says.keeps.told t)
+
     bytes : (t : new.tells) → text ≡ (outcome_in old.here).1
     bytes t = ap (λ o. o.1) (sym (now t))
+
     disk_meant : (meant ≡ Done) ⊎ (meant ≡ Refused) → meant ≡ Disk → ⊥
     disk_meant (inl d) is = let e = sym d ∙ is in cc
     disk_meant (inr r) is = let e = sym r ∙ is in cc
+
     disk_output : Disk ≡ Output → ⊥
     disk_output is = cc
+
     rose : Rose mid.out_faults new.out_faults → Rose old.out_faults new.out_faults
     rose r = omega (arith, call.counts.out_faults, r)
 
@@ -73,15 +78,19 @@ info_silent {old} {mid} {status} call why = record {
   where
     memory_disk : Memory ≡ Disk → ⊥
     memory_disk is = cc
+
     memory_output : Memory ≡ Output → ⊥
     memory_output is = cc
+
     disk_output : Disk ≡ Output → ⊥
     disk_output is = cc
+
     ended : (s : Status) → (s ≡ Disk) ⊎ (s ≡ Memory) → (s ≡ Done) ⊎ (s ≡ Refused) → ⊥
     ended s (inl a) (inl b) = let e = sym a ∙ b in cc
     ended s (inl a) (inr b) = let e = sym a ∙ b in cc
     ended s (inr a) (inl b) = let e = sym a ∙ b in cc
     ended s (inr a) (inr b) = let e = sym a ∙ b in cc
+
     none : (status ≡ Done) ⊎ (status ≡ Refused) → ⊥
     none = ended status (elim why [ inl f ↦ inl f.0 | inr m ↦ inr m ])
 

@@ -67,5 +67,5 @@ pub answered_turn : (is : Bool) (old new : State) (holds : List ℕ) (first mid 
     → AnswersPiece is old.tree holds old.long new.tree new.held new.long (spoken_text answer.spoken) answer.quit → Spoke answer mid last result → Turns old new first last result
 answered_turn is old new holds first mid last answer result same held ends listens answers spoke =
     turned old new holds first mid last answer result held
-        (subst (λ e. EndsIn old.ended e first mid) (sym same) ends) listens
-        (subst (λ e. AnswersPiece e old.tree holds old.long new.tree new.held new.long (spoken_text answer.spoken) answer.quit) (sym same) answers) spoke
+    (subst (λ e. EndsIn old.ended e first mid) (sym same) ends) listens
+    (subst (λ e. AnswersPiece e old.tree holds old.long new.tree new.held new.long (spoken_text answer.spoken) answer.quit) (sym same) answers) spoke

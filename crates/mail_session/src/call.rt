@@ -16,7 +16,12 @@ use std::alloc::Global;
 /// Does what the words of the command line ask for, over a world, and answers how it ended. The words are those without the program's name.
 ///
 /// Status 2 comes exactly where the words have none of the forms, and then nothing was asked of the world. The other statuses come as `InfoEnds` and `ScratchEnds` say.
-pub fn run<W: Outside, L: Ledger>(alloc: Global, words: &[String], world: &mut W, steps: &mut Steps<L>) -> Exit
+pub fn run<W: Outside, L: Ledger>(
+    alloc: Global,
+    words: &[String],
+    world: &mut W,
+    steps: &mut Steps<L>,
+) -> Exit
     ensures words { (result.status ≡ 2) ↔ (form_of (spelled words.now) ≡ None) }
     ensures untouched { form_of (spelled words.now) ≡ None → world.new ≡ world.old }
     // `info`: what is said is the text of the files' bytes, and its status theirs.

@@ -9,7 +9,11 @@ use crate::lines::{Front, LineBuffer};
 use pst_outside::{Failed, Outside};
 
 /// Takes input until a line or the front of one that is too long is held, or the input has ended. Once it has ended, no more is asked of it.
-pub(crate) fn next_front<W: Outside>(lines: &mut LineBuffer, ended: &mut bool, world: &mut W) -> Result<Front, Failed>
+pub(crate) fn next_front<W: Outside>(
+    lines: &mut LineBuffer,
+    ended: &mut bool,
+    world: &mut W,
+) -> Result<Front, Failed>
     ensures held { GoesOn ended.old lines.old lines.new (W.view world.old) (W.view world.new) }
     ensures ends { EndsIn ended.old ended.new (W.view world.old) (W.view world.new) }
     ensures front { IfOk result (λ front. IsReady front ended.new lines.new) }

@@ -5,7 +5,6 @@ ghost use Rattle.mail_session.specs.Fronts.{StandsAt};
 ghost use Rattle.mail_session.specs.Spoken.{spoken_text};
 ghost use Rattle.mail_session.specs.Run.{Answers};
 ghost use Rattle.mail_session.specs.declared.folder.Folder.{Folder};
-
 ghost use Rattle.mail_session.specs.Turn.{AnswersPiece};
 
 use crate::answers::{Spoken, answer_line, without_cr};
@@ -83,7 +82,13 @@ fn last_answer(alloc: Global, tree: &mut Tree, front: &[u8], long: bool) -> Answ
 }
 
 /// Answers the line whose LF stands at a place, or the end of one that was too long.
-pub(crate) fn answer_feed(alloc: Global, tree: &mut Tree, lines: &mut LineBuffer, long: &mut bool, feed: usize) -> Answer
+pub(crate) fn answer_feed(
+    alloc: Global,
+    tree: &mut Tree,
+    lines: &mut LineBuffer,
+    long: &mut bool,
+    feed: usize,
+) -> Answer
     requires { StandsAt (Front.Line feed) lines.old }
     ensures { AnswersPiece false tree.old lines.old long.old tree.new lines.new long.new (spoken_text result.spoken) result.quit }
 {
@@ -106,7 +111,12 @@ pub(crate) fn answer_overlong(lines: &mut LineBuffer, long: &mut bool) -> Answer
 }
 
 /// Answers the last line, which has no LF.
-pub(crate) fn answer_last(alloc: Global, tree: &mut Tree, lines: &mut LineBuffer, long: &mut bool) -> Answer
+pub(crate) fn answer_last(
+    alloc: Global,
+    tree: &mut Tree,
+    lines: &mut LineBuffer,
+    long: &mut bool,
+) -> Answer
     requires stands { StandsAt Front.Open lines.old }
     requires some { 0 < length lines.old }
     ensures answers { AnswersPiece true tree.old lines.old long.old tree.new lines.new long.new (spoken_text result.spoken) result.quit }

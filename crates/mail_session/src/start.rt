@@ -46,7 +46,13 @@ pub(crate) fn start(alloc: Global) -> Result<Tree, AllocError>
 {
     let mut tree = Tree::new(alloc);
     add(alloc, &mut tree, ROOT, 0, b"")?;
-    add(alloc, &mut tree, Nid { bits: 0x8022 }, 1, b"Top of Personal Folders")?;
+    add(
+        alloc,
+        &mut tree,
+        Nid { bits: 0x8022 },
+        1,
+        b"Top of Personal Folders",
+    )?;
     add(alloc, &mut tree, Nid { bits: 0x8042 }, 1, b"Search Root")?;
     add(alloc, &mut tree, Nid { bits: 0x8062 }, 1, b"Deleted Items")?;
     Ok(tree)

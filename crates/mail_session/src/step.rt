@@ -70,7 +70,14 @@ fn next_id(tree: &Tree) -> Nid
 }
 
 /// Adds a folder that isn't refused, and gives the text of the reply. An `Err` changes nothing.
-fn add_folder(alloc: Global, tree: &mut Tree, parent: Nid, depth: u8, name: Units, folded_name: Units) -> Result<Bytes, AllocError>
+fn add_folder(
+    alloc: Global,
+    tree: &mut Tree,
+    parent: Nid,
+    depth: u8,
+    name: Units,
+    folded_name: Units,
+) -> Result<Bytes, AllocError>
     requires some { 0 < length tree.old }
     requires few { length tree.old < 134216704 }
     requires high { depth < 64 }
@@ -91,7 +98,13 @@ fn add_folder(alloc: Global, tree: &mut Tree, parent: Nid, depth: u8, name: Unit
 }
 
 /// `mkdir` in a folder of that id and depth. An `Err` changes nothing.
-fn make_under(alloc: Global, tree: &mut Tree, parent: Nid, depth: u8, name: Units) -> Result<Bytes, AllocError>
+fn make_under(
+    alloc: Global,
+    tree: &mut Tree,
+    parent: Nid,
+    depth: u8,
+    name: Units,
+) -> Result<Bytes, AllocError>
     requires some { 0 < length tree.old }
     ensures ok { IfOk result (λ t. (tree.new, t) ≡ said (made_in parent.bits depth name tree.old (refusal_of parent.bits depth (folded false name) tree.old))) }
     ensures err { OnErr result (tree.new ≡ tree.old) }
@@ -104,7 +117,12 @@ fn make_under(alloc: Global, tree: &mut Tree, parent: Nid, depth: u8, name: Unit
 }
 
 /// `mkdir`: the text of its reply. An `Err` changes nothing.
-fn make_folder(alloc: Global, tree: &mut Tree, parent: Nid, name: Units) -> Result<Bytes, AllocError>
+fn make_folder(
+    alloc: Global,
+    tree: &mut Tree,
+    parent: Nid,
+    name: Units,
+) -> Result<Bytes, AllocError>
     ensures ok { IfOk result (λ t. (tree.new, t) ≡ said (made parent.bits name tree.old (find (has_nid parent.bits) tree.old))) }
     ensures err { OnErr result (tree.new ≡ tree.old) }
 {

@@ -9,7 +9,11 @@ use std::alloc::{AllocError, Global};
 use std::fmt::Write;
 
 /// The seven lines of `info`.
-pub(crate) fn info_text(alloc: Global, header: &Header, gate_open: bool) -> Result<String, AllocError>
+pub(crate) fn info_text(
+    alloc: Global,
+    header: &Header,
+    gate_open: bool,
+) -> Result<String, AllocError>
     ensures { IfOk result (λ text. string_bytes text ≡ info_text header.now gate_open) }
 {
     let mut text = String::new(alloc);
@@ -54,7 +58,11 @@ fn header_line(alloc: Global, refusal: HeaderRefusal) -> Result<String, AllocErr
             full,
             stored,
             computed,
-        } => writeln!(text, "refused crc {} {stored:08x} {computed:08x}", crc_word(full))?,
+        } => writeln!(
+            text,
+            "refused crc {} {stored:08x} {computed:08x}",
+            crc_word(full)
+        )?,
         HeaderRefusal::Encoded { method } => writeln!(text, "refused encoded {method}")?,
     }
     Ok(text)

@@ -87,10 +87,7 @@ fn any_named(entries: &[Entry], parent: Nid, name: &[u16]) -> bool
 fn count_in(entries: &[Entry], parent: Nid) -> usize
     ensures { result ≡ count_by (stands_in parent.bits) entries.now }
 {
-    entries
-        .iter()
-        .filter(|e| e.folder.is_in(parent))
-        .count()
+    entries.iter().filter(|e| e.folder.is_in(parent)).count()
 }
 
 fn folder_lines(alloc: Global, entries: &[Entry], parent: Nid) -> Result<DataLines, AllocError>

@@ -50,7 +50,13 @@ impl Session {
     {
         match front {
             Front::Line { feed } => {
-                let answer = answer_feed(alloc, &mut self.tree, &mut self.lines, &mut self.long, feed);
+                let answer = answer_feed(
+                    alloc,
+                    &mut self.tree,
+                    &mut self.lines,
+                    &mut self.long,
+                    feed,
+                );
                 Some(answer)
             }
             Front::Overlong => {

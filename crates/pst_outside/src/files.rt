@@ -6,7 +6,6 @@ use crate::{Failed, Outside, Part};
 use std::alloc::AllocError;
 use std::fs::{File, Files, OpenFile, OpenOptions};
 use std::io::{self, ErrorKind, Input, Print, Read};
-use std::os::fd::AsRawFd;
 use std::os::unix::fs::FileExt;
 use std::path::Path;
 
@@ -33,7 +32,7 @@ pub struct FileWorld<R: Files + Input> {
     written: u128,
 }
 
-impl<F: OpenFile + FileExt + AsRawFd + Drop> FilePart<F> {
+impl<F: OpenFile + FileExt + Drop> FilePart<F> {
     fn new(path: Option<String>) -> FilePart<F> {
         FilePart {
             path,
@@ -108,11 +107,8 @@ impl<F: OpenFile + FileExt + AsRawFd + Drop> FilePart<F> {
     }
 }
 
-/// Opens a file, or gives `None` where there is none. What an earlier program has left in the system's buffers is made stable first, so that a read gives what the disk has.
-fn open_there<R: Files>(rt: &R, path: &str) -> io::Result<Option<R::File>>
-where
-    R::File: AsRawFd,
-{
+/// Opens a file, or gives `None` where there is none. What an earlier program has left in the system's buffers is made stable first. A file that may only be read is opened for that, and its sync is only tried.
+fn open_there<R: Files>(rt: &R, path: &str) -> io::Result<Option<R::File>> {
     let (file, may_write) = match OpenOptions::new().read(true).write(true).open(rt, path) {
         Ok(file) => (file, true),
         Err(e) => match e.kind() {
@@ -130,7 +126,6 @@ where
     if may_write {
         synced?;
     }
-    libc::posix_fadvise(file.as_raw_fd(), 0, 0, libc::POSIX_FADV_DONTNEED);
     Ok(Some(file))
 }
 
@@ -167,7 +162,7 @@ fn read_full<F: FileExt>(file: &F, at: u64, buf: &mut [u8]) -> io::Result<usize>
 
 impl<R: Files + Input + Print + AllocGlobal + Drop> FileWorld<R>
 where
-    R::File: FileExt + AsRawFd,
+    R::File: FileExt,
 {
     ghost use Rattle.pst_outside.specs.Memory.{NoFaults};
 
@@ -195,7 +190,7 @@ where
 
 impl<R: Files + Input + Print + AllocGlobal + Drop> Outside for FileWorld<R>
 where
-    R::File: FileExt + AsRawFd,
+    R::File: FileExt,
 {
     ghost use Rattle.pst_outside.specs.Sure.{silent};
 

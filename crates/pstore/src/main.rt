@@ -7,12 +7,12 @@ use mail_session::{ChangedAt, Exit, run};
 use pst_base::{Ledger, Steps};
 use pst_outside::FileWorld;
 use std::alloc::AllocError;
+use std::env;
 use std::io::{self, ErrorKind};
 use std::marker::Brand;
 use std::process::ExitCode;
 use std::rt::Env;
 use std::sync::ledger::Blank;
-use std::env;
 
 /// How a call ends whose words or whose world find no memory.
 const NO_MEMORY: Exit = Exit {
@@ -74,7 +74,10 @@ fn report(rt: &impl Eprint, exit: Exit) -> io::Result<()> {
 
 fn report_change(rt: &impl Eprint, changed: Option<ChangedAt>) -> io::Result<()> {
     match changed {
-        Some(at) => eprintln!(rt; "changed 0x{:x} 0x{:x} 0x{:x}", at.ib, at.stored, at.computed),
+        Some(at) => eprintln!(rt;
+            "changed 0x{:x} 0x{:x} 0x{:x}",
+            at.ib, at.stored, at.computed
+        ),
         None => Ok(()),
     }
 }

@@ -16,16 +16,16 @@ loop-count-init g c =
 pub loop-count-preserved : goal.loop-count-preserved
 loop-count-preserved g c =
     goes_on (g.W.Outside.view c.args.world.now) (g.W.Outside.view c.loop-count.world) (g.W.Outside.view c.turn.new.world) (state_of c.loop-count.session) (state_of c.turn.new.self)
-        c.loop-count._count c.loop-count.invariant c.in_default-turn.ensures
+    c.loop-count._count c.loop-count.invariant c.in_default-turn.ensures
 
 pub returns-in-Some-clause-ends : goal.returns-in-Some-clause-ends
 returns-in-Some-clause-ends g c =
     let few : c.loop-count._count < LINES = c.loop-count-test.true in
     ends (g.W.Outside.view c.args.world.now) (g.W.Outside.view c.loop-count.world) (g.W.Outside.view c.turn.new.world) (state_of c.loop-count.session) (state_of c.turn.new.self)
-        c.loop-count._count c.in-Some.status few c.loop-count.invariant c.in-Some.ensures
+    c.loop-count._count c.in-Some.status few c.loop-count.invariant c.in-Some.ensures
 
 pub returns-clause-ends : goal.returns-clause-ends
 returns-clause-ends g c =
     let all : c.loop-count._count ≡ LINES = omega arith in
     ends_by_lines (g.W.Outside.view c.args.world.now) (g.W.Outside.view c.loop-count.world) (state_of c.loop-count.session)
-        (subst (SoFar (g.W.Outside.view c.args.world.now) (g.W.Outside.view c.loop-count.world) (state_of c.loop-count.session)) all c.loop-count.invariant)
+    (subst (SoFar (g.W.Outside.view c.args.world.now) (g.W.Outside.view c.loop-count.world) (state_of c.loop-count.session)) all c.loop-count.invariant)
