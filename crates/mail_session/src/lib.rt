@@ -15,6 +15,8 @@ mod lines;
 mod session;
 mod start;
 mod step;
+#[cfg(test)]
+mod tests;
 mod texts;
 mod tree;
 mod turns;

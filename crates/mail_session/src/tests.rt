@@ -1,0 +1,349 @@
+ghost use Rattle.std.specs.Prelude.{◌≡◌};
+
+use crate::{Exit, run};
+use pst_base::{Bytes, Ledger, Steps};
+use pst_outside::{FailPlan, MemWorld, Part};
+use std::marker::Brand;
+use std::process::Abort;
+use std::sync::ledger::Blank;
+use std::test::Fail;
+
+/// The bytes of a header that are no zeros: eof 271360, next block 100h, next page 10h, maps 2.
+const HEADER: [(usize, u8); 24] = [
+    (0, 33),
+    (1, 66),
+    (2, 68),
+    (3, 78),
+    (4, 226),
+    (5, 92),
+    (6, 231),
+    (7, 220),
+    (8, 83),
+    (9, 77),
+    (10, 23),
+    (12, 19),
+    (14, 1),
+    (15, 1),
+    (32, 16),
+    (185, 36),
+    (186, 4),
+    (248, 2),
+    (512, 128),
+    (517, 1),
+    (524, 167),
+    (525, 204),
+    (526, 227),
+    (527, 142),
+];
+
+/// The same of another header: eof 525312, next block 204h, next page 21h, maps 0.
+const OTHER: [(usize, u8); 24] = [
+    (0, 33),
+    (1, 66),
+    (2, 68),
+    (3, 78),
+    (4, 151),
+    (5, 189),
+    (6, 147),
+    (7, 201),
+    (8, 83),
+    (9, 77),
+    (10, 23),
+    (12, 19),
+    (14, 1),
+    (15, 1),
+    (32, 33),
+    (185, 4),
+    (186, 8),
+    (512, 128),
+    (516, 4),
+    (517, 2),
+    (524, 117),
+    (525, 16),
+    (526, 122),
+    (527, 129),
+];
+
+const LINES_OF_HEADER: &str =
+    "version 23\ncrypt 0\neof 271360\nnext block 0x100\nnext page 0x10\nmaps 2\ngate closed\n";
+
+const LINES_OF_OTHER: &str =
+    "version 23\ncrypt 0\neof 525312\nnext block 0x204\nnext page 0x21\nmaps 0\ngate open\n";
+
+/// So many zeros with these bytes in their places.
+fn file(
+    rt: &(impl Abort + AllocGlobal),
+    len: usize,
+    bytes: &[(usize, u8)],
+    more: &[(usize, u8)],
+) -> Result<Bytes, Fail> {
+    let mut file = vec![in rt.alloc(); 0u8; len]?;
+    for (at, byte) in bytes {
+        put(&mut file, *at, *byte);
+    }
+    for (at, byte) in more {
+        put(&mut file, *at, *byte);
+    }
+    Ok(Bytes::from_vec(file))
+}
+
+fn put(file: &mut [u8], at: usize, byte: u8) {
+    if at < file.len() {
+        file[at] = byte;
+    }
+}
+
+fn gate(rt: &(impl Abort + AllocGlobal), len: usize, first: u8) -> Result<Bytes, Fail> {
+    let mut side = vec![in rt.alloc(); 0u8; len]?;
+    for (at, byte) in OTHER {
+        put(&mut side, at.saturating_add(16), byte);
+    }
+    put(&mut side, 0, first);
+    Ok(Bytes::from_vec(side))
+}
+
+fn run_over<L: Ledger>(
+    rt: &(impl Abort + AllocGlobal),
+    words: &[&str],
+    world: &mut MemWorld,
+    blank: Blank,
+) -> Result<Exit, Fail>
+    requires name { blank.name ≡ L.name }
+    requires parts { blank.parts ≡ L.parts }
+    requires some { blank.parts ≡ 1 }
+{
+    let mut owned = Vec::new(rt.alloc());
+    for word in words {
+        owned.push(word.to_string(rt.alloc())?)?;
+    }
+    let (book, share) = blank.open::<L>();
+    let mut steps = Steps::new(book, share);
+    Ok(run(rt.alloc(), owned.as_slice(), world, &mut steps))
+}
+
+fn status(rt: &(impl Abort + AllocGlobal), words: &[&str], world: &mut MemWorld) -> Result<u8, Fail> {
+    Ok(run_over::<Brand>(rt, words, world, Blank::new(1))?.status)
+}
+
+fn info_of(rt: &(impl Abort + AllocGlobal), main: Bytes, side: Bytes, wanted: &str, exit: u8) -> Result<(), Fail> {
+    let none = Bytes::new(rt.alloc());
+    let copy = Bytes::new(rt.alloc());
+    let mut world = MemWorld::new(
+        rt.alloc(),
+        none,
+        main,
+        side,
+        copy,
+        FailPlan::none(rt.alloc()),
+    )?;
+    let status = status(rt, &["info", "FILE"], &mut world)?;
+    assert_eq!(rt; world.said(), wanted.as_bytes(), "{wanted}");
+    assert_eq!(rt; status, exit, "{wanted}");
+    Ok(())
+}
+
+#[test]
+fn info_says_what_the_header_is(rt: HostRuntime) -> Result<(), Fail> {
+    let table: [(&[(usize, u8)], &str, u8); 7] = [
+        (&[], LINES_OF_HEADER, 0),
+        (&[(0, 32)], "refused not-pst\n", 3),
+        (&[(10, 14)], "refused version 14\n", 3),
+        (&[(478, 1)], "refused crc partial dce75ce2 abe06c74\n", 3),
+        (&[(523, 1)], "refused crc full 8ee3cca7 f9e4fc31\n", 3),
+        (&[(479, 1)], "refused crc full 8ee3cca7 2d75e4eb\n", 3),
+        (
+            &[(513, 1), (524, 103), (525, 19), (526, 109), (527, 79)],
+            "refused encoded 1\n",
+            3,
+        ),
+    ];
+    for (changes, wanted, exit) in table {
+        info_of(
+            &rt,
+            file(&rt, 564, &HEADER, changes)?,
+            Bytes::new(rt.alloc()),
+            wanted,
+            exit,
+        )?;
+    }
+    for (len, wanted) in [(0, "refused empty\n"), (563, "refused short 563\n")] {
+        info_of(
+            &rt,
+            file(&rt, len, &HEADER, &[])?,
+            Bytes::new(rt.alloc()),
+            wanted,
+            3,
+        )?;
+    }
+    Ok(())
+}
+
+#[test]
+fn info_reads_the_header_that_counts(rt: HostRuntime) -> Result<(), Fail> {
+    let table = [
+        (580, 1, LINES_OF_OTHER, 0),
+        (580, 0, LINES_OF_HEADER, 0),
+        (580, 7, LINES_OF_HEADER, 0),
+        (579, 1, LINES_OF_HEADER, 0),
+        (581, 1, "refused gate 581\n", 3),
+    ];
+    for (len, first, wanted, exit) in table {
+        info_of(
+            &rt,
+            file(&rt, 564, &HEADER, &[])?,
+            gate(&rt, len, first)?,
+            wanted,
+            exit,
+        )?;
+    }
+    Ok(())
+}
+
+fn plan(rt: &(impl Abort + AllocGlobal), takes: &[u64], says: &[u64], disks: &[u64]) -> Result<FailPlan, Fail> {
+    Ok(FailPlan {
+        takes: takes.to_vec(rt.alloc())?,
+        says: says.to_vec(rt.alloc())?,
+        disks: disks.to_vec(rt.alloc())?,
+        dead_from: None,
+    })
+}
+
+#[test]
+fn failing_devices_have_their_statuses(rt: HostRuntime) -> Result<(), Fail> {
+    let table: [(&[u64], &[u64], u8); 4] = [
+        (&[], &[0], 4),
+        (&[], &[1], 4),
+        (&[], &[2], 4),
+        (&[0], &[], 6),
+    ];
+    for (says, disks, wanted) in table {
+        let main = file(&rt, 564, &HEADER, &[])?;
+        let none = Bytes::new(rt.alloc());
+        let side = Bytes::new(rt.alloc());
+        let copy = Bytes::new(rt.alloc());
+        let mut world = MemWorld::new(
+            rt.alloc(),
+            none,
+            main,
+            side,
+            copy,
+            plan(&rt, &[], says, disks)?,
+        )?;
+        assert_eq!(rt; status(&rt, &["info", "FILE"], &mut world)?, wanted);
+        assert_eq!(rt; world.said().len(), 0);
+    }
+    Ok(())
+}
+
+#[test]
+fn other_words_touch_nothing(rt: HostRuntime) -> Result<(), Fail> {
+    let table: [&[&str]; 5] = [&[], &["run"], &["info"], &["info", "A", "B"], &["--help"]];
+    for words in table {
+        let mut world = session_world(&rt, b"ls 0x8022\n", plan(&rt, &[0], &[0], &[0])?)?;
+        assert_eq!(rt; status(&rt, words, &mut world)?, 2);
+        assert_eq!(rt; world.said().len(), 0);
+    }
+    Ok(())
+}
+
+fn session_world(rt: &(impl Abort + AllocGlobal), input: &[u8], fails: FailPlan) -> Result<MemWorld, Fail> {
+    let input = Bytes::from_slice(rt.alloc(), input)?;
+    let main = Bytes::new(rt.alloc());
+    let side = Bytes::new(rt.alloc());
+    let copy = Bytes::new(rt.alloc());
+    Ok(MemWorld::new(rt.alloc(), input, main, side, copy, fails)?)
+}
+
+fn session(
+    rt: &(impl Abort + AllocGlobal),
+    input: &[u8],
+    fails: FailPlan,
+    wanted: &[u8],
+    exit: u8,
+) -> Result<(), Fail> {
+    let mut world = session_world(rt, input, fails)?;
+    let status = status(rt, &["scratch"], &mut world)?;
+    assert_eq!(rt; world.said(), wanted);
+    assert_eq!(rt; status, exit);
+    Ok(())
+}
+
+#[test]
+fn a_session_answers_its_lines(rt: HostRuntime) -> Result<(), Fail> {
+    let table: [(&[u8], &[u8]); 9] = [
+        (b"", b""),
+        (
+            b"mkdir 0x8022 Inbox\nls 0x8022\nquit\n",
+            b"ok 0x8082\n- 0x8082 folder \"Inbox\"\nok 1\nok\n",
+        ),
+        (
+            b"ls 0x122\nquit",
+            b"- 0x8022 folder \"Top of Personal Folders\"\n- 0x8042 folder \"Search Root\"\n- 0x8062 folder \"Deleted Items\"\nok 3\nok\n",
+        ),
+        (
+            b"\n\xFF\nmkdir 0x8022\nmkdir 0x8022 \nls 0x999\n",
+            b"no line\nno line\nno line\nno value\nno object\n",
+        ),
+        (
+            b"mkdir 0x8022 Inbox\nmkdir 0x8022 INBOX\nmkdir 0x8042 INBOX\nls 0x8022\n",
+            b"ok 0x8082\nno name-taken\nok 0x80a2\n- 0x8082 folder \"Inbox\"\nok 1\n",
+        ),
+        (b"ls 0x8022\r\nquit\r\nls 0x8022\n", b"ok 0\nok\n"),
+        (b"ls 0x8022\nquit\r", b"ok 0\nno line\n"),
+        (b"quit\nls 0x8022\n", b"ok\n"),
+        (
+            b"mkdir 0x8022  A \nls 0x8022\n",
+            b"ok 0x8082\n- 0x8082 folder \" A \"\nok 1\n",
+        ),
+    ];
+    for (input, wanted) in table {
+        session(&rt, input, FailPlan::none(rt.alloc()), wanted, 0)?;
+    }
+    Ok(())
+}
+
+#[test]
+fn a_session_ends_with_its_device(rt: HostRuntime) -> Result<(), Fail> {
+    session(
+        &rt,
+        b"ls 0x8022\nls",
+        plan(&rt, &[1], &[], &[])?,
+        b"ok 0\n",
+        5,
+    )?;
+    session(
+        &rt,
+        b"ls 0x8022\nls 0x8042\n",
+        plan(&rt, &[], &[0], &[])?,
+        b"",
+        6,
+    )?;
+    session(
+        &rt,
+        b"ls 0x8022\nls 0x999\n",
+        plan(&rt, &[], &[1], &[0])?,
+        b"ok 0\n",
+        6,
+    )
+}
+
+/// A line of so many bytes, and a line behind it.
+fn long_line(rt: &(impl Abort + AllocGlobal), len: usize) -> Result<Vec<u8>, Fail> {
+    let mut input = vec![in rt.alloc(); b'x'; len]?;
+    input.extend_from_slice(b"\nquit")?;
+    Ok(input)
+}
+
+#[test]
+fn a_line_past_the_limit_is_answered_once(rt: HostRuntime) -> Result<(), Fail> {
+    let table: [(usize, &[u8]); 3] = [
+        (1_048_576, b"no line\nok\n"),
+        (1_048_577, b"no limit line\nok\n"),
+        (3_145_729, b"no limit line\nok\n"),
+    ];
+    for (len, wanted) in table {
+        let input = long_line(&rt, len)?;
+        session(&rt, input.as_slice(), FailPlan::none(rt.alloc()), wanted, 0)?;
+    }
+    Ok(())
+}
