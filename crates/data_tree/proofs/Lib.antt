@@ -1,0 +1,3 @@
+pub mod BlockSteps
+pub mod ListingLaws
+pub mod Steps

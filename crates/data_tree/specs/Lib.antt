@@ -1,0 +1,4 @@
+pub mod Listed
+pub mod Source
+pub mod Stops
+pub mod Tree
