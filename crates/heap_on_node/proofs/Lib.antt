@@ -1,0 +1,5 @@
+pub mod DraftLaws
+pub mod FinishLaws
+pub mod LayoutLaws
+pub mod MapLaws
+pub mod PackingLaws
