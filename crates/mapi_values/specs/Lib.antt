@@ -1,4 +1,10 @@
 pub mod Characters
+pub mod Columns
+pub mod Keyed
+pub mod Messages
+pub mod Properties
 pub mod Range
 pub mod Spelling
+pub mod Tables
 pub mod Texts
+pub mod Values

@@ -1,0 +1,141 @@
+//! Values of each kind, read and printed at the edges of their forms.
+use crate::{BadValue, parse_value, value_text};
+use mapi_values::{Tag, Value, fits};
+use pst_base::{Bytes, MemOr};
+use std::alloc::Global;
+use std::test::Fail;
+
+/// The value that a text says, and its own text.
+fn read_and_print(alloc: Global, kind: u16, text: &str) -> Result<(Value, String), Fail> {
+    let value = parse_value(alloc, Tag { id: 0x37, kind }, text)?;
+    let printed = value_text(alloc, &value)?;
+    Ok((value, printed))
+}
+
+#[test]
+fn numbers_stand_in_two_complement(rt: HostRuntime) -> Result<(), Fail> {
+    let high = [0xFF; 8];
+    let known: [(u16, &str, &[u8], &str); 10] = [
+        (0x0002, "-0", &[0, 0], "0"),
+        (0x0002, "000032767", &[0xFF, 0x7F], "32767"),
+        (0x0002, "-32768", &[0, 0x80], "-32768"),
+        (0x0003, "258", &[2, 1, 0, 0], "258"),
+        (
+            0x0003,
+            "-000000000000000000000002",
+            &[0xFE, 0xFF, 0xFF, 0xFF],
+            "-2",
+        ),
+        (0x0003, "-2147483648", &[0, 0, 0, 0x80], "-2147483648"),
+        (
+            0x0014,
+            "-9223372036854775808",
+            &[0, 0, 0, 0, 0, 0, 0, 0x80],
+            "-9223372036854775808",
+        ),
+        (0x0014, "-1", &high, "-1"),
+        (
+            0x0040,
+            "18446744073709551615",
+            &high,
+            "18446744073709551615",
+        ),
+        (0x0040, "-0", &[0; 8], "0"),
+    ];
+    for (kind, text, bytes, printed) in known {
+        let (value, own) = read_and_print(rt.alloc(), kind, text)?;
+        assert_eq!(rt; value.tag(), Tag { id: 0x37, kind });
+        assert_eq!(rt; value.bytes(), bytes, "{text}");
+        assert_eq!(rt; own.as_str(), printed, "{text}");
+    }
+    Ok(())
+}
+
+#[test]
+fn words_and_texts_are_read(rt: HostRuntime) -> Result<(), Fail> {
+    let known: [(u16, &str, &[u8], &str); 8] = [
+        (0x000B, "true", &[1], "true"),
+        (0x000B, "false", &[0], "false"),
+        (0x001F, "", &[], "\"\""),
+        (0x001F, "a \\u00E9", &[0x61, 0, 0x20, 0, 0xE9, 0], "\"a é\""),
+        (
+            0x001F,
+            "😀\\uD83d",
+            &[0x3D, 0xD8, 0x00, 0xDE, 0x3D, 0xD8],
+            "\"😀\\ud83d\"",
+        ),
+        (0x0102, "-", &[], "-"),
+        (0x0102, "00fFa9", &[0x00, 0xFF, 0xA9], "00ffa9"),
+        (
+            0x0048,
+            "00000000000000000000000000000046",
+            &[0, 0, 0, 0, 0, 0, 0, 0, 0, 0, 0, 0, 0, 0, 0, 0x46],
+            "00000000000000000000000000000046",
+        ),
+    ];
+    for (kind, text, bytes, printed) in known {
+        let (value, own) = read_and_print(rt.alloc(), kind, text)?;
+        assert_eq!(rt; value.tag(), Tag { id: 0x37, kind });
+        assert_eq!(rt; value.bytes(), bytes, "{text}");
+        assert_eq!(rt; own.as_str(), printed, "{text}");
+    }
+    Ok(())
+}
+
+#[test]
+fn other_texts_are_no_values(rt: HostRuntime) {
+    let bad: [(u16, &str); 27] = [
+        (0x0002, ""),
+        (0x0002, "-"),
+        (0x0002, "+1"),
+        (0x0002, "1 "),
+        (0x0002, "32768"),
+        (0x0002, "-32769"),
+        (0x0003, "2147483648"),
+        (0x0003, "-2147483649"),
+        (0x0003, "\\u0031"),
+        (0x0014, "9223372036854775808"),
+        (0x0014, "-9223372036854775809"),
+        (0x0040, "18446744073709551616"),
+        (0x0040, "-1"),
+        (0x0040, "--0"),
+        (0x000B, "True"),
+        (0x000B, "1"),
+        (0x000B, ""),
+        (0x001F, "\\"),
+        (0x001F, "\\u00g0"),
+        (0x0102, ""),
+        (0x0102, "0"),
+        (0x0102, "0g"),
+        (0x0102, "--"),
+        (0x0048, "-"),
+        (0x0048, "0011"),
+        (0x0005, "0"),
+        (0x101F, "-"),
+    ];
+    for (kind, text) in bad {
+        let read = parse_value(rt.alloc(), Tag { id: 0x37, kind }, text);
+        assert_eq!(rt; read.err(), Some(MemOr::Refused(BadValue)), "{text}");
+    }
+}
+
+#[test]
+fn other_values_are_printed_in_hex(rt: HostRuntime) -> Result<(), Fail> {
+    let known: [(u16, &[u8], &str); 8] = [
+        (0x000B, &[2], "true"),
+        (0x001F, &[0x61, 0, 0x62], "610062"),
+        (0x0014, &[1, 0, 0], "010000"),
+        (0x0040, &[], "-"),
+        (0x0005, &[0, 0, 0, 0, 0, 0, 0xF0, 0x3F], "000000000000f03f"),
+        (0x0004, &[0, 0, 0x80, 0x3F], "0000803f"),
+        (0x101F, &[0xAB], "ab"),
+        (0x000D, &[], "-"),
+    ];
+    for (kind, bytes, printed) in known {
+        assert!(rt; fits(kind, bytes.len()));
+        let tag = Tag { id: 0x37, kind };
+        let value = Value::new(tag, Bytes::from_slice(rt.alloc(), bytes)?);
+        assert_eq!(rt; value_text(rt.alloc(), &value)?.as_str(), printed);
+    }
+    Ok(())
+}
