@@ -6,6 +6,8 @@
 #![tactic(auto)]
 
 mod answers;
+#[cfg(test)]
+mod byte_world;
 mod call;
 mod exit;
 mod folder;

@@ -1,8 +1,10 @@
 ghost use Rattle.std.specs.Prelude.{◌≡◌};
 
+use crate::byte_world::ByteWorld;
 use crate::{Exit, run};
 use pst_base::{Bytes, Ledger, Steps};
-use pst_outside::{FailPlan, MemWorld, Part};
+use pst_outside::{FailPlan, MemWorld, Outside};
+use std::fmt::Write;
 use std::marker::Brand;
 use std::process::Abort;
 use std::sync::ledger::Blank;
@@ -102,10 +104,10 @@ fn gate(rt: &(impl Abort + AllocGlobal), len: usize, first: u8) -> Result<Bytes,
     Ok(Bytes::from_vec(side))
 }
 
-fn run_over<L: Ledger>(
+fn run_over<W: Outside, L: Ledger>(
     rt: &(impl Abort + AllocGlobal),
     words: &[&str],
-    world: &mut MemWorld,
+    world: &mut W,
     blank: Blank,
 ) -> Result<Exit, Fail>
     requires name { blank.name ≡ L.name }
@@ -121,11 +123,21 @@ fn run_over<L: Ledger>(
     Ok(run(rt.alloc(), owned.as_slice(), world, &mut steps))
 }
 
-fn status(rt: &(impl Abort + AllocGlobal), words: &[&str], world: &mut MemWorld) -> Result<u8, Fail> {
-    Ok(run_over::<Brand>(rt, words, world, Blank::new(1))?.status)
+fn status<W: Outside>(
+    rt: &(impl Abort + AllocGlobal),
+    words: &[&str],
+    world: &mut W,
+) -> Result<u8, Fail> {
+    Ok(run_over::<W, Brand>(rt, words, world, Blank::new(1))?.status)
 }
 
-fn info_of(rt: &(impl Abort + AllocGlobal), main: Bytes, side: Bytes, wanted: &str, exit: u8) -> Result<(), Fail> {
+fn info_of(
+    rt: &(impl Abort + AllocGlobal),
+    main: Bytes,
+    side: Bytes,
+    wanted: &str,
+    exit: u8,
+) -> Result<(), Fail> {
     let none = Bytes::new(rt.alloc());
     let copy = Bytes::new(rt.alloc());
     let mut world = MemWorld::new(
@@ -199,7 +211,12 @@ fn info_reads_the_header_that_counts(rt: HostRuntime) -> Result<(), Fail> {
     Ok(())
 }
 
-fn plan(rt: &(impl Abort + AllocGlobal), takes: &[u64], says: &[u64], disks: &[u64]) -> Result<FailPlan, Fail> {
+fn plan(
+    rt: &(impl Abort + AllocGlobal),
+    takes: &[u64],
+    says: &[u64],
+    disks: &[u64],
+) -> Result<FailPlan, Fail> {
     Ok(FailPlan {
         takes: takes.to_vec(rt.alloc())?,
         says: says.to_vec(rt.alloc())?,
@@ -246,7 +263,11 @@ fn other_words_touch_nothing(rt: HostRuntime) -> Result<(), Fail> {
     Ok(())
 }
 
-fn session_world(rt: &(impl Abort + AllocGlobal), input: &[u8], fails: FailPlan) -> Result<MemWorld, Fail> {
+fn session_world(
+    rt: &(impl Abort + AllocGlobal),
+    input: &[u8],
+    fails: FailPlan,
+) -> Result<MemWorld, Fail> {
     let input = Bytes::from_slice(rt.alloc(), input)?;
     let main = Bytes::new(rt.alloc());
     let side = Bytes::new(rt.alloc());
@@ -345,5 +366,41 @@ fn a_line_past_the_limit_is_answered_once(rt: HostRuntime) -> Result<(), Fail> {
         let input = long_line(&rt, len)?;
         session(&rt, input.as_slice(), FailPlan::none(rt.alloc()), wanted, 0)?;
     }
+    Ok(())
+}
+
+#[test]
+fn the_input_may_come_byte_by_byte(rt: HostRuntime) -> Result<(), Fail> {
+    let input = b"mkdir 0x8022 Inbox\r\nls 0x8022\nquit";
+    let world = session_world(&rt, input, FailPlan::none(rt.alloc()))?;
+    let mut world = ByteWorld { world };
+    assert_eq!(rt; status(&rt, &["scratch"], &mut world)?, 0);
+    let wanted: &[u8] = b"ok 0x8082\n- 0x8082 folder \"Inbox\"\nok 1\nok\n";
+    assert_eq!(rt; world.world.said(), wanted);
+    Ok(())
+}
+
+/// A line for each of 65 folders, each in the one before, from 0x8022 on.
+fn nested(rt: &(impl Abort + AllocGlobal)) -> Result<String, Fail> {
+    let mut lines = String::new(rt.alloc());
+    let mut parent = 0x8022u32;
+    for index in 0x404u32..0x445 {
+        writeln!(lines, "mkdir {parent:#x} A")?;
+        parent = index * 32 + 2;
+    }
+    Ok(lines)
+}
+
+#[test]
+fn a_folder_of_depth_64_holds_none(rt: HostRuntime) -> Result<(), Fail> {
+    let lines = nested(&rt)?;
+    let mut world = session_world(&rt, lines.as_bytes(), FailPlan::none(rt.alloc()))?;
+    assert_eq!(rt; status(&rt, &["scratch"], &mut world)?, 0);
+    // The folder 0x8022 has depth 1, so 63 folders come below it, the last of which is 0x8842.
+    assert!(rt;
+        world
+            .said()
+            .ends_with(b"ok 0x8842\nno limit depth\nno object\n")
+    );
     Ok(())
 }

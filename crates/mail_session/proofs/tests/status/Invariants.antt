@@ -1,4 +1,4 @@
-use Rattle.mail_session.proofs.tests.Given as goal
+use Rattle.mail_session.proofs.tests.status.Given as goal
 
 -- the ledger of the steps is the one that is opened here
 abbrev pub ghosts-run_over : goal.ghosts-run_over
