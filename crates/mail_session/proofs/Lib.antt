@@ -6,6 +6,7 @@ pub mod EndLaws
 pub mod Feeds
 pub mod InfoLaws
 pub mod Inputs
+pub mod NameLaws
 pub mod Pieces
 pub mod Ranges
 pub mod RunLaws

@@ -11,6 +11,10 @@ abbrev pub nid_at : ℕ → ℕ
 nid_at zero = 0x122
 nid_at (suc k) = nid_of 2 (0x401 + k)
 
+-- the id is one of the first `count` that are given out
+abbrev pub IsGiven : ℕ → ℕ → Type 0
+IsGiven count nid = (k : ℕ) × (k < count) × (nid ≡ nid_at k)
+
 abbrev pub has_nid : ℕ → Folder → Bool
 has_nid nid f = f.nid.bits == nid
 

@@ -14,6 +14,7 @@ mod folder;
 mod info;
 mod input;
 mod lines;
+mod names;
 mod session;
 mod start;
 mod step;

@@ -35,7 +35,7 @@ fn add(alloc: Global, tree: &mut Tree, nid: Nid, depth: u8, name: &[u8]) -> Resu
         depth,
         name,
     };
-    tree.push(folder, folded_name)?;
+    tree.push(alloc, folder, folded_name)?;
     Ok(())
 }
 

@@ -3,7 +3,7 @@ ghost use Rattle.std.specs.Prelude.{◌≡◌, ◌<◌, false, None, Some, find,
 ghost use Rattle.std.specs.Option.{option_map};
 ghost use Rattle.mapi_values.specs.Characters.{folded};
 ghost use Rattle.command_text.specs.Replies.{text};
-ghost use Rattle.mail_session.specs.Folders.{nid_at, has_nid};
+ghost use Rattle.mail_session.specs.Folders.{IsGiven, nid_at, has_nid};
 ghost use Rattle.mail_session.specs.Step.{step, made, made_in, listing, replied, refused, refusal_of};
 ghost use Rattle.mail_session.specs.Run.{said};
 ghost use Rattle.mail_session.specs.declared.folder.Folder.{Folder};
@@ -78,7 +78,7 @@ fn add_folder(
     name: Units,
     folded_name: Units,
 ) -> Result<Bytes, AllocError>
-    requires some { 0 < length tree.old }
+    requires given { IsGiven (length tree.old) parent.bits }
     requires few { length tree.old < 134216704 }
     requires high { depth < 64 }
     requires name { folded_name ≡ folded false name }
@@ -93,7 +93,7 @@ fn add_folder(
         depth: depth + 1,
         name,
     };
-    tree.push(folder, folded_name)?;
+    tree.push(alloc, folder, folded_name)?;
     Ok(text)
 }
 
@@ -105,7 +105,7 @@ fn make_under(
     depth: u8,
     name: Units,
 ) -> Result<Bytes, AllocError>
-    requires some { 0 < length tree.old }
+    requires given { IsGiven (length tree.old) parent.bits }
     ensures ok { IfOk result (λ t. (tree.new, t) ≡ said (made_in parent.bits depth name tree.old (refusal_of parent.bits depth (folded false name) tree.old))) }
     ensures err { OnErr result (tree.new ≡ tree.old) }
 {
@@ -135,7 +135,7 @@ fn make_folder(
 /// How many folders stand above the folder with that id.
 fn depth_of(tree: &Tree, nid: Nid) -> Option<u8>
     ensures depth { result ≡ option_map (λ f. f.depth) (find (has_nid nid.bits) tree.now) }
-    ensures some { IsSome result → 0 < length tree.now }
+    ensures given { IsSome result → IsGiven (length tree.now) nid.bits }
 {
     match tree.folder(nid) {
         Some(folder) => Some(folder.depth),

@@ -1,10 +1,11 @@
 //! What the program says, as bytes.
 ghost use Rattle.std.specs.Prelude.{◌≡◌, IfOk};
 ghost use Rattle.std.specs.String.{string_bytes};
-ghost use Rattle.mail_session.specs.Texts.{info_text, gate_text, refusal_line, header_line, crc_text};
+ghost use Rattle.mail_session.specs.Texts.{info_text, gate_text, refusal_line, header_line, crc_text, page_word};
 
+use pst_base::PageFault;
 use pst_header::{Header, HeaderRefusal};
-use pst_recover::OpenRefusal;
+use pst_recover::{OpenRefusal, PageRefusal};
 use std::alloc::{AllocError, Global};
 use std::fmt::Write;
 
@@ -43,6 +44,9 @@ pub(crate) fn refusal_line(alloc: Global, refusal: OpenRefusal) -> Result<String
         OpenRefusal::Gate { len } => writeln!(text, "refused gate {len}")?,
         OpenRefusal::Short { len } => writeln!(text, "refused short {len}")?,
         OpenRefusal::Header(refusal) => return header_line(alloc, refusal),
+        OpenRefusal::Page { ib, fault } => {
+            writeln!(text, "refused page 0x{ib:x} {}", page_word(fault))?
+        }
     }
     Ok(text)
 }
@@ -72,4 +76,19 @@ fn crc_word(full: bool) -> &'static str
     ensures { result.now ≡ crc_text full }
 {
     if full { "full" } else { "partial" }
+}
+
+fn page_word(fault: PageRefusal) -> &'static str
+    ensures { result.now ≡ page_word fault }
+{
+    match fault {
+        PageRefusal::Outside => "outside",
+        PageRefusal::Faulty(PageFault::Kind { .. }) => "kind",
+        PageRefusal::Faulty(PageFault::Crc { .. }) => "crc",
+        PageRefusal::Faulty(PageFault::Sig { .. }) => "sig",
+        PageRefusal::Faulty(PageFault::Bid { .. }) => "bid",
+        PageRefusal::Faulty(PageFault::Count) => "count",
+        PageRefusal::Faulty(PageFault::Level) => "level",
+        PageRefusal::Faulty(PageFault::Key) => "key",
+    }
 }

@@ -1,24 +1,27 @@
-//! The plain tree of a session in memory.
-ghost use Rattle.std.specs.Prelude.{◌≡◌, ◌≢◌, ℕ, ◌<◌, ◌↔◌, false, [], ◌∷◌, ◌++◌, length, map, find, count_by, Some, IsTrue, IsNone, IsSome, slice_get, IfSome, IfOk, OnOk, OnErr};
-ghost use Rattle.std.specs.List.{list_any};
+//! The plain tree of a session in memory. Beside each folder stand the places and the names of the folders in it, so that no call goes over all folders.
+ghost use Rattle.std.specs.Prelude.{◌≡◌, ◌+◌, ℕ, ◌<◌, ◌↔◌, false, [], ◌∷◌, ◌++◌, length, map, find, Some, IsTrue, IsNone, IsSome, IfSome, IfOk, OnOk, OnErr, is_ok, if◌then◌else◌, List, ◌||◌, nat_eq};
+ghost use Rattle.std.specs.List.{All, list_any};
+ghost use Rattle.std.specs.Cmp.Lexicographic.{pointwise};
 ghost use Rattle.std.specs.Option.{option_copied};
 ghost use Rattle.mapi_values.specs.Characters.{folded};
-ghost use Rattle.mail_session.specs.Folders.{nid_at, has_nid, has_name, listed};
-ghost use Rattle.mail_session.specs.Entries.{folders_of, is_named, stands_in};
+ghost use Rattle.mail_session.specs.Folders.{IsGiven, nid_at, has_nid, has_name, listed};
+ghost use Rattle.mail_session.specs.Entries.{folders_of, picked};
 ghost use Rattle.mail_session.specs.Step.{folder_line};
 
 use crate::folder::Folder;
+use crate::names::Names;
 use command_text::{DataLine, DataLines};
 use mapi_values::Units;
 use pst_base::Nid;
 use std::alloc::{AllocError, Global};
 use std::marker::Model;
 
-/// A folder, and its name with the case folded.
+/// A folder, and the places and the names of the folders directly in it.
 #[derive(Drop)]
 pub(crate) struct Entry {
     folder: Folder,
-    folded: Units,
+    children: Vec<usize>,
+    names: Names,
 }
 
 /// The folders, in the order in which they were made. Contracts see them as a list.
@@ -33,11 +36,11 @@ impl Model for Tree {
 
     ghost Value = { List Folder };
 
-    ghost use Rattle.mail_session.specs.Entries.{folders_of, AreEntries};
+    ghost use Rattle.mail_session.specs.Entries.{folders_of, IsIndexed};
 
     ghost view = { λ t. folders_of t.entries.items };
 
-    ghost invariant = { λ t. AreEntries 0 t.entries.items };
+    ghost invariant = { λ t. IsIndexed t.entries.items };
 }
 
 /// The place that a folder with this id would have, since ids are given out in order.
@@ -56,48 +59,31 @@ fn place_of(nid: Nid) -> Option<usize>
     }
 }
 
-impl Folder {
-    ghost use Rattle.mail_session.specs.Folders.{is_in};
-
-    /// Whether it stands directly in that folder.
-    fn is_in(&self, parent: Nid) -> bool
-        ensures { result ≡ is_in parent.bits self.now }
-    {
-        self.parent.bits == parent.bits && self.nid.bits != parent.bits
-    }
-}
-
 impl Entry {
-    ghost use Rattle.mail_session.specs.Entries.{is_named};
+    ghost use Rattle.mail_session.specs.Entries.{holds};
 
-    /// Whether it stands directly in that folder under that folded name.
-    fn is_named(&self, parent: Nid, name: &[u16]) -> bool
-        ensures { result ≡ is_named parent.bits name.now self.now }
+    /// Takes the place and the folded name of a folder directly in this one. An `Err` changes nothing.
+    fn adopt(&mut self, place: usize, name: Units) -> Result<(), AllocError>
+        ensures folder { self.new.folder ≡ self.old.folder }
+        ensures children { self.new.children.items ≡ (if is_ok result then self.old.children.items ++ place ∷ [] else self.old.children.items) }
+        ensures names { (n : List ℕ) → holds n self.new.names ≡ (if is_ok result then pointwise nat_eq name n || holds n self.old.names else holds n self.old.names) }
     {
-        self.folder.is_in(parent) && self.folded.as_slice() == name
+        self.children.push(place)?;
+        if self.names.insert(name).is_err() {
+            self.children.pop();
+            return Err(AllocError);
+        }
+        Ok(())
     }
 }
 
-fn any_named(entries: &[Entry], parent: Nid, name: &[u16]) -> bool
-    ensures { result ≡ list_any (is_named parent.bits name.now) entries.now }
-{
-    entries.iter().any(|e| e.is_named(parent, name))
-}
-
-fn count_in(entries: &[Entry], parent: Nid) -> usize
-    ensures { result ≡ count_by (stands_in parent.bits) entries.now }
-{
-    entries.iter().filter(|e| e.folder.is_in(parent)).count()
-}
-
-fn folder_lines(alloc: Global, entries: &[Entry], parent: Nid) -> Result<DataLines, AllocError>
-    ensures { IfOk result (λ lines. lines ≡ map folder_line (listed parent.bits (folders_of entries.now))) }
+fn folder_lines(alloc: Global, entries: &[Entry], places: &[usize]) -> Result<DataLines, AllocError>
+    requires { All (λ k. k < length entries.now) places.now }
+    ensures { IfOk result (λ lines. lines ≡ map folder_line (picked (folders_of entries.now) places.now)) }
 {
     let mut lines = Vec::new(alloc);
-    for entry in entries {
-        if entry.folder.is_in(parent) {
-            lines.push(line_of(alloc, &entry.folder)?)?;
-        }
+    for place in places {
+        lines.push(line_of(alloc, &entries[*place].folder)?)?;
     }
     Ok(DataLines::from_vec(lines))
 }
@@ -112,6 +98,8 @@ fn line_of(alloc: Global, folder: &Folder) -> Result<DataLine, AllocError>
 }
 
 impl Tree {
+    ghost use Rattle.mail_session.specs.Entries.{places};
+
     /// A tree of no folders.
     pub(crate) fn new(alloc: Global) -> Tree
         ensures { result ≡ [] }
@@ -128,19 +116,37 @@ impl Tree {
         self.entries.len()
     }
 
+    /// The place of the folder with that id.
+    fn place(&self, nid: Nid) -> Option<usize>
+        ensures some { IfSome result (λ k. (k < length self.now) × (nid.bits ≡ nid_at k)) }
+        ensures none { IsNone result → ¬ (IsGiven (length self.now) nid.bits) }
+    {
+        match place_of(nid) {
+            Some(place) if place < self.entries.len() => Some(place),
+            _ => None,
+        }
+    }
+
+    /// The places of the folders directly in that one.
+    fn children(&self, parent: Nid) -> &[usize]
+        ensures { result.now ≡ places 0 parent.bits self.now }
+    {
+        let entries = self.entries.as_slice();
+        match self.place(parent) {
+            Some(place) => entries[place].children.as_slice(),
+            None => &[],
+        }
+    }
+
     /// The folder with that id.
     pub(crate) fn folder(&self, nid: Nid) -> Option<&Folder>
         ensures found { option_copied result ≡ find (has_nid nid.bits) self.now }
-        ensures some { IsSome result → 0 < length self.now }
+        ensures given { IsSome result → IsGiven (length self.now) nid.bits }
     {
         let entries = self.entries.as_slice();
-        let Some(place) = place_of(nid) else {
-            return None;
-        };
-        if place < entries.len() {
-            Some(&entries[place].folder)
-        } else {
-            None
+        match self.place(nid) {
+            Some(place) => Some(&entries[place].folder),
+            None => None,
         }
     }
 
@@ -148,34 +154,53 @@ impl Tree {
     pub(crate) fn has_name(&self, parent: Nid, name: &Units) -> bool
         ensures { result ≡ list_any (has_name parent.bits name.now) self.now }
     {
-        any_named(self.entries.as_slice(), parent, name.as_slice())
+        let entries = self.entries.as_slice();
+        match self.place(parent) {
+            Some(place) => entries[place].names.contains(name.as_slice()),
+            None => false,
+        }
     }
 
     /// How many folders stand directly in that one.
     pub(crate) fn count_in(&self, parent: Nid) -> usize
         ensures { result ≡ length (listed parent.bits self.now) }
     {
-        count_in(self.entries.as_slice(), parent)
+        self.children(parent).len()
     }
 
     /// The lines of the folders directly in that one.
     pub(crate) fn lines(&self, alloc: Global, parent: Nid) -> Result<DataLines, AllocError>
         ensures { IfOk result (λ lines. lines ≡ map folder_line (listed parent.bits self.now)) }
     {
-        folder_lines(alloc, self.entries.as_slice(), parent)
+        folder_lines(alloc, self.entries.as_slice(), self.children(parent))
     }
 
-    /// Puts a folder at the end of the list. An `Err` changes nothing.
-    pub(crate) fn push(&mut self, folder: Folder, folded_name: Units) -> Result<(), AllocError>
+    /// Puts a folder at the end of the list. Its parent is there, or is the folder itself. An `Err` changes nothing.
+    pub(crate) fn push(
+        &mut self,
+        alloc: Global,
+        folder: Folder,
+        folded_name: Units,
+    ) -> Result<(), AllocError>
+        requires parent { IsGiven (length self.old + 1) folder.parent.bits }
         requires id { folder.nid.bits ≡ nid_at (length self.old) }
         requires name { folded_name ≡ folded false folder.name }
         ensures ok { OnOk result (self.new ≡ self.old ++ folder ∷ []) }
         ensures err { OnErr result (self.new ≡ self.old) }
     {
+        let place = self.entries.len();
+        let parent = self.place(folder.parent);
         self.entries.push(Entry {
             folder,
-            folded: folded_name,
+            children: Vec::new(alloc),
+            names: Names::new(alloc),
         })?;
+        if let Some(parent) = parent {
+            if self.entries[parent].adopt(place, folded_name).is_err() {
+                self.entries.pop();
+                return Err(AllocError);
+            }
+        }
         Ok(())
     }
 }

@@ -1,1 +1,4 @@
 pub mod Gates
+pub mod SeatLaws
+pub mod Underway
+pub mod WalkLaws

@@ -1,12 +1,18 @@
-//! The opener: what a file's bytes are, or why they are refused. So far: the header that counts.
+//! The opener: what a file's bytes are, or why they are refused. So far: the header that counts, and the two trees of pages.
 //!
-//! Promises: `open_header` answers `opening` of the two files' bytes, which is the header that counts or the first refusal, over any world that tells what it holds; it writes nothing, and a device's failure is its only other answer.
+//! Promises: `open_header` answers `opening` of the two files' bytes, which is the header that counts or the first refusal. `read_tree` gives the entries of a tree exactly where the bytes have one (`IsWhole`), and a refusal names a page that is reached and at fault. Both over any world that tells what it holds; they write nothing, and a device's failure and want of memory are their only other answers.
 //!
-//! Leaves to others: what the header's fields point to, and how refusals are printed.
+//! Leaves to others: what the trees' entries point to, and how refusals are printed.
 #![tactic(auto)]
 
 mod opening;
 mod stops;
+#[cfg(test)]
+mod tests;
+mod tree_pages;
+mod trees;
 
 pub use opening::{Opened, open_header};
-pub use stops::{OpenRefusal, OpenStop};
+pub use stops::{OpenRefusal, OpenStop, PageRefusal};
+pub use tree_pages::Seat;
+pub use trees::read_tree;

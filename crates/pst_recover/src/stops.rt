@@ -1,6 +1,16 @@
 //! Why an opening stops.
+use pst_base::PageFault;
 use pst_header::HeaderRefusal;
 use pst_outside::Failed;
+
+/// What is wrong with a page of a tree, in the order in which it is looked for.
+#[derive(Clone, Copy, Debug, PartialEq, Eq)]
+pub enum PageRefusal {
+    /// Its place isn't a multiple of 64, or is below 4400h, or the page ends past the file's end.
+    Outside,
+    /// Its frame, its entries, or its place in the tree.
+    Faulty(PageFault),
+}
 
 /// Why a file is refused, in the order in which it is looked for. The bytes never change by it.
 #[derive(Clone, Copy, Debug, PartialEq, Eq)]
@@ -13,6 +23,8 @@ pub enum OpenRefusal {
     Short { len: u64 },
     /// The header that counts isn't one ([MS-PST] 2.2.2.6).
     Header(HeaderRefusal),
+    /// The page of a tree that begins at `ib` is at fault.
+    Page { ib: u64, fault: PageRefusal },
 }
 
 /// Why an opening gives nothing.
