@@ -4,7 +4,7 @@
 # Needs crates/pstore/out/pstore, which `./pstore` builds.
 cd "$(dirname "$0")/.." || exit 1
 exec python3 - crates/pstore/out/pstore <<'END'
-import os, subprocess, sys, time
+import subprocess, sys, tempfile, time
 
 LINES = 100_000
 
@@ -30,14 +30,27 @@ def mixed():
         yield f"ls 0x{parent:x}"
 
 
+# The greatest memory of a process so far, in KiB, or what was seen last where it has ended.
+def peak(pid, last):
+    try:
+        with open(f"/proc/{pid}/status") as status:
+            return max([last] + [int(line.split()[1]) for line in status if line.startswith("VmHWM")])
+    except (FileNotFoundError, ProcessLookupError):
+        return last
+
+
 def run(name, lines):
-    text = ("\n".join(lines) + "\n").encode()
-    start = time.perf_counter()
-    program = subprocess.Popen([sys.argv[1], "scratch"], stdin=subprocess.PIPE, stdout=subprocess.DEVNULL)
-    program.stdin.write(text)
-    program.stdin.close()
-    _, status, used = os.wait4(program.pid, 0)
-    print(f"{name:24} {time.perf_counter() - start:6.2f} s {used.ru_maxrss / 1024:7.1f} MB, status {os.waitstatus_to_exitcode(status)}")
+    with tempfile.TemporaryFile() as text:
+        text.write(("\n".join(lines) + "\n").encode())
+        text.seek(0)
+        start = time.perf_counter()
+        program = subprocess.Popen([sys.argv[1], "scratch"], stdin=text, stdout=subprocess.DEVNULL)
+        most = 0
+        while program.poll() is None:
+            most = peak(program.pid, most)
+            time.sleep(0.002)
+        took = time.perf_counter() - start
+    print(f"{name:24} {took:6.2f} s {most / 1024:6.1f} MB, status {program.returncode}")
 
 
 run("one folder", folders([0x8022], LINES))
