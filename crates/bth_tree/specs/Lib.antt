@@ -1,0 +1,5 @@
+pub mod Answers
+pub mod Find
+pub mod Making
+pub mod Records
+pub mod Tree
