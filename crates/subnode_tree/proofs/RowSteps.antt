@@ -42,25 +42,25 @@ tree-fault find deeper room bid fault some h e =
     tree-some find deeper room bid some h ∙ ap (λ (r : Result (List SubEntry) TreeStop). and_then r (rows (row_of find deeper) room)) e
 
 -- the rows from an entry on
-after_row : (ℕ → SubEntry → Result (List SubEntry) TreeStop) → ℕ → List SubEntry → Result (List SubEntry) TreeStop → Result (List SubEntry) TreeStop
+after_row : {Y : Type 0} → (ℕ → SubEntry → Result (List Y) TreeStop) → ℕ → List SubEntry → Result (List Y) TreeStop → Result (List Y) TreeStop
 after_row row left rest r = and_then r (λ here. and_then (rows row (left - length here) rest) (λ more. Ok (here ++ more)))
 
-rows-is : (row : ℕ → SubEntry → Result (List SubEntry) TreeStop) (left : ℕ) (es : List SubEntry) (i : ℕ) (d : SubEntry) → i < length es
+rows-is : {Y : Type 0} (row : ℕ → SubEntry → Result (List Y) TreeStop) (left : ℕ) (es : List SubEntry) (i : ℕ) (d : SubEntry) → i < length es
     → rows row left (drop i es) ≡ after_row row left (drop (i + 1) es) (row left (get_or es i d))
 unfolding after_row
 rows-is row left es i d h = ap (rows row left) (drop-here es i d h)
 
-rows-stop : (row : ℕ → SubEntry → Result (List SubEntry) TreeStop) (left : ℕ) (es : List SubEntry) (i : ℕ) (d : SubEntry) (fault : TreeStop) → i < length es
+pub rows-stop : {Y : Type 0} (row : ℕ → SubEntry → Result (List Y) TreeStop) (left : ℕ) (es : List SubEntry) (i : ℕ) (d : SubEntry) (fault : TreeStop) → i < length es
     → row left (get_or es i d) ≡ Err fault → rows row left (drop i es) ≡ Err fault
 unfolding after_row
 rows-stop row left es i d fault h e = rows-is row left es i d h ∙ ap (after_row row left (drop (i + 1) es)) e
 
-rows-next : (row : ℕ → SubEntry → Result (List SubEntry) TreeStop) (left : ℕ) (es : List SubEntry) (i : ℕ) (d : SubEntry) (here : List SubEntry) → i < length es
+pub rows-next : {Y : Type 0} (row : ℕ → SubEntry → Result (List Y) TreeStop) (left : ℕ) (es : List SubEntry) (i : ℕ) (d : SubEntry) (here : List Y) → i < length es
     → row left (get_or es i d) ≡ Ok here → rows row left (drop i es) ≡ before here (rows row (left - length here) (drop (i + 1) es))
 unfolding after_row
 rows-next row left es i d here h e = rows-is row left es i d h ∙ ap (after_row row left (drop (i + 1) es)) e
 
-pub rows-end : (row : ℕ → SubEntry → Result (List SubEntry) TreeStop) (left : ℕ) (es : List SubEntry) (i : ℕ) → length es ≤ i → rows row left (drop i es) ≡ Ok []
+pub rows-end : {Y : Type 0} (row : ℕ → SubEntry → Result (List Y) TreeStop) (left : ℕ) (es : List SubEntry) (i : ℕ) → length es ≤ i → rows row left (drop i es) ≡ Ok []
 rows-end row left es i h = ap (rows row left) (drop_all i es h)
 
 pub rows-deep : (find : Finder) (deeper left : ℕ) (es : List SubEntry) (i : ℕ) (d : SubEntry) → deeper ≡ 0 → i < length es → rows (row_of find deeper) left (drop i es) ≡ Err Deep

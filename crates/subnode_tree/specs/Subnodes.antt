@@ -1,10 +1,12 @@
 -- The subnodes of a node, as a reading of the blocks that a finder gives by their keys.
-use Rattle.std.specs.Prelude.{ℕ, zero, suc, ◌+◌, ◌-◌, ◌*◌, ◌/◌, ◌%◌, ◌^◌, ◌==◌, ◌&&◌, nat_le, nat_lt, if◌then◌else◌, Bool, true, List, [], ◌∷◌, ◌++◌, length, Option, Result, Ok, Err}
+use Rattle.std.specs.Prelude.{ℕ, map, zero, suc, ◌+◌, ◌-◌, ◌*◌, ◌/◌, ◌%◌, ◌^◌, ◌==◌, ◌&&◌, nat_le, nat_lt, if◌then◌else◌, Bool, true, List, [], ◌∷◌, ◌++◌, length, Option, Result, Ok, Err}
 use Rattle.pst_base.specs.declared.ids.Bid.{Bid}
 use Rattle.pst_base.specs.Fields.{number_at}
 use Rattle.data_tree.specs.declared.source.TreeStop.{TreeStop}
 use Rattle.data_tree.specs.declared.source.TreeStop.TheVariants.{Form, Deep, Many}
-use Rattle.data_tree.specs.Tree.{and_then, fetched}
+use Rattle.pst_base.specs.Flat.{Flat}
+use Rattle.pst_base.specs.Subs.{one_deeper}
+use Rattle.data_tree.specs.Tree.{and_then, fetched, blocks_of}
 use Rattle.subnode_tree.specs.declared.blocks.SubEntry.{SubEntry}
 use Rattle.subnode_tree.specs.declared.blocks.Listed.{Listed}
 
@@ -91,7 +93,7 @@ level_of find level bid = and_then (fetched find bid) (level_in find level bid)
 -- ---- the subnodes at all levels, each before those below it
 
 -- what each entry leads to, while so many entries may still come
-abbrev pub rows : (ℕ → SubEntry → Result (List SubEntry) TreeStop) → ℕ → List SubEntry → Result (List SubEntry) TreeStop
+abbrev pub rows : {Y : Type 0} → (ℕ → SubEntry → Result (List Y) TreeStop) → ℕ → List SubEntry → Result (List Y) TreeStop
 rows row room [] = Ok []
 rows row room (entry ∷ entries) = and_then (row room entry) (λ here. and_then (rows row (room - length here) entries) (λ more. Ok (here ++ more)))
 
@@ -100,7 +102,7 @@ abbrev pub branch : (ℕ → Bid → Result (List SubEntry) TreeStop) → ℕ �
 branch below room entry = if room == 0 then Err Many else and_then (below (room - 1) entry.subnodes) (λ inner. Ok (entry ∷ inner))
 
 -- the entries that a block leads to, where there is one
-abbrev pub opened : (ℕ → Option (List ℕ)) → ℕ → Bid → (List SubEntry → Result (List SubEntry) TreeStop) → Result (List SubEntry) TreeStop
+abbrev pub opened : {Y : Type 0} → (ℕ → Option (List ℕ)) → ℕ → Bid → (List SubEntry → Result (List Y) TreeStop) → Result (List Y) TreeStop
 opened find level bid next = if bid.bits == 0 then Ok [] else and_then (level_of find level bid) next
 
 -- the subnodes from a level on, below which so many levels may follow
@@ -111,3 +113,20 @@ tree_from find (suc deeper) room bid = opened find (8 - deeper) bid (rows (branc
 -- all subnodes of a node: at most 8 levels, and at most one for each 24 bytes of the file
 unfoldable pub tree_of : (ℕ → Option (List ℕ)) → ℕ → Bid → Result (List SubEntry) TreeStop
 tree_of find eof bid = tree_from find 8 (eof / 24) bid
+
+-- ---- the subnodes with their data
+
+-- an entry with its data, and what stands below it, one level deeper
+abbrev pub branch_with : (ℕ → Option (List ℕ)) → ℕ → (ℕ → Bid → Result (List Flat) TreeStop) → ℕ → SubEntry → Result (List Flat) TreeStop
+branch_with find eof below room entry =
+    if room == 0 then Err Many
+    else and_then (blocks_of find eof entry.content) (λ blocks. and_then (below (room - 1) entry.subnodes) (λ inner. Ok (record { level = 0; nid = (entry.nid).bits; blocks = blocks } ∷ map one_deeper inner)))
+
+-- the subnodes from a level on with their data, below which so many levels may follow
+abbrev pub subs_from : (ℕ → Option (List ℕ)) → ℕ → ℕ → ℕ → Bid → Result (List Flat) TreeStop
+subs_from find eof zero room bid = opened find 9 bid (rows (λ left entry. Err Deep) room)
+subs_from find eof (suc deeper) room bid = opened find (8 - deeper) bid (rows (branch_with find eof (subs_from find eof deeper)) room)
+
+-- all subnodes of a node with their data
+unfoldable pub subs_of : (ℕ → Option (List ℕ)) → ℕ → Bid → Result (List Flat) TreeStop
+subs_of find eof bid = subs_from find eof 8 (eof / 24) bid
