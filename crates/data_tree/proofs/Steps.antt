@@ -10,10 +10,10 @@ use Rattle.data_tree.specs.Source.{Source, Rose, Later, StoppedBy}
 use Rattle.data_tree.specs.Stops.{TreeStops, Reads, ReadsAlone}
 use Rattle.data_tree.specs.Tree.{and_then}
 
-pub later-same : (s : Source) → Later s s
-later-same s = record { fails = omega arith; changes = omega arith; eof = refl; told = λ find h. h }
+pub later-same : {A : Type 0} (s : Source A) → Later s s
+later-same s = record { fails = omega arith; changes = omega arith; eof = refl; told = λ find h. h; since = λ first h. h }
 
-pub later-then : (old mid new : Source) → Later old mid → Later mid new → Later old new
+pub later-then : {A : Type 0} (old mid new : Source A) → Later old mid → Later mid new → Later old new
 later-then old mid new first next =
     let a = first.fails in
     let b = next.fails in
@@ -24,18 +24,19 @@ later-then old mid new first next =
       changes = omega (arith, c, d);
       eof = next.eof ∙ first.eof;
       told = λ find h. next.told find (first.told find h);
+      since = λ earlier h. next.since earlier (first.since earlier h);
     }
 
 rose-before : (a b c : ℕ) → a ≤ b → Rose b c → Rose a c
 rose-before a b c h r = omega (arith, h, r)
 
-stopped-after : (old mid new : Source) → Later old mid → (stop : SourceStop) → StoppedBy mid new stop → StoppedBy old new stop
+stopped-after : {A : Type 0} (old mid new : Source A) → Later old mid → (stop : SourceStop) → StoppedBy mid new stop → StoppedBy old new stop
 stopped-after old mid new first Failed rose = rose-before old.fails mid.fails new.fails first.fails rose
 stopped-after old mid new first (Changed ib stored computed) both =
     (rose-before old.changes mid.changes new.changes first.changes both.0, λ find h. both.1 find (first.told find h))
 
 -- the stop of a call after others is the whole's, where the whole's reading has the fault of the call's
-pub stops-after : {X Y : Type 0} (old mid new : Source) (part : (ℕ → Option (List ℕ)) → Result X TreeStop) (whole : (ℕ → Option (List ℕ)) → Result Y TreeStop)
+pub stops-after : {A X Y : Type 0} (old mid new : Source A) (part : (ℕ → Option (List ℕ)) → Result X TreeStop) (whole : (ℕ → Option (List ℕ)) → Result Y TreeStop)
     → Later old mid → ((find : ℕ → Option (List ℕ)) → old.holds find → (fault : TreeStop) → part find ≡ Err fault → whole find ≡ Err fault)
     → (stop : MemOr TreeStop) → TreeStops mid new part stop → TreeStops old new whole stop
 stops-after old mid new part whole first faults Memory stops = tt
@@ -47,7 +48,7 @@ stops-after old mid new part whole first faults (Refused Deep) stops = λ find h
 stops-after old mid new part whole first faults (Refused Many) stops = λ find h. faults find h Many (stops find (first.told find h))
 
 -- the same of a whole answer, where the whole's reading is then that of the call
-pub reads-after : {X Y : Type 0} (view : X → Y) (old mid new : Source) (part whole : (ℕ → Option (List ℕ)) → Result Y TreeStop)
+pub reads-after : {A X Y : Type 0} (view : X → Y) (old mid new : Source A) (part whole : (ℕ → Option (List ℕ)) → Result Y TreeStop)
     → Later old mid → ((find : ℕ → Option (List ℕ)) → old.holds find → whole find ≡ part find)
     → (answer : Result X (MemOr TreeStop)) → Reads view mid new part answer → Reads view old new whole answer
 reads-after view old mid new part whole first same (Ok x) reads = λ find h. same find h ∙ reads find (first.told find h)
@@ -55,7 +56,7 @@ reads-after view old mid new part whole first same (Err stop) reads =
     stops-after old mid new part whole first (λ find h fault e. same find h ∙ e) stop reads
 
 -- an answer that asks no source
-pub reads-alone : {X Y : Type 0} (view : X → Y) (old new : Source) (part : Result Y TreeStop) (whole : (ℕ → Option (List ℕ)) → Result Y TreeStop)
+pub reads-alone : {A X Y : Type 0} (view : X → Y) (old new : Source A) (part : Result Y TreeStop) (whole : (ℕ → Option (List ℕ)) → Result Y TreeStop)
     → ((find : ℕ → Option (List ℕ)) → old.holds find → whole find ≡ part)
     → (answer : Result X (MemOr TreeStop)) → ReadsAlone view answer part → Reads view old new whole answer
 reads-alone view old new part whole same (Ok x) reads = λ find h. same find h ∙ reads
@@ -74,7 +75,7 @@ abbrev pub before : {Y : Type 0} → List Y → Result (List Y) TreeStop → Res
 before out rest = and_then rest (λ more. Ok (out ++ more))
 
 -- the loop has read out since old, and the rest completes the whole
-pub record Along {Y : Type 0} (old now : Source) (out : List Y) (rest whole : (ℕ → Option (List ℕ)) → Result (List Y) TreeStop) : Type 0 where
+pub record Along {A Y : Type 0} (old now : Source A) (out : List Y) (rest whole : (ℕ → Option (List ℕ)) → Result (List Y) TreeStop) : Type 0 where
   pub later : Later old now
   pub so_far : (find : ℕ → Option (List ℕ)) → old.holds find → before out (rest find) ≡ whole find
 
@@ -86,10 +87,10 @@ before-more : {Y : Type 0} (out here : List Y) (rest : Result (List Y) TreeStop)
 before-more out here (Ok more) = ap Ok (append_assoc out here more)
 before-more out here (Err fault) = refl
 
-pub along-start : {Y : Type 0} (old : Source) (whole : (ℕ → Option (List ℕ)) → Result (List Y) TreeStop) → Along old old [] whole whole
+pub along-start : {A Y : Type 0} (old : Source A) (whole : (ℕ → Option (List ℕ)) → Result (List Y) TreeStop) → Along old old [] whole whole
 along-start old whole = record { later = later-same old; so_far = λ find h. before-none (whole find) }
 
-pub along-next : {Y : Type 0} (old mid now : Source) (out here : List Y) (rest next whole : (ℕ → Option (List ℕ)) → Result (List Y) TreeStop)
+pub along-next : {A Y : Type 0} (old mid now : Source A) (out here : List Y) (rest next whole : (ℕ → Option (List ℕ)) → Result (List Y) TreeStop)
     → Along old mid out rest whole → Later mid now → ((find : ℕ → Option (List ℕ)) → mid.holds find → rest find ≡ before here (next find))
     → Along old now (out ++ here) next whole
 along-next old mid now out here rest next whole along later step = record {
@@ -97,14 +98,14 @@ along-next old mid now out here rest next whole along later step = record {
   so_far = λ find h. before-more out here (next find) ∙ ap (before out) (sym (step find (along.later.told find h))) ∙ along.so_far find h;
 }
 
-pub along-stop : {X Y : Type 0} (old mid now : Source) (out : List Y) (part : (ℕ → Option (List ℕ)) → Result X TreeStop) (rest whole : (ℕ → Option (List ℕ)) → Result (List Y) TreeStop)
+pub along-stop : {A X Y : Type 0} (old mid now : Source A) (out : List Y) (part : (ℕ → Option (List ℕ)) → Result X TreeStop) (rest whole : (ℕ → Option (List ℕ)) → Result (List Y) TreeStop)
     → Along old mid out rest whole → ((find : ℕ → Option (List ℕ)) → mid.holds find → (fault : TreeStop) → part find ≡ Err fault → rest find ≡ Err fault)
     → (stop : MemOr TreeStop) → TreeStops mid now part stop → TreeStops old now whole stop
 along-stop old mid now out part rest whole along faults stop stops =
     stops-after old mid now part whole along.later
     (λ find h fault e. sym (along.so_far find h) ∙ ap (before out) (faults find (along.later.told find h) fault e)) stop stops
 
-pub along-end : {Y : Type 0} (old now : Source) (out : List Y) (rest whole : (ℕ → Option (List ℕ)) → Result (List Y) TreeStop)
+pub along-end : {A Y : Type 0} (old now : Source A) (out : List Y) (rest whole : (ℕ → Option (List ℕ)) → Result (List Y) TreeStop)
     → Along old now out rest whole → ((find : ℕ → Option (List ℕ)) → rest find ≡ Ok []) → (find : ℕ → Option (List ℕ)) → old.holds find → whole find ≡ Ok out
 along-end old now out rest whole along none find h =
     sym (along.so_far find h) ∙ ap (before out) (none find) ∙ ap Ok (append-nil out)

@@ -7,13 +7,13 @@ use Rattle.data_tree.specs.declared.source.TreeStop.TheVariants.{Source as BySou
 use Rattle.data_tree.specs.Source.{Source, StoppedBy}
 
 -- a stop by the source is its own; each other is the fault that the reading gives of the blocks told
-abbrev pub TreeStops : {Y : Type 0} → Source → Source → ((ℕ → Option (List ℕ)) → Result Y TreeStop) → MemOr TreeStop → Type 0
+abbrev pub TreeStops : {A Y : Type 0} → Source A → Source A → ((ℕ → Option (List ℕ)) → Result Y TreeStop) → MemOr TreeStop → Type 0
 TreeStops old new reading Memory = Unit {0}
 TreeStops old new reading (Refused (BySource stop)) = StoppedBy old new stop
 TreeStops old new reading (Refused fault) = (find : ℕ → Option (List ℕ)) → old.holds find → reading find ≡ Err fault
 
 -- what was read, seen by view, is what the reading gives of the blocks told, and each stop is as above
-abbrev pub Reads : {X Y : Type 0} → (X → Y) → Source → Source → ((ℕ → Option (List ℕ)) → Result Y TreeStop) → Result X (MemOr TreeStop) → Type 0
+abbrev pub Reads : {A X Y : Type 0} → (X → Y) → Source A → Source A → ((ℕ → Option (List ℕ)) → Result Y TreeStop) → Result X (MemOr TreeStop) → Type 0
 Reads view old new reading (Ok x) = (find : ℕ → Option (List ℕ)) → old.holds find → reading find ≡ Ok (view x)
 Reads view old new reading (Err stop) = TreeStops old new reading stop
 

@@ -16,7 +16,7 @@ impl BlockSource for BlockList {
     ghost use Rattle.std.specs.Prelude.{◌≡◌, ℕ};
     ghost use Rattle.data_tree.specs.Listed.{block_at};
 
-    ghost view = { λ s. record { holds = λ find. (key : ℕ) → find key ≡ block_at key s.blocks.items; fails = 0; changes = 0; eof = s.limit } };
+    ghost view = { λ s. record { holds = λ find. (key : ℕ) → find key ≡ block_at key s.blocks.items; fails = 0; changes = 0; eof = s.limit; since = λ first. first ≡ s } };
 
     fn block(&mut self, alloc: Global, bid: Bid) -> Result<Option<Bytes>, MemOr<SourceStop>> {
         for listed in self.blocks.iter() {

@@ -11,7 +11,7 @@ use std::alloc::Global;
 /// A source of blocks' data.
 pub trait BlockSource {
     /// What contracts see of it: the blocks that it tells, its two counts, and the file's length.
-    ghost view: { Self → Source };
+    ghost view: { Self → Source Self };
 
     /// The data of the block with this id, of which bit 0 doesn't count; `None` where there is no such block. `Failed` comes where the device failed, `Changed` where something isn't as the source found it before.
     fn block(&mut self, alloc: Global, bid: Bid) -> Result<Option<Bytes>, MemOr<SourceStop>>
