@@ -1,0 +1,4 @@
+pub mod FileLaws
+pub mod RoomLaws
+pub mod EntryLaws
+pub mod StandLaws

@@ -1,0 +1,14 @@
+//! The blocks of a file, which its block tree names ([MS-PST] 2.2.2.8).
+//!
+//! Promises: `check_block` says whether an entry of the block tree names a whole block, and what is wrong with it first. `FileBlocks` is a source of blocks over a world: from entries whose blocks were found whole it gives each block's data, and tells what it found changed since.
+//!
+//! Which entries a file has is left to others.
+#![tactic(auto)]
+
+mod check;
+mod entries;
+mod source;
+
+pub use check::{BlockRefusal, BlockStop, check_block, read_block};
+pub use entries::find_entry;
+pub use source::FileBlocks;
