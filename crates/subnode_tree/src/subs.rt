@@ -45,7 +45,7 @@ fn subs_from<S: BlockSource>(
     Ok((Subs::from_vec(found), room - left))
 }
 
-/// The subnodes of a node at all levels, with their data.
+/// The subnodes of a node at all levels, with their data. A subnode's data is read before what stands below it, and that before the next subnode.
 ///
 /// `Missing` where there is no block with an id that is named; `Form` of a block that names others or lists subnodes and isn't of its layout, or names what may not stand below it, or whose NIDs don't ascend, or reach below the one that it is listed with; `Long` where the data of one subnode passes the file's length; `Deep` where a subnode stands below level 8; `Many` where there are more than one for each 24 bytes of the file; `Source` by the source.
 #[tactic(auto, unfolding(crate::specs::Subnodes::subs_of))]
