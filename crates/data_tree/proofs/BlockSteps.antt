@@ -1,11 +1,15 @@
 -- The readings of lists of ids, at one id more.
-use Rattle.std.proofs.Common.{Bool, true, ◌≡◌, ℕ, ◌+◌, ◌-◌, ◌<◌, ◌≤◌, ltb, if◌then◌else◌, List, [], ◌∷◌, ◌++◌, length, drop, get_or, Option, Result, Ok, Err, refl, ap, ◌∙◌, arith}
+use Rattle.std.proofs.Common.{Bool, true, ◌≡◌, ℕ, ◌+◌, ◌-◌, ◌<◌, ◌≤◌, ltb, if◌then◌else◌, List, [], ◌∷◌, ◌++◌, length, drop, get_or, Option, Some, None, Result, Ok, Err, refl, ap, ◌∙◌, arith}
 use Rattle.std.proofs.lemmas.Bool.{lt-ltb, le-ltb}
 use Rattle.std.proofs.lemmas.List.{drop_all}
+use Rattle.std.proofs.lemmas.List.Sums.{sum_by-append}
 use Rattle.pst_base.specs.declared.ids.Bid.{Bid}
 use Rattle.data_tree.specs.declared.source.TreeStop.{TreeStop}
-use Rattle.data_tree.specs.declared.source.TreeStop.TheVariants.{Long}
-use Rattle.data_tree.specs.Tree.{and_then, fetched, is_internal, is_listing, leaves, below, all_below, listed, blocks_from}
+use Rattle.data_tree.specs.declared.source.TreeStop.TheVariants.{Missing, Long}
+use Rattle.pst_base.specs.Ids.{key_of}
+use Rattle.data_tree.specs.Measure.{bytes_in}
+use Rattle.data_tree.specs.Source.{length_if, size_in}
+use Rattle.data_tree.specs.Tree.{and_then, named, fetched, is_internal, is_listing, leaves, below, all_below, listed, blocks_from}
 use Rattle.data_tree.proofs.ListingLaws.{drop-here}
 use Rattle.data_tree.proofs.Steps.{before}
 
@@ -78,3 +82,40 @@ blocks-stop find eof left bids i d fault h e =
 
 pub blocks-end : (find : Finder) (eof left : ℕ) (bids : List Bid) (i : ℕ) → length bids ≤ i → blocks_left find eof left (drop i bids) ≡ Ok []
 blocks-end find eof left bids i h = ap (blocks_from find eof (eof - left)) (drop_all i bids h)
+
+-- ---- sizes alone
+
+length_if-some : (o : Option (List ℕ)) (n : ℕ) → length_if o ≡ Some n → (b : List ℕ) × (o ≡ Some b) × (length b ≡ n)
+length_if-some None n e = absurd cc
+length_if-some (Some b) n e = (b, refl, cc)
+
+length_if-none : (o : Option (List ℕ)) → length_if o ≡ None → o ≡ None
+length_if-none None e = refl
+length_if-none (Some b) e = absurd cc
+
+-- the block that has a size, and the fault of one that has none
+pub size-some : (find : Finder) (bid : Bid) (n : ℕ) → size_in find bid ≡ Some n → (b : List ℕ) × (fetched find bid ≡ Ok b) × (length b ≡ n)
+size-some find bid n e =
+    let block = length_if-some (find (key_of bid.bits)) n e in
+    (block.0, ap (named bid) block.1, block.2)
+
+pub size-none : (find : Finder) (bid : Bid) → size_in find bid ≡ None → fetched find bid ≡ Err (Missing bid)
+size-none find bid e = ap (named bid) (length_if-none (find (key_of bid.bits)) e)
+
+-- one block more, of which the size is known
+pub sizes-next : (find : Finder) (eof left : ℕ) (bids : List Bid) (i : ℕ) (d : Bid) (n : ℕ) → i < length bids → left ≤ eof → n ≤ left
+    → size_in find (get_or bids i d) ≡ Some n
+    → (here : List (List ℕ)) × (bytes_in here ≡ n) × (blocks_left find eof left (drop i bids) ≡ before here (blocks_left find eof (left - n) (drop (i + 1) bids)))
+sizes-next find eof left bids i d n h room fit e =
+    let block = size-some find (get_or bids i d) n e in
+    let len = block.2 in
+    let fits : length block.0 ≤ left = omega (arith, len, fit) in
+    let all : bytes_in (block.0 ∷ []) ≡ n = omega (arith, len) in (
+      block.0 ∷ [],
+      all,
+      blocks-next find eof left bids i d block.0 h room fits block.1
+          ∙ ap (λ (k : ℕ). before (block.0 ∷ []) (blocks_left find eof (left - k) (drop (i + 1) bids))) len,
+    )
+
+pub bytes-sum : (xs ys : List (List ℕ)) → bytes_in (xs ++ ys) ≡ bytes_in xs + bytes_in ys
+bytes-sum xs ys = sum_by-append length xs ys

@@ -1,3 +1,4 @@
 pub mod BlockSteps
+pub mod CountSteps
 pub mod ListingLaws
 pub mod Steps

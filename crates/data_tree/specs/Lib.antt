@@ -1,4 +1,5 @@
 pub mod Listed
+pub mod Measure
 pub mod Source
 pub mod Stops
 pub mod Tree

@@ -1,5 +1,7 @@
 -- What a source of blocks is to contracts, and how it may change.
-use Rattle.std.specs.Prelude.{◌≡◌, ℕ, ◌+◌, ◌-◌, ◌^◌, ◌≤◌, min, List, Option}
+use Rattle.std.specs.Prelude.{◌≡◌, ℕ, ◌+◌, ◌-◌, ◌^◌, ◌≤◌, min, List, length, Option, Some, None}
+use Rattle.pst_base.specs.Ids.{key_of}
+use Rattle.pst_base.specs.declared.ids.Bid.{Bid}
 use Rattle.pst_base.specs.declared.stops.MemOr.{MemOr}
 use Rattle.pst_base.specs.declared.stops.MemOr.TheVariants.{Memory, Refused}
 use Rattle.pst_base.specs.declared.stops.SourceStop.{SourceStop}
@@ -8,6 +10,15 @@ use Rattle.pst_base.specs.declared.stops.SourceStop.TheVariants.{Failed, Changed
 -- the data of the block of each key, or none
 abbrev pub Finder : Type 0
 Finder = ℕ → Option (List ℕ)
+
+-- how many bytes a block has, if there is one
+abbrev pub length_if : Option (List ℕ) → Option ℕ
+length_if None = None
+length_if (Some b) = Some (length b)
+
+-- the same of the block with this id, whose bit 0 doesn't count
+abbrev pub size_in : (ℕ → Option (List ℕ)) → Bid → Option ℕ
+size_in find bid = length_if (find (key_of bid.bits))
 
 -- a source of blocks, of type A
 pub record Source (A : Type 0) : Type 1 where

@@ -1,12 +1,13 @@
 //! The data of a node or a subnode: one block, or a tree of blocks that name others ([MS-PST] 2.2.2.8.3.2).
 //!
-//! `BlockSource` is where blocks come from: contracts see which blocks it tells, and two counts, of its failures and of what it found changed. `read_bids` gives the ids of a tree's data blocks, `read_data` their bytes; both answer just what `Tree` says of the blocks that the source tells, and stop only by a fault of the tree, by the source, or by want of memory.
+//! `BlockSource` is where blocks come from: contracts see which blocks it tells, and two counts, of its failures and of what it found changed. `read_bids` gives the ids of a tree's data blocks, `read_data` their bytes, and `measure_data` how many those are; all answer just what `Tree` and `Measure` say of the blocks that the source tells, and stop only by a fault of the tree, by the source, or by want of memory.
 //!
 //! Which blocks a file has, and whether each is whole, is the source's concern.
 #![tactic(auto)]
 
 mod data;
 mod listing;
+mod measure;
 mod memory;
 mod source;
 #[cfg(test)]
@@ -14,6 +15,7 @@ mod tests;
 mod tree;
 
 pub use data::read_data;
+pub use measure::measure_data;
 pub use memory::BlockList;
 pub use source::{BlockSource, TreeStop, fetch};
 pub use tree::read_bids;

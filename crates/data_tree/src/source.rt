@@ -1,7 +1,7 @@
 //! Where blocks come from, and why a reading of a tree of blocks stops.
 ghost use Rattle.std.specs.Prelude.{◌≡◌, ℕ, List, Option, IfOk, IfErr};
 ghost use Rattle.pst_base.specs.Ids.{key_of};
-ghost use Rattle.data_tree.specs.Source.{Source, Later, SourceStops};
+ghost use Rattle.data_tree.specs.Source.{Source, Later, SourceStops, size_in};
 ghost use Rattle.data_tree.specs.Stops.{Reads};
 ghost use Rattle.data_tree.specs.Tree.{fetched};
 
@@ -18,6 +18,10 @@ pub trait BlockSource {
         ensures later { Later (view self.old) (view self.new) }
         ensures found { IfOk result (λ found. (find : ℕ → Option (List ℕ)) → (view self.old).holds find → found ≡ find (key_of bid.bits)) }
         ensures stopped { IfErr result (SourceStops (view self.old) (view self.new)) };
+
+    /// How many bytes of data the block with this id has, of which bit 0 doesn't count; `None` where there is no such block. It reads nothing.
+    fn size(&self, bid: Bid) -> Option<u64>
+        ensures { (find : ℕ → Option (List ℕ)) → (view self.now).holds find → result ≡ size_in find bid };
 
     /// The file's length.
     fn limit(&self) -> u64

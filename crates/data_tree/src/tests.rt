@@ -1,5 +1,5 @@
 //! Trees of blocks by the layout of [MS-PST] 2.2.2.8.3.2.
-use crate::{BlockList, BlockSource, TreeStop, read_bids, read_data};
+use crate::{BlockList, BlockSource, TreeStop, measure_data, read_bids, read_data};
 use pst_base::{Bid, Bytes, MemOr, SourceStop};
 use std::alloc::{AllocError, Global};
 use std::test::Fail;
@@ -45,12 +45,19 @@ fn data(alloc: Global, bits: u64, limit: u64) -> Result<Bytes, MemOr<TreeStop>> 
     Ok(Bytes::from_vec(all))
 }
 
+/// How long a tree's data is, or why there is none.
+fn length(alloc: Global, bits: u64, limit: u64) -> Result<u64, MemOr<TreeStop>> {
+    let mut s = source(alloc, limit)?;
+    measure_data(alloc, Bid { bits }, &mut s)
+}
+
 #[test]
 fn trees_give_their_data_in_order(rt: HostRuntime) -> Result<(), MemOr<TreeStop>> {
     let all: [u8; 6] = [1, 2, 2, 3, 3, 3];
-    for (bits, count) in [(0, 0), (5, 1), (18, 3), (19, 3), (26, 6)] {
+    for (bits, count, len) in [(0, 0, 0), (5, 1, 1), (18, 3, 3), (19, 3, 3), (26, 6, 6)] {
         let found = data(rt.alloc(), bits, 6)?;
         assert!(rt; all.get(..count) == Some(found.as_slice()), "at {bits}");
+        assert_eq!(rt; length(rt.alloc(), bits, 6), Ok(len), "at {bits}");
     }
     let mut s = source(rt.alloc(), 0)?;
     let bids = read_bids(rt.alloc(), Bid { bits: 26 }, &mut s)?;
@@ -96,21 +103,29 @@ fn faults_name_their_block(rt: HostRuntime) {
             data(rt.alloc(), bits, limit).err() == Some(MemOr::Refused(want)),
             "at {bits}"
         );
+        assert!(rt;
+            length(rt.alloc(), bits, limit) == Err(MemOr::Refused(want)),
+            "at {bits}"
+        );
     }
 }
 
-/// A device that fails at each call.
+/// A device that fails at each reading, and knows that each block is empty.
 #[derive(Drop)]
 struct Broken {
     fails: u64,
 }
 
 impl BlockSource for Broken {
-    ghost view = { λ s. record { holds = λ find. ⊥; fails = s.fails; changes = 0; eof = 0 } };
+    ghost view = { λ s. record { holds = λ find. ⊥; fails = s.fails; changes = 0; eof = 0; since = λ first. first.fails ≤ s.fails } };
 
     fn block(&mut self, _: Global, _: Bid) -> Result<Option<Bytes>, MemOr<SourceStop>> {
         self.fails = self.fails.saturating_add(1);
         Err(MemOr::Refused(SourceStop::Failed))
+    }
+
+    fn size(&self, _: Bid) -> Option<u64> {
+        Some(0)
     }
 
     fn limit(&self) -> u64 {
@@ -124,4 +139,11 @@ fn a_device_that_fails_is_named(rt: HostRuntime) {
     let stop = read_bids(rt.alloc(), Bid { bits: 2 }, &mut s).err();
     assert!(rt; stop == Some(MemOr::Refused(TreeStop::Source(SourceStop::Failed))));
     assert_eq!(rt; s.fails, 1);
+}
+
+#[test]
+fn a_length_is_known_without_the_data(rt: HostRuntime) {
+    let mut s = Broken { fails: 0 };
+    assert_eq!(rt; measure_data(rt.alloc(), Bid { bits: 4 }, &mut s), Ok(0));
+    assert_eq!(rt; s.fails, 0);
 }

@@ -1,3 +1,4 @@
+pub mod CountLaws
 pub mod ListLaws
 pub mod PartSteps
 pub mod RowSteps

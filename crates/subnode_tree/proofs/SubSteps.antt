@@ -11,7 +11,7 @@ use Rattle.data_tree.specs.declared.source.TreeStop.TheVariants.{Deep, Many}
 use Rattle.data_tree.specs.Tree.{and_then, blocks_of}
 use Rattle.data_tree.proofs.Steps.{before}
 use Rattle.subnode_tree.specs.declared.blocks.SubEntry.{SubEntry}
-use Rattle.subnode_tree.specs.Subnodes.{level_of, rows, branch_with, opened, subs_from}
+use Rattle.subnode_tree.specs.Subnodes.{level_of, rows, branch_with, subs_from}
 use Rattle.subnode_tree.proofs.RowSteps.{rows-stop, rows-next}
 
 abbrev Finder : Type 0
