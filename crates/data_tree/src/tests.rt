@@ -117,6 +117,8 @@ struct Broken {
 }
 
 impl BlockSource for Broken {
+    ghost use Rattle.std.specs.Prelude.{◌≤◌};
+
     ghost view = { λ s. record { holds = λ find. ⊥; fails = s.fails; changes = 0; eof = 0; since = λ first. first.fails ≤ s.fails } };
 
     fn block(&mut self, _: Global, _: Bid) -> Result<Option<Bytes>, MemOr<SourceStop>> {

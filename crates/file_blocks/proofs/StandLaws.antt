@@ -1,6 +1,6 @@
 -- What a block that stands holds, and worlds that go on telling.
-use Rattle.std.proofs.Common.{Bool, true, false, not, ◌≡◌, ℕ, ◌+◌, ◌≤◌, eqb, List, length, take, drop, Option, Some, None, Result, Ok, Err, refl, sym, ap, subst, ◌∙◌, arith, if◌then◌else◌}
-use Rattle.std.proofs.lemmas.List.{take-take}
+use Rattle.std.proofs.Common.{Bool, Err, List, None, Ok, Option, Result, Some, ap, arith, drop, eqb, false, if◌then◌else◌, length, length-drop, ltb, not, refl, subst, sym, take, true, ℕ, ◌+◌, ◌∙◌, ◌≡◌, ◌≤◌}
+use Rattle.std.proofs.lemmas.List.{take-take, length-take-le}
 use Rattle.pst_base.specs.declared.ids.Bref.{Bref}
 use Rattle.pst_outside.specs.World.{Image, World}
 use Rattle.pst_outside.specs.Calls.{Untouched}
@@ -15,7 +15,10 @@ use Rattle.pst_base.specs.Sig.{sig_of}
 use Rattle.block_frame.specs.Size.{disk_size_of}
 use Rattle.btree_pages.specs.declared.entry.BlockEntry.{BlockEntry}
 use Rattle.file_blocks.specs.declared.check.BlockRefusal.{BlockRefusal}
-use Rattle.file_blocks.specs.Blocks.{unless, faulty, misplaced, data_at}
+use Rattle.file_blocks.specs.declared.check.BlockRefusal.TheVariants.{Outside}
+use Rattle.file_blocks.specs.declared.check.BlockRefusal.TheVariants as refusals
+use Rattle.file_blocks.specs.Blocks.{unless, faulty, has_room, misplaced, data_at, Stands}
+use Rattle.file_blocks.proofs.RoomLaws.{room-before}
 use Rattle.file_blocks.specs.Stops.{Tells, StopsRead}
 use Rattle.pst_base.specs.declared.stops.MemOr.{MemOr}
 use Rattle.pst_base.specs.declared.stops.MemOr.TheVariants.{Refused}
@@ -78,3 +81,20 @@ stop-is e s refusal r one two stops =
     let P : MemOr BlockStop → Type 0 = λ x. StopsRead x r in
     let h : StopsRead (Refused (Faults refusal)) r = subst P at stops in
     h
+
+-- two tests that found nothing wrong
+none-room : (long room : Bool) (a b : BlockRefusal) → (if long then Some a else (if room then None else Some b)) ≡ None → room ≡ true
+none-room true room a b h = absurd (cc)
+none-room false true a b h = refl
+none-room false false a b h = absurd (cc)
+
+-- a block that stands has the length that its entry says
+pub stands-size : (file : List ℕ) (eof : ℕ) (e : BlockEntry) → Stands file eof e → eof ≤ length file → length (take e.cb (drop e.at.ib file)) ≡ e.cb
+unfolding data_at misplaced
+stands-size file eof e stands whole =
+    let size = disk_size_of e.cb in
+    let parts = unless-none (misplaced eof e) (faulty (reading e.cb e.at (take size (drop e.at.ib file)))) stands.0 stands.1 in
+    let room = none-room (ltb 8176 e.cb) (has_room eof size e.at.ib) refusals.Length Outside parts.0 in
+    let ends = room-before eof size e.at.ib room in
+    let least : e.cb ≤ size = omega arith in
+    length-take-le e.cb (drop e.at.ib file) (omega (arith, length-drop e.at.ib file, ends, whole, least))

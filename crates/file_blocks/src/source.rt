@@ -44,6 +44,11 @@ impl<'a, W: Outside> BlockSource for FileBlocks<'a, W> {
         }
     }
 
+    fn size(&self, bid: Bid) -> Option<u64> {
+        let entry = find_entry(self.entries, bid)?;
+        Some(u64::from(entry.cb))
+    }
+
     fn limit(&self) -> u64 {
         self.eof
     }

@@ -168,6 +168,8 @@ struct Listings {
 }
 
 impl BlockSource for Listings {
+    ghost use Rattle.std.specs.Prelude.{◌≤◌};
+
     ghost view = { λ s. record { holds = λ find. ⊥; fails = s.fails; changes = 0; eof = s.all.limit; since = λ first. first.fails ≤ s.fails } };
 
     fn block(&mut self, alloc: Global, bid: Bid) -> Result<Option<Bytes>, MemOr<SourceStop>> {
