@@ -2,3 +2,4 @@ pub mod Gates
 pub mod SeatLaws
 pub mod Underway
 pub mod WalkLaws
+pub mod OpeningLaws

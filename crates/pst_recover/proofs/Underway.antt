@@ -9,12 +9,10 @@ use Rattle.pst_outside.specs.Calls.{Untouched}
 use Rattle.page_frame.specs.Page.{reading}
 use Rattle.btree_pages.specs.Pages.{Page}
 use Rattle.pst_recover.specs.declared.stops.PageRefusal.{PageRefusal}
-use Rattle.pst_base.specs.declared.stops.MemOr.{MemOr}
-use Rattle.pst_base.specs.declared.stops.MemOr.TheVariants as or_memory
 use Rattle.pst_recover.specs.declared.stops.PageRefusal.TheVariants.{Outside}
 use Rattle.pst_recover.specs.declared.stops.OpenRefusal.TheVariants as refusals
 use Rattle.pst_recover.specs.declared.stops.OpenStop.{OpenStop}
-use Rattle.pst_recover.specs.declared.stops.OpenStop.TheVariants.{Refused, Fault}
+use Rattle.pst_recover.specs.declared.stops.OpenStop.TheVariants.{Refused, Fault, Changed, Memory}
 use Rattle.pst_recover.specs.declared.tree_pages.Seat.{Seat}
 use Rattle.pst_recover.specs.Trees.{framed, faulty, within_frame, FileTree, page_at, Found, nothing, both, page_alone, leaf_of, child_of}
 use Rattle.pst_recover.specs.Walk.{BadPage, after, and_after, through, children, below, walk, Adds, Stands, StopsOutside, StopsWalk}
@@ -77,16 +75,18 @@ page_framed t seat b here = rw here.placed (ap (λ (l : List ℕ). faulty (frame
 
 -- a page that is at fault
 pub faulty_stops : (t : FileTree) (seat : Seat) (fault : PageRefusal) (stop : OpenStop) → stop ≡ Refused (refusals.Page seat.at.ib fault) → page_at t seat ≡ Err fault
-    → StopsWalk (or_memory.Refused stop) (walk t seat)
+    → StopsWalk stop (walk t seat)
 unfolding walk
 faulty_stops t seat fault stop is e =
-    let P : OpenStop → Type 0 = λ s. StopsWalk (or_memory.Refused s) (walk t seat) in
+    let P : OpenStop → Type 0 = λ s. StopsWalk s (walk t seat) in
     subst P (sym is) (ap (λ (r : Result Page PageRefusal). through seat r (λ page. below t page.level seat.high page.entries)) e)
 
 -- a page that can't stand there
-pub outside_stops : (t : FileTree) (seat : Seat) (stop : OpenStop) → StopsOutside stop t.eof seat → StopsWalk (or_memory.Refused stop) (walk t seat)
+pub outside_stops : (t : FileTree) (seat : Seat) (stop : OpenStop) → StopsOutside stop t.eof seat → StopsWalk stop (walk t seat)
 unfolding page_at
 outside_stops t seat Fault out = tt
+outside_stops t seat (Changed ib stored computed) out = absurd out
+outside_stops t seat Memory out = tt
 outside_stops t seat (Refused refusal) out = faulty_stops t seat Outside (Refused refusal) (ap Refused out.0) (rw out.1 refl)
 
 -- ---- a page's children, of which i were read
@@ -168,12 +168,13 @@ underway-stop {E} entry_of t seat page i old_entries entries old_places places b
 pub child_stops : {E : Type 0} (entry_of : List ℕ → E) (t : FileTree) (seat : Seat) (page : Page) (i : ℕ) (old_entries entries : List E) (old_places places : List Place) (child : Seat)
     → Underway entry_of t seat page i old_entries entries old_places places → i < length page.entries
     → child ≡ child_of t.rule (page.level - 1) seat.high (get_or page.entries i []) (drop (i + 1) page.entries)
-    → (stop : MemOr OpenStop) → StopsWalk stop (walk t child) → StopsWalk stop (walk t seat)
-child_stops {E} entry_of t seat page i old_entries entries old_places places child under within is or_memory.Memory stops = tt
-child_stops {E} entry_of t seat page i old_entries entries old_places places child under within is (or_memory.Refused Fault) stops = tt
-child_stops {E} entry_of t seat page i old_entries entries old_places places child under within is (or_memory.Refused (Refused (refusals.Page ib fault))) stops =
+    → (stop : OpenStop) → StopsWalk stop (walk t child) → StopsWalk stop (walk t seat)
+child_stops {E} entry_of t seat page i old_entries entries old_places places child under within is Memory stops = tt
+child_stops {E} entry_of t seat page i old_entries entries old_places places child under within is Fault stops = tt
+child_stops {E} entry_of t seat page i old_entries entries old_places places child under within is (Changed ib stored computed) stops = stops
+child_stops {E} entry_of t seat page i old_entries entries old_places places child under within is (Refused (refusals.Page ib fault)) stops =
     underway-stop entry_of t seat page i old_entries entries old_places places (record { ib = ib; fault = fault }) child under within is stops
-child_stops {E} entry_of t seat page i old_entries entries old_places places child under within is (or_memory.Refused (Refused other)) stops = stops
+child_stops {E} entry_of t seat page i old_entries entries old_places places child under within is (Refused other) stops = stops
 
 -- all children were read
 pub underway-end : {E : Type 0} (entry_of : List ℕ → E) (t : FileTree) (seat : Seat) (page : Page) (i : ℕ) (old_entries entries : List E) (old_places places : List Place)

@@ -9,11 +9,9 @@ use Rattle.page_frame.specs.Page.{reading}
 use Rattle.btree_pages.specs.Pages.{Page}
 use Rattle.pst_recover.specs.declared.stops.PageRefusal.{PageRefusal}
 use Rattle.pst_recover.specs.declared.stops.PageRefusal.TheVariants.{Outside}
-use Rattle.pst_base.specs.declared.stops.MemOr.{MemOr}
-use Rattle.pst_base.specs.declared.stops.MemOr.TheVariants as or_memory
 use Rattle.pst_recover.specs.declared.stops.OpenRefusal.TheVariants as refusals
 use Rattle.pst_recover.specs.declared.stops.OpenStop.{OpenStop}
-use Rattle.pst_recover.specs.declared.stops.OpenStop.TheVariants.{Refused, Fault}
+use Rattle.pst_recover.specs.declared.stops.OpenStop.TheVariants.{Refused, Fault, Changed, Memory}
 use Rattle.pst_recover.specs.declared.tree_pages.Seat.{Seat}
 use Rattle.pst_recover.specs.Trees.{is_placed, page_in, within_frame, framed, FileTree, faulty, page_at, IsTreePage, Found, both, page_alone, leaf_of, child_of, AreChildren, IsTree, root_seat, IsWhole}
 use Rattle.pst_recover.specs.Walk.{BadPage, after, and_after, through, children, below, walk, Leads, IsBadPage, Adds, StopsWalk, StopsTree}
@@ -307,8 +305,9 @@ walk-bad t root ib fault e =
       none = λ found whole. let both_are : ◌≡◌ {A = Result Found BadPage} (Err bad) (Ok found) = sym e ∙ whole-walk t root found whole in cc;
     }
 
-pub stops-tree : (t : FileTree) (root : Bref) (stop : MemOr OpenStop) → StopsWalk stop (walk t (root_seat root)) → StopsTree stop t root
-stops-tree t root or_memory.Memory stops = tt
-stops-tree t root (or_memory.Refused Fault) stops = tt
-stops-tree t root (or_memory.Refused (Refused (refusals.Page ib fault))) stops = walk-bad t root ib fault stops
-stops-tree t root (or_memory.Refused (Refused other)) stops = stops
+pub stops-tree : (t : FileTree) (root : Bref) (stop : OpenStop) → StopsWalk stop (walk t (root_seat root)) → StopsTree stop t root
+stops-tree t root Memory stops = tt
+stops-tree t root Fault stops = tt
+stops-tree t root (Changed ib stored computed) stops = stops
+stops-tree t root (Refused (refusals.Page ib fault)) stops = walk-bad t root ib fault stops
+stops-tree t root (Refused other) stops = stops

@@ -7,7 +7,7 @@ use Rattle.gate_file.specs.Effective.{is_open, header_bytes}
 use Rattle.pst_recover.specs.declared.stops.OpenRefusal.{OpenRefusal}
 use Rattle.pst_recover.specs.declared.stops.OpenRefusal.TheVariants as refusals
 use Rattle.pst_recover.specs.declared.stops.OpenStop.{OpenStop}
-use Rattle.pst_recover.specs.declared.stops.OpenStop.TheVariants.{Refused, Fault}
+use Rattle.pst_recover.specs.declared.stops.OpenStop.TheVariants.{Refused, Fault, Changed, Memory}
 use Rattle.pst_recover.specs.declared.opening.Opened.{Opened}
 
 -- a header's refusal as one of the opening
@@ -28,9 +28,13 @@ abbrev pub Opens : Result Opened OpenStop → List ℕ → List ℕ → Type 0
 Opens (Ok opened) main side = (opening main side ≡ Ok opened.header) × (opened.gate_open ≡ is_open side)
 Opens (Err (Refused refusal)) main side = opening main side ≡ Err refusal
 Opens (Err Fault) main side = Unit {0}
+Opens (Err (Changed ib stored computed)) main side = ⊥
+Opens (Err Memory) main side = ⊥
 
 -- the same of bytes that are read as a header
 abbrev pub ReadsAs : Result Opened OpenStop → Result Header HeaderRefusal → Bool → Type 0
 ReadsAs (Ok opened) read gate_open = (read ≡ Ok opened.header) × (opened.gate_open ≡ gate_open)
 ReadsAs (Err (Refused refusal)) read gate_open = of_header read ≡ Err refusal
 ReadsAs (Err Fault) read gate_open = ⊥
+ReadsAs (Err (Changed ib stored computed)) read gate_open = ⊥
+ReadsAs (Err Memory) read gate_open = ⊥

@@ -2,12 +2,10 @@
 use Rattle.std.specs.Prelude.{◌≡◌, ℕ, zero, suc, List, [], ◌∷◌, ◌++◌, map, take, drop, true, false, Result, Ok, Err}
 use Rattle.pst_base.specs.declared.ids.Bref.{Bref}
 use Rattle.pst_base.specs.declared.places.Place.{Place}
-use Rattle.pst_base.specs.declared.stops.MemOr.{MemOr}
-use Rattle.pst_base.specs.declared.stops.MemOr.TheVariants as or_memory
 use Rattle.btree_pages.specs.Pages.{Page}
 use Rattle.pst_recover.specs.declared.stops.OpenRefusal.TheVariants as refusals
 use Rattle.pst_recover.specs.declared.stops.OpenStop.{OpenStop}
-use Rattle.pst_recover.specs.declared.stops.OpenStop.TheVariants.{Refused, Fault}
+use Rattle.pst_recover.specs.declared.stops.OpenStop.TheVariants.{Refused, Fault, Changed, Memory}
 use Rattle.pst_recover.specs.declared.stops.PageRefusal.{PageRefusal}
 use Rattle.pst_recover.specs.declared.stops.PageRefusal.TheVariants.{Outside}
 use Rattle.pst_recover.specs.declared.tree_pages.Seat.{Seat}
@@ -54,11 +52,12 @@ pub record Adds {E : Type 0} (entry_of : List ℕ → E) (found : Found) (old_en
   pub places : new_places ≡ old_places ++ found.places
 
 -- a refusal names the page at which the reading stopped
-abbrev pub StopsWalk : MemOr OpenStop → Result Found BadPage → Type 0
-StopsWalk or_memory.Memory read = Unit {0}
-StopsWalk (or_memory.Refused Fault) read = Unit {0}
-StopsWalk (or_memory.Refused (Refused (refusals.Page ib fault))) read = read ≡ Err (record { ib = ib; fault = fault })
-StopsWalk (or_memory.Refused (Refused other)) read = ⊥
+abbrev pub StopsWalk : OpenStop → Result Found BadPage → Type 0
+StopsWalk Memory read = Unit {0}
+StopsWalk Fault read = Unit {0}
+StopsWalk (Changed ib stored computed) read = ⊥
+StopsWalk (Refused (refusals.Page ib fault)) read = read ≡ Err (record { ib = ib; fault = fault })
+StopsWalk (Refused other) read = ⊥
 
 -- the bytes of a seat's page, where one may stand there
 pub record Stands (eof : ℕ) (seat : Seat) (file b : List ℕ) : Type 0 where
@@ -68,6 +67,8 @@ pub record Stands (eof : ℕ) (seat : Seat) (file b : List ℕ) : Type 0 where
 -- a refusal says that no page may stand there
 abbrev pub StopsOutside : OpenStop → ℕ → Seat → Type 0
 StopsOutside Fault eof seat = Unit {0}
+StopsOutside (Changed ib stored computed) eof seat = ⊥
+StopsOutside Memory eof seat = ⊥
 StopsOutside (Refused refusal) eof seat = (refusal ≡ refusals.Page seat.at.ib Outside) × (is_placed eof seat.at.ib ≡ false)
 
 -- going from a seat to the children of these numbers, one below the other, leads to a seat
@@ -87,8 +88,9 @@ pub record IsBadPage (t : FileTree) (root : Bref) (ib : ℕ) (fault : PageRefusa
   pub none : (found : Found) → IsWhole t root found → ⊥
 
 -- what a stop says of a root's tree: a refusal comes only where a page is at fault
-abbrev pub StopsTree : MemOr OpenStop → FileTree → Bref → Type 0
-StopsTree or_memory.Memory t root = Unit {0}
-StopsTree (or_memory.Refused Fault) t root = Unit {0}
-StopsTree (or_memory.Refused (Refused (refusals.Page ib fault))) t root = IsBadPage t root ib fault
-StopsTree (or_memory.Refused (Refused other)) t root = ⊥
+abbrev pub StopsTree : OpenStop → FileTree → Bref → Type 0
+StopsTree Memory t root = Unit {0}
+StopsTree Fault t root = Unit {0}
+StopsTree (Changed ib stored computed) t root = ⊥
+StopsTree (Refused (refusals.Page ib fault)) t root = IsBadPage t root ib fault
+StopsTree (Refused other) t root = ⊥

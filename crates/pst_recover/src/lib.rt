@@ -5,14 +5,19 @@
 //! Leaves to others: what the trees' entries point to, and how refusals are printed.
 #![tactic(auto)]
 
+mod nodes;
 mod opening;
+mod scan;
 mod stops;
 #[cfg(test)]
 mod tests;
 mod tree_pages;
 mod trees;
 
+pub use file_blocks::BlockRefusal;
+pub use nodes::NodeLine;
 pub use opening::{Opened, open_header};
-pub use stops::{OpenRefusal, OpenStop, PageRefusal};
+pub use scan::scan_nodes;
+pub use stops::{NodeFault, OpenRefusal, OpenStop, PageRefusal};
 pub use tree_pages::Seat;
 pub use trees::read_tree;

@@ -1,7 +1,9 @@
 //! Why an opening stops.
-use pst_base::PageFault;
+use file_blocks::BlockRefusal;
+use pst_base::{Bid, Nid, PageFault};
 use pst_header::HeaderRefusal;
 use pst_outside::Failed;
+use std::alloc::{AllocError, AllocFailed};
 
 /// What is wrong with a page of a tree, in the order in which it is looked for.
 #[derive(Clone, Copy, Debug, PartialEq, Eq)]
@@ -12,7 +14,18 @@ pub enum PageRefusal {
     Faulty(PageFault),
 }
 
-/// Why a file is refused, in the order in which it is looked for. The bytes never change by it.
+/// What is wrong with the tree of a node's data, or of its subnodes.
+#[derive(Clone, Copy, Debug, PartialEq, Eq)]
+pub enum NodeFault {
+    /// A subnode stands below level 8.
+    Deep,
+    /// It has more subnodes than the file has room for.
+    Many,
+    /// Its data, or that of a subnode, is longer than the file.
+    Long,
+}
+
+/// Why a file is refused. The bytes never change by it.
 #[derive(Clone, Copy, Debug, PartialEq, Eq)]
 pub enum OpenRefusal {
     /// The file has no bytes.
@@ -23,8 +36,20 @@ pub enum OpenRefusal {
     Short { len: u64 },
     /// The header that counts isn't one ([MS-PST] 2.2.2.6).
     Header(HeaderRefusal),
+    /// The file has fewer bytes than the header says.
+    Truncated { len: u64, eof: u64 },
+    /// The header names an end past the last region that may be.
+    Large { eof: u64 },
     /// The page of a tree that begins at `ib` is at fault.
     Page { ib: u64, fault: PageRefusal },
+    /// The block that begins at `ib` is at fault.
+    Block { ib: u64, fault: BlockRefusal },
+    /// A block that is named isn't in the block tree.
+    Missing { bid: Bid },
+    /// A block or a page of a tree meets another, or a fixed page: the least start of the later of such two.
+    Overlap { ib: u64 },
+    /// What a node leads to is at fault.
+    Node { nid: Nid, fault: NodeFault },
 }
 
 /// Why an opening gives nothing.
@@ -34,6 +59,10 @@ pub enum OpenStop {
     Refused(OpenRefusal),
     /// A call on the disk failed.
     Fault,
+    /// The page or block at `ib` passed its check and fails it at a later reading, in these two numbers.
+    Changed { ib: u64, stored: u64, computed: u64 },
+    /// There was no memory.
+    Memory,
 }
 
 impl From<Failed> for OpenStop {
@@ -44,5 +73,27 @@ impl From<Failed> for OpenStop {
 
     fn from(_: Failed) -> OpenStop {
         OpenStop::Fault
+    }
+}
+
+impl From<AllocError> for OpenStop {
+    ghost use Rattle.std.specs.Prelude.{◌≡◌};
+    ghost use Rattle.pst_recover.specs.declared.stops.OpenStop.TheVariants.{Memory};
+
+    ghost from_gives = { λ _ e. e ≡ Memory };
+
+    fn from(_: AllocError) -> OpenStop {
+        OpenStop::Memory
+    }
+}
+
+impl<T: Drop> From<AllocFailed<T>> for OpenStop {
+    ghost use Rattle.std.specs.Prelude.{◌≡◌};
+    ghost use Rattle.pst_recover.specs.declared.stops.OpenStop.TheVariants.{Memory};
+
+    ghost from_gives = { λ _ e. e ≡ Memory };
+
+    fn from(_: AllocFailed<T>) -> OpenStop {
+        OpenStop::Memory
     }
 }

@@ -2,7 +2,7 @@
 use crate::{OpenRefusal, OpenStop, PageRefusal, read_tree};
 use btree_pages::{BlockEntry, Entry, Inner, NodeEntry, write_inner, write_leaf};
 use page_frame::seal;
-use pst_base::{Bid, Bref, Bytes, MemOr, Nid, PageFault, Place};
+use pst_base::{Bid, Bref, Bytes, Nid, PageFault, Place};
 use pst_outside::{FailPlan, MemWorld};
 use std::alloc::{AllocError, Global};
 use std::test::Fail;
@@ -67,7 +67,7 @@ const LATER: Inner = Inner {
 /// What reading a tree gave.
 #[derive(Debug, Drop)]
 struct Seen<E> {
-    stop: Option<MemOr<OpenStop>>,
+    stop: Option<OpenStop>,
     entries: Vec<E>,
     places: Vec<Place>,
 }
@@ -123,27 +123,21 @@ fn read_failing<E: Entry>(
 }
 
 /// The answer that names a page.
-fn page(ib: u64, fault: PageRefusal) -> Option<MemOr<OpenStop>> {
-    Some(MemOr::Refused(OpenStop::Refused(OpenRefusal::Page { ib, fault })))
+fn page(ib: u64, fault: PageRefusal) -> Option<OpenStop> {
+    Some(OpenStop::Refused(OpenRefusal::Page { ib, fault }))
 }
 
-fn faulty(ib: u64, fault: PageFault) -> Option<MemOr<OpenStop>> {
+fn faulty(ib: u64, fault: PageFault) -> Option<OpenStop> {
     page(ib, PageRefusal::Faulty(fault))
 }
 
 /// What is wrong with the content or the frame of the page that is named.
-fn fault_of(stop: Option<MemOr<OpenStop>>) -> Option<PageFault> {
+fn fault_of(stop: Option<OpenStop>) -> Option<PageFault> {
     match stop {
-        Some(
-            MemOr::Refused(
-                OpenStop::Refused(
-                    OpenRefusal::Page {
-                        fault: PageRefusal::Faulty(fault),
-                        ..
-                    },
-                ),
-            ),
-        ) => Some(fault),
+        Some(OpenStop::Refused(OpenRefusal::Page {
+            fault: PageRefusal::Faulty(fault),
+            ..
+        })) => Some(fault),
         _ => None,
     }
 }
@@ -325,6 +319,6 @@ fn a_dead_disk_is_a_fault(rt: HostRuntime) -> Result<(), Fail> {
     let mut fails = FailPlan::none(rt.alloc());
     fails.dead_from = Some(0);
     let seen = read_failing::<BlockEntry>(&rt, [leaf, EMPTY, EMPTY], BLOCKS, 0, at(0x4400), fails)?;
-    assert_eq!(rt; seen.stop, Some(MemOr::Refused(OpenStop::Fault)));
+    assert_eq!(rt; seen.stop, Some(OpenStop::Fault));
     Ok(())
 }

@@ -7,7 +7,7 @@ ghost use Rattle.pst_recover.specs.Walk.{walk, Adds, StopsWalk, StopsTree, Stand
 use crate::stops::{OpenRefusal, OpenStop, PageRefusal};
 use crate::tree_pages::{PAGE, Seat, child, is_placed, read_page, tree_page};
 use btree_pages::{Entry, TreePage};
-use pst_base::{Bref, MemOr, Place};
+use pst_base::{Bref, Place};
 use pst_outside::Outside;
 use std::alloc::AllocError;
 
@@ -21,12 +21,12 @@ pub fn read_tree<W: Outside, E: Entry>(
     root: Bref,
     entries: &mut Vec<E>,
     places: &mut Vec<Place>,
-) -> Result<(), MemOr<OpenStop>>
+) -> Result<(), OpenStop>
     requires { (W.view w.old).tells → eof ≤ length (W.view w.old).here.main }
     ensures tree { OnOk result ((W.view w.new).tells → (found : Found) × IsWhole (tree_in (W.view w.new).here eof kind E.size E.rule) root found × Adds E.entry_of found entries.old.items entries.new.items places.old.items places.new.items) }
     ensures only { OnOk result ((W.view w.new).tells → (found : Found) → IsWhole (tree_in (W.view w.new).here eof kind E.size E.rule) root found → Adds E.entry_of found entries.old.items entries.new.items places.old.items places.new.items) }
     ensures refused { IfErr result (λ stop. (W.view w.new).tells → StopsTree stop (tree_in (W.view w.new).here eof kind E.size E.rule) root) }
-    ensures fault { result ≡ Err (MemOr.Refused OpenStop.Fault) → Rose (W.view w.old).disk_faults (W.view w.new).disk_faults }
+    ensures fault { result ≡ Err OpenStop.Fault → Rose (W.view w.old).disk_faults (W.view w.new).disk_faults }
     ensures same { Untouched (W.view w.old) (W.view w.new) }
 {
     let seat = Seat {
@@ -46,20 +46,17 @@ fn read_below<W: Outside, E: Entry>(
     seat: Seat,
     entries: &mut Vec<E>,
     places: &mut Vec<Place>,
-) -> Result<(), MemOr<OpenStop>>
+) -> Result<(), OpenStop>
     requires { (W.view w.old).tells → eof ≤ length (W.view w.old).here.main }
     ensures found { OnOk result ((W.view w.new).tells → (found : Found) × (walk (tree_in (W.view w.old).here eof kind E.size E.rule) seat ≡ Ok found) × Adds E.entry_of found entries.old.items entries.new.items places.old.items places.new.items) }
     ensures refused { IfErr result (λ stop. (W.view w.new).tells → StopsWalk stop (walk (tree_in (W.view w.old).here eof kind E.size E.rule) seat)) }
-    ensures cause { IfErr result (λ stop. stop ≡ MemOr.Refused OpenStop.Fault → Rose (W.view w.old).disk_faults (W.view w.new).disk_faults) }
+    ensures cause { IfErr result (λ stop. stop ≡ OpenStop.Fault → Rose (W.view w.old).disk_faults (W.view w.new).disk_faults) }
     ensures same { Untouched (W.view w.old) (W.view w.new) }
 {
-    let bytes = match seat_bytes(w, eof, seat) {
-        Ok(bytes) => bytes,
-        Err(stop) => return Err(MemOr::Refused(stop)),
-    };
+    let bytes = seat_bytes(w, eof, seat)?;
     let page = match tree_page::<E>(&bytes, kind, seat) {
         Ok(page) => page,
-        Err(fault) => return Err(MemOr::Refused(bad_page(seat, PageRefusal::Faulty(fault)))),
+        Err(fault) => return Err(bad_page(seat, PageRefusal::Faulty(fault))),
     };
     places.push(Place {
         ib: seat.at.ib,
