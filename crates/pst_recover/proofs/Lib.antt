@@ -3,3 +3,4 @@ pub mod SeatLaws
 pub mod Underway
 pub mod WalkLaws
 pub mod OpeningLaws
+pub mod NodeSteps

@@ -1,5 +1,5 @@
 -- What a file's nodes are: the node map, and how a file lays it.
-use Rattle.std.specs.Prelude.{◌≡◌, ◌≤◌, ℕ, suc, ◌+◌, ◌-◌, ◌*◌, ◌/◌, List, [], ◌∷◌, ◌++◌, map, length, Option, Result, Ok, Err}
+use Rattle.std.specs.Prelude.{◌≡◌, ◌≤◌, ℕ, max, ◌+◌, ◌-◌, ◌*◌, ◌/◌, List, [], ◌∷◌, ◌++◌, map, length, Option, Result, Ok, Err}
 use Rattle.pst_base.specs.declared.ids.Bid.{Bid}
 use Rattle.pst_base.specs.declared.ids.Bref.{Bref}
 use Rattle.pst_base.specs.declared.places.Place.{Place}
@@ -79,9 +79,9 @@ places_of blocks nodes = (blocks.places ++ nodes.places) ++ map place_of (blocks
 abbrev pub LARGEST : ℕ
 LARGEST = 0x4400 + 253952 * 8192
 
--- how many regions a file of eof bytes has, the last of which may be cut short
+-- how many regions a file of eof bytes has, the last of which may be cut short; at least one
 abbrev pub regions_to : ℕ → ℕ
-regions_to eof = (eof - 0x4400 + 253951) / 253952
+regions_to eof = max 1 ((eof - 0x4400 + 253951) / 253952)
 
 -- The file with this header lays the node map: both trees are whole, the block tree names whole blocks, the node tree's entries
 -- lead to the nodes, and no two of the pages, blocks and fixed pages meet.

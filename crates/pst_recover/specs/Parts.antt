@@ -1,0 +1,116 @@
+-- What the parts of a scan answer.
+use Rattle.std.specs.Prelude.{◌≡◌, ◌⊎◌, ◌≤◌, ◌<◌, ℕ, ◌+◌, ◌%◌, List, [], ◌∷◌, ◌++◌, map, length, Option, Result, Ok, Err}
+use Rattle.pst_base.specs.declared.ids.Bref.{Bref}
+use Rattle.pst_base.specs.declared.ids.Nid.{Nid}
+use Rattle.pst_base.specs.declared.places.Place.{Place}
+use Rattle.pst_base.specs.declared.stops.MemOr.{MemOr}
+use Rattle.pst_base.specs.declared.stops.MemOr.TheVariants as or_memory
+use Rattle.pst_base.specs.declared.stops.SourceStop.TheVariants as sources
+use Rattle.pst_base.specs.Ids.{key_of}
+use Rattle.pst_outside.specs.World.{World}
+use Rattle.pst_outside.specs.Calls.{Rose, Untouched}
+use Rattle.alloc_map.specs.Standing.{standing, IsOverlap}
+use Rattle.btree_pages.specs.declared.entry.BlockEntry.{BlockEntry}
+use Rattle.btree_pages.specs.declared.entry.NodeEntry.{NodeEntry}
+use Rattle.data_tree.specs.declared.source.TreeStop.{TreeStop}
+use Rattle.data_tree.specs.declared.source.TreeStop.TheVariants as tree_stops
+use Rattle.file_blocks.specs.declared.check.BlockRefusal.{BlockRefusal}
+use Rattle.file_blocks.specs.declared.check.BlockRefusal.TheVariants.{Form}
+use Rattle.file_blocks.specs.Blocks.{AllStand, entry_with, found_in}
+use Rattle.file_blocks.specs.Stops.{Holds}
+use Rattle.pst_recover.specs.declared.nodes.NodeLine.{NodeLine}
+use Rattle.pst_recover.specs.declared.stops.NodeFault.TheVariants as faults
+use Rattle.pst_recover.specs.declared.stops.OpenRefusal.TheVariants as refusals
+use Rattle.pst_recover.specs.declared.stops.OpenStop.{OpenStop}
+use Rattle.pst_recover.specs.declared.stops.OpenStop.TheVariants.{Refused, Fault, Changed, Memory}
+use Rattle.pst_recover.specs.Nodes.{Node, line_of, node_at, AreNodes, block_tree, blocks_in, place_of, LARGEST}
+use Rattle.pst_recover.specs.Scan.{IsFirstBad, IsFirstStop, ib_of}
+use Rattle.pst_recover.specs.Trees.{Found, IsWhole}
+use Rattle.pst_recover.specs.Walk.{IsBadPage}
+
+-- ---- the end
+
+-- a stop for the file's length, where the header names this end
+abbrev pub StopsEof : OpenStop → ℕ → ℕ → Type 0
+StopsEof Fault len eof = Unit {0}
+StopsEof (Refused (refusals.Truncated found end)) len eof = (found ≡ len) × (end ≡ eof) × (len < eof)
+StopsEof (Refused (refusals.Large end)) len eof = (end ≡ eof) × (eof ≤ len) × (LARGEST < eof)
+StopsEof stop len eof = ⊥
+
+-- ---- the blocks
+
+-- a stop at a block names the first that isn't whole
+abbrev pub StopsAtBlock : OpenStop → List ℕ → ℕ → List BlockEntry → Type 0
+StopsAtBlock Fault file eof entries = Unit {0}
+StopsAtBlock (Refused (refusals.Block ib fault)) file eof entries = IsFirstBad file eof entries ib fault
+StopsAtBlock stop file eof entries = ⊥
+
+-- ---- a node
+
+-- a stop of a reading over a world: by the disk, by what has changed, which never comes where the blocks are told, or by the fault that the reading gives of the blocks
+abbrev pub StopsReading : {Y : Type 0} → MemOr TreeStop → World → World → ℕ → List BlockEntry → ((ℕ → Option (List ℕ)) → Result Y TreeStop) → Type 0
+StopsReading or_memory.Memory old new eof blocks reading = Unit {0}
+StopsReading (or_memory.Refused (tree_stops.Source sources.Failed)) old new eof blocks reading = Rose old.disk_faults new.disk_faults
+StopsReading (or_memory.Refused (tree_stops.Source (sources.Changed ib stored computed))) old new eof blocks reading =
+    (find : ℕ → Option (List ℕ)) → Holds old eof blocks find → ⊥
+StopsReading (or_memory.Refused stop) old new eof blocks reading = (find : ℕ → Option (List ℕ)) → Holds old eof blocks find → reading find ≡ Err stop
+
+-- a call on a source of blocks changes nothing of the world, and what the source holds it holds on
+pub record Asks (old new : World) (eof new_eof : ℕ) (blocks new_blocks : List BlockEntry) : Type 0 where
+  pub same : Untouched old new
+  pub eof_is : new_eof ≡ eof
+  pub told : (find : ℕ → Option (List ℕ)) → Holds old eof blocks find → Holds new new_eof new_blocks find
+
+-- what is told of a node is of the node that its entry leads to
+pub record IsLineOf (find : ℕ → Option (List ℕ)) (eof : ℕ) (e : NodeEntry) (line : NodeLine) : Type 0 where
+  pub node : Node
+  pub is : node_at find eof e ≡ Ok node
+  pub line_is : line ≡ line_of node
+
+-- the stop of a scan at a node, whose blocks have these entries
+abbrev pub stop_at : List BlockEntry → Nid → MemOr TreeStop → OpenStop
+stop_at blocks nid or_memory.Memory = Memory
+stop_at blocks nid (or_memory.Refused (tree_stops.Missing bid)) = Refused (refusals.Missing bid)
+stop_at blocks nid (or_memory.Refused (tree_stops.Form bid)) = Refused (refusals.Block (ib_of (entry_with (key_of bid.bits) blocks)) Form)
+stop_at blocks nid (or_memory.Refused tree_stops.Long) = Refused (refusals.Node nid faults.Long)
+stop_at blocks nid (or_memory.Refused tree_stops.Deep) = Refused (refusals.Node nid faults.Deep)
+stop_at blocks nid (or_memory.Refused tree_stops.Many) = Refused (refusals.Node nid faults.Many)
+stop_at blocks nid (or_memory.Refused (tree_stops.Source sources.Failed)) = Fault
+stop_at blocks nid (or_memory.Refused (tree_stops.Source (sources.Changed ib stored computed))) = Changed ib stored computed
+
+-- ---- the nodes
+
+-- a stop at a node is that of the first that isn't whole
+pub record IsStopOf (stop : OpenStop) (find : ℕ → Option (List ℕ)) (eof : ℕ) (blocks : List BlockEntry) (nodes : List NodeEntry) : Type 0 where
+  pub nid : Nid
+  pub fault : TreeStop
+  pub is : stop ≡ stop_at blocks nid (or_memory.Refused fault)
+  pub first : IsFirstStop find eof nodes nid.bits fault
+
+-- a stop of the reading of nodes
+abbrev pub StopsAtNodes : OpenStop → World → World → ℕ → List BlockEntry → List NodeEntry → Type 0
+StopsAtNodes Memory old new eof blocks nodes = Unit {0}
+StopsAtNodes Fault old new eof blocks nodes = Rose old.disk_faults new.disk_faults
+StopsAtNodes (Changed ib stored computed) old new eof blocks nodes = (find : ℕ → Option (List ℕ)) → Holds old eof blocks find → ⊥
+StopsAtNodes (Refused refusal) old new eof blocks nodes = (find : ℕ → Option (List ℕ)) → Holds old eof blocks find → IsStopOf (Refused refusal) find eof blocks nodes
+
+-- the lines are those of the nodes that the entries lead to
+pub record AreLines (find : ℕ → Option (List ℕ)) (eof : ℕ) (entries : List NodeEntry) (lines : List NodeLine) : Type 0 where
+  pub nodes : List Node
+  pub are : AreNodes find eof entries nodes
+  pub lines_are : lines ≡ map line_of nodes
+
+-- ---- the places
+
+-- a place may be one of a page or a block in a file that ends at eof
+pub record IsPlace (eof : ℕ) (p : Place) : Type 0 where
+  pub above : 0x4400 ≤ p.ib
+  pub start : p.ib % 64 ≡ 0
+  pub whole : p.len % 64 ≡ 0
+  pub before : p.ib + p.len ≤ eof
+
+-- a stop at places names the least later start of two that meet
+abbrev pub StopsAtMeeting : OpenStop → List Place → ℕ → Type 0
+StopsAtMeeting Memory places regions = Unit {0}
+StopsAtMeeting (Refused (refusals.Overlap ib)) places regions = IsOverlap (standing places regions) ib
+StopsAtMeeting stop places regions = ⊥
