@@ -9,7 +9,7 @@ use Rattle.pst_outside.specs.World.{Image}
 use Rattle.gate_file.specs.Effective.{effective}
 use Rattle.page_frame.specs.Page.{reading, IsPage}
 use Rattle.btree_pages.specs.Entries.{inner_of}
-use Rattle.btree_pages.specs.Pages.{Page, pieces, size_at, keys, ascend, is_counted}
+use Rattle.btree_pages.specs.Pages.{Page, pieces, size_at, key_in, keys, ascend, is_counted}
 use Rattle.pst_recover.specs.declared.stops.PageRefusal.{PageRefusal}
 use Rattle.pst_recover.specs.declared.stops.PageRefusal.TheVariants.{Outside, Faulty}
 use Rattle.pst_recover.specs.declared.tree_pages.Seat.{Seat}
@@ -161,3 +161,8 @@ pub record IsWhole (t : FileTree) (root : Bref) (found : Found) : Type 0 where
   pub level : ℕ
   pub low_enough : level ≤ 7
   pub tree : IsTree t level (root_seat root) found
+
+-- the keys of entries ascend strictly, and the first isn't below low
+abbrev pub rise_from : (ℕ → ℕ) → ℕ → List (List ℕ) → Bool
+rise_from rule low [] = true
+rise_from rule low (b ∷ bs) = nat_le low (key_in rule b) && rise_from rule (key_in rule b + 1) bs

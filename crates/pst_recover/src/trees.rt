@@ -1,7 +1,7 @@
 //! Reading a whole tree.
-ghost use Rattle.std.specs.Prelude.{◌≡◌, ◌≤◌, ◌<◌, ◌+◌, ◌-◌, ◌++◌, zero, map, length, OnOk, OnErr, IfErr, IfOk};
+ghost use Rattle.std.specs.Prelude.{◌≡◌, ◌≤◌, ◌<◌, ◌+◌, ◌-◌, ◌++◌, zero, true, map, length, OnOk, OnErr, IfErr, IfOk};
 ghost use Rattle.pst_outside.specs.Calls.{Rose, Untouched};
-ghost use Rattle.pst_recover.specs.Trees.{tree_in, file_of, page_at, framed, is_placed, Found, IsWhole, root_seat};
+ghost use Rattle.pst_recover.specs.Trees.{FileTree, tree_in, file_of, page_at, framed, is_placed, Found, IsWhole, rise_from, root_seat};
 ghost use Rattle.pst_recover.specs.Walk.{walk, Adds, StopsWalk, StopsTree, Stands, StopsOutside};
 
 use crate::stops::{OpenRefusal, OpenStop, PageRefusal};
@@ -107,3 +107,8 @@ fn push_leaf<E: Entry>(page: &TreePage<E>, entries: &mut Vec<E>) -> Result<(), A
     }
     Ok(())
 }
+
+/// The keys of all entries of a whole tree ascend strictly, across its leaves too ([MS-PST] 2.2.2.7.7).
+pub fn keys_rise()
+    ensures { (t : FileTree) (root : Bref) (found : Found) → IsWhole t root found → rise_from t.rule 0 found.entries ≡ true }
+{}
