@@ -1,10 +1,10 @@
 //! One block.
-ghost use Rattle.std.specs.Prelude.{◌≡◌, ◌≤◌, ◌+◌, take, drop, length, IfOk, IfErr, IfNone, OnOk, OnErr};
+ghost use Rattle.std.specs.Prelude.{◌≡◌, ◌≤◌, ◌+◌, ◌%◌, take, drop, length, IfOk, IfErr, IfNone, OnOk, OnErr};
 ghost use Rattle.block_frame.specs.Block.{reading};
 ghost use Rattle.pst_outside.specs.Calls.{Rose, Untouched};
 ghost use Rattle.block_frame.specs.Size.{disk_size_of};
 ghost use Rattle.file_blocks.specs.Blocks.{file_of, has_room, misplaced, data_at, Stands, faulty};
-ghost use Rattle.file_blocks.specs.Stops.{StopsBlock, StopsRead, Tells};
+ghost use Rattle.file_blocks.specs.Stops.{IsPlaced, StopsBlock, StopsRead, Tells};
 
 use block_frame::{BlockFault, BlockView, disk_size};
 use btree_pages::BlockEntry;
@@ -74,6 +74,7 @@ fn misplaced(eof: u64, entry: BlockEntry) -> Option<BlockRefusal>
     ensures fits { IfNone result (entry.cb ≤ 8176) }
     ensures low { IfNone result (0x4400 ≤ entry.at.ib) }
     ensures within { IfNone result (entry.at.ib + disk_size_of entry.cb ≤ eof) }
+    ensures whole { IfNone result (entry.at.ib % 64 ≡ 0) }
 {
     if entry.cb > MOST {
         return Some(BlockRefusal::Length);
@@ -115,6 +116,7 @@ fn framed<'a>(bytes: &'a [u8; 8192], entry: BlockEntry) -> Result<BlockView<'a>,
 /// `Refused` says the first thing that is wrong with it; `Failed` comes only where the disk failed.
 #[tactic(auto, unfolding(crate::specs::Blocks::data_at))]
 pub fn check_block<W: Outside>(w: &mut W, eof: u64, entry: BlockEntry) -> Result<(), BlockStop>
+    ensures placed { OnOk result (IsPlaced eof entry) }
     ensures stands { OnOk result (Tells (W.view w.new) eof → Stands (file_of (W.view w.new).here) eof entry) }
     ensures refused { IfErr result (λ stop. Tells (W.view w.new) eof → StopsBlock stop (data_at (file_of (W.view w.new).here) eof entry)) }
     ensures fault { result ≡ Err BlockStop.Failed → Rose (W.view w.old).disk_faults (W.view w.new).disk_faults }

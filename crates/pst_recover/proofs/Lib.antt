@@ -1,6 +1,8 @@
+pub mod BlockSteps
 pub mod Gates
 pub mod NodeSteps
 pub mod OpeningLaws
+pub mod PlaceLaws
 pub mod RiseLaws
 pub mod ScanLaws
 pub mod SeatLaws

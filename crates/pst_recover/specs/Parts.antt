@@ -8,7 +8,7 @@ use Rattle.pst_base.specs.declared.stops.MemOr.TheVariants as or_memory
 use Rattle.pst_base.specs.declared.stops.SourceStop.TheVariants as sources
 use Rattle.pst_base.specs.Ids.{key_of}
 use Rattle.pst_outside.specs.World.{World}
-use Rattle.pst_outside.specs.Calls.{Rose, Untouched}
+use Rattle.pst_outside.specs.Calls.{Untouched}
 use Rattle.alloc_map.specs.Standing.{standing, IsOverlap}
 use Rattle.btree_pages.specs.declared.entry.BlockEntry.{BlockEntry}
 use Rattle.btree_pages.specs.declared.entry.NodeEntry.{NodeEntry}
@@ -17,7 +17,7 @@ use Rattle.data_tree.specs.declared.source.TreeStop.TheVariants as tree_stops
 use Rattle.file_blocks.specs.declared.check.BlockRefusal.{BlockRefusal}
 use Rattle.file_blocks.specs.declared.check.BlockRefusal.TheVariants.{Form}
 use Rattle.file_blocks.specs.Blocks.{AllStand, entry_with, found_in}
-use Rattle.file_blocks.specs.Stops.{Holds}
+use Rattle.file_blocks.specs.Stops.{Holds, IsPlaced}
 use Rattle.pst_recover.specs.declared.nodes.NodeLine.{NodeLine}
 use Rattle.pst_recover.specs.declared.stops.NodeFault.TheVariants as faults
 use Rattle.pst_recover.specs.declared.stops.OpenRefusal.TheVariants as refusals
@@ -47,13 +47,13 @@ StopsAtBlock stop file eof entries = ⊥
 
 -- ---- a node
 
--- a stop of a reading over a world: by the disk, by what has changed, which never comes where the blocks are told, or by the fault that the reading gives of the blocks
-abbrev pub StopsReading : {Y : Type 0} → MemOr TreeStop → World → World → ℕ → List BlockEntry → ((ℕ → Option (List ℕ)) → Result Y TreeStop) → Type 0
-StopsReading or_memory.Memory old new eof blocks reading = Unit {0}
-StopsReading (or_memory.Refused (tree_stops.Source sources.Failed)) old new eof blocks reading = Rose old.disk_faults new.disk_faults
-StopsReading (or_memory.Refused (tree_stops.Source (sources.Changed ib stored computed))) old new eof blocks reading =
+-- a stop of a reading over a world, but for the disk's: by what has changed, which never comes where the blocks are told, or by the fault that the reading gives of the blocks
+abbrev pub StopsReading : {Y : Type 0} → MemOr TreeStop → World → ℕ → List BlockEntry → ((ℕ → Option (List ℕ)) → Result Y TreeStop) → Type 0
+StopsReading or_memory.Memory old eof blocks reading = Unit {0}
+StopsReading (or_memory.Refused (tree_stops.Source sources.Failed)) old eof blocks reading = Unit {0}
+StopsReading (or_memory.Refused (tree_stops.Source (sources.Changed ib stored computed))) old eof blocks reading =
     (find : ℕ → Option (List ℕ)) → Holds old eof blocks find → ⊥
-StopsReading (or_memory.Refused stop) old new eof blocks reading = (find : ℕ → Option (List ℕ)) → Holds old eof blocks find → reading find ≡ Err stop
+StopsReading (or_memory.Refused stop) old eof blocks reading = (find : ℕ → Option (List ℕ)) → Holds old eof blocks find → reading find ≡ Err stop
 
 -- a call on a source of blocks changes nothing of the world, and what the source holds it holds on
 pub record Asks (old new : World) (eof new_eof : ℕ) (blocks new_blocks : List BlockEntry) : Type 0 where
@@ -87,12 +87,12 @@ pub record IsStopOf (stop : OpenStop) (find : ℕ → Option (List ℕ)) (eof : 
   pub is : stop ≡ stop_at blocks nid (or_memory.Refused fault)
   pub first : IsFirstStop find eof nodes nid.bits fault
 
--- a stop of the reading of nodes
-abbrev pub StopsAtNodes : OpenStop → World → World → ℕ → List BlockEntry → List NodeEntry → Type 0
-StopsAtNodes Memory old new eof blocks nodes = Unit {0}
-StopsAtNodes Fault old new eof blocks nodes = Rose old.disk_faults new.disk_faults
-StopsAtNodes (Changed ib stored computed) old new eof blocks nodes = (find : ℕ → Option (List ℕ)) → Holds old eof blocks find → ⊥
-StopsAtNodes (Refused refusal) old new eof blocks nodes = (find : ℕ → Option (List ℕ)) → Holds old eof blocks find → IsStopOf (Refused refusal) find eof blocks nodes
+-- a stop of the reading of nodes, but for the disk's
+abbrev pub StopsAtNodes : OpenStop → World → ℕ → List BlockEntry → List NodeEntry → Type 0
+StopsAtNodes Memory old eof blocks nodes = Unit {0}
+StopsAtNodes Fault old eof blocks nodes = Unit {0}
+StopsAtNodes (Changed ib stored computed) old eof blocks nodes = (find : ℕ → Option (List ℕ)) → Holds old eof blocks find → ⊥
+StopsAtNodes (Refused refusal) old eof blocks nodes = (find : ℕ → Option (List ℕ)) → Holds old eof blocks find → IsStopOf (Refused refusal) find eof blocks nodes
 
 -- the lines are those of the nodes that the entries lead to
 pub record AreLines (find : ℕ → Option (List ℕ)) (eof : ℕ) (entries : List NodeEntry) (lines : List NodeLine) : Type 0 where
@@ -114,3 +114,18 @@ abbrev pub StopsAtMeeting : OpenStop → List Place → ℕ → Type 0
 StopsAtMeeting Memory places regions = Unit {0}
 StopsAtMeeting (Refused (refusals.Overlap ib)) places regions = IsOverlap (standing places regions) ib
 StopsAtMeeting stop places regions = ⊥
+
+-- each entry's block may stand where the entry says
+abbrev pub AllPlaced : ℕ → List BlockEntry → Type 0
+AllPlaced eof [] = Unit {0}
+AllPlaced eof (e ∷ es) = IsPlaced eof e × AllPlaced eof es
+
+-- each entry's block has a length that a block may have
+abbrev pub AllShort : List BlockEntry → Type 0
+AllShort [] = Unit {0}
+AllShort (e ∷ es) = (e.cb ≤ 8176) × AllShort es
+
+-- each place may be one of a page or a block
+abbrev pub AllPlaces : ℕ → List Place → Type 0
+AllPlaces eof [] = Unit {0}
+AllPlaces eof (p ∷ ps) = IsPlace eof p × AllPlaces eof ps

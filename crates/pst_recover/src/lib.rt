@@ -5,8 +5,10 @@
 //! Leaves to others: what the trees' entries point to, and how refusals are printed.
 #![tactic(auto)]
 
+mod blocks;
 mod nodes;
 mod opening;
+mod places;
 mod scan;
 mod stops;
 #[cfg(test)]

@@ -1,5 +1,5 @@
 //! The nodes of a file.
-ghost use Rattle.std.specs.Prelude.{◌≡◌, true, ℕ, List, Option, Ok, IfOk, IfErr};
+ghost use Rattle.std.specs.Prelude.{◌≡◌, true, ℕ, List, Option, Ok, Err, IfOk, IfErr};
 ghost use Rattle.pst_outside.specs.Calls.{Rose, Untouched};
 ghost use Rattle.file_blocks.specs.Blocks.{rise_from, entry_with};
 ghost use Rattle.file_blocks.specs.Stops.{Holds};
@@ -42,7 +42,8 @@ fn data_len<W: Outside>(
     ensures same_reference { s.new.world.ghost_name ≡ s.old.world.ghost_name }
     ensures asks { Asks (W.view s.old.world.now) (W.view s.new.world.now) s.old.eof s.new.eof s.old.entries.now s.new.entries.now }
     ensures reads { IfOk result (λ len. (find : ℕ → Option (List ℕ)) → Holds (W.view s.old.world.now) s.old.eof s.old.entries.now find → measured (blocks_of find s.old.eof bid) ≡ Ok len) }
-    ensures stops { IfErr result (λ stop. StopsReading stop (W.view s.old.world.now) (W.view s.new.world.now) s.old.eof s.old.entries.now (λ find. measured (blocks_of find s.old.eof bid))) }
+    ensures stops { IfErr result (λ stop. StopsReading stop (W.view s.old.world.now) s.old.eof s.old.entries.now (λ find. measured (blocks_of find s.old.eof bid))) }
+    ensures fault { result ≡ Err (MemOr.Refused (TreeStop.Source SourceStop.Failed)) → Rose (W.view s.old.world.now).disk_faults (W.view s.new.world.now).disk_faults }
 {
     measure_data(alloc, bid, s)
 }
@@ -56,7 +57,8 @@ fn subs_len<W: Outside>(
     ensures same_reference { s.new.world.ghost_name ≡ s.old.world.ghost_name }
     ensures asks { Asks (W.view s.old.world.now) (W.view s.new.world.now) s.old.eof s.new.eof s.old.entries.now s.new.entries.now }
     ensures reads { IfOk result (λ count. (find : ℕ → Option (List ℕ)) → Holds (W.view s.old.world.now) s.old.eof s.old.entries.now find → counted (subs_of find s.old.eof bid) ≡ Ok count) }
-    ensures stops { IfErr result (λ stop. StopsReading stop (W.view s.old.world.now) (W.view s.new.world.now) s.old.eof s.old.entries.now (λ find. counted (subs_of find s.old.eof bid))) }
+    ensures stops { IfErr result (λ stop. StopsReading stop (W.view s.old.world.now) s.old.eof s.old.entries.now (λ find. counted (subs_of find s.old.eof bid))) }
+    ensures fault { result ≡ Err (MemOr.Refused (TreeStop.Source SourceStop.Failed)) → Rose (W.view s.old.world.now).disk_faults (W.view s.new.world.now).disk_faults }
 {
     count_subs(alloc, bid, s)
 }
@@ -70,7 +72,8 @@ fn node_line<W: Outside>(
     node: NodeEntry,
 ) -> Result<NodeLine, MemOr<TreeStop>>
     ensures line { IfOk result (λ line. (find : ℕ → Option (List ℕ)) → Holds (W.view w.old) eof blocks.now find → IsLineOf find eof node line) }
-    ensures stops { IfErr result (λ stop. StopsReading stop (W.view w.old) (W.view w.new) eof blocks.now (λ find. node_at find eof node)) }
+    ensures stops { IfErr result (λ stop. StopsReading stop (W.view w.old) eof blocks.now (λ find. node_at find eof node)) }
+    ensures fault { result ≡ Err (MemOr.Refused (TreeStop.Source SourceStop.Failed)) → Rose (W.view w.old).disk_faults (W.view w.new).disk_faults }
     ensures same { Untouched (W.view w.old) (W.view w.new) }
 {
     let mut source = FileBlocks {
@@ -148,7 +151,8 @@ pub(crate) fn node_lines<W: Outside>(
 ) -> Result<Vec<NodeLine>, OpenStop>
     requires { rise_from 0 blocks.now ≡ true }
     ensures lines { IfOk result (λ lines. (find : ℕ → Option (List ℕ)) → Holds (W.view w.old) eof blocks.now find → AreLines find eof nodes.now lines.items) }
-    ensures stops { IfErr result (λ stop. StopsAtNodes stop (W.view w.old) (W.view w.new) eof blocks.now nodes.now) }
+    ensures stops { IfErr result (λ stop. StopsAtNodes stop (W.view w.old) eof blocks.now nodes.now) }
+    ensures fault { result ≡ Err OpenStop.Fault → Rose (W.view w.old).disk_faults (W.view w.new).disk_faults }
     ensures same { Untouched (W.view w.old) (W.view w.new) }
 {
     let mut lines = Vec::with_capacity(alloc, nodes.len())?;

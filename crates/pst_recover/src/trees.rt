@@ -2,6 +2,7 @@
 ghost use Rattle.std.specs.Prelude.{◌≡◌, ◌≤◌, ◌<◌, ◌+◌, ◌-◌, ◌++◌, zero, true, map, length, OnOk, OnErr, IfErr, IfOk};
 ghost use Rattle.pst_outside.specs.Calls.{Rose, Untouched};
 ghost use Rattle.pst_recover.specs.Trees.{FileTree, tree_in, file_of, page_at, framed, is_placed, Found, IsWhole, rise_from, root_seat};
+ghost use Rattle.pst_recover.specs.Parts.{AllPlaces};
 ghost use Rattle.pst_recover.specs.Walk.{walk, Adds, StopsWalk, StopsTree, Stands, StopsOutside};
 
 use crate::stops::{OpenRefusal, OpenStop, PageRefusal};
@@ -25,6 +26,7 @@ pub fn read_tree<W: Outside, E: Entry>(
     requires { (W.view w.old).tells → eof ≤ length (W.view w.old).here.main }
     ensures tree { OnOk result ((W.view w.new).tells → (found : Found) × IsWhole (tree_in (W.view w.new).here eof kind E.size E.rule) root found × Adds E.entry_of found entries.old.items entries.new.items places.old.items places.new.items) }
     ensures only { OnOk result ((W.view w.new).tells → (found : Found) → IsWhole (tree_in (W.view w.new).here eof kind E.size E.rule) root found → Adds E.entry_of found entries.old.items entries.new.items places.old.items places.new.items) }
+    ensures placed { OnOk result (AllPlaces eof places.old.items → AllPlaces eof places.new.items) }
     ensures refused { IfErr result (λ stop. (W.view w.new).tells → StopsTree stop (tree_in (W.view w.new).here eof kind E.size E.rule) root) }
     ensures fault { result ≡ Err OpenStop.Fault → Rose (W.view w.old).disk_faults (W.view w.new).disk_faults }
     ensures same { Untouched (W.view w.old) (W.view w.new) }
@@ -49,6 +51,7 @@ fn read_below<W: Outside, E: Entry>(
 ) -> Result<(), OpenStop>
     requires { (W.view w.old).tells → eof ≤ length (W.view w.old).here.main }
     ensures found { OnOk result ((W.view w.new).tells → (found : Found) × (walk (tree_in (W.view w.old).here eof kind E.size E.rule) seat ≡ Ok found) × Adds E.entry_of found entries.old.items entries.new.items places.old.items places.new.items) }
+    ensures placed { OnOk result (AllPlaces eof places.old.items → AllPlaces eof places.new.items) }
     ensures refused { IfErr result (λ stop. (W.view w.new).tells → StopsWalk stop (walk (tree_in (W.view w.old).here eof kind E.size E.rule) seat)) }
     ensures cause { IfErr result (λ stop. stop ≡ OpenStop.Fault → Rose (W.view w.old).disk_faults (W.view w.new).disk_faults) }
     ensures same { Untouched (W.view w.old) (W.view w.new) }
@@ -76,6 +79,7 @@ fn read_below<W: Outside, E: Entry>(
 fn seat_bytes<W: Outside>(w: &mut W, eof: u64, seat: Seat) -> Result<[u8; 512], OpenStop>
     requires { (W.view w.old).tells → eof ≤ length (W.view w.old).here.main }
     ensures bytes { IfOk result (λ b. (W.view w.new).tells → Stands eof seat (file_of (W.view w.old).here) b) }
+    ensures placed { IfOk result (λ b. is_placed eof seat.at.ib ≡ true) }
     ensures refused { IfErr result (λ stop. StopsOutside stop eof seat) }
     ensures cause { IfErr result (λ stop. stop ≡ OpenStop.Fault → Rose (W.view w.old).disk_faults (W.view w.new).disk_faults) }
     ensures same { Untouched (W.view w.old) (W.view w.new) }

@@ -11,16 +11,16 @@ use Rattle.pst_recover.proofs.nodes.node_line.Goals as goal
 pub returns-in_err-bytes-clause-stops : goal.returns-in_err-bytes-clause-stops
 returns-in_err-bytes-clause-stops g c =
     let p = err_from_is_err_and c.from_residual.result c.from_residual.ensures.1 in
-    rw (p.1, p.2) (stops-through (g.W.Outside.view c.args.w.now) (g.W.Outside.view c.args.w.now) _ c.args.eof c.args.eof c.args.blocks.now c.args.blocks.now
-    (λ find. measured (blocks_of find c.args.eof c.args.node.content)) (λ find. node_at find c.args.eof c.args.node) (omega arith) (λ find h. h)
+    rw (p.1, p.2) (stops-through (g.W.Outside.view c.args.w.now) (g.W.Outside.view c.args.w.now) c.args.eof c.args.eof c.args.blocks.now c.args.blocks.now
+    (λ find. measured (blocks_of find c.args.eof c.args.node.content)) (λ find. node_at find c.args.eof c.args.node) (λ find h. h)
     (λ find h fault e. first-fault find c.args.eof c.args.node fault e) c.in_err-bytes.field-0.0 c.in_err-bytes.ensures.stops)
 
 pub returns-in_err-subs-clause-stops : goal.returns-in_err-subs-clause-stops
 returns-in_err-subs-clause-stops g c =
     let p = err_from_is_err_and c.from_residual-in_err-subs.result c.from_residual-in_err-subs.ensures.1 in
     let asks = c.in_ok-bytes.ensures.asks in
-    rw (p.1, p.2) (stops-through (g.W.Outside.view c.args.w.now) (g.W.Outside.view c.data_len.new.s.world.now) _ c.args.eof c.data_len.new.s.eof c.args.blocks.now c.data_len.new.s.entries.now
-    (λ find. counted (subs_of find c.data_len.new.s.eof c.args.node.subnodes)) (λ find. node_at find c.args.eof c.args.node) asks.same.counts.disk_faults asks.told
+    rw (p.1, p.2) (stops-through (g.W.Outside.view c.args.w.now) (g.W.Outside.view c.data_len.new.s.world.now) c.args.eof c.data_len.new.s.eof c.args.blocks.now c.data_len.new.s.entries.now
+    (λ find. counted (subs_of find c.data_len.new.s.eof c.args.node.subnodes)) (λ find. node_at find c.args.eof c.args.node) asks.told
     (λ find h fault e. second-fault find c.args.eof c.args.node c.in_ok-bytes.bytes fault (c.in_ok-bytes.ensures.reads find h)
     (ap (λ (n : ℕ). counted (subs_of find n c.args.node.subnodes)) (sym asks.eof_is) ∙ e)) c.in_err-subs.field-0.0 c.in_err-subs.ensures.stops)
 

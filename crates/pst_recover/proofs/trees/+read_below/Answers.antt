@@ -4,7 +4,9 @@ use Rattle.pst_outside.specs.World.{Image}
 use Rattle.pst_recover.specs.declared.stops.PageRefusal.TheVariants.{Faulty}
 use Rattle.pst_recover.specs.declared.tree_pages.Seat.{Seat}
 use Rattle.pst_recover.specs.Trees.{tree_in, FileTree, faulty, page_at}
+use Rattle.pst_recover.specs.Parts.{AllPlaces}
 use Rattle.pst_recover.specs.Walk.{walk, StopsWalk}
+use Rattle.pst_recover.proofs.PlaceLaws.{places-more}
 use Rattle.pst_recover.proofs.Underway.{depth_of, deeper, page_framed, faulty_stops, outside_stops, child_stops, underway-start, underway-next, underway-end, leaf-end, untouched_then}
 use Rattle.pst_recover.proofs.trees.+read_below.Goals as goal
 
@@ -28,9 +30,14 @@ returns-then-level-eq0-clause-found g t c = λ told.
     page_framed tree c.args.seat c.in_ok-bytes.bytes (c.in_ok-bytes.ensures.bytes told) ∙ ap faulty (sym c.tree_page.ensures ∙ c.in-Ok.is) in
     leaf-end g.E.Entry.entry_of tree c.args.seat c.in-Ok.page _ _ _ _ page (sym c.level.ensures.value ∙ c.if-level-eq0.true) c.in_ok-push.ensures.items c.in_ok-push_leaf.ensures
 
+pub returns-then-level-eq0-clause-placed : goal.returns-then-level-eq0-clause-placed
+returns-then-level-eq0-clause-placed g t c = λ h.
+    subst (AllPlaces c.args.eof) (sym c.in_ok-push.ensures.items) (places-more c.args.eof c.args.seat.at.ib c.args.places.now.items h c.in_ok-bytes.ensures.placed)
+
 pub loop-i-init : goal.loop-i-init
 loop-i-init g t c =
     record {
+      placed = λ h. subst (AllPlaces c.args.eof) (sym c.in_ok-push.ensures.items) (places-more c.args.eof c.args.seat.at.ib c.args.places.now.items h c.in_ok-bytes.ensures.placed);
       same = c.seat_bytes.ensures.same;
       so_far = λ told.
           let tree : FileTree = tree_in (g.W.Outside.view c.args.w.now).here c.args.eof c.args.kind g.E.Entry.size g.E.Entry.rule in
@@ -64,6 +71,7 @@ returns-in_err-read_below-clause-refused g t c =
 pub loop-i-preserved : goal.loop-i-preserved
 loop-i-preserved g t c =
     record {
+      placed = λ h. c.in_ok-read_below.ensures.placed (c.loop-i.invariant.placed h);
       same = untouched_then c.loop-i.invariant.same c.read_below.ensures.same;
       so_far = λ told.
           let before = c.read_below.ensures.same.stays.told told in

@@ -1,0 +1,60 @@
+//! The blocks of a file.
+ghost use Rattle.std.specs.Prelude.{◌≡◌, ◌≤◌, Err, length, OnOk, IfErr};
+ghost use Rattle.pst_outside.specs.Calls.{Rose, Untouched};
+ghost use Rattle.file_blocks.specs.Blocks.{file_of, AllStand};
+ghost use Rattle.pst_recover.specs.Parts.{StopsEof, StopsAtBlock, AllPlaced};
+ghost use Rattle.pst_recover.specs.Nodes.{LARGEST};
+
+use crate::stops::{OpenRefusal, OpenStop};
+use btree_pages::BlockEntry;
+use file_blocks::{BlockStop, check_block};
+use pst_outside::{Outside, Part};
+
+/// The most bytes that a file may have: those before the first region, and 8192 regions.
+const LARGEST: u64 = 0x4400 + 253_952 * 8192;
+
+/// Refuses a file that is shorter than its header says, or whose header names an end past the last region that may be.
+pub(crate) fn check_eof<W: Outside>(w: &mut W, eof: u64) -> Result<(), OpenStop>
+    ensures whole { OnOk result ((W.view w.new).tells → eof ≤ length (W.view w.new).here.main) }
+    ensures small { OnOk result (eof ≤ LARGEST) }
+    ensures refused { IfErr result (λ stop. (W.view w.new).tells → StopsEof stop (length (W.view w.new).here.main) eof) }
+    ensures fault { result ≡ Err OpenStop.Fault → Rose (W.view w.old).disk_faults (W.view w.new).disk_faults }
+    ensures same { Untouched (W.view w.old) (W.view w.new) }
+{
+    let len = w.len(Part::Main)?;
+    if eof > len {
+        return Err(OpenStop::Refused(OpenRefusal::Truncated { len, eof }));
+    }
+    if eof > LARGEST {
+        return Err(OpenStop::Refused(OpenRefusal::Large { eof }));
+    }
+    Ok(())
+}
+
+/// Checks that each entry of the block tree names a whole block.
+pub(crate) fn check_blocks<W: Outside>(
+    w: &mut W,
+    eof: u64,
+    blocks: &[BlockEntry],
+) -> Result<(), OpenStop>
+    requires { (W.view w.old).tells → eof ≤ length (W.view w.old).here.main }
+    ensures stand { OnOk result ((W.view w.new).tells → AllStand (file_of (W.view w.new).here) eof blocks.now) }
+    ensures placed { OnOk result (AllPlaced eof blocks.now) }
+    ensures refused { IfErr result (λ stop. (W.view w.new).tells → StopsAtBlock stop (file_of (W.view w.new).here) eof blocks.now) }
+    ensures fault { result ≡ Err OpenStop.Fault → Rose (W.view w.old).disk_faults (W.view w.new).disk_faults }
+    ensures same { Untouched (W.view w.old) (W.view w.new) }
+{
+    for entry in blocks {
+        match check_block(w, eof, *entry) {
+            Ok(()) => {}
+            Err(BlockStop::Failed) => return Err(OpenStop::Fault),
+            Err(BlockStop::Refused(fault)) => {
+                return Err(OpenStop::Refused(OpenRefusal::Block {
+                    ib: entry.at.ib,
+                    fault,
+                }));
+            }
+        }
+    }
+    Ok(())
+}
