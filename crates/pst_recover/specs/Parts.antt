@@ -129,3 +129,21 @@ AllShort (e ∷ es) = (e.cb ≤ 8176) × AllShort es
 abbrev pub AllPlaces : ℕ → List Place → Type 0
 AllPlaces eof [] = Unit {0}
 AllPlaces eof (p ∷ ps) = IsPlace eof p × AllPlaces eof ps
+
+-- ---- the trees
+
+-- the block tree of a root is whole, its entries and its pages' places are these, and each entry names a whole block
+pub record HasBlocks (file : List ℕ) (eof : ℕ) (root : Bref) (blocks : List BlockEntry) (places : List Place) : Type 0 where
+  pub found : Found
+  pub pages : IsWhole (block_tree file eof) root found
+  pub blocks_are : blocks ≡ blocks_in found
+  pub places_are : places ≡ found.places
+  pub stand : AllStand file eof blocks
+
+-- a stop at the block tree: at a page, or at the first block that isn't whole
+abbrev pub StopsBlocks : OpenStop → List ℕ → ℕ → Bref → Type 0
+StopsBlocks Memory file eof root = Unit {0}
+StopsBlocks Fault file eof root = Unit {0}
+StopsBlocks (Refused (refusals.Page ib fault)) file eof root = IsBadPage (block_tree file eof) root ib fault
+StopsBlocks (Refused (refusals.Block ib fault)) file eof root = (found : Found) × IsWhole (block_tree file eof) root found × IsFirstBad file eof (blocks_in found) ib fault
+StopsBlocks stop file eof root = ⊥

@@ -1,14 +1,20 @@
 //! The blocks of a file.
-ghost use Rattle.std.specs.Prelude.{◌≡◌, ◌≤◌, Err, length, OnOk, IfErr};
+ghost use Rattle.std.specs.Prelude.{◌≡◌, ◌≤◌, Err, length, IfOk, OnOk, IfErr};
 ghost use Rattle.pst_outside.specs.Calls.{Rose, Untouched};
 ghost use Rattle.file_blocks.specs.Blocks.{file_of, AllStand};
-ghost use Rattle.pst_recover.specs.Parts.{StopsEof, StopsAtBlock, AllPlaced};
+ghost use Rattle.pst_recover.specs.Parts.{StopsEof, StopsAtBlock, AllPlaced, AllPlaces, HasBlocks, StopsBlocks};
 ghost use Rattle.pst_recover.specs.Nodes.{LARGEST};
 
 use crate::stops::{OpenRefusal, OpenStop};
+use crate::trees::read_tree;
 use btree_pages::BlockEntry;
 use file_blocks::{BlockStop, check_block};
+use pst_base::{Bref, Place};
 use pst_outside::{Outside, Part};
+use std::alloc::Global;
+
+/// The kind of the block tree's pages.
+const BLOCK_TREE: u8 = 0x80;
 
 /// The most bytes that a file may have: those before the first region, and 8192 regions.
 const LARGEST: u64 = 0x4400 + 253_952 * 8192;
@@ -57,4 +63,26 @@ pub(crate) fn check_blocks<W: Outside>(
         }
     }
     Ok(())
+}
+
+/// The entries of the block tree of a root, each of which names a whole block, and the places of the tree's pages.
+pub(crate) fn read_blocks<W: Outside>(
+    alloc: Global,
+    w: &mut W,
+    eof: u64,
+    root: Bref,
+) -> Result<(Vec<BlockEntry>, Vec<Place>), OpenStop>
+    requires { (W.view w.old).tells → eof ≤ length (W.view w.old).here.main }
+    ensures blocks { IfOk result (λ read. (W.view w.new).tells → HasBlocks (file_of (W.view w.new).here) eof root read.0.items read.1.items) }
+    ensures placed { IfOk result (λ read. AllPlaced eof read.0.items) }
+    ensures pages { IfOk result (λ read. AllPlaces eof read.1.items) }
+    ensures refused { IfErr result (λ stop. (W.view w.new).tells → StopsBlocks stop (file_of (W.view w.new).here) eof root) }
+    ensures fault { result ≡ Err OpenStop.Fault → Rose (W.view w.old).disk_faults (W.view w.new).disk_faults }
+    ensures same { Untouched (W.view w.old) (W.view w.new) }
+{
+    let mut blocks = Vec::new(alloc);
+    let mut places = Vec::new(alloc);
+    read_tree(w, BLOCK_TREE, eof, root, &mut blocks, &mut places)?;
+    check_blocks(w, eof, blocks.as_slice())?;
+    Ok((blocks, places))
 }
