@@ -45,3 +45,15 @@ front_of n m new rest whole same size is =
   where
     take_at : (n : ℕ) (xs ys : List ℕ) → length xs ≡ n → take n (xs ++ ys) ≡ xs
     take_at n xs ys e = ap (λ (k : ℕ). take k (xs ++ ys)) (sym e) ∙ take-append_seam xs ys
+
+-- a file that has a header is as long as its main part
+pub same_length : (main side : List ℕ) → 564 ≤ length main → length (effective main side) ≡ length main
+same_length main side long = by_gate (is_open side) refl
+  where
+    by_gate : (b : Bool) → is_open side ≡ b → length (effective main side) ≡ length main
+    by_gate false shut = rw shut refl
+    by_gate true is =
+        let size = open_size side is in
+        let same : length (drop 16 side ++ drop 564 main) ≡ length main =
+        omega (arith, length-append (drop 16 side) (drop 564 main), length-drop 16 side, length-drop 564 main, size, long) in
+        rw is same

@@ -1,12 +1,12 @@
 -- Blocks, one by one.
-use Rattle.std.proofs.Common.{◌≡◌, ℕ, ◌≤◌, ◌<◌, ◌+◌, ◌%◌, ◌∙◌, List, [], ◌∷◌, length, drop, get_or, Err, Result, Ok, refl, sym, ap, subst, arith, inl, inr, zero, suc, map, ◌++◌, ◌*◌, All}
+use Rattle.std.proofs.Common.{◌≡◌, ℕ, ◌≤◌, ◌<◌, ◌+◌, ◌%◌, List, [], ◌∷◌, length, drop, get_or, Err, refl, sym, subst, arith, inl, inr, zero, suc, map, ◌++◌, ◌*◌, All}
 use Rattle.std.proofs.lemmas.List.{drop_all}
 use Rattle.data_tree.proofs.ListingLaws.{drop-here}
 use Rattle.pst_outside.specs.World.{Image, World}
 use Rattle.pst_outside.specs.Calls.{Untouched}
 use Rattle.btree_pages.specs.declared.entry.BlockEntry.{BlockEntry}
 use Rattle.file_blocks.specs.declared.check.BlockRefusal.{BlockRefusal}
-use Rattle.file_blocks.specs.Blocks.{file_of, data_at, Stands, AllStand}
+use Rattle.file_blocks.specs.Blocks.{data_at, Stands, AllStand}
 use Rattle.file_blocks.specs.Stops.{Tells, IsPlaced}
 use Rattle.block_frame.specs.Size.{disk_size_of}
 use Rattle.pst_base.specs.declared.places.Place.{Place}

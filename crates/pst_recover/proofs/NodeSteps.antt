@@ -1,12 +1,11 @@
 -- How the reading of a node is made of those of its data and of its subnodes.
-use Rattle.std.proofs.Common.{Err, List, Ok, Option, Result, [], ap, append-nil, append_assoc, arith, drop, get_or, inl, inr, length, map, refl, subst, sym, ℕ, ◌++◌, ◌+◌, ◌<◌, ◌∙◌, ◌∷◌, ◌≡◌, ◌≤◌}
+use Rattle.std.proofs.Common.{true, Err, List, Ok, Option, Result, [], ap, append-nil, append_assoc, arith, drop, get_or, inl, inr, length, map, refl, subst, sym, ℕ, ◌++◌, ◌+◌, ◌<◌, ◌∙◌, ◌∷◌, ◌≡◌, ◌≤◌}
 use Rattle.pst_base.specs.declared.stops.MemOr.{MemOr}
 use Rattle.pst_base.specs.declared.stops.MemOr.TheVariants as or_memory
-use Rattle.pst_base.specs.declared.stops.SourceStop.{SourceStop}
 use Rattle.pst_base.specs.declared.stops.SourceStop.TheVariants as sources
 use Rattle.pst_base.specs.Flat.{Flat}
 use Rattle.pst_outside.specs.World.{World}
-use Rattle.pst_outside.specs.Calls.{Rose, Untouched, NeverFall}
+use Rattle.pst_outside.specs.Calls.{Untouched}
 use Rattle.btree_pages.specs.declared.entry.BlockEntry.{BlockEntry}
 use Rattle.btree_pages.specs.declared.entry.NodeEntry.{NodeEntry}
 use Rattle.data_tree.specs.declared.source.TreeStop.{TreeStop}
@@ -21,14 +20,14 @@ use Rattle.subnode_tree.specs.Counts.{directs, counted}
 use Rattle.subnode_tree.specs.Subnodes.{subs_of}
 use Rattle.file_blocks.specs.Stops.{Holds}
 use Rattle.pst_recover.specs.declared.nodes.NodeLine.{NodeLine}
-use Rattle.pst_recover.specs.Nodes.{Node, line_of, node_at}
-use Rattle.file_blocks.specs.Blocks.{file_of, AllStand, found_in}
+use Rattle.pst_recover.specs.Nodes.{line_of, node_at}
+use Rattle.file_blocks.specs.Blocks.{file_of, rise_from, AllStand, found_in}
+use Rattle.file_blocks.specs.declared.check.BlockRefusal.TheVariants.{Form}
+use Rattle.pst_recover.specs.declared.stops.OpenRefusal.TheVariants as refusals
+use Rattle.pst_recover.specs.declared.stops.OpenStop.TheVariants.{Refused}
 use Rattle.file_blocks.proofs.StandLaws.{tells-still}
 use Rattle.pst_outside.specs.World.{Image}
-use Rattle.pst_base.specs.declared.ids.Nid.{Nid}
-use Rattle.pst_recover.specs.declared.stops.OpenStop.{OpenStop}
-use Rattle.pst_recover.specs.Nodes.{AreNodes}
-use Rattle.pst_recover.specs.Parts.{StopsReading, Asks, IsLineOf, AreLines, stop_at, IsStopOf, StopsAtNodes}
+use Rattle.pst_recover.specs.Parts.{StopsReading, IsLineOf, AreLines, place_in, stop_at, StopsAtNodes}
 use Rattle.pst_recover.specs.Scan.{IsFirstStop}
 use Rattle.std.proofs.lemmas.List.{drop_all}
 use Rattle.data_tree.proofs.ListingLaws.{drop-here}
@@ -204,22 +203,22 @@ first-here find eof nodes i d lines fault within lining stops =
     (subst (λ (es : List NodeEntry). IsFirstStop find eof es ((get_or nodes i d).nid).bits fault) (sym (here_is nodes i d within)) (inl (refl, stops)))
 
 -- a node's stop is one of the reading of nodes
-pub stops-nodes : (old mid : World) (eof : ℕ) (blocks : List BlockEntry) (nodes : List NodeEntry) (i : ℕ) (d : NodeEntry) (lines : List NodeLine) → i < length nodes
+pub stops-nodes : (old mid : World) (eof : ℕ) (blocks : List BlockEntry) (nodes : List NodeEntry) (i : ℕ) (d : NodeEntry) (lines : List NodeLine) (ib : ℕ) → i < length nodes
     → Untouched old mid → ((find : ℕ → Option (List ℕ)) → Holds old eof blocks find → Lining find eof nodes i lines)
-    → (stop : MemOr TreeStop) → StopsReading stop mid eof blocks (λ find. node_at find eof (get_or nodes i d))
-    → StopsAtNodes (stop_at blocks (get_or nodes i d).nid stop) old eof blocks nodes
-stops-nodes old mid eof blocks nodes i d lines within same lining or_memory.Memory stops = tt
-stops-nodes old mid eof blocks nodes i d lines within same lining (or_memory.Refused (tree_stops.Source sources.Failed)) stops = tt
-stops-nodes old mid eof blocks nodes i d lines within same lining (or_memory.Refused (tree_stops.Source (sources.Changed ib stored computed))) stops = λ find h. stops find (holds-still same h)
-stops-nodes old mid eof blocks nodes i d lines within same lining (or_memory.Refused (tree_stops.Missing bid)) stops = λ find h.
-    record { nid = (get_or nodes i d).nid; fault = tree_stops.Missing bid; is = refl; first = first-here find eof nodes i d lines (tree_stops.Missing bid) within (lining find h) (stops find (holds-still same h)) }
-stops-nodes old mid eof blocks nodes i d lines within same lining (or_memory.Refused (tree_stops.Form bid)) stops = λ find h.
-    record { nid = (get_or nodes i d).nid; fault = tree_stops.Form bid; is = refl; first = first-here find eof nodes i d lines (tree_stops.Form bid) within (lining find h) (stops find (holds-still same h)) }
-stops-nodes old mid eof blocks nodes i d lines within same lining (or_memory.Refused tree_stops.Long) stops = λ find h.
+    → (stop : MemOr TreeStop) → (rise_from 0 blocks ≡ true → ib ≡ place_in blocks stop) → StopsReading stop mid eof blocks (λ find. node_at find eof (get_or nodes i d))
+    → StopsAtNodes (stop_at ib (get_or nodes i d).nid stop) old eof blocks nodes
+stops-nodes old mid eof blocks nodes i d lines ib within same lining or_memory.Memory place stops = tt
+stops-nodes old mid eof blocks nodes i d lines ib within same lining (or_memory.Refused (tree_stops.Source sources.Failed)) place stops = tt
+stops-nodes old mid eof blocks nodes i d lines ib within same lining (or_memory.Refused (tree_stops.Source (sources.Changed at stored computed))) place stops = λ find h. stops find (holds-still same h)
+stops-nodes old mid eof blocks nodes i d lines ib within same lining (or_memory.Refused (tree_stops.Form bid)) place stops = λ find h.
+    record { nid = (get_or nodes i d).nid; fault = tree_stops.Form bid; is = ap (λ (n : ℕ). Refused (refusals.Block n Form)) (place h.ascend); first = first-here find eof nodes i d lines (tree_stops.Form bid) within (lining find h) (stops find (holds-still same h)) }
+stops-nodes old mid eof blocks nodes i d lines ib within same lining (or_memory.Refused (tree_stops.Missing bid)) place stops = λ find h.
+    record { nid = (get_or nodes i d).nid; fault = (tree_stops.Missing bid); is = refl; first = first-here find eof nodes i d lines (tree_stops.Missing bid) within (lining find h) (stops find (holds-still same h)) }
+stops-nodes old mid eof blocks nodes i d lines ib within same lining (or_memory.Refused tree_stops.Long) place stops = λ find h.
     record { nid = (get_or nodes i d).nid; fault = tree_stops.Long; is = refl; first = first-here find eof nodes i d lines tree_stops.Long within (lining find h) (stops find (holds-still same h)) }
-stops-nodes old mid eof blocks nodes i d lines within same lining (or_memory.Refused tree_stops.Deep) stops = λ find h.
+stops-nodes old mid eof blocks nodes i d lines ib within same lining (or_memory.Refused tree_stops.Deep) place stops = λ find h.
     record { nid = (get_or nodes i d).nid; fault = tree_stops.Deep; is = refl; first = first-here find eof nodes i d lines tree_stops.Deep within (lining find h) (stops find (holds-still same h)) }
-stops-nodes old mid eof blocks nodes i d lines within same lining (or_memory.Refused tree_stops.Many) stops = λ find h.
+stops-nodes old mid eof blocks nodes i d lines ib within same lining (or_memory.Refused tree_stops.Many) place stops = λ find h.
     record { nid = (get_or nodes i d).nid; fault = tree_stops.Many; is = refl; first = first-here find eof nodes i d lines tree_stops.Many within (lining find h) (stops find (holds-still same h)) }
 
 -- a source of a file's blocks, as its calls' clauses see it

@@ -1,5 +1,5 @@
 -- Which refusals are of the header, and what an opened file has.
-use Rattle.std.proofs.Common.{Bool, true, false, ◌≡◌, ℕ, ◌≤◌, ltb, eqb, List, length, Result, Ok, Err, refl, sym, ap, subst, ◌∙◌, arith, if◌then◌else◌}
+use Rattle.std.proofs.Common.{Bool, true, false, ◌≡◌, ℕ, ◌≤◌, ltb, eqb, List, length, Result, Ok, Err, refl, subst, if◌then◌else◌}
 use Rattle.std.proofs.lemmas.Bool.{ltb-false}
 use Rattle.pst_outside.specs.World.{Image}
 use Rattle.pst_header.specs.declared.header.Header.{Header}
@@ -10,7 +10,6 @@ use Rattle.pst_recover.specs.declared.stops.OpenRefusal.{OpenRefusal}
 use Rattle.pst_recover.specs.declared.stops.OpenRefusal.TheVariants as refusals
 use Rattle.pst_recover.specs.declared.stops.OpenStop.{OpenStop}
 use Rattle.pst_recover.specs.declared.stops.OpenStop.TheVariants.{Refused, Fault, Changed, Memory}
-use Rattle.pst_recover.specs.declared.opening.Opened.{Opened}
 use Rattle.pst_recover.specs.Opening.{opening, of_header, Opens}
 use Rattle.pst_recover.specs.Scan.{IsRefused, StopsScan}
 

@@ -1,5 +1,5 @@
 -- Places of pages.
-use Rattle.std.proofs.Common.{true, ◌≡◌, ℕ, ◌≤◌, ◌+◌, ◌%◌, leb, eqb, ◌&&◌, List, [], ◌∷◌, ◌++◌, refl}
+use Rattle.std.proofs.Common.{true, ◌≡◌, ℕ, ◌+◌, ◌%◌, leb, eqb, ◌&&◌, List, [], ◌∷◌, ◌++◌, refl}
 use Rattle.std.proofs.lemmas.Bool.{and_parts, leb-true, eqb-true}
 use Rattle.pst_base.specs.declared.places.Place.{Place}
 use Rattle.pst_recover.specs.Parts.{IsPlace, AllPlaces}

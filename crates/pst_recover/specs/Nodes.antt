@@ -1,7 +1,5 @@
 -- What a file's nodes are: the node map, and how a file lays it.
-use Rattle.std.specs.Prelude.{◌≡◌, ◌≤◌, ℕ, max, ◌+◌, ◌-◌, ◌*◌, ◌/◌, List, [], ◌∷◌, ◌++◌, map, length, Option, Result, Ok, Err}
-use Rattle.pst_base.specs.declared.ids.Bid.{Bid}
-use Rattle.pst_base.specs.declared.ids.Bref.{Bref}
+use Rattle.std.specs.Prelude.{◌≡◌, ◌≤◌, ℕ, max, ◌+◌, ◌-◌, ◌*◌, ◌/◌, List, [], ◌∷◌, ◌++◌, map, length, Option, Result, Ok}
 use Rattle.pst_base.specs.declared.places.Place.{Place}
 use Rattle.pst_base.specs.Flat.{Flat}
 use Rattle.pst_base.specs.Ids.{key_of}

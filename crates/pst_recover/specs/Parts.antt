@@ -1,5 +1,5 @@
 -- What the parts of a scan answer.
-use Rattle.std.specs.Prelude.{◌≡◌, ◌⊎◌, ◌≤◌, ◌<◌, ℕ, ◌+◌, ◌%◌, List, [], ◌∷◌, ◌++◌, map, length, Option, Result, Ok, Err}
+use Rattle.std.specs.Prelude.{◌≡◌, ◌⊎◌, ◌≤◌, ◌<◌, ℕ, ◌+◌, ◌%◌, List, [], ◌∷◌, map, Option, Result, Ok, Err}
 use Rattle.pst_base.specs.declared.ids.Bref.{Bref}
 use Rattle.pst_base.specs.declared.ids.Nid.{Nid}
 use Rattle.pst_base.specs.declared.places.Place.{Place}
@@ -14,17 +14,18 @@ use Rattle.btree_pages.specs.declared.entry.BlockEntry.{BlockEntry}
 use Rattle.btree_pages.specs.declared.entry.NodeEntry.{NodeEntry}
 use Rattle.data_tree.specs.declared.source.TreeStop.{TreeStop}
 use Rattle.data_tree.specs.declared.source.TreeStop.TheVariants as tree_stops
-use Rattle.file_blocks.specs.declared.check.BlockRefusal.{BlockRefusal}
 use Rattle.file_blocks.specs.declared.check.BlockRefusal.TheVariants.{Form}
-use Rattle.file_blocks.specs.Blocks.{AllStand, entry_with, found_in}
+use Rattle.file_blocks.specs.Blocks.{AllStand, entry_with}
 use Rattle.file_blocks.specs.Stops.{Holds, IsPlaced}
 use Rattle.pst_recover.specs.declared.nodes.NodeLine.{NodeLine}
 use Rattle.pst_recover.specs.declared.stops.NodeFault.TheVariants as faults
 use Rattle.pst_recover.specs.declared.stops.OpenRefusal.TheVariants as refusals
 use Rattle.pst_recover.specs.declared.stops.OpenStop.{OpenStop}
 use Rattle.pst_recover.specs.declared.stops.OpenStop.TheVariants.{Refused, Fault, Changed, Memory}
-use Rattle.pst_recover.specs.Nodes.{Node, line_of, node_at, AreNodes, block_tree, blocks_in, place_of, LARGEST}
-use Rattle.pst_recover.specs.Scan.{IsFirstBad, IsFirstStop, ib_of}
+use Rattle.pst_header.specs.declared.header.Header.{Header}
+use Rattle.pst_recover.specs.declared.stops.OpenRefusal.{OpenRefusal}
+use Rattle.pst_recover.specs.Nodes.{Node, NodeMap, line_of, lines_of, node_at, AreNodes, block_tree, node_tree, blocks_in, LARGEST, Lays}
+use Rattle.pst_recover.specs.Scan.{IsFirstBad, IsFirstStop, ib_of, HasBadBlock, HasBadNode, HasBadForm, HasMeeting, stop_of}
 use Rattle.pst_recover.specs.Trees.{Found, IsWhole}
 use Rattle.pst_recover.specs.Walk.{IsBadPage}
 
@@ -67,16 +68,21 @@ pub record IsLineOf (find : ℕ → Option (List ℕ)) (eof : ℕ) (e : NodeEntr
   pub is : node_at find eof e ≡ Ok node
   pub line_is : line ≡ line_of node
 
--- the stop of a scan at a node, whose blocks have these entries
-abbrev pub stop_at : List BlockEntry → Nid → MemOr TreeStop → OpenStop
-stop_at blocks nid or_memory.Memory = Memory
-stop_at blocks nid (or_memory.Refused (tree_stops.Missing bid)) = Refused (refusals.Missing bid)
-stop_at blocks nid (or_memory.Refused (tree_stops.Form bid)) = Refused (refusals.Block (ib_of (entry_with (key_of bid.bits) blocks)) Form)
-stop_at blocks nid (or_memory.Refused tree_stops.Long) = Refused (refusals.Node nid faults.Long)
-stop_at blocks nid (or_memory.Refused tree_stops.Deep) = Refused (refusals.Node nid faults.Deep)
-stop_at blocks nid (or_memory.Refused tree_stops.Many) = Refused (refusals.Node nid faults.Many)
-stop_at blocks nid (or_memory.Refused (tree_stops.Source sources.Failed)) = Fault
-stop_at blocks nid (or_memory.Refused (tree_stops.Source (sources.Changed ib stored computed))) = Changed ib stored computed
+-- where the block begins whose form is at fault; 0 for any other stop
+abbrev pub place_in : List BlockEntry → MemOr TreeStop → ℕ
+place_in blocks (or_memory.Refused (tree_stops.Form bid)) = ib_of (entry_with (key_of bid.bits) blocks)
+place_in blocks stop = 0
+
+-- the stop of a scan at a node, where a block whose form is at fault begins at ib
+abbrev pub stop_at : ℕ → Nid → MemOr TreeStop → OpenStop
+stop_at ib nid or_memory.Memory = Memory
+stop_at ib nid (or_memory.Refused (tree_stops.Missing bid)) = Refused (refusals.Missing bid)
+stop_at ib nid (or_memory.Refused (tree_stops.Form bid)) = Refused (refusals.Block ib Form)
+stop_at ib nid (or_memory.Refused tree_stops.Long) = Refused (refusals.Node nid faults.Long)
+stop_at ib nid (or_memory.Refused tree_stops.Deep) = Refused (refusals.Node nid faults.Deep)
+stop_at ib nid (or_memory.Refused tree_stops.Many) = Refused (refusals.Node nid faults.Many)
+stop_at ib nid (or_memory.Refused (tree_stops.Source sources.Failed)) = Fault
+stop_at ib nid (or_memory.Refused (tree_stops.Source (sources.Changed at stored computed))) = Changed at stored computed
 
 -- ---- the nodes
 
@@ -84,7 +90,7 @@ stop_at blocks nid (or_memory.Refused (tree_stops.Source (sources.Changed ib sto
 pub record IsStopOf (stop : OpenStop) (find : ℕ → Option (List ℕ)) (eof : ℕ) (blocks : List BlockEntry) (nodes : List NodeEntry) : Type 0 where
   pub nid : Nid
   pub fault : TreeStop
-  pub is : stop ≡ stop_at blocks nid (or_memory.Refused fault)
+  pub is : stop ≡ stop_at (place_in blocks (or_memory.Refused fault)) nid (or_memory.Refused fault)
   pub first : IsFirstStop find eof nodes nid.bits fault
 
 -- a stop of the reading of nodes, but for the disk's
@@ -147,3 +153,28 @@ StopsBlocks Fault file eof root = Unit {0}
 StopsBlocks (Refused (refusals.Page ib fault)) file eof root = IsBadPage (block_tree file eof) root ib fault
 StopsBlocks (Refused (refusals.Block ib fault)) file eof root = (found : Found) × IsWhole (block_tree file eof) root found × IsFirstBad file eof (blocks_in found) ib fault
 StopsBlocks stop file eof root = ⊥
+
+-- ---- both trees
+
+-- what a refusal names is at fault
+abbrev pub IsFault : Header → List ℕ → OpenRefusal → Type 0
+IsFault header file (refusals.Page ib fault) = IsBadPage (block_tree file header.eof) header.bbt ib fault ⊎ IsBadPage (node_tree file header.eof) header.nbt ib fault
+IsFault header file (refusals.Block ib Form) = HasBadForm header file ib
+IsFault header file (refusals.Block ib fault) = HasBadBlock header file ib fault
+IsFault header file (refusals.Missing bid) = (nid : ℕ) × HasBadNode header file nid (tree_stops.Missing bid)
+IsFault header file (refusals.Overlap ib) = HasMeeting header file ib
+IsFault header file (refusals.Node nid fault) = HasBadNode header file nid.bits (stop_of fault)
+IsFault header file refusal = ⊥
+
+-- a stop at the trees of a header: a refusal names what is at fault, and the file lays no node map
+abbrev pub StopsTrees : OpenStop → Header → List ℕ → Type 0
+StopsTrees Memory header file = Unit {0}
+StopsTrees Fault header file = Unit {0}
+StopsTrees (Changed ib stored computed) header file = ⊥
+StopsTrees (Refused refusal) header file = IsFault header file refusal × ((m : NodeMap) → Lays header file m → ⊥)
+
+-- the file lays a node map of these lines
+pub record LaysLines (header : Header) (file : List ℕ) (lines : List NodeLine) : Type 0 where
+  pub nodes : NodeMap
+  pub lays : Lays header file nodes
+  pub lines_are : lines ≡ lines_of nodes

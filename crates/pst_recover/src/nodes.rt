@@ -8,7 +8,7 @@ ghost use Rattle.data_tree.specs.Tree.{blocks_of};
 ghost use Rattle.subnode_tree.specs.Counts.{counted};
 ghost use Rattle.subnode_tree.specs.Subnodes.{subs_of};
 ghost use Rattle.pst_recover.specs.Nodes.{node_at};
-ghost use Rattle.pst_recover.specs.Parts.{StopsReading, Asks, IsLineOf, stop_at, StopsAtNodes, AreLines};
+ghost use Rattle.pst_recover.specs.Parts.{StopsReading, Asks, IsLineOf, place_in, stop_at, StopsAtNodes, AreLines};
 ghost use Rattle.pst_recover.specs.Scan.{ib_of};
 ghost use Rattle.pst_base.specs.Ids.{key_of};
 
@@ -102,18 +102,32 @@ fn place_of(blocks: &[BlockEntry], bid: Bid) -> u64
     }
 }
 
-/// The stop of a scan at a node.
-fn stop_at(blocks: &[BlockEntry], nid: Nid, stop: MemOr<TreeStop>) -> OpenStop
-    ensures { rise_from 0 blocks.now ≡ true → result ≡ stop_at blocks.now nid stop }
+/// Where the block begins whose form is at fault; 0 for any other stop.
+fn place_in(blocks: &[BlockEntry], stop: MemOr<TreeStop>) -> u64
+    ensures { rise_from 0 blocks.now ≡ true → result ≡ place_in blocks.now stop }
+{
+    match stop {
+        MemOr::Refused(TreeStop::Form { bid }) => place_of(blocks, bid),
+        _ => 0,
+    }
+}
+
+/// The stop of a scan at a node, where a block whose form is at fault begins at `place`.
+fn stop_at(place: u64, nid: Nid, stop: MemOr<TreeStop>) -> OpenStop
+    ensures { result ≡ stop_at place nid stop }
 {
     let refusal = match stop {
         MemOr::Memory => return OpenStop::Memory,
         MemOr::Refused(TreeStop::Source(SourceStop::Failed)) => return OpenStop::Fault,
-        MemOr::Refused(TreeStop::Source(SourceStop::Changed {
-            ib,
-            stored,
-            computed,
-        })) => {
+        MemOr::Refused(
+            TreeStop::Source(
+                SourceStop::Changed {
+                    ib,
+                    stored,
+                    computed,
+                },
+            ),
+        ) => {
             return OpenStop::Changed {
                 ib,
                 stored,
@@ -121,8 +135,8 @@ fn stop_at(blocks: &[BlockEntry], nid: Nid, stop: MemOr<TreeStop>) -> OpenStop
             };
         }
         MemOr::Refused(TreeStop::Missing { bid }) => OpenRefusal::Missing { bid },
-        MemOr::Refused(TreeStop::Form { bid }) => OpenRefusal::Block {
-            ib: place_of(blocks, bid),
+        MemOr::Refused(TreeStop::Form { .. }) => OpenRefusal::Block {
+            ib: place,
             fault: BlockRefusal::Form,
         },
         MemOr::Refused(TreeStop::Long) => OpenRefusal::Node {
@@ -149,7 +163,6 @@ pub(crate) fn node_lines<W: Outside>(
     blocks: &[BlockEntry],
     nodes: &[NodeEntry],
 ) -> Result<Vec<NodeLine>, OpenStop>
-    requires { rise_from 0 blocks.now ≡ true }
     ensures lines { IfOk result (λ lines. (find : ℕ → Option (List ℕ)) → Holds (W.view w.old) eof blocks.now find → AreLines find eof nodes.now lines.items) }
     ensures stops { IfErr result (λ stop. StopsAtNodes stop (W.view w.old) eof blocks.now nodes.now) }
     ensures fault { result ≡ Err OpenStop.Fault → Rose (W.view w.old).disk_faults (W.view w.new).disk_faults }
@@ -159,7 +172,7 @@ pub(crate) fn node_lines<W: Outside>(
     for node in nodes {
         match node_line(alloc, w, eof, blocks, *node) {
             Ok(line) => lines.push(line)?,
-            Err(stop) => return Err(stop_at(blocks, node.nid, stop)),
+            Err(stop) => return Err(stop_at(place_in(blocks, stop), node.nid, stop)),
         }
     }
     Ok(lines)

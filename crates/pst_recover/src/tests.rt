@@ -134,10 +134,14 @@ fn faulty(ib: u64, fault: PageFault) -> Option<OpenStop> {
 /// What is wrong with the content or the frame of the page that is named.
 fn fault_of(stop: Option<OpenStop>) -> Option<PageFault> {
     match stop {
-        Some(OpenStop::Refused(OpenRefusal::Page {
-            fault: PageRefusal::Faulty(fault),
-            ..
-        })) => Some(fault),
+        Some(
+            OpenStop::Refused(
+                OpenRefusal::Page {
+                    fault: PageRefusal::Faulty(fault),
+                    ..
+                },
+            ),
+        ) => Some(fault),
         _ => None,
     }
 }

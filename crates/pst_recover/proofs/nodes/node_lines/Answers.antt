@@ -1,6 +1,5 @@
-use Rattle.std.proofs.Common.{ℕ, List, Option, ◌+◌, ◌++◌, ◌∷◌, [], sym, subst, arith}
+use Rattle.std.proofs.Common.{◌+◌, sym, subst, arith}
 use Rattle.btree_pages.specs.declared.entry.NodeEntry.{NodeEntry}
-use Rattle.pst_recover.specs.declared.nodes.NodeLine.{NodeLine}
 use Rattle.pst_recover.specs.declared.stops.OpenStop.{OpenStop}
 use Rattle.pst_recover.specs.Parts.{StopsAtNodes}
 use Rattle.pst_recover.proofs.NodeSteps.{Lining, lining-next, lining-end, stops-nodes, holds-still}
@@ -14,17 +13,18 @@ pub returns-in-Err-clause-stops : goal.returns-in-Err-clause-stops
 returns-in-Err-clause-stops g c =
     let test = c.loop-node-test.true in
     let P : OpenStop → Type 0 = λ s. StopsAtNodes s (g.W.Outside.view c.args.w.now) c.args.eof c.args.blocks.now c.args.nodes.now in
-    subst P (sym (c.stop_at.ensures c.requires))
-    (stops-nodes (g.W.Outside.view c.args.w.now) (g.W.Outside.view c.loop-node.w) c.args.eof c.args.blocks.now c.args.nodes.now c.loop-node.node-index no_node c.loop-node.lines.items (omega (arith, test))
-    c.loop-node.invariant.0 c.loop-node.invariant.1 c.in-Err.stop c.in-Err.ensures.stops)
+    subst P (sym c.stop_at.ensures)
+    (stops-nodes (g.W.Outside.view c.args.w.now) (g.W.Outside.view c.loop-node.w) c.args.eof c.args.blocks.now c.args.nodes.now c.loop-node.node-index no_node c.loop-node.lines.items c.place_in.result (omega (arith, test))
+    c.loop-node.invariant.0 c.loop-node.invariant.1 c.in-Err.stop c.place_in.ensures c.in-Err.ensures.stops)
 
 pub loop-node-preserved : goal.loop-node-preserved
 loop-node-preserved g c =
-    let test = c.loop-node-test.true in
-    (untouched_then c.loop-node.invariant.0 c.in-Ok.ensures.same,
-    λ find h. subst (Lining find c.args.eof c.args.nodes.now (c.loop-node.node-index + 1)) (sym c.in_ok-push-in-Ok.ensures.items)
-    (lining-next find c.args.eof c.args.nodes.now c.loop-node.node-index no_node c.loop-node.lines.items c.in-Ok.line (omega (arith, test)) (c.loop-node.invariant.1 find h)
-    (c.in-Ok.ensures.line find (holds-still c.loop-node.invariant.0 h))))
+    let test = c.loop-node-test.true in (
+      untouched_then c.loop-node.invariant.0 c.in-Ok.ensures.same,
+      λ find h. subst (Lining find c.args.eof c.args.nodes.now (c.loop-node.node-index + 1)) (sym c.in_ok-push-in-Ok.ensures.items)
+          (lining-next find c.args.eof c.args.nodes.now c.loop-node.node-index no_node c.loop-node.lines.items c.in-Ok.line (omega (arith, test)) (c.loop-node.invariant.1 find h)
+          (c.in-Ok.ensures.line find (holds-still c.loop-node.invariant.0 h))),
+    )
 
 pub returns-clause-lines : goal.returns-clause-lines
 returns-clause-lines g c = λ find h.

@@ -1,7 +1,4 @@
-use Rattle.std.proofs.Common.{ℕ, List, Option, refl, arith}
-use Rattle.std.proofs.lemmas.Result.{IfErr-weaker}
-use Rattle.data_tree.specs.Measure.{measured}
-use Rattle.data_tree.specs.Tree.{blocks_of}
+use Rattle.std.proofs.Common.{refl}
 use Rattle.subnode_tree.specs.Counts.{counted}
 use Rattle.subnode_tree.specs.Subnodes.{subs_of}
 use Rattle.pst_recover.proofs.NodeSteps.{reads-ok, reads-err, reads-fault, source_of, untouched-same}

@@ -10,7 +10,6 @@ use Rattle.pst_recover.proofs.PlaceLaws.{places-more}
 use Rattle.pst_recover.proofs.Underway.{depth_of, deeper, page_framed, faulty_stops, outside_stops, child_stops, underway-start, underway-next, underway-end, leaf-end, untouched_then}
 use Rattle.pst_recover.proofs.trees.+read_below.Goals as goal
 
-
 pub returns-in_err-bytes-clause-refused : goal.returns-in_err-bytes-clause-refused
 returns-in_err-bytes-clause-refused g t c =
     let p = err_from_is_err_and c.from_residual.result c.from_residual.ensures.1 in

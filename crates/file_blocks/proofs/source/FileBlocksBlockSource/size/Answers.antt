@@ -1,4 +1,4 @@
-use Rattle.std.proofs.Common.{◌≡◌, ℕ, List, Option, Some, take, drop, length, sym, ap, ◌∙◌, arith}
+use Rattle.std.proofs.Common.{◌≡◌, Some, sym, ap, ◌∙◌, arith}
 use Rattle.pst_base.specs.Ids.{key_of}
 use Rattle.data_tree.specs.Source.{length_if}
 use Rattle.file_blocks.specs.Blocks.{file_of, data_of, entry_with}
