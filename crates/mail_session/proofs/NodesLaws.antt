@@ -12,7 +12,7 @@ use Rattle.pst_recover.specs.Scan.{Scans, IsRefused}
 use Rattle.pst_recover.specs.Trees.{file_of}
 use Rattle.mail_session.specs.declared.exit.ChangedAt.{ChangedAt}
 use Rattle.mail_session.specs.declared.exit.Status.{Status}
-use Rattle.mail_session.specs.declared.exit.Status.TheVariants.{Done, Refused, Disk, Output, Memory, Changed}
+use Rattle.mail_session.specs.declared.exit.Status.TheVariants.{Done, Refused, Disk, Output, Changed}
 use Rattle.mail_session.specs.Info.{Says}
 use Rattle.mail_session.specs.Nodes.{IsNodesText, IsRefusalText, SaysOf, NodesEnds}
 use Rattle.mail_session.specs.Texts.{nodes_text, refusal_line}
@@ -86,23 +86,6 @@ nodes_fail {old} {mid} call rose = record {
   statuses = inr (inr (inl refl));
   said = λ t. ([], refl, said_nothing call t);
 }
-
--- there was no memory to say anything
-pub nodes_need : {old mid : World} → Untouched old mid → NodesEnds old mid Memory
-nodes_need {old} {mid} call = record {
-  keeps = keeps_untouched (keeps_started old) call;
-  input = call.stays.input;
-  disk_failed = λ is. absurd (memory_disk is);
-  output_failed = λ is. absurd (memory_output is);
-  statuses = inr (inr (inr (inr (inl refl))));
-  said = λ t. ([], refl, said_nothing call t);
-}
-  where
-    memory_disk : Memory ≡ Disk → ⊥
-    memory_disk is = cc
-
-    memory_output : Memory ≡ Output → ⊥
-    memory_output is = cc
 
 -- something changed, and so the world doesn't tell
 pub nodes_change : {old mid : World} {at : ChangedAt} → Untouched old mid → (mid.tells → ⊥) → NodesEnds old mid (Changed at)
