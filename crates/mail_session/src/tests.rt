@@ -230,6 +230,14 @@ fn nodes_of_no_bytes_are_refused(rt: HostRuntime) -> Result<(), Fail> {
     said_of(&rt, "nodes", main, side, "refused empty\n", 3)
 }
 
+#[test]
+fn nodes_of_a_cut_file_are_refused(rt: HostRuntime) -> Result<(), Fail> {
+    let main = file(&rt, 271_360, &OTHER, &[])?;
+    let side = Bytes::new(rt.alloc());
+    let wanted = "refused truncated 271360 525312\n";
+    said_of(&rt, "nodes", main, side, wanted, 3)
+}
+
 fn plan(
     rt: &(impl Abort + AllocGlobal),
     takes: &[u64],
