@@ -1,17 +1,16 @@
 -- How a session in memory goes on from its start, and ends.
-use Rattle.std.proofs.Common.{◌≡◌, ◌⊎◌, ◌∙◌, ℕ, suc, ◌+◌, ◌<◌, ◌≤◌, inl, inr, ap, sym, subst, refl, arith, Bool, true, false, cond, List, [], ◌∷◌, ◌++◌, length, take, append_assoc, length-append, Some}
+use Rattle.std.proofs.Common.{◌≡◌, ◌∙◌, ℕ, suc, ◌+◌, ◌<◌, inl, inr, ap, sym, subst, refl, arith, Bool, true, false, cond, List, [], ◌∷◌, ◌++◌, length, take, append_assoc, Some}
 use Rattle.std.proofs.lemmas.Bool.{true≢false}
 use Rattle.std.proofs.lemmas.List.{append-nil, take_all}
 use Rattle.std.specs.List.{concat, list_any}
 use Rattle.pst_outside.specs.World.{World}
-use Rattle.pst_outside.specs.Calls.{Rose}
 use Rattle.mail_session.specs.declared.folder.Folder.{Folder}
 use Rattle.mail_session.specs.declared.exit.Status.{Status}
-use Rattle.mail_session.specs.declared.exit.Status.TheVariants.{Done, Words, Refused, Disk, Input, Output, Memory, Lines}
+use Rattle.mail_session.specs.declared.exit.Status.TheVariants.{Done, Words, Refused, Disk, Input, Output, Memory, Lines, Changed}
 use Rattle.mail_session.specs.Lines.{Piece, cut, is_quit, up_to_quit, lines}
-use Rattle.mail_session.specs.Run.{Run, Answers, last_tree}
+use Rattle.mail_session.specs.Run.{Run, Answers}
 use Rattle.mail_session.specs.Step.{start_tree}
-use Rattle.mail_session.specs.Turn.{State, IsAllowed, Hears, AnswersPiece, AnswersNext, TurnsOn, TurnsOut, BreaksOff, FallsSilent, Turns}
+use Rattle.mail_session.specs.Turn.{State, IsAllowed, Hears, AnswersNext, TurnsOn, TurnsOut, BreaksOff, FallsSilent, Turns}
 use Rattle.mail_session.specs.Scratch.{SoFar, ScratchEnds, LINES}
 use Rattle.mail_session.specs.Worlds.{KeepsDisk}
 use Rattle.mail_session.proofs.Disks.{keeps_started, keeps_along}
@@ -324,3 +323,4 @@ ends first mid now old new count Refused few so_far turn = absurd turn
 ends first mid now old new count Disk few so_far turn = absurd turn
 ends first mid now old new count Memory few so_far turn = absurd turn
 ends first mid now old new count Lines few so_far turn = absurd turn
+ends first mid now old new count (Changed at) few so_far turn = absurd turn

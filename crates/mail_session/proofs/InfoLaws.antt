@@ -1,17 +1,16 @@
 -- How `info` ends, put together from its opening and from what it says.
-use Rattle.std.proofs.Common.{◌≡◌, ◌≢◌, ◌⊎◌, ◌∙◌, ◌++◌, ℕ, List, [], length, ◌≤◌, inl, inr, refl, sym, ap, subst, take, arith, Bool, Ok, Err}
+use Rattle.std.proofs.Common.{◌≡◌, ◌⊎◌, ◌∙◌, ◌++◌, ℕ, List, length, ◌≤◌, inl, inr, refl, sym, ap, take, arith, Bool, Ok, Err}
 use Rattle.std.proofs.lemmas.List.{append-nil, take_all}
 use Rattle.pst_outside.specs.World.{World, Image}
 use Rattle.pst_outside.specs.Calls.{Untouched, Rose, NeverFall, StaysButSaid, LeavesOnly, SaysSome}
 use Rattle.mail_session.specs.declared.exit.Status.{Status}
-use Rattle.mail_session.specs.declared.exit.Status.TheVariants.{Done, Words, Refused, Disk, Input, Output, Memory, Lines}
+use Rattle.mail_session.specs.declared.exit.Status.TheVariants.{Done, Refused, Disk, Output, Memory}
 use Rattle.pst_header.specs.declared.header.Header.{Header}
 use Rattle.gate_file.specs.Effective.{is_open}
 use Rattle.pst_recover.specs.declared.stops.OpenRefusal.{OpenRefusal}
 use Rattle.pst_recover.specs.Opening.{opening}
 use Rattle.mail_session.specs.Texts.{info_text, refusal_line}
 use Rattle.mail_session.specs.Info.{InfoEnds, Says, info_outcome, outcome_of}
-use Rattle.mail_session.specs.Worlds.{KeepsDisk}
 use Rattle.mail_session.proofs.Disks.{keeps_started, keeps_untouched, keeps_says, keeps_along}
 
 done-output : Done ≡ Output → ⊥
@@ -20,7 +19,7 @@ done-output is = cc
 refused-output : Refused ≡ Output → ⊥
 refused-output is = cc
 
-meant-output : {s : Status} → (s ≡ Done) ⊎ (s ≡ Refused) → s ≡ Output → ⊥
+pub meant-output : {s : Status} → (s ≡ Done) ⊎ (s ≡ Refused) → s ≡ Output → ⊥
 meant-output (inl d) is = done-output (sym d ∙ is)
 meant-output (inr r) is = refused-output (sym r ∙ is)
 

@@ -7,6 +7,7 @@ pub mod Feeds
 pub mod InfoLaws
 pub mod Inputs
 pub mod NameLaws
+pub mod NodesLaws
 pub mod Pieces
 pub mod Ranges
 pub mod RunLaws

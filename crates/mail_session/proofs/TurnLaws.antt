@@ -1,15 +1,14 @@
 -- A turn, put together from the input that it takes, the answer and what is said.
-use Rattle.std.proofs.Common.{◌≡◌, ◌⊎◌, ◌∙◌, ℕ, inl, inr, refl, sym, ap, subst, Bool, true, false, List, [], ◌++◌, take, Option, Some, None, arith}
+use Rattle.std.proofs.Common.{◌≡◌, ◌∙◌, ℕ, inl, sym, ap, subst, Bool, List, ◌++◌, take, Option, Some, None, arith}
 use Rattle.pst_outside.specs.World.{World, Image}
-use Rattle.pst_outside.specs.Calls.{Rose}
 use Rattle.mail_session.specs.declared.exit.Status.{Status}
-use Rattle.mail_session.specs.declared.exit.Status.TheVariants.{Done, Words, Refused, Disk, Input, Output, Memory, Lines}
+use Rattle.mail_session.specs.declared.exit.Status.TheVariants.{Done, Words, Refused, Disk, Input, Output, Memory, Lines, Changed}
 use Rattle.mail_session.specs.declared.session.Answer.{Answer}
 use Rattle.mail_session.specs.Spoken.{spoken_text}
 use Rattle.mail_session.specs.Taking.{GoesOn, EndsIn}
-use Rattle.mail_session.specs.Turn.{State, Hears, AnswersPiece, AnswersNext, TurnsOn, TurnsOut, FallsSilent, Turns, Speaks, SpeaksSome}
+use Rattle.mail_session.specs.Turn.{State, Hears, AnswersPiece, Turns, Speaks, SpeaksSome}
 use Rattle.mail_session.specs.States.{Speaking, Spoke}
-use Rattle.mail_session.specs.Worlds.{KeepsDisk, Listens}
+use Rattle.mail_session.specs.Worlds.{Listens}
 use Rattle.mail_session.proofs.Disks.{keeps_started, keeps_listens, keeps_along}
 
 -- input was taken, and then something was said
@@ -61,6 +60,7 @@ turned old new holds first mid last answer (Some Disk) held ends listens answers
 turned old new holds first mid last answer (Some Input) held ends listens answers spoke = absurd spoke
 turned old new holds first mid last answer (Some Memory) held ends listens answers spoke = absurd spoke
 turned old new holds first mid last answer (Some Lines) held ends listens answers spoke = absurd spoke
+turned old new holds first mid last answer (Some (Changed at)) held ends listens answers spoke = absurd spoke
 
 -- the same, where the answer left what is known of the input's end
 pub answered_turn : (is : Bool) (old new : State) (holds : List ℕ) (first mid last : World) (answer : Answer) (result : Option Status) → new.ended ≡ is → GoesOn old.ended old.held holds first mid → EndsIn old.ended is first mid → Listens first mid

@@ -3,6 +3,7 @@ pub mod Folders
 pub mod Fronts
 pub mod Info
 pub mod Lines
+pub mod Nodes
 pub mod Run
 pub mod Scratch
 pub mod Spoken

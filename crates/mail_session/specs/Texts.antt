@@ -1,11 +1,17 @@
 -- What the program says, as lists of bytes.
-use Rattle.std.specs.Prelude.{ℕ, ◌^◌, ◌-◌, Bool, false, List, [], ◌∷◌, ◌++◌, codes, if◌then◌else◌}
+use Rattle.std.specs.Prelude.{ℕ, ◌^◌, ◌-◌, Bool, false, List, [], ◌∷◌, ◌++◌, codes, length, if◌then◌else◌}
+use Rattle.std.specs.List.{flat_map}
 use Rattle.std.specs.Fmt.{decimal, digits, padded_integral, format_spec}
 use Rattle.pst_header.specs.declared.header.Header.{Header}
 use Rattle.pst_header.specs.declared.header.HeaderRefusal.{HeaderRefusal}
 use Rattle.pst_header.specs.declared.header.HeaderRefusal.TheVariants.{NotPst, Version, Crc, Encoded}
-use Rattle.pst_base.specs.declared.stops.PageFault.{PageFault}
 use Rattle.pst_base.specs.declared.stops.PageFault.TheVariants.{Kind, Crc as BadCrc, Sig, Bid, Count, Level, Key}
+use Rattle.block_frame.specs.declared.block.BlockFault.TheVariants as block_faults
+use Rattle.file_blocks.specs.declared.check.BlockRefusal.{BlockRefusal}
+use Rattle.file_blocks.specs.declared.check.BlockRefusal.TheVariants as blocks
+use Rattle.pst_recover.specs.declared.nodes.NodeLine.{NodeLine}
+use Rattle.pst_recover.specs.declared.stops.NodeFault.{NodeFault}
+use Rattle.pst_recover.specs.declared.stops.NodeFault.TheVariants.{Deep, Many, Long}
 use Rattle.pst_recover.specs.declared.stops.PageRefusal.{PageRefusal}
 use Rattle.pst_recover.specs.declared.stops.PageRefusal.TheVariants.{Outside, Faulty}
 use Rattle.pst_recover.specs.declared.stops.OpenRefusal.{OpenRefusal}
@@ -58,10 +64,40 @@ page_word (Faulty Count) = codes "count"
 page_word (Faulty Level) = codes "level"
 page_word (Faulty Key) = codes "key"
 
+-- the word for what is wrong with a block
+abbrev pub block_word : BlockRefusal → List ℕ
+block_word blocks.Outside = codes "outside"
+block_word blocks.Length = codes "length"
+block_word (blocks.Faulty (block_faults.Length stored computed)) = codes "length"
+block_word (blocks.Faulty (block_faults.Crc stored computed)) = codes "crc"
+block_word (blocks.Faulty (block_faults.Sig stored computed)) = codes "sig"
+block_word (blocks.Faulty (block_faults.Bid stored computed)) = codes "bid"
+block_word blocks.Form = codes "form"
+
+-- the word for what is wrong with what a node leads to
+abbrev pub node_word : NodeFault → List ℕ
+node_word Deep = codes "deep"
+node_word Many = codes "many"
+node_word Long = codes "long"
+
 -- the line of a refusal
 abbrev pub refusal_line : OpenRefusal → List ℕ
 refusal_line refusals.Empty = line (codes "refused empty")
 refusal_line (refusals.Gate len) = line (codes "refused gate " ++ decimal len)
 refusal_line (refusals.Short len) = line (codes "refused short " ++ decimal len)
 refusal_line (refusals.Header refusal) = header_line refusal
+refusal_line (refusals.Truncated len eof) = line (codes "refused truncated " ++ decimal len ++ codes " " ++ decimal eof)
+refusal_line (refusals.Large eof) = line (codes "refused large " ++ decimal eof)
 refusal_line (refusals.Page ib fault) = line (codes "refused page " ++ hex ib ++ codes " " ++ page_word fault)
+refusal_line (refusals.Block ib fault) = line (codes "refused block " ++ hex ib ++ codes " " ++ block_word fault)
+refusal_line (refusals.Missing bid) = line (codes "refused missing " ++ hex bid.bits)
+refusal_line (refusals.Overlap ib) = line (codes "refused overlap " ++ hex ib)
+refusal_line (refusals.Node nid fault) = line (codes "refused node " ++ hex nid.bits ++ codes " " ++ node_word fault)
+
+-- the line of a node: its id and its parent's, how many bytes its data has, and how many subnodes it has
+abbrev pub node_line : NodeLine → List ℕ
+node_line node = line (codes "- " ++ hex node.nid.bits ++ codes " " ++ hex node.parent.bits ++ codes " " ++ decimal node.bytes ++ codes " " ++ decimal node.subs)
+
+-- the line of each node, and how many they are
+abbrev pub nodes_text : List NodeLine → List ℕ
+nodes_text nodes = flat_map node_line nodes ++ line (codes "ok " ++ decimal (length nodes))

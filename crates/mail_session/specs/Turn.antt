@@ -88,3 +88,4 @@ Turns old new before after (Some statuses.Refused) = ⊥
 Turns old new before after (Some statuses.Disk) = ⊥
 Turns old new before after (Some statuses.Memory) = ⊥
 Turns old new before after (Some statuses.Lines) = ⊥
+Turns old new before after (Some (statuses.Changed at)) = ⊥

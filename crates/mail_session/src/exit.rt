@@ -1,6 +1,6 @@
 //! How a call of the program ends.
-ghost use Rattle.std.specs.Prelude.{◌≡◌, None};
-ghost use Rattle.mail_session.specs.Statuses.{code_of};
+ghost use Rattle.std.specs.Prelude.{◌≡◌, ◌↔◌, IsSome};
+ghost use Rattle.mail_session.specs.Statuses.{code_of, changed_of};
 
 /// The place and the two numbers of what changed while it was read.
 #[derive(Clone, Copy, Debug, PartialEq, Eq)]
@@ -36,6 +36,8 @@ pub enum Status {
     Memory,
     /// As many lines were taken as a session may take.
     Lines,
+    /// Something passed its check and failed it at a later reading.
+    Changed(ChangedAt),
 }
 
 impl Status {
@@ -52,17 +54,27 @@ impl Status {
             Status::Output => 6,
             Status::Memory => 7,
             Status::Lines => 8,
+            Status::Changed(_) => 9,
+        }
+    }
+
+    fn changed(self) -> Option<ChangedAt>
+        ensures { result ≡ changed_of self }
+    {
+        match self {
+            Status::Changed(at) => Some(at),
+            _ => None,
         }
     }
 
     /// The end of a call with this status.
     pub(crate) fn exit(self) -> Exit
         ensures status { result.status ≡ code_of self }
-        ensures changed { result.changed ≡ None }
+        ensures changed { (result.status ≡ 9) ↔ IsSome result.changed }
     {
         Exit {
             status: self.code(),
-            changed: None,
+            changed: self.changed(),
         }
     }
 }

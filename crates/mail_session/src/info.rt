@@ -8,7 +8,7 @@ use pst_recover::{OpenStop, open_header};
 use std::alloc::{AllocError, Global};
 
 /// Says a text, and answers the status that is meant, or that the output failed.
-fn say<W: Outside>(world: &mut W, text: &[u8], status: Status) -> Status
+pub(crate) fn say<W: Outside>(world: &mut W, text: &[u8], status: Status) -> Status
     ensures { Says text.now status (W.view world.old) (W.view world.new) result }
 {
     match say_all(world, text) {
@@ -31,5 +31,6 @@ pub(crate) fn info<W: Outside>(alloc: Global, world: &mut W) -> Status
             Err(AllocError) => Status::Memory,
         },
         Err(OpenStop::Fault) => Status::Disk,
+        Err(OpenStop::Changed { .. } | OpenStop::Memory) => unreachable!(),
     }
 }

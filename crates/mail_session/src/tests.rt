@@ -131,8 +131,10 @@ fn status<W: Outside>(
     Ok(run_over::<W, Brand>(rt, words, world, Blank::new(1))?.status)
 }
 
-fn info_of(
+/// What a command says of two files, and how it ends.
+fn said_of(
     rt: &(impl Abort + AllocGlobal),
+    command: &str,
     main: Bytes,
     side: Bytes,
     wanted: &str,
@@ -148,10 +150,20 @@ fn info_of(
         copy,
         FailPlan::none(rt.alloc()),
     )?;
-    let status = status(rt, &["info", "FILE"], &mut world)?;
+    let status = status(rt, &[command, "FILE"], &mut world)?;
     assert_eq!(rt; world.said(), wanted.as_bytes(), "{wanted}");
     assert_eq!(rt; status, exit, "{wanted}");
     Ok(())
+}
+
+fn info_of(
+    rt: &(impl Abort + AllocGlobal),
+    main: Bytes,
+    side: Bytes,
+    wanted: &str,
+    exit: u8,
+) -> Result<(), Fail> {
+    said_of(rt, "info", main, side, wanted, exit)
 }
 
 #[test]
@@ -211,6 +223,21 @@ fn info_reads_the_header_that_counts(rt: HostRuntime) -> Result<(), Fail> {
     Ok(())
 }
 
+#[test]
+fn nodes_of_no_bytes_are_refused(rt: HostRuntime) -> Result<(), Fail> {
+    let main = Bytes::new(rt.alloc());
+    let side = Bytes::new(rt.alloc());
+    said_of(&rt, "nodes", main, side, "refused empty\n", 3)
+}
+
+#[test]
+fn nodes_of_a_cut_file_are_refused(rt: HostRuntime) -> Result<(), Fail> {
+    let main = file(&rt, 271_360, &OTHER, &[])?;
+    let side = Bytes::new(rt.alloc());
+    let wanted = "refused truncated 271360 525312\n";
+    said_of(&rt, "nodes", main, side, wanted, 3)
+}
+
 fn plan(
     rt: &(impl Abort + AllocGlobal),
     takes: &[u64],
@@ -227,14 +254,16 @@ fn plan(
 
 #[test]
 fn failing_devices_have_their_statuses(rt: HostRuntime) -> Result<(), Fail> {
-    let table: [(&[u64], &[u64], u8); 4] = [
-        (&[], &[0], 4),
-        (&[], &[1], 4),
-        (&[], &[2], 4),
-        (&[0], &[], 6),
+    let table: [(&str, usize, &[u64], &[u64], u8); 6] = [
+        ("info", 564, &[], &[0], 4),
+        ("info", 564, &[], &[1], 4),
+        ("info", 564, &[], &[2], 4),
+        ("info", 564, &[0], &[], 6),
+        ("nodes", 564, &[], &[2], 4),
+        ("nodes", 0, &[0], &[], 6),
     ];
-    for (says, disks, wanted) in table {
-        let main = file(&rt, 564, &HEADER, &[])?;
+    for (command, len, says, disks, wanted) in table {
+        let main = file(&rt, len, &HEADER, &[])?;
         let none = Bytes::new(rt.alloc());
         let side = Bytes::new(rt.alloc());
         let copy = Bytes::new(rt.alloc());
@@ -246,7 +275,7 @@ fn failing_devices_have_their_statuses(rt: HostRuntime) -> Result<(), Fail> {
             copy,
             plan(&rt, &[], says, disks)?,
         )?;
-        assert_eq!(rt; status(&rt, &["info", "FILE"], &mut world)?, wanted);
+        assert_eq!(rt; status(&rt, &[command, "FILE"], &mut world)?, wanted);
         assert_eq!(rt; world.said().len(), 0);
     }
     Ok(())
@@ -254,7 +283,16 @@ fn failing_devices_have_their_statuses(rt: HostRuntime) -> Result<(), Fail> {
 
 #[test]
 fn other_words_touch_nothing(rt: HostRuntime) -> Result<(), Fail> {
-    let table: [&[&str]; 5] = [&[], &["run"], &["info"], &["info", "A", "B"], &["--help"]];
+    let table: [&[&str]; 8] = [
+        &[],
+        &["run"],
+        &["info"],
+        &["info", "A", "B"],
+        &["nodes"],
+        &["nodes", "A", "B"],
+        &["Nodes", "A"],
+        &["--help"],
+    ];
     for words in table {
         let mut world = session_world(&rt, b"ls 0x8022\n", plan(&rt, &[0], &[0], &[0])?)?;
         assert_eq!(rt; status(&rt, words, &mut world)?, 2);

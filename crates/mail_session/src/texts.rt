@@ -1,11 +1,12 @@
 //! What the program says, as bytes.
-ghost use Rattle.std.specs.Prelude.{◌≡◌, IfOk};
+ghost use Rattle.std.specs.Prelude.{◌≡◌, ◌++◌, IfOk, OnOk};
 ghost use Rattle.std.specs.String.{string_bytes};
-ghost use Rattle.mail_session.specs.Texts.{info_text, gate_text, refusal_line, header_line, crc_text, page_word};
+ghost use Rattle.mail_session.specs.Texts.{info_text, gate_text, refusal_line, header_line, crc_text, page_word, block_word, node_word, node_line, nodes_text};
 
+use block_frame::BlockFault;
 use pst_base::PageFault;
 use pst_header::{Header, HeaderRefusal};
-use pst_recover::{OpenRefusal, PageRefusal};
+use pst_recover::{BlockRefusal, NodeFault, NodeLine, OpenRefusal, PageRefusal};
 use std::alloc::{AllocError, Global};
 use std::fmt::Write;
 
@@ -44,8 +45,18 @@ pub(crate) fn refusal_line(alloc: Global, refusal: OpenRefusal) -> Result<String
         OpenRefusal::Gate { len } => writeln!(text, "refused gate {len}")?,
         OpenRefusal::Short { len } => writeln!(text, "refused short {len}")?,
         OpenRefusal::Header(refusal) => return header_line(alloc, refusal),
+        OpenRefusal::Truncated { len, eof } => writeln!(text, "refused truncated {len} {eof}")?,
+        OpenRefusal::Large { eof } => writeln!(text, "refused large {eof}")?,
         OpenRefusal::Page { ib, fault } => {
             writeln!(text, "refused page 0x{ib:x} {}", page_word(fault))?
+        }
+        OpenRefusal::Block { ib, fault } => {
+            writeln!(text, "refused block 0x{ib:x} {}", block_word(fault))?
+        }
+        OpenRefusal::Missing { bid } => writeln!(text, "refused missing 0x{:x}", bid.bits)?,
+        OpenRefusal::Overlap { ib } => writeln!(text, "refused overlap 0x{ib:x}")?,
+        OpenRefusal::Node { nid, fault } => {
+            writeln!(text, "refused node 0x{:x} {}", nid.bits, node_word(fault))?
         }
     }
     Ok(text)
@@ -91,4 +102,50 @@ fn page_word(fault: PageRefusal) -> &'static str
         PageRefusal::Faulty(PageFault::Level) => "level",
         PageRefusal::Faulty(PageFault::Key) => "key",
     }
+}
+
+fn block_word(fault: BlockRefusal) -> &'static str
+    ensures { result.now ≡ block_word fault }
+{
+    match fault {
+        BlockRefusal::Outside => "outside",
+        BlockRefusal::Length | BlockRefusal::Faulty(BlockFault::Length { .. }) => "length",
+        BlockRefusal::Faulty(BlockFault::Crc { .. }) => "crc",
+        BlockRefusal::Faulty(BlockFault::Sig { .. }) => "sig",
+        BlockRefusal::Faulty(BlockFault::Bid { .. }) => "bid",
+        BlockRefusal::Form => "form",
+    }
+}
+
+fn node_word(fault: NodeFault) -> &'static str
+    ensures { result.now ≡ node_word fault }
+{
+    match fault {
+        NodeFault::Deep => "deep",
+        NodeFault::Many => "many",
+        NodeFault::Long => "long",
+    }
+}
+
+/// The line of each node, and how many they are.
+pub(crate) fn nodes_text(alloc: Global, nodes: &[NodeLine]) -> Result<String, AllocError>
+    ensures { IfOk result (λ text. string_bytes text ≡ nodes_text nodes.now) }
+{
+    let mut text = String::new(alloc);
+    for node in nodes {
+        push_node(&mut text, *node)?;
+    }
+    writeln!(text, "ok {}", nodes.len())?;
+    Ok(text)
+}
+
+fn push_node(text: &mut String, node: NodeLine) -> Result<(), AllocError>
+    ensures { OnOk result (string_bytes text.new ≡ string_bytes text.old ++ node_line node) }
+{
+    writeln!(
+        text,
+        "- 0x{:x} 0x{:x} {} {}",
+        node.nid.bits, node.parent.bits, node.bytes, node.subs
+    )?;
+    Ok(())
 }

@@ -7,6 +7,8 @@ ghost use Rattle.mail_session.specs.Words.{form_of, spelled};
 pub enum Form {
     /// `info FILE`
     Info,
+    /// `nodes FILE`
+    Nodes,
     /// `scratch`
     Scratch,
 }
@@ -18,6 +20,7 @@ pub(crate) fn read_words(words: &[String]) -> Option<Form>
     match words {
         [word] if word.as_str() == "scratch" => Some(Form::Scratch),
         [word, _file] if word.as_str() == "info" => Some(Form::Info),
+        [word, _file] if word.as_str() == "nodes" => Some(Form::Nodes),
         _ => None,
     }
 }

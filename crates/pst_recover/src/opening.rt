@@ -1,5 +1,5 @@
 //! The header that counts.
-ghost use Rattle.std.specs.Prelude.{◌≡◌, ◌≤◌, length, take, drop, slice_index, IfOk, IfErr, OnErr};
+ghost use Rattle.std.specs.Prelude.{◌≡◌, ◌≢◌, ◌≤◌, ℕ, length, take, drop, slice_index, Err, IfOk, IfErr, OnErr};
 ghost use Rattle.pst_outside.specs.World.{content};
 ghost use Rattle.pst_outside.specs.Calls.{Rose, Untouched};
 ghost use Rattle.pst_header.specs.Format.{reading};
@@ -28,6 +28,9 @@ pub struct Opened {
 pub fn open_header<W: Outside>(w: &mut W) -> Result<Opened, OpenStop>
     ensures opens { (W.view w.new).tells → Opens result (W.view w.new).here.main (W.view w.new).here.side }
     ensures fault { result ≡ Err OpenStop.Fault → Rose (W.view w.old).disk_faults (W.view w.new).disk_faults }
+    // It takes no memory, and checks nothing twice.
+    ensures no_memory { result ≢ Err OpenStop.Memory }
+    ensures unchanged { (ib stored computed : ℕ) → result ≢ Err (OpenStop.Changed ib stored computed) }
     ensures same { Untouched (W.view w.old) (W.view w.new) }
 {
     let main_len = w.len(Part::Main)?;
@@ -80,7 +83,9 @@ fn read_header<W: Outside>(w: &mut W, gate_open: bool) -> Result<[u8; 564], Fail
 
 /// The header that the bytes are, or its refusal.
 fn read_as(bytes: &[u8; 564], gate_open: bool) -> Result<Opened, OpenStop>
-    ensures { ReadsAs result (reading bytes.now) gate_open }
+    ensures reads { ReadsAs result (reading bytes.now) gate_open }
+    ensures no_memory { result ≢ Err OpenStop.Memory }
+    ensures unchanged { (ib stored computed : ℕ) → result ≢ Err (OpenStop.Changed ib stored computed) }
 {
     match pst_header::read(bytes) {
         Ok(header) => Ok(Opened { header, gate_open }),
