@@ -1,6 +1,6 @@
 -- A tree that is planned reads as its data.
 use Rattle.std.proofs.Common.{Bool, true, false, not, ◌≡◌, ℕ, suc, ◌+◌, ◌*◌, ◌/◌, ◌%◌, ◌^◌, ◌<◌, ◌≤◌, ◌⊎◌, inl, inr, eqb, leb, ltb, ◌&&◌, if◌then◌else◌, List, [], ◌∷◌, ◌++◌, length, map, drop, Option, Some, Result, Ok, Err, refl, sym, ap, subst, ◌∙◌, arith, length-append, append_assoc, append-nil}
-use Rattle.std.proofs.lemmas.Bool.{and_from, le-leb, lt-ltb, le-ltb, eq-eqb, ne_eqb, cases_lt}
+use Rattle.std.proofs.lemmas.Bool.{and_from, le-leb, lt-ltb, le-ltb, eq-eqb, ne_eqb, cases_lt, cases_Bool}
 use Rattle.std.proofs.lemmas.List.{length-map, map-append}
 use Rattle.byteorder.specs.Endian.{little_bytes}
 use Rattle.byteorder.specs.Numbers.{little_number-reads_back}
@@ -11,7 +11,7 @@ use Rattle.pst_base.proofs.Numbers.{number_at-first}
 use Rattle.data_tree.specs.declared.source.TreeStop.{TreeStop}
 use Rattle.data_tree.specs.declared.source.TreeStop.TheVariants.{Long}
 use Rattle.data_tree.specs.Tree.{and_then, named, ids, is_listing, names_of, is_internal, are_data, leaves, below, all_below, listed, bids_of, blocks_from, blocks_of}
-use Rattle.data_tree.specs.Plan.{IsFound, ReadsAs, Rise, above, bids_in, bytes_in, contents, cut, last_id, listing, numbered, planned, spelled, xblock, xblocks, xxblock}
+use Rattle.data_tree.specs.Plan.{IsFound, ReadsAs, Rise, above, bids_in, bytes_in, contents, cut, last_id, listing, numbered, plain, planned, spelled, xblock, xblocks, xxblock}
 use Rattle.data_tree.proofs.BlockSteps.{below-leaves, listed-leaves}
 use Rattle.data_tree.proofs.PieceLaws.{Each, each-from_all, each-left, each-right, joined, cut-one, length-cut, joined-cut, cut-short, cut-each}
 
@@ -176,7 +176,7 @@ blocks-found find eof before (block ∷ blocks) found room =
 -- ---- the blocks above
 
 -- none above two blocks or more can be missing
-pub xblocks-some : (next : ℕ) (blocks : List (Bid × List ℕ)) → 1 < length blocks → xblocks next blocks ≡ numbered 2 next (map xblock (cut blocks))
+pub xblocks-some : (next : ℕ) (blocks : List (Bid × List ℕ)) → 1 < length blocks → xblocks next blocks ≡ numbered 2 next (map xblock (cut 1021 blocks))
 unfolding xblocks
 xblocks-some next blocks some = rw (lt-ltb 1 (length blocks) some) refl
 
@@ -192,12 +192,12 @@ xxblock-none : (next total : ℕ) (xs : List (Bid × List ℕ)) → length xs �
 unfolding xxblock
 xxblock-none next total xs few = rw (le-ltb 1 (length xs) few) refl
 
-length-map_cut : (blocks : List (Bid × List ℕ)) → length (map xblock (cut blocks)) ≡ (length blocks + 1020) / 1021
-length-map_cut blocks = length-map (cut blocks) xblock ∙ length-cut blocks
+length-map_cut : (blocks : List (Bid × List ℕ)) → length (map xblock (cut 1021 blocks)) ≡ (length blocks + 1020) / 1021
+length-map_cut blocks = length-map (cut 1021 blocks) xblock ∙ length-cut 1021 blocks
 
 -- how many blocks of level 1 there are
 pub length-xblocks : (next : ℕ) (blocks : List (Bid × List ℕ)) → 1 < length blocks → length (xblocks next blocks) ≡ (length blocks + 1020) / 1021
-length-xblocks next blocks some = ap length (xblocks-some next blocks some) ∙ length-numbered 2 next (map xblock (cut blocks)) ∙ length-map_cut blocks
+length-xblocks next blocks some = ap length (xblocks-some next blocks some) ∙ length-numbered 2 next (map xblock (cut 1021 blocks)) ∙ length-map_cut blocks
 
 pub few-xblocks : (next : ℕ) (blocks : List (Bid × List ℕ)) → length blocks ≤ 1042441 → length (xblocks next blocks) ≤ 1021
 few-xblocks next blocks few = elim (cases_lt 1 (length blocks)) [
@@ -223,7 +223,7 @@ few-above next blocks few =
 
 rise-xblocks : (next : ℕ) (blocks : List (Bid × List ℕ)) → Rise next (xblocks next blocks)
 rise-xblocks next blocks = elim (cases_lt 1 (length blocks)) [
-  | inl some ↦ rw (xblocks-some next blocks some) (rise-numbered 2 next (map xblock (cut blocks)) (inr refl))
+  | inl some ↦ rw (xblocks-some next blocks some) (rise-numbered 2 next (map xblock (cut 1021 blocks)) (inr refl))
   | inr none ↦ rw (xblocks-none next blocks none) tt
 ]
 
@@ -266,33 +266,33 @@ listed-many find bid b first second = rw (first, second) refl
 
 -- a block of level 2 leads to all below those that it names
 many-root : (find : ℕ → Option (List ℕ)) (next low total : ℕ) (blocks : List (Bid × List ℕ)) → next % 4 ≡ 0 → low % 4 ≡ 0 → low + 4 * length blocks + 4086 ≤ 2 ^ 64 → length blocks ≤ 1042441
-    → Each IsData blocks → Each (IsFound find) (numbered 2 low (map xblock (cut blocks)))
-    → find (key_of (next + 2)) ≡ Some (listing 2 total (bids_in (numbered 2 low (map xblock (cut blocks)))))
+    → Each IsData blocks → Each (IsFound find) (numbered 2 low (map xblock (cut 1021 blocks)))
+    → find (key_of (next + 2)) ≡ Some (listing 2 total (bids_in (numbered 2 low (map xblock (cut 1021 blocks)))))
     → bids_of find (record { bits = next + 2 }) ≡ Ok (bids_in blocks)
 many-root find next low total blocks apart below_apart room few plain found root =
     let bid : Bid = record { bits = next + 2 } in
-    let xs = numbered 2 low (map xblock (cut blocks)) in
+    let xs = numbered 2 low (map xblock (cut 1021 blocks)) in
     let names = bids_in xs in
-    let count : length names ≡ (length blocks + 1020) / 1021 = length-map xs (λ (block : Bid × List ℕ). block.0) ∙ length-numbered 2 low (map xblock (cut blocks)) ∙ length-map_cut blocks in
+    let count : length names ≡ (length blocks + 1020) / 1021 = length-map xs (λ (block : Bid × List ℕ). block.0) ∙ length-numbered 2 low (map xblock (cut 1021 blocks)) ∙ length-map_cut blocks in
     let made = length-map_cut blocks in
     let short : length names ≤ 1021 = omega arith in
-    let fit = fit-numbered 2 low (map xblock (cut blocks)) (omega arith) in
+    let fit = fit-numbered 2 low (map xblock (cut 1021 blocks)) (omega arith) in
     bids_of-marked find next (listing 2 total names) apart root
     ∙ listed-many find bid (listing 2 total names) (is_listing-other total names) (is_listing-listing 2 total names short)
     ∙ ap (all_below find bid) (names_of-listing 2 total names short fit)
-    ∙ below-numbered find bid (cut blocks) low below_apart (cut-short blocks) (cut-each IsData blocks plain) found
-    ∙ ap (λ (all : List (Bid × List ℕ)). Ok (bids_in all)) (joined-cut blocks)
+    ∙ below-numbered find bid (cut 1021 blocks) low below_apart (cut-short 1021 blocks) (cut-each IsData 1021 blocks plain) found
+    ∙ ap (λ (all : List (Bid × List ℕ)). Ok (bids_in all)) (joined-cut 1021 blocks (omega arith))
 
 -- the last of the blocks above two data blocks or more
 above-root : (find : ℕ → Option (List ℕ)) (next : ℕ) (before blocks : List (Bid × List ℕ)) → next % 4 ≡ 0 → next + 4 * length blocks + 8192 ≤ 2 ^ 64 → 1 < length blocks → length blocks ≤ 1042441
     → Each IsData blocks → Each (IsFound find) (above next blocks) → bids_of find (record { bits = last_id (before ++ above next blocks) }) ≡ Ok (bids_in blocks)
 unfolding above
 above-root find next before blocks apart room some few plain found =
-    let xs = numbered 2 next (map xblock (cut blocks)) in
+    let xs = numbered 2 next (map xblock (cut 1021 blocks)) in
     let is_xs : xblocks next blocks ≡ xs = xblocks-some next blocks some in
     let total = bytes_in (contents blocks) in
     let top = next + 4 * length xs in
-    let count : length xs ≡ (length blocks + 1020) / 1021 = length-numbered 2 next (map xblock (cut blocks)) ∙ length-map_cut blocks in
+    let count : length xs ≡ (length blocks + 1020) / 1021 = length-numbered 2 next (map xblock (cut 1021 blocks)) ∙ length-map_cut blocks in
     let made : xblocks next blocks ++ xxblock (next + 4 * length (xblocks next blocks)) total (xblocks next blocks) ≡ xs ++ xxblock top total xs =
     ap (λ (ys : List (Bid × List ℕ)). ys ++ xxblock (next + 4 * length ys) total ys) is_xs in
     let here : Each (IsFound find) (xs ++ xxblock top total xs) = subst (λ (ys : List (Bid × List ℕ)). Each (IsFound find) ys) made found in
@@ -310,7 +310,7 @@ above-root find next before blocks apart room some few plain found =
           (each-right (IsFound find) xs ((record { bits = top + 2 }, listing 2 total (bids_in xs)) ∷ []) all).0
       | inr one ↦
           let short : length blocks ≤ 1021 = omega arith in
-          let is_cut : cut blocks ≡ blocks ∷ [] = cut-one blocks (omega arith) short in
+          let is_cut : cut 1021 blocks ≡ blocks ∷ [] = cut-one 1021 blocks (omega arith) short in
           let is_one : xs ++ xxblock top total xs ≡ (record { bits = next + 2 }, xblock blocks) ∷ [] =
           ap (λ (ys : List (Bid × List ℕ)). xs ++ ys) (xxblock-none top total xs one) ∙ append-nil xs ∙ ap (λ (parts : List (List (Bid × List ℕ))). numbered 2 next (map xblock parts)) is_cut in
           let all : Each (IsFound find) ((record { bits = next + 2 }, xblock blocks) ∷ []) = subst (λ (ys : List (Bid × List ℕ)). Each (IsFound find) ys) is_one here in
@@ -402,3 +402,54 @@ pub planned-reads : (next : ℕ) (bs : List (List ℕ)) (blocks : List (Bid × L
 planned-reads next bs blocks bid made root few low high apart = λ find found eof room.
     ap (blocks_of find eof) (ap (λ (n : ℕ). record { bits = n }) (root ∙ ap last_id made))
     ∙ each-reads next bs few low high apart find (subst (λ (ys : List (Bid × List ℕ)). Each (IsFound find) ys) made (each-from_all (IsFound find) blocks found)) eof room
+
+-- ---- the marks
+
+pub plain-append : (xs ys : List (Bid × List ℕ)) → plain (xs ++ ys) ≡ plain xs ++ plain ys
+plain-append [] ys = refl
+plain-append (x ∷ xs) ys = elim (cases_Bool (is_internal x.0)) [
+  | inl mark ↦ rw (mark) (plain-append xs ys)
+  | inr none ↦ rw (none) (ap (λ (rest : List (List ℕ)). x.1 ∷ rest) (plain-append xs ys))
+]
+
+pub plain-data : (next : ℕ) (bs : List (List ℕ)) → next % 4 ≡ 0 → plain (numbered 0 next bs) ≡ bs
+plain-data next [] apart = refl
+plain-data next (b ∷ bs) apart =
+    let e : ((next + 0) / 2 % 2 ≡ 1 → ⊥) = λ h. omega arith in
+    let none : is_internal (record { bits = next + 0 }) ≡ false = ne_eqb ((next + 0) / 2 % 2) 1 e in
+    ap (λ (t : Bool). if t then plain (numbered 0 (next + 4) bs) else b ∷ plain (numbered 0 (next + 4) bs)) none
+    ∙ ap (λ (rest : List (List ℕ)). b ∷ rest) (plain-data (next + 4) bs (omega arith))
+
+pub plain-marked : (next : ℕ) (bs : List (List ℕ)) → next % 4 ≡ 0 → plain (numbered 2 next bs) ≡ []
+plain-marked next [] apart = refl
+plain-marked next (b ∷ bs) apart =
+    ap (λ (t : Bool). if t then plain (numbered 2 (next + 4) bs) else b ∷ plain (numbered 2 (next + 4) bs)) (marked next apart) ∙ plain-marked (next + 4) bs (omega arith)
+
+plain-xblocks : (next : ℕ) (blocks : List (Bid × List ℕ)) → next % 4 ≡ 0 → plain (xblocks next blocks) ≡ []
+plain-xblocks next blocks apart = elim (cases_lt 1 (length blocks)) [
+  | inl some ↦ rw (xblocks-some next blocks some) (plain-marked next (map xblock (cut 1021 blocks)) apart)
+  | inr none ↦ rw (xblocks-none next blocks none) refl
+]
+
+plain-xxblock : (next total : ℕ) (xs : List (Bid × List ℕ)) → next % 4 ≡ 0 → plain (xxblock next total xs) ≡ []
+plain-xxblock next total xs apart = elim (cases_lt 1 (length xs)) [
+  | inl some ↦ rw (xxblock-some next total xs some) (plain-marked next (listing 2 total (bids_in xs) ∷ []) apart)
+  | inr none ↦ rw (xxblock-none next total xs none) refl
+]
+
+plain-above : (next : ℕ) (blocks : List (Bid × List ℕ)) → next % 4 ≡ 0 → plain (above next blocks) ≡ []
+unfolding above
+plain-above next blocks apart =
+    let xs = xblocks next blocks in
+    let total = bytes_in (contents blocks) in
+    let top = next + 4 * length xs in
+    plain-append xs (xxblock top total xs) ∙ ap (λ (first : List (List ℕ)). first ++ plain (xxblock top total xs)) (plain-xblocks next blocks apart)
+    ∙ plain-xxblock top total xs (omega arith)
+
+pub plain-planned : (next : ℕ) (bs : List (List ℕ)) → next % 4 ≡ 0 → plain (planned next bs) ≡ bs
+unfolding planned
+plain-planned next bs apart =
+    let blocks = numbered 0 next bs in
+    let over = above (next + 4 * length bs) blocks in
+    plain-append blocks over ∙ ap (λ (first : List (List ℕ)). first ++ plain over) (plain-data next bs apart)
+    ∙ ap (λ (rest : List (List ℕ)). bs ++ rest) (plain-above (next + 4 * length bs) blocks (omega arith)) ∙ append-nil bs

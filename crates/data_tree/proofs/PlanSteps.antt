@@ -6,7 +6,7 @@ use Rattle.std.proofs.lemmas.List.{take_all, drop_all}
 use Rattle.std.proofs.lemmas.List.Elements.{All-append, All-cons, All-nil}
 use Rattle.pst_base.specs.declared.ids.Bid.{Bid}
 use Rattle.data_tree.specs.Plan.{bytes_in, contents, cut, last_id, numbered, xblock}
-use Rattle.data_tree.proofs.PieceLaws.{cut-none, cut-more}
+use Rattle.data_tree.proofs.PieceLaws.{cut-none, cut-front}
 
 -- the last id is that at the last place
 pub last_id-at : (blocks : List (Bid × List ℕ)) (d : Bid × List ℕ) → 0 < length blocks → ((get_or blocks (length blocks - 1) d).0).bits ≡ last_id blocks
@@ -27,35 +27,20 @@ bytes_in-drop zero blocks = omega arith
 bytes_in-drop (suc n) [] = omega arith
 bytes_in-drop (suc n) (block ∷ blocks) = let e = bytes_in-drop n blocks in omega arith
 
-take-most : {X : Type 0} (n : ℕ) (xs : List X) → n ≡ min 1021 (length xs) → take n xs ≡ take 1021 xs
-take-most {X} n xs is = elim (cases_lt 1021 (length xs)) [
-  | inl more ↦ let e : n ≡ 1021 = omega arith in ap (λ (m : ℕ). take m xs) e
-  | inr all ↦ let e : length xs ≤ n = omega arith in take_all n xs e ∙ sym (take_all 1021 xs all)
-]
-
-drop-most : {X : Type 0} (n : ℕ) (xs : List X) → n ≡ min 1021 (length xs) → drop n xs ≡ drop 1021 xs
-drop-most {X} n xs is = elim (cases_lt 1021 (length xs)) [
-  | inl more ↦ let e : n ≡ 1021 = omega arith in ap (λ (m : ℕ). drop m xs) e
-  | inr all ↦ let e : length xs ≤ n = omega arith in drop_all n xs e ∙ sym (drop_all 1021 xs all)
-]
-
 -- one more block of level 1
 pub lists-step : (bits n : ℕ) (out rest here others : List (Bid × List ℕ)) (block : List ℕ) (whole : List (Bid × List ℕ))
     → 0 < length rest → n ≡ min 1021 (length rest) → here ≡ take n rest → others ≡ drop n rest → block ≡ xblock here
-    → out ++ numbered 2 bits (map xblock (cut rest)) ≡ whole
-    → (out ++ (record { bits = bits + 2 }, block) ∷ []) ++ numbered 2 (bits + 4) (map xblock (cut others)) ≡ whole
+    → out ++ numbered 2 bits (map xblock (cut 1021 rest)) ≡ whole
+    → (out ++ (record { bits = bits + 2 }, block) ∷ []) ++ numbered 2 (bits + 4) (map xblock (cut 1021 others)) ≡ whole
 lists-step bits n out rest here others block whole some is first later made so_far =
-    let head : here ≡ take 1021 rest = first ∙ take-most n rest is in
-    let tail : others ≡ drop 1021 rest = later ∙ drop-most n rest is in
-    let whole_cut : cut rest ≡ here ∷ cut others =
-    cut-more rest some ∙ ap (λ (p : List (Bid × List ℕ)). p ∷ cut (drop 1021 rest)) (sym head) ∙ ap (λ (p : List (Bid × List ℕ)). here ∷ cut p) (sym tail) in
-    append_assoc out ((record { bits = bits + 2 }, block) ∷ []) (numbered 2 (bits + 4) (map xblock (cut others)))
-    ∙ ap (λ (b : List ℕ). out ++ (record { bits = bits + 2 }, b) ∷ numbered 2 (bits + 4) (map xblock (cut others))) made
+    let whole_cut : cut 1021 rest ≡ here ∷ cut 1021 others = cut-front 1021 n rest here others (omega arith) some is first later in
+    append_assoc out ((record { bits = bits + 2 }, block) ∷ []) (numbered 2 (bits + 4) (map xblock (cut 1021 others)))
+    ∙ ap (λ (b : List ℕ). out ++ (record { bits = bits + 2 }, b) ∷ numbered 2 (bits + 4) (map xblock (cut 1021 others))) made
     ∙ ap (λ (parts : List (List (Bid × List ℕ))). out ++ numbered 2 bits (map xblock parts)) (sym whole_cut) ∙ so_far
 
-pub lists-end : (bits : ℕ) (out rest whole : List (Bid × List ℕ)) → length rest ≤ 0 → out ++ numbered 2 bits (map xblock (cut rest)) ≡ whole → out ≡ whole
+pub lists-end : (bits : ℕ) (out rest whole : List (Bid × List ℕ)) → length rest ≤ 0 → out ++ numbered 2 bits (map xblock (cut 1021 rest)) ≡ whole → out ≡ whole
 lists-end bits out rest whole none so_far =
-    sym (append-nil out) ∙ ap (λ (parts : List (List (Bid × List ℕ))). out ++ numbered 2 bits (map xblock parts)) (sym (cut-none rest none)) ∙ so_far
+    sym (append-nil out) ∙ ap (λ (parts : List (List (Bid × List ℕ))). out ++ numbered 2 bits (map xblock parts)) (sym (cut-none 1021 rest (omega arith) none)) ∙ so_far
 
 -- one more block, which isn't too large
 pub small-push : (bs : List (List ℕ)) (b : List ℕ) → All (λ (x : List ℕ). length x ≤ 8176) bs → length b ≤ 8176 → All (λ (x : List ℕ). length x ≤ 8176) (bs ++ b ∷ [])

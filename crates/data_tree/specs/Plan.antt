@@ -1,10 +1,10 @@
 -- The tree of blocks that is to hold some data, and the ids of its blocks.
-use Rattle.std.specs.Prelude.{◌≡◌, ℕ, zero, suc, ◌+◌, ◌*◌, ◌/◌, ◌<◌, ◌≤◌, ◌^◌, ◌⊎◌, nat_lt, if◌then◌else◌, List, [], ◌∷◌, ◌++◌, map, take, drop, length, Option, Some, Ok}
+use Rattle.std.specs.Prelude.{◌≡◌, ℕ, zero, suc, ◌+◌, ◌-◌, ◌*◌, ◌/◌, ◌<◌, ◌≤◌, ◌^◌, ◌⊎◌, nat_lt, if◌then◌else◌, List, [], ◌∷◌, ◌++◌, map, take, drop, length, Option, Some, Ok}
 use Rattle.std.specs.List.{All}
 use Rattle.byteorder.specs.Endian.{little_bytes}
 use Rattle.pst_base.specs.declared.ids.Bid.{Bid}
 use Rattle.pst_base.specs.Ids.{key_of}
-use Rattle.data_tree.specs.Tree.{blocks_of}
+use Rattle.data_tree.specs.Tree.{blocks_of, is_internal}
 
 -- ---- the data
 
@@ -45,6 +45,11 @@ abbrev pub Rise : ℕ → List (Bid × List ℕ) → Type 0
 Rise next [] = Unit {0}
 Rise next (block ∷ blocks) = (((block.0).bits ≡ next) ⊎ ((block.0).bits ≡ next + 2)) × Rise (next + 4) blocks
 
+-- what the blocks hold whose ids aren't marked
+abbrev pub plain : List (Bid × List ℕ) → List (List ℕ)
+plain [] = []
+plain (block ∷ blocks) = if is_internal block.0 then plain blocks else block.1 ∷ plain blocks
+
 -- ---- blocks that name others
 
 -- ids in 8 bytes each
@@ -56,14 +61,14 @@ spelled (bid ∷ bids) = little_bytes 8 bid.bits ++ spelled bids
 unfoldable pub listing : ℕ → ℕ → List Bid → List ℕ
 listing level total bids = 1 ∷ level ∷ (little_bytes 2 (length bids) ++ (little_bytes 4 total ++ spelled bids))
 
--- the first n pieces of 1021
-abbrev pub pieces : {X : Type 0} → ℕ → List X → List (List X)
-pieces zero xs = []
-pieces (suc n) xs = take 1021 xs ∷ pieces n (drop 1021 xs)
+-- the first n pieces of so many elements
+abbrev pub pieces : {X : Type 0} → ℕ → ℕ → List X → List (List X)
+pieces size zero xs = []
+pieces size (suc n) xs = take size xs ∷ pieces size n (drop size xs)
 
--- pieces of 1021, and a last of what is left
-unfoldable pub cut : {X : Type 0} → List X → List (List X)
-cut xs = pieces ((length xs + 1020) / 1021) xs
+-- pieces of so many elements, and a last of what is left
+unfoldable pub cut : {X : Type 0} → ℕ → List X → List (List X)
+cut size xs = pieces size ((length xs + (size - 1)) / size) xs
 
 -- the block of level 1 that names some data blocks
 abbrev pub xblock : List (Bid × List ℕ) → List ℕ
@@ -71,7 +76,7 @@ xblock blocks = listing 1 (bytes_in (contents blocks)) (bids_in blocks)
 
 -- the blocks of level 1 that name data blocks, each 1021 but the last; a block alone needs none
 unfoldable pub xblocks : ℕ → List (Bid × List ℕ) → List (Bid × List ℕ)
-xblocks next blocks = if nat_lt 1 (length blocks) then numbered 2 next (map xblock (cut blocks)) else []
+xblocks next blocks = if nat_lt 1 (length blocks) then numbered 2 next (map xblock (cut 1021 blocks)) else []
 
 -- the block of level 2 that names those of level 1; one alone needs none
 unfoldable pub xxblock : ℕ → ℕ → List (Bid × List ℕ) → List (Bid × List ℕ)

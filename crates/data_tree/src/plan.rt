@@ -1,6 +1,6 @@
 //! The blocks of a data tree that is to be written.
 ghost use Rattle.std.specs.Prelude.{◌≡◌, ◌≤◌, ◌<◌, ◌+◌, ◌*◌, ◌%◌, ◌^◌, length, map, IfOk};
-ghost use Rattle.data_tree.specs.Plan.{IsContent, ReadsAs, Rise, above, bids_in, bytes_in, contents, cut, last_id, listing, numbered, planned, xblock, xblocks, xxblock};
+ghost use Rattle.data_tree.specs.Plan.{IsContent, ReadsAs, Rise, above, bids_in, bytes_in, contents, cut, last_id, listing, numbered, plain, planned, xblock, xblocks, xxblock};
 
 use pst_base::{Bid, Bytes};
 use std::alloc::{AllocError, Global};
@@ -70,7 +70,7 @@ fn listing(
 fn lists(alloc: Global, blocks: &[(Bid, Bytes)], next: u64) -> Result<Vec<(Bid, Bytes)>, AllocError>
     requires together { bytes_in (contents blocks.now) < 2 ^ 32 }
     requires next { next + 4 * length blocks.now ≤ 2 ^ 63 + 2 ^ 62 }
-    ensures { IfOk result (λ out. out.items ≡ numbered 2 next (map xblock (cut blocks.now))) }
+    ensures { IfOk result (λ out. out.items ≡ numbered 2 next (map xblock (cut 1021 blocks.now))) }
 {
     let mut out = Vec::new(alloc);
     let mut bits = next;
@@ -153,7 +153,7 @@ fn planned(alloc: Global, blocks: &[Bytes], next: u64) -> Result<Vec<(Bid, Bytes
 }
 
 /// The id of the last block, 0 where there is none.
-fn last_id(blocks: &[(Bid, Bytes)]) -> Bid
+pub fn last_id(blocks: &[(Bid, Bytes)]) -> Bid
     ensures { result.bits ≡ last_id blocks.now }
 {
     if blocks.len() == 0 {
@@ -175,6 +175,7 @@ pub fn plan_data(alloc: Global, blocks: &[Bytes], next: u64) -> Result<DataPlan,
     ensures after { IfOk result (λ plan. plan.next ≡ next + 4 * length plan.blocks.items) }
     ensures few { IfOk result (λ plan. length plan.blocks.items ≤ length blocks.now + 1022) }
     ensures numbered { IfOk result (λ plan. Rise next plan.blocks.items) }
+    ensures marked { IfOk result (λ plan. plain plan.blocks.items ≡ blocks.now) }
     ensures reads { IfOk result (λ plan. ReadsAs plan.blocks.items plan.bid blocks.now) }
 {
     let blocks = planned(alloc, blocks, next)?;

@@ -20,11 +20,11 @@ loop-rest-preserved c =
     let fewer = bytes_in-drop c.min.result c.loop-rest.rest.now in
     record {
       made = rw c.in_ok-push.ensures.items
-          (lists-step c.loop-rest.bits c.min.result c.loop-rest.out.items c.loop-rest.rest.now here c.split_at.result.1.now c.in_ok-block.block (numbered 2 c.args.next (map xblock (cut c.args.blocks.now)))
+          (lists-step c.loop-rest.bits c.min.result c.loop-rest.out.items c.loop-rest.rest.now here c.split_at.result.1.now c.in_ok-block.block (numbered 2 c.args.next (map xblock (cut 1021 c.args.blocks.now)))
           some least c.split_at.ensures.front c.split_at.ensures.back block inv.made);
       room = rw c.split_at.ensures.back (let room = inv.room in omega arith);
       together = rw c.split_at.ensures.back (let h = inv.together in omega arith);
     }
 
 pub returns : goal.returns
-returns c = lists-end c.loop-rest.bits c.loop-rest.out.items c.loop-rest.rest.now (numbered 2 c.args.next (map xblock (cut c.args.blocks.now))) c.loop-rest-test.false c.loop-rest.invariant.made
+returns c = lists-end c.loop-rest.bits c.loop-rest.out.items c.loop-rest.rest.now (numbered 2 c.args.next (map xblock (cut 1021 c.args.blocks.now))) c.loop-rest-test.false c.loop-rest.invariant.made

@@ -4,7 +4,7 @@ use Rattle.data_tree.proofs.plan.lists.Given as goal
 
 abbrev pub invariant-loop-rest : goal.invariant-loop-rest
 invariant-loop-rest l = record {
-  made : l.out.items ++ numbered 2 l.bits (map xblock (cut l.rest)) ≡ numbered 2 l.next (map xblock (cut l.blocks));
+  made : l.out.items ++ numbered 2 l.bits (map xblock (cut 1021 l.rest)) ≡ numbered 2 l.next (map xblock (cut 1021 l.blocks));
   room : l.bits + 4 * length l.rest ≤ l.next + 4 * length l.blocks;
   together : bytes_in (contents l.rest) < 2 ^ 32;
 }
