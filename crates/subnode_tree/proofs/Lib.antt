@@ -1,5 +1,9 @@
 pub mod CountLaws
+pub mod FormLaws
 pub mod ListLaws
 pub mod PartSteps
 pub mod RowSteps
+pub mod SubPlanLaws
 pub mod SubSteps
+pub mod TableLaws
+pub mod TableSteps
