@@ -45,7 +45,7 @@ form-content xs i d h form = (each-here (λ f. IsContent f.blocks) xs i d h form
 
 -- ---- ids at a level
 
-nids-deeper : (level : ℕ) (flats : List Flat) → nids_at (level + 1) (map one_deeper flats) ≡ nids_at level flats
+pub nids-deeper : (level : ℕ) (flats : List Flat) → nids_at (level + 1) (map one_deeper flats) ≡ nids_at level flats
 nids-deeper level [] = refl
 nids-deeper level (f ∷ flats) =
     let rest = nids-deeper level flats in
@@ -66,7 +66,7 @@ nids-below (f ∷ flats) =
     let no : eqb (f.level + 1) 0 ≡ false = ne_eqb (f.level + 1) 0 (λ e. absurd (omega arith)) in
     rw no (nids-below flats)
 
-nids-append : (level : ℕ) (xs ys : List Flat) → nids_at level (xs ++ ys) ≡ nids_at level xs ++ nids_at level ys
+pub nids-append : (level : ℕ) (xs ys : List Flat) → nids_at level (xs ++ ys) ≡ nids_at level xs ++ nids_at level ys
 nids-append level [] ys = refl
 nids-append level (f ∷ xs) ys =
     let rest = nids-append level xs ys in
@@ -79,7 +79,7 @@ nids-append level (f ∷ xs) ys =
 abbrev pub sub_nids : List Sub → List ℕ
 sub_nids xs = map (λ x. (x.nid).bits) xs
 
-nids-top : (xs : List Sub) → nids_at 0 (flattened xs) ≡ sub_nids xs
+pub nids-top : (xs : List Sub) → nids_at 0 (flattened xs) ≡ sub_nids xs
 nids-top [] = refl
 nids-top (x ∷ xs) =
     ap (λ (nids : List ℕ). (x.nid).bits ∷ nids)

@@ -1,6 +1,7 @@
 pub mod CountLaws
 pub mod FormLaws
 pub mod ListLaws
+pub mod MadeLaws
 pub mod PartSteps
 pub mod RowSteps
 pub mod SubPlanLaws

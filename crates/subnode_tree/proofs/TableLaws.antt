@@ -199,7 +199,7 @@ rise-left last (x ∷ xs) ys h =
     let both = and_parts (ltb last x) (rise_from x (xs ++ ys)) h in
     and_from (ltb last x) (rise_from x xs) both.0 (rise-left x xs ys both.1)
 
-ascending-left : (xs ys : List ℕ) → ascending (xs ++ ys) ≡ true → ascending xs ≡ true
+pub ascending-left : (xs ys : List ℕ) → ascending (xs ++ ys) ≡ true → ascending xs ≡ true
 ascending-left [] ys h = refl
 ascending-left (x ∷ xs) ys h = rise-left x xs ys h
 
@@ -211,7 +211,7 @@ rise-right : (last : ℕ) (xs ys : List ℕ) → rise_from last (xs ++ ys) ≡ t
 rise-right last [] ys h = rise-ascending last ys h
 rise-right last (x ∷ xs) ys h = rise-right x xs ys (and_parts (ltb last x) (rise_from x (xs ++ ys)) h).1
 
-ascending-right : (xs ys : List ℕ) → ascending (xs ++ ys) ≡ true → ascending ys ≡ true
+pub ascending-right : (xs ys : List ℕ) → ascending (xs ++ ys) ≡ true → ascending ys ≡ true
 ascending-right [] ys h = h
 ascending-right (x ∷ xs) ys h = rise-right x xs ys h
 

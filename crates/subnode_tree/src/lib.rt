@@ -11,6 +11,8 @@ mod blocks;
 mod count;
 mod entries;
 mod plan;
+#[cfg(test)]
+mod plan_tests;
 mod subs;
 mod tables;
 #[cfg(test)]
