@@ -164,7 +164,7 @@ pub fn last_id(blocks: &[(Bid, Bytes)]) -> Bid
 
 /// The blocks that are to be written for some data, which read back as it: the data blocks in order, then blocks that name 1021 of them each but the last, then one that names those ([MS-PST] 2.2.2.8.3.2). One block alone is named by none, and the last is the root.
 ///
-/// `next` is the number of the first, a multiple of 4; each next id is 4 above, and bit 1 marks blocks that name others. An `Err` comes only of want of memory.
+/// `next` is the number of the first, a multiple of 4 from 4 to 2^63; each next id is 4 above, and bit 1 marks blocks that name others. An `Err` comes only of want of memory.
 pub fn plan_data(alloc: Global, blocks: &[Bytes], next: u64) -> Result<DataPlan, AllocError>
     requires content { IsContent blocks.now }
     requires low { 4 ≤ next }

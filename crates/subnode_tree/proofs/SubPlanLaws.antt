@@ -1,5 +1,5 @@
 -- Subnodes that are planned read as they are.
-use Rattle.std.proofs.Common.{Bool, true, false, ◌≡◌, ℕ, zero, suc, ◌+◌, ◌-◌, ◌*◌, ◌/◌, ◌%◌, ◌^◌, ◌<◌, ◌≤◌, eqb, if◌then◌else◌, List, [], ◌∷◌, ◌++◌, length, map, take, get_or, Option, Some, Result, Ok, Err, refl, sym, ap, subst, ◌∙◌, arith, length-append, append_assoc, append-nil}
+use Rattle.std.proofs.Common.{true, false, ◌≡◌, ℕ, zero, suc, ◌+◌, ◌-◌, ◌*◌, ◌/◌, ◌%◌, ◌^◌, ◌<◌, ◌≤◌, eqb, List, [], ◌∷◌, ◌++◌, length, map, take, get_or, Option, Result, Ok, refl, sym, ap, subst, ◌∙◌, arith, length-append, append-nil}
 use Rattle.std.specs.List.{All}
 use Rattle.std.proofs.lemmas.Bool.{ne_eqb}
 use Rattle.std.proofs.lemmas.List.{length-map, map-append, take_all, take_more}
@@ -8,18 +8,16 @@ use Rattle.pst_base.specs.declared.subs.Sub.{Sub}
 use Rattle.pst_base.specs.Flat.{Flat}
 use Rattle.pst_base.specs.Subs.{flattened, one_deeper}
 use Rattle.data_tree.specs.declared.source.TreeStop.{TreeStop}
-use Rattle.data_tree.specs.declared.source.TreeStop.TheVariants.{Many}
 use Rattle.data_tree.specs.Tree.{and_then, blocks_of}
 use Rattle.data_tree.specs.Plan.{IsFound, ReadsAs, Rise, bytes_in, last_id, plain}
 use Rattle.data_tree.proofs.PieceLaws.{Each, each-append, each-from_all, each-left, each-right}
 use Rattle.data_tree.proofs.PlanLaws.{plain-append, rise-append}
-use Rattle.subnode_tree.specs.declared.blocks.SubEntry.{SubEntry}
 use Rattle.subnode_tree.specs.declared.tables.Row.{Row}
 use Rattle.subnode_tree.specs.Plan.{IsForm, Plans, SubsReadAs, ascending, data_in}
 use Rattle.subnode_tree.specs.Subnodes.{level_of, rows, subs_from, subs_of}
 use Rattle.subnode_tree.specs.Tables.{Fits, tables}
 use Rattle.subnode_tree.proofs.FormLaws.{all_from-each, data-more, each-below, form-top, own, sub_nids}
-use Rattle.subnode_tree.proofs.SubSteps.{sub_row, sub_here, subs-read}
+use Rattle.subnode_tree.proofs.SubSteps.{sub_row, subs-read}
 use Rattle.subnode_tree.proofs.TableLaws.{entry_as, few-tables, last-high, plain-tables, rise-tables, root-none, root-some, row_nids, tables-read}
 
 -- what an entry leads to is the subnode's own

@@ -1,6 +1,6 @@
 -- Blocks that were made to list subnodes read as the entries in them.
-use Rattle.std.proofs.Common.{Bool, true, false, ◌≡◌, ℕ, zero, suc, ◌+◌, ◌-◌, ◌*◌, ◌/◌, ◌%◌, ◌^◌, ◌<◌, ◌≤◌, ◌⊎◌, inl, inr, eqb, leb, ltb, ◌&&◌, if◌then◌else◌, List, [], ◌∷◌, ◌++◌, length, map, drop, Option, Some, Result, Ok, Err, refl, sym, ap, subst, ◌∙◌, arith, length-append, append_assoc, append-nil}
-use Rattle.std.proofs.lemmas.Bool.{and_from, and_parts, le-leb, lt-ltb, le-ltb, eq-eqb, ne_eqb, ltb-true, cases_lt}
+use Rattle.std.proofs.Common.{Bool, true, false, ◌≡◌, ℕ, suc, ◌+◌, ◌*◌, ◌/◌, ◌%◌, ◌^◌, ◌<◌, ◌≤◌, inl, inr, leb, ltb, ◌&&◌, List, [], ◌∷◌, ◌++◌, length, map, Option, Some, Result, Ok, refl, sym, ap, subst, ◌∙◌, arith, length-append, append_assoc, append-nil}
+use Rattle.std.proofs.lemmas.Bool.{and_from, and_parts, le-leb, lt-ltb, le-ltb, eq-eqb, ltb-true, cases_lt}
 use Rattle.std.proofs.lemmas.List.{length-map, map-append}
 use Rattle.byteorder.specs.Endian.{little_bytes}
 use Rattle.byteorder.specs.Numbers.{little_number-reads_back}
@@ -9,8 +9,7 @@ use Rattle.pst_base.specs.Fields.{number_at}
 use Rattle.pst_base.specs.Ids.{key_of}
 use Rattle.pst_base.proofs.Numbers.{number_at-first, number_at-next, number_at-behind}
 use Rattle.data_tree.specs.declared.source.TreeStop.{TreeStop}
-use Rattle.data_tree.specs.declared.source.TreeStop.TheVariants.{Form}
-use Rattle.data_tree.specs.Tree.{and_then, named, fetched}
+use Rattle.data_tree.specs.Tree.{and_then, named}
 use Rattle.data_tree.specs.Plan.{IsFound, Rise, cut, last_id, numbered, plain}
 use Rattle.data_tree.proofs.PieceLaws.{Each, each-left, each-right, joined, cut-one, length-cut, joined-cut, cut-short, cut-each}
 use Rattle.data_tree.proofs.PlanLaws.{last-append, length-numbered, plain-append, plain-marked, rise-append, rise-numbered}

@@ -69,7 +69,7 @@ fn plan_from(alloc: Global, s: &Subs, first: u64) -> Result<SubPlan, AllocError>
 
 /// The blocks that are to be written for a node's subnodes at all levels, which read back as them: for each subnode its data and what stands below it, then the blocks that list 340 subnodes each but the last, then one that lists those ([MS-PST] 2.2.2.8.3.3). One block that lists subnodes is listed by none, and the last is the root.
 ///
-/// `next` is the number of the first, a multiple of 4; each next id is 4 above, and bit 1 marks all blocks but data. An `Err` comes only of want of memory.
+/// `next` is the number of the first, a multiple of 4 from 4 to 2^62; each next id is 4 above, and bit 1 marks all blocks but data. An `Err` comes only of want of memory.
 pub fn plan_subs(alloc: Global, s: &Subs, next: u64) -> Result<SubPlan, AllocError>
     requires form { IsForm s.now }
     requires low { 4 ≤ next }

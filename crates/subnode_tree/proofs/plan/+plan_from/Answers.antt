@@ -1,5 +1,4 @@
-use Rattle.std.proofs.Common.{◌≡◌, ℕ, ◌+◌, ◌*◌, ◌^◌, ◌≤◌, ◌<◌, List, ◌++◌, length, take, get_or, refl, sym, ap, subst, ◌∙◌, arith}
-use Rattle.std.proofs.lemmas.List.{length-map, take_all}
+use Rattle.std.proofs.Common.{◌≡◌, ℕ, ◌+◌, ◌*◌, ◌<◌, List, ◌++◌, length, get_or, refl, sym, ap, subst, ◌∙◌, arith}
 use Rattle.pst_base.specs.declared.subs.Sub.{Sub}
 use Rattle.pst_base.specs.Flat.{Flat}
 use Rattle.pst_base.specs.Subs.{flattened}
@@ -7,8 +6,8 @@ use Rattle.data_tree.specs.Plan.{IsContent, ReadsAs, last_id}
 use Rattle.subnode_tree.specs.declared.tables.Row.{Row}
 use Rattle.subnode_tree.specs.Plan.{IsForm, Plans}
 use Rattle.subnode_tree.specs.Tables.{Fits, tables}
-use Rattle.subnode_tree.proofs.FormLaws.{fewer-inner, form-content, form-inner, form-top}
-use Rattle.subnode_tree.proofs.SubPlanLaws.{Planned, Underway, few-rows, underway-end, underway-next, whole}
+use Rattle.subnode_tree.proofs.FormLaws.{fewer-inner, form-content, form-inner}
+use Rattle.subnode_tree.proofs.SubPlanLaws.{Planned, few-rows, underway-end, underway-next, whole}
 use Rattle.subnode_tree.proofs.TableLaws.{last-high}
 use Rattle.subnode_tree.proofs.plan.+plan_from.Goals as goal
 

@@ -1,5 +1,4 @@
 use Rattle.std.proofs.lemmas.Result.{IfOk-weaker}
-use Rattle.data_tree.specs.Plan.{Rise}
 use Rattle.subnode_tree.specs.declared.plan.SubPlan.{SubPlan}
 use Rattle.subnode_tree.specs.Plan.{Plans, SubsReadAs}
 use Rattle.subnode_tree.proofs.SubPlanLaws.{plans-read}

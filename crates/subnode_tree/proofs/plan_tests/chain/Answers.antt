@@ -2,7 +2,6 @@ use Rattle.std.proofs.Common.{◌+◌, ◌<◌, ◌≤◌, List, Result, subst, 
 use Rattle.std.specs.List.{All}
 use Rattle.std.specs.Result.{IfOk}
 use Rattle.std.specs.declared.alloc.AllocError.{AllocError}
-use Rattle.pst_base.specs.declared.subs.Subs.{Subs}
 use Rattle.pst_base.specs.Flat.{Flat}
 use Rattle.subnode_tree.specs.Plan.{IsForm}
 use Rattle.subnode_tree.proofs.plan_tests.chain.Goals as goal

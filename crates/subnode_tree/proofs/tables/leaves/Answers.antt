@@ -1,4 +1,4 @@
-use Rattle.std.proofs.Common.{length, ◌+◌, ◌*◌, ◌<◌, ◌≤◌, ◌∙◌, arith, length-drop, length-take}
+use Rattle.std.proofs.Common.{length, ◌<◌, arith, length-drop, length-take}
 use Rattle.subnode_tree.specs.declared.tables.Row.{Row}
 use Rattle.data_tree.specs.Plan.{cut}
 use Rattle.subnode_tree.specs.Tables.{leaves, listed_as}

@@ -1,7 +1,4 @@
-use Rattle.std.proofs.Common.{◌≤◌, ◌+◌, ◌*◌, ◌^◌, length, ◌∙◌, ap, arith}
-use Rattle.data_tree.specs.Plan.{cut}
-use Rattle.subnode_tree.specs.Tables.{leaves, listed_as}
-use Rattle.subnode_tree.proofs.TableLaws.{few-listed, length-leaves}
+use Rattle.subnode_tree.proofs.TableLaws.{few-listed}
 use Rattle.subnode_tree.proofs.tables.tables.Goals as goal
 
 pub top-requires-clause-few : goal.top-requires-clause-few
