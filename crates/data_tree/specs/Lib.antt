@@ -1,5 +1,6 @@
 pub mod Listed
 pub mod Measure
+pub mod Plan
 pub mod Source
 pub mod Stops
 pub mod Tree

@@ -2,6 +2,8 @@
 //!
 //! `BlockSource` is where blocks come from: contracts see which blocks it tells, and two counts, of its failures and of what it found changed. `read_bids` gives the ids of a tree's data blocks, `read_data` their bytes, and `measure_data` how many those are; all answer just what `Tree` and `Measure` say of the blocks that the source tells, and stop only by a fault of the tree, by the source, or by want of memory.
 //!
+//! `plan_data` gives the blocks of a tree that is to be written, with their ids: they are just those that `Plan` lays out, and wherever they are found the tree reads as its data.
+//!
 //! Which blocks a file has, and whether each is whole, is the source's concern.
 #![tactic(auto)]
 
@@ -9,6 +11,9 @@ mod data;
 mod listing;
 mod measure;
 mod memory;
+mod plan;
+#[cfg(test)]
+mod plan_tests;
 mod source;
 #[cfg(test)]
 mod tests;
@@ -17,5 +22,6 @@ mod tree;
 pub use data::read_data;
 pub use measure::measure_data;
 pub use memory::BlockList;
+pub use plan::{DataPlan, last_id, plan_data};
 pub use source::{BlockSource, TreeStop, fetch};
 pub use tree::read_bids;

@@ -1,5 +1,10 @@
 pub mod CountLaws
+pub mod FormLaws
 pub mod ListLaws
+pub mod MadeLaws
 pub mod PartSteps
 pub mod RowSteps
+pub mod SubPlanLaws
 pub mod SubSteps
+pub mod TableLaws
+pub mod TableSteps

@@ -1,2 +1,4 @@
 pub mod Counts
+pub mod Plan
 pub mod Subnodes
+pub mod Tables
