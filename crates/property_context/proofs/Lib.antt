@@ -1,3 +1,5 @@
 pub mod SubLaws
 pub mod ValueLaws
 pub mod UniqueLaws
+pub mod PlaceLaws
+pub mod WriteLaws

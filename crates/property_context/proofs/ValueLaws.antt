@@ -75,7 +75,7 @@ value-parts get sub r v h =
     let q = fitting-some r.0 (number_at 2 0 r.1) p.0 v p.2 in
     (ap (λ (w : Val). w.id) q.is, ap value_fits q.is ∙ q.fit)
 
-values-parts : (get : ℕ → Option (List ℕ)) (sub : ℕ → Option (List (List ℕ))) (r : ℕ × List ℕ) (rs : List (ℕ × List ℕ)) (vs : List Val) → values_of get sub (r ∷ rs) ≡ Some vs
+pub values-parts : (get : ℕ → Option (List ℕ)) (sub : ℕ → Option (List (List ℕ))) (r : ℕ × List ℕ) (rs : List (ℕ × List ℕ)) (vs : List Val) → values_of get sub (r ∷ rs) ≡ Some vs
     → (v : Val) × (ws : List Val) × (value_of get sub r ≡ Some v) × (values_of get sub rs ≡ Some ws) × (vs ≡ v ∷ ws)
 values-parts get sub r rs vs h =
     let p = bind-some (λ (v : Val). option_and_then (λ (ws : List Val). Some (v ∷ ws)) (values_of get sub rs)) (value_of get sub r) vs h in
