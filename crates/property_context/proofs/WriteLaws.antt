@@ -1,9 +1,9 @@
 -- Values put into a heap and into subnodes, and the records that name them.
 use Rattle.std.proofs.Common.{◌≡◌, ℕ, zero, suc, ◌+◌, ◌-◌, ◌*◌, ◌%◌, ◌^◌, ◌<◌, ◌≤◌, ◌==◌, ◌&&◌, ◌||◌, Bool, true, false, List, [], ◌∷◌, ◌++◌, length, map, take, drop, replicate, Option, Some, None, refl, sym, ap, ◌∙◌, inl, inr, if◌then◌else◌, append_assoc, subst, length-append, arith}
 use Rattle.std.specs.Prelude.{nat_le, nat_lt}
-use Rattle.std.specs.List.{concat}
+use Rattle.std.specs.List.{concat, list_any}
 use Rattle.std.specs.Option.{is_some, option_and_then, option_map}
-use Rattle.std.proofs.lemmas.Bool.{and_parts, cases_Bool, eq-eqb, eqb-true, le-ltb, lt-ltb, ne_eqb}
+use Rattle.std.proofs.lemmas.Bool.{and_from, and_parts, cases_Bool, cases_eq, eq-eqb, eqb-true, le-ltb, leb-true, lt-ltb, ne_eqb}
 use Rattle.std.proofs.lemmas.List.{append-nil, drop_at, length-map, length-replicate, length_push, map-append, take_all, take_at}
 use Rattle.byteorder.specs.Endian.{little_bytes}
 use Rattle.byteorder.specs.Numbers.{length-bytes_low_first}
@@ -13,14 +13,13 @@ use Rattle.pst_base.specs.Fields.{number_at}
 use Rattle.pst_base.proofs.Numbers.{number_at-first}
 use Rattle.mapi_values.specs.Values.{Val, allows, fits, in_field}
 use Rattle.mapi_values.specs.Properties.{ascend_from}
-use Rattle.std.proofs.lemmas.Bool.{leb-true}
 use Rattle.write_limits.specs.Limits.{direct, props_fit}
 use Rattle.bth_tree.specs.Records.{within}
 use Rattle.bth_tree.proofs.WholeLaws.{within-first}
 use Rattle.property_context.proofs.ValueLaws.{value-parts, values-parts}
 use Rattle.write_limits.specs.Limits.{is_long, long_value, long_values}
 use Rattle.heap_on_node.specs.Heap.{index_of}
-use Rattle.heap_on_node.specs.Packing.{Adds, item_in}
+use Rattle.heap_on_node.specs.Packing.{Adds, IsPacked, item_in}
 use Rattle.heap_on_node.proofs.PackingLaws.{item_in-off, kept-by_adds}
 use Rattle.bth_tree.specs.Making.{AreRecords, Keeps, Makes}
 use Rattle.bth_tree.proofs.MakeLaws.{bth-kept}
@@ -31,7 +30,8 @@ use Rattle.property_context.specs.declared.placing.Placer.{Placer}
 use Rattle.property_context.specs.Context.{IsPropertyContext, fitting, is_named, named, names, of_field, value_of, values_of}
 use Rattle.property_context.specs.Subnodes.{data_of, without}
 use Rattle.property_context.specs.Placing.{AddsLong, KeepsData, Places, Placing, is_id, long_bytes, pieces, placed_data, span}
-use Rattle.property_context.specs.Writing.{Grows, PutsBytes, PutsValue, PutsValues}
+use Rattle.property_context.specs.Writing.{Grows, Holds, PutsBytes, PutsValue, PutsValues, slot_of}
+use Rattle.property_context.proofs.RoomLaws.{few-records, holds-none, two-a_block}
 use Rattle.property_context.proofs.SubLaws.{flattened-append, without-same}
 use Rattle.property_context.proofs.PlaceLaws.{concat-pieces, data-append, data-without, placed-all}
 
@@ -52,20 +52,43 @@ named-sub get sub id kind = rw (ne_eqb id 0 (λ e. omega arith), ne_eqb (id % 32
 no-more : (p : Placer) (long : List (ℕ × List ℕ)) (rest : List Flat) → Placing p long rest → Placing p (long ++ []) rest
 no-more p long rest h = subst (λ (l : List (ℕ × List ℕ)). Placing p l rest) (sym (append-nil long)) h
 
+-- room for more items
+holds-more : (heap : List (List (List ℕ))) (n m : ℕ) → n ≤ m → Holds heap n → Holds heap m
+holds-more heap n m le h = record { slots = h.slots; few = omega (arith, h.few); each = h.each }
+
+-- one more item
+holds-add : (heap heap2 : List (List (List ℕ))) (x : List ℕ) (hid n : ℕ) → length x ≤ 3580 → Adds heap x heap2 hid → Holds heap n → Holds heap2 (n + 1)
+holds-add heap heap2 x hid n len a h = record {
+  slots = slot_of hid ∷ h.slots;
+  few = omega (arith, h.few);
+  each = λ at y e. elim (cases_eq at hid) [
+    | inl same ↦
+        let is : x ≡ y = some-injective x y (sym a.here ∙ ap (item_in heap2) (sym same) ∙ e) in
+        (omega (arith, ap length is, len), rw (eq-eqb (slot_of at) (slot_of hid) (ap slot_of same)) refl)
+    | inr other ↦
+        let old = h.each at y (sym (a.others at other) ∙ e) in
+        (old.0, or-right (slot_of at == slot_of hid) (list_any (λ m. slot_of at == m) h.slots) old.1)
+  ];
+}
+  where
+    or-right : (a b : Bool) → b ≡ true → (a || b) ≡ true
+    or-right true b h = refl
+    or-right false b h = h
+
 -- nothing grew
 pub grows-none : (heap : List (List (List ℕ))) (p : Placer) (count : ℕ) → Grows heap heap p p count []
 grows-none heap p count = record {
   items = λ hid x h. h;
-  blocks = omega arith;
+  holds = λ n h. holds-more heap n (n + count) (omega arith) h;
   found = λ nid bs h. h;
   room = omega arith;
   placing = no-more p;
 }
 
-pub grows-item : (heap heap2 : List (List (List ℕ))) (p : Placer) (x : List ℕ) (hid : ℕ) → Adds heap x heap2 hid → Grows heap heap2 p p 1 []
-grows-item heap heap2 p x hid a = record {
+pub grows-item : (heap heap2 : List (List (List ℕ))) (p : Placer) (x : List ℕ) (hid : ℕ) → length x ≤ 3580 → Adds heap x heap2 hid → Grows heap heap2 p p 1 []
+grows-item heap heap2 p x hid len a = record {
   items = kept-by_adds heap heap2 x hid a;
-  blocks = a.blocks;
+  holds = λ n h. holds-add heap heap2 x hid n len a h;
   found = λ nid bs h. h;
   room = omega arith;
   placing = no-more p;
@@ -74,7 +97,7 @@ grows-item heap heap2 p x hid a = record {
 pub grows-sub : (heap : List (List (List ℕ))) (old new : Placer) (bytes : List ℕ) (nid : ℕ) → Places old new nid bytes → Grows heap heap old new 1 ((nid, bytes) ∷ [])
 grows-sub heap old new bytes nid p = record {
   items = λ hid x h. h;
-  blocks = omega arith;
+  holds = λ n h. holds-more heap n (n + 1) (omega arith) h;
   found = p.kept;
   room = omega (arith, p.span_is);
   placing = p.placing;
@@ -106,7 +129,7 @@ puts-item heap heap2 p bytes hid len a =
     let id = item-id heap2 hid bytes a.here in
     record {
       added = [];
-      grows = grows-item heap heap2 p bytes hid a;
+      grows = grows-item heap heap2 p bytes hid len a;
       bytes_are = sym (rw (le-ltb 3580 (length bytes) len) refl);
       reads = λ get sub k d. named-item get sub hid id.1 id.0 ∙ k hid bytes a.here;
       subnode = λ nid. rw (eq-eqb (hid % 32) 0 id.0) refl;
@@ -261,7 +284,7 @@ long-push (w ∷ vs) v = elim (cases_Bool (is_long w)) [
 grows-more : (h h1 h2 : List (List (List ℕ))) (p p1 p2 : Placer) (n m : ℕ) (a b : List (ℕ × List ℕ)) → m ≡ n + 1 → Grows h h1 p p1 n a → Grows h1 h2 p1 p2 1 b → Grows h h2 p p2 m (a ++ b)
 grows-more h h1 h2 p p1 p2 n m a b is g k = record {
   items = λ hid x e. k.items hid x (g.items hid x e);
-  blocks = omega (arith, g.blocks, k.blocks);
+  holds = λ c e. holds-more h2 (c + n + 1) (c + m) (omega arith) (k.holds (c + n) (g.holds c e));
   found = λ nid bs e. k.found nid bs (g.found nid bs e);
   room = omega (arith, g.room, k.room, length-append a b);
   placing = λ long rest e. subst (λ (l : List (ℕ × List ℕ)). Placing p2 l rest) (append_assoc long a b) (k.placing (long ++ a) rest (g.placing long rest e));
@@ -368,3 +391,22 @@ written-long heap0 heap1 p0 p1 vs rs rest subs s placing is =
       rest_is = all.1;
       ascend = all.2;
     })
+
+-- ---- how many there are
+
+ascend-take : (low n : ℕ) (vs : List Val) → ascend_from low vs ≡ true → ascend_from low (take n vs) ≡ true
+ascend-take low zero vs h = refl
+ascend-take low (suc n) [] h = refl
+ascend-take low (suc n) (v ∷ vs) h =
+    let p = and_parts (nat_le low v.id) (ascend_from (suc v.id) vs) h in
+    and_from (nat_le low v.id) (ascend_from (suc v.id) (take n vs)) p.0 (ascend-take (suc v.id) n vs p.1)
+
+-- ids are below 65,536, so the first of values that ascend are not more
+pub few-values : (h h1 : List (List (List ℕ))) (p p1 : Placer) (n : ℕ) (vs : List Val) (rs : List (ℕ × List ℕ)) → PutsValues h h1 p p1 (take n vs) rs → ascend_from 0 vs ≡ true → length rs ≤ 65536
+few-values h h1 p p1 n vs rs s a =
+    omega (arith, few-records 0 (2 ^ 32) rs (omega arith) s.records (records-ascend h h1 p p1 (take n vs) rs s (ascend-take 0 n vs a)))
+
+-- and their heap has half as many blocks
+pub few-blocks : (h1 : List (List (List ℕ))) (p p1 : Placer) (n : ℕ) (vs : List Val) (rs : List (ℕ × List ℕ)) → PutsValues ([] ∷ []) h1 p p1 (take n vs) rs → IsPacked h1 → ascend_from 0 vs ≡ true → length h1 ≤ 32769
+few-blocks h1 p p1 n vs rs s packed a =
+    omega (arith, two-a_block h1 (0 + length (take n vs)) packed (s.grows.holds 0 holds-none), s.count, few-values ([] ∷ []) h1 p p1 n vs rs s a)

@@ -1,17 +1,29 @@
 -- What writing a property context leaves.
-use Rattle.std.specs.Prelude.{ℕ, ◌≡◌, ◌+◌, ◌*◌, ◌<◌, ◌≤◌, ◌%◌, ◌==◌, if◌then◌else◌, nat_lt, false, List, [], ◌∷◌, ◌++◌, length, map, Option, Some}
+use Rattle.std.specs.Prelude.{ℕ, ◌≡◌, ◌+◌, ◌-◌, ◌*◌, ◌<◌, ◌≤◌, ◌%◌, ◌==◌, if◌then◌else◌, nat_lt, true, false, List, [], ◌∷◌, ◌++◌, length, map, Option, Some}
+use Rattle.std.specs.List.{list_any}
 use Rattle.pst_base.specs.Flat.{Flat}
 use Rattle.mapi_values.specs.Values.{Val}
+use Rattle.heap_on_node.specs.Heap.{block_of, index_of}
 use Rattle.heap_on_node.specs.Packing.{item_in}
 use Rattle.bth_tree.specs.Making.{AreRecords, Keeps}
 use Rattle.property_context.specs.declared.placing.Placer.{Placer}
 use Rattle.property_context.specs.Context.{is_named, named, names, value_of, values_of}
 use Rattle.property_context.specs.Placing.{KeepsData, Placing, is_id, long_bytes, placed_data, span}
 
--- a heap and placed subnodes grew by at most a block and some long values, and what was found is found still
+-- a number for a heap id, by which the first two items of the blocks are counted
+abbrev pub slot_of : ℕ → ℕ
+slot_of hid = 2 * block_of hid + (index_of hid - 1)
+
+-- each item of a heap has at most 3580 bytes, and stands in one of so many slots
+pub record Holds (heap : List (List (List ℕ))) (n : ℕ) : Type 0 where
+  pub slots : List ℕ
+  pub few : length slots ≤ n
+  pub each : (hid : ℕ) (x : List ℕ) → item_in heap hid ≡ Some x → (length x ≤ 3580) × (list_any (λ m. slot_of hid == m) slots ≡ true)
+
+-- a heap and placed subnodes grew by so many items at most and some long values, and what was found is found still
 pub record Grows (heap heap2 : List (List (List ℕ))) (old new : Placer) (count : ℕ) (added : List (ℕ × List ℕ)) : Type 0 where
   pub items : Keeps (item_in heap) (item_in heap2)
-  pub blocks : length heap2 ≤ length heap + count
+  pub holds : (n : ℕ) → Holds heap n → Holds heap2 (n + count)
   pub found : KeepsData (placed_data old) (placed_data new)
   pub room : span new ≤ span old + 32 * length added
   pub placing : (long : List (ℕ × List ℕ)) (rest : List Flat) → Placing old long rest → Placing new (long ++ added) rest

@@ -1,9 +1,10 @@
 //! Writing a property context.
-ghost use Rattle.std.specs.Prelude.{◌≡◌, ◌+◌, ◌-◌, ◌*◌, ◌≤◌, ◌<◌, ◌^◌, ◌++◌, ℕ, List, [], true, length, get_or, replicate, IfOk};
+ghost use Rattle.std.specs.Prelude.{◌≡◌, ◌+◌, ◌-◌, ◌*◌, ◌≤◌, ◌<◌, ◌^◌, ◌∷◌, ◌++◌, ℕ, List, [], true, length, get_or, replicate, IfOk};
 ghost use Rattle.byteorder.specs.Endian.{little_bytes};
 ghost use Rattle.pst_base.specs.Flat.{Flat};
 ghost use Rattle.pst_base.specs.Subs.{flattened};
 ghost use Rattle.heap_on_node.specs.Packing.{IsPlain, PacksTight};
+ghost use Rattle.mapi_values.specs.Properties.{ascend_from};
 ghost use Rattle.write_limits.specs.Limits.{long_values, props_fit};
 ghost use Rattle.property_context.specs.Context.{IsPropertyContext};
 ghost use Rattle.property_context.specs.Subnodes.{ids_ascend};
@@ -72,29 +73,28 @@ fn put_value(
     }
 }
 
-/// Puts values where records name them.
+/// Puts values where records name them, into a heap of their own.
 fn put_values(
     alloc: Global,
-    h: &mut HeapMaker,
     p: &mut Placer,
     values: &[Value],
-) -> Result<Vec<(u32, Bytes)>, AllocError>
-    requires blocks { length h.old + length values.now < 65536 }
+) -> Result<(HeapMaker, Vec<(u32, Bytes)>), AllocError>
+    requires ascend { ascend_from 0 values.now ≡ true }
     requires span { span p.old + 32 * long_values values.now + 32 < 2 ^ 32 }
     requires placing { (rest : List Flat) × Placing p.old [] rest }
-    ensures { IfOk result (λ rs. PutsValues h.old h.new p.old p.new values.now rs.items) }
+    ensures puts { IfOk result (λ made. PutsValues ([] ∷ []) made.0 p.old p.new values.now made.1.items) }
+    ensures blocks { IfOk result (λ made. length made.0 ≤ 32769) }
+    ensures few { IfOk result (λ made. length made.1.items ≤ 65536) }
 {
+    let mut heap = HeapMaker::new(alloc);
     let mut records = Vec::with_capacity(alloc, values.len())?;
     for value in values {
-        records.push(put_value(alloc, h, p, value)?)?;
+        records.push(put_value(alloc, &mut heap, p, value)?)?;
     }
-    Ok(records)
+    Ok((heap, records))
 }
 
-/// The most values that are written: each takes at most a block of its own, and the tree of the records at most 149.
-const MOST_VALUES: usize = 65_385;
-
-/// The data blocks of a node with these properties ([MS-PST] 2.3.3), and its subnodes: those of values of more than 3580 bytes, and the rest. A property context of more than 65,385 values is refused as if memory ran out.
+/// The data blocks of a node with these properties ([MS-PST] 2.3.3), and its subnodes: those of values of more than 3580 bytes, and the rest.
 pub fn write_pc(alloc: Global, p: &Props, rest: Subs) -> Result<(Blocks, Subs), AllocError>
     requires fit { props_fit p.now rest ≡ true }
     requires ascend { ids_ascend 0 rest ≡ true }
@@ -103,13 +103,8 @@ pub fn write_pc(alloc: Global, p: &Props, rest: Subs) -> Result<(Blocks, Subs), 
     ensures plain { IfOk result (λ made. (k : ℕ) → k < length made.0 → IsPlain k (get_or made.0 k [])) }
     ensures tight { IfOk result (λ made. PacksTight made.0) }
 {
-    let values = p.values();
-    if values.len() > MOST_VALUES {
-        return Err(AllocError);
-    }
     let mut placer = begin(alloc, rest);
-    let mut heap = HeapMaker::new(alloc);
-    let records = put_values(alloc, &mut heap, &mut placer, values)?;
+    let (mut heap, records) = put_values(alloc, &mut placer, p.values())?;
     let root = bth_make(alloc, &mut heap, 2, 6, records.as_slice())?;
     let blocks = heap.finish(0xBC, root)?;
     Ok((blocks, all_placed(placer)?))
