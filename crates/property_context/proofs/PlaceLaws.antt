@@ -1,9 +1,9 @@
 -- Subnodes placed one after the other.
-use Rattle.std.proofs.Common.{◌≡◌, ℕ, zero, suc, ◌+◌, ◌-◌, ◌*◌, ◌/◌, ◌%◌, ◌<◌, ◌≤◌, ◌==◌, ◌&&◌, ◌||◌, Bool, true, false, List, [], ◌∷◌, ◌++◌, length, map, min, take, drop, Some, None, refl, sym, ap, ◌∙◌, inl, inr, if◌then◌else◌, append_assoc, length-drop, arith}
+use Rattle.std.proofs.Common.{◌≡◌, ℕ, zero, suc, ◌+◌, ◌-◌, ◌*◌, ◌/◌, ◌%◌, ◌<◌, ◌≤◌, ◌==◌, ◌&&◌, ◌||◌, Bool, true, false, List, [], ◌∷◌, ◌++◌, get_or, length, map, min, take, drop, Some, None, refl, sym, ap, ◌∙◌, inl, inr, if◌then◌else◌, append_assoc, length-drop, arith}
 use Rattle.std.specs.Prelude.{nat_le, nat_lt, not}
 use Rattle.std.specs.List.{concat}
 use Rattle.std.proofs.lemmas.Bool.{and_from, and_parts, cases_Bool, cases_eq, cases_lt, eq-eqb, le-leb, leb-true, lt-ltb, ltb-true, ne_eqb}
-use Rattle.std.proofs.lemmas.List.{append-nil, drop_all, map_push, take-append-drop, take_all}
+use Rattle.std.proofs.lemmas.List.{append-nil, drop_all, map_push, take-append-drop, take_all, drop_more}
 use Rattle.pst_base.specs.Flat.{Flat}
 use Rattle.pst_base.specs.Subs.{flattened, one_deeper}
 use Rattle.pst_base.specs.declared.subs.Sub.{Sub}
@@ -350,3 +350,12 @@ free-most old new n is = elim (cases_Bool (n == old)) [
   | inl t ↦ let f : new ≡ old + 32 = is ∙ rw t refl in omega arith
   | inr e ↦ let f : new ≡ old = is ∙ rw e refl in omega arith
 ]
+
+-- past one more subnode, whose id isn't below the least
+pub ascend-next : (low i n : ℕ) (subs : List Sub) (s : Sub) → i < length subs → s ≡ get_or subs i s → n ≡ s.nid.bits → low ≤ n
+    → ids_ascend (n + 1) (flattened (drop (i + 1) subs)) ≡ ids_ascend low (flattened (drop i subs))
+ascend-next low i n subs s h is id le =
+    let next : n + 1 ≡ suc s.nid.bits = omega arith in
+    ap (λ (m : ℕ). ids_ascend m (flattened (drop (i + 1) subs))) next
+    ∙ ap (λ (b : Bool). b && ids_ascend (suc s.nid.bits) (flattened (drop (i + 1) subs))) (sym (le-leb low s.nid.bits (omega arith)))
+    ∙ sym (ap (λ (xs : List Sub). ids_ascend low (flattened xs)) (drop_more subs i s h ∙ ap (λ (x : Sub). x ∷ drop (i + 1) subs) (sym is)) ∙ ascend-first low s (drop (i + 1) subs))

@@ -9,9 +9,12 @@ mod law;
 mod placing;
 mod read;
 mod subnodes;
+#[cfg(test)]
+mod tests;
 mod value;
 mod write;
 
 pub use law::one_reading;
 pub use read::{PcFault, read_pc};
+pub use subnodes::ids_ascend;
 pub use write::write_pc;

@@ -4,7 +4,7 @@ ghost use Rattle.std.specs.Ordering.{nat_cmp};
 ghost use Rattle.std.specs.BTreeMap.{get};
 ghost use Rattle.std.specs.BTreeSet.{contains};
 ghost use Rattle.pst_base.specs.Subs.{flattened};
-ghost use Rattle.property_context.specs.Subnodes.{data_of, place_from, without};
+ghost use Rattle.property_context.specs.Subnodes.{data_of, ids_ascend, place_from, without};
 
 use pst_base::{Bytes, Sub, Subs};
 use std::alloc::{AllocError, Global};
@@ -91,4 +91,18 @@ pub fn others(alloc: Global, subs: &Subs, ids: &BTreeSet<u32>) -> Result<Subs, A
         }
     }
     Ok(Subs::from_vec(out))
+}
+
+/// Whether the ids of the subnodes ascend strictly, as they do in every node.
+pub fn ids_ascend(subs: &Subs) -> bool
+    ensures { result ≡ ids_ascend 0 subs.now }
+{
+    let mut low = 0u64;
+    for sub in subs.as_slice() {
+        if u64::from(sub.nid.bits) < low {
+            return false;
+        }
+        low = u64::from(sub.nid.bits) + 1;
+    }
+    true
 }

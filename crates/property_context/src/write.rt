@@ -94,7 +94,7 @@ fn put_values(
     Ok((heap, records))
 }
 
-/// The data blocks of a node with these properties ([MS-PST] 2.3.3), and its subnodes: those of values of more than 3580 bytes, and the rest.
+/// The data blocks of a node with these properties ([MS-PST] 2.3.3), and its subnodes: those of values of more than 3580 bytes, and the rest, whose ids ascend strictly.
 pub fn write_pc(alloc: Global, p: &Props, rest: Subs) -> Result<(Blocks, Subs), AllocError>
     requires fit { props_fit p.now rest ≡ true }
     requires ascend { ids_ascend 0 rest ≡ true }
