@@ -30,7 +30,7 @@ use Rattle.property_context.specs.declared.placing.Placer.{Placer}
 use Rattle.property_context.specs.Context.{IsPropertyContext, fitting, is_named, named, names, of_field, value_of, values_of}
 use Rattle.property_context.specs.Subnodes.{data_of, without}
 use Rattle.property_context.specs.Placing.{AddsLong, KeepsData, Places, Placing, is_id, long_bytes, pieces, placed_data, span}
-use Rattle.property_context.specs.Writing.{Grows, Holds, PutsBytes, PutsValue, PutsValues, slot_of}
+use Rattle.property_context.specs.Writing.{ArePlain, Grows, Holds, IsPlainRecord, PutsBytes, PutsValue, PutsValues, WritesFields, hnid_is, slot_of}
 use Rattle.property_context.proofs.RoomLaws.{few-records, holds-none, two-a_block}
 use Rattle.property_context.proofs.SubLaws.{flattened-append, without-same}
 use Rattle.property_context.proofs.PlaceLaws.{concat-pieces, data-append, data-without, placed-all}
@@ -108,6 +108,7 @@ pub puts-none : (heap : List (List (List ℕ))) (p : Placer) (bytes : List ℕ) 
 puts-none heap p [] len = record {
   added = [];
   grows = grows-none heap p 1;
+  plain = refl;
   bytes_are = refl;
   reads = λ get sub k d. named-zero get sub;
   subnode = λ nid. refl;
@@ -124,12 +125,13 @@ item-id heap hid x h = (
   λ z. none-some x (sym (item_in-zero heap) ∙ ap (item_in heap) (sym z) ∙ h),
 )
 
-pub puts-item : (heap heap2 : List (List (List ℕ))) (p : Placer) (bytes : List ℕ) (hid : ℕ) → length bytes ≤ 3580 → Adds heap bytes heap2 hid → PutsBytes heap heap2 p p bytes hid
-puts-item heap heap2 p bytes hid len a =
+pub puts-item : (heap heap2 : List (List (List ℕ))) (p : Placer) (bytes : List ℕ) (hid : ℕ) → (length bytes ≡ 0 → ⊥) → length bytes ≤ 3580 → Adds heap bytes heap2 hid → PutsBytes heap heap2 p p bytes hid
+puts-item heap heap2 p bytes hid some len a =
     let id = item-id heap2 hid bytes a.here in
     record {
       added = [];
       grows = grows-item heap heap2 p bytes hid len a;
+      plain = rw (ne_eqb (length bytes) 0 some, le-ltb 3580 (length bytes) len) (eq-eqb (hid % 32) 0 id.0);
       bytes_are = sym (rw (le-ltb 3580 (length bytes) len) refl);
       reads = λ get sub k d. named-item get sub hid id.1 id.0 ∙ k hid bytes a.here;
       subnode = λ nid. rw (eq-eqb (hid % 32) 0 id.0) refl;
@@ -139,6 +141,7 @@ pub puts-sub : (heap : List (List (List ℕ))) (old new : Placer) (bytes : List 
 puts-sub heap old new bytes nid len p = record {
   added = (nid, bytes) ∷ [];
   grows = grows-sub heap old new bytes nid p;
+  plain = rw (ne_eqb (length bytes) 0 (λ z. omega arith), lt-ltb 3580 (length bytes) len) (eq-eqb (nid % 32) 31 p.kind);
   bytes_are = sym (rw (lt-ltb 3580 (length bytes) len) refl);
   reads = λ get sub k d. named-sub get sub nid p.kind ∙ ap (option_map concat) (d nid (pieces bytes) p.here) ∙ ap Some (concat-pieces bytes);
   subnode = λ n. rw (ne_eqb (nid % 32) 0 (λ e. omega (arith, p.kind))) (elim (cases_Bool (nid == n)) [ inl t ↦ rw t refl | inr f ↦ rw f refl ]);
@@ -223,6 +226,7 @@ puts-fixed heap p v width id small fit is =
           ∙ ap Some (take_at v.bytes (replicate (4 - length v.bytes) 0) width (sym w)));
       subnode = λ nid. names-is nid v.id v.kind v.bytes small
           ∙ ap (λ (o : Option ℕ). if is_some o || (number_at 4 0 (v.bytes ++ replicate (4 - length v.bytes) 0) % 32 == 0) then false else number_at 4 0 (v.bytes ++ replicate (4 - length v.bytes) 0) == nid) is;
+      plain = rw is (entry-field v.kind v.bytes);
       key = id;
       size = entry-size v.kind v.bytes (omega arith);
     }
@@ -242,6 +246,7 @@ puts-named heap heap2 old new v id key small fit is high p =
       subnode = λ nid. names-is nid v.id v.kind (little_bytes 4 id) small
           ∙ ap (λ (o : Option ℕ). if is_some o || (number_at 4 0 (little_bytes 4 id ++ replicate (4 - length (little_bytes 4 id)) 0) % 32 == 0) then false else number_at 4 0 (little_bytes 4 id ++ replicate (4 - length (little_bytes 4 id)) 0) == nid) is
           ∙ ap (λ (n : ℕ). if n % 32 == 0 then false else n == nid) number ∙ p.subnode nid;
+      plain = rw is (ap (λ (f : List ℕ). hnid_is v.bytes (number_at 4 0 f)) (entry-field v.kind (little_bytes 4 id)) ∙ ap (hnid_is v.bytes) number ∙ p.plain);
       key = key;
       size = entry-size v.kind (little_bytes 4 id) (omega (arith, length-bytes_low_first 0 4 id));
     }
@@ -290,6 +295,12 @@ grows-more h h1 h2 p p1 p2 n m a b is g k = record {
   placing = λ long rest e. subst (λ (l : List (ℕ × List ℕ)). Placing p2 l rest) (append_assoc long a b) (k.placing (long ++ a) rest (g.placing long rest e));
 }
 
+plain-push : (vs : List Val) (rs : List (ℕ × List ℕ)) (v : Val) (r : ℕ × List ℕ) → ArePlain vs rs → IsPlainRecord v r → ArePlain (vs ++ v ∷ []) (rs ++ r ∷ [])
+plain-push [] [] v r h k = (k, tt)
+plain-push [] (s ∷ rs) v r h k = absurd h
+plain-push (w ∷ vs) [] v r h k = absurd h
+plain-push (w ∷ vs) (s ∷ rs) v r h k = (h.0, plain-push vs rs v r h.1 k)
+
 pub puts-start : (h : List (List (List ℕ))) (p : Placer) → PutsValues h h p p [] []
 puts-start h p = record {
   added = [];
@@ -298,6 +309,7 @@ puts-start h p = record {
   reads = λ get sub k d. refl;
   subnodes = λ nid. refl;
   records = tt;
+  plain = tt;
   count = refl;
 }
 
@@ -311,6 +323,7 @@ puts-step h h1 h2 p p1 p2 vs rs v r s q = record {
   reads = λ get sub k d. values-push get sub rs vs r v (s.reads get sub (λ hid x e. k hid x (q.grows.items hid x e)) (λ nid bs e. d nid bs (q.grows.found nid bs e))) (q.reads get sub k d);
   subnodes = λ nid. named-push rs r nid ∙ ap (λ (b : Bool). b || names nid r) (s.subnodes nid) ∙ ap (λ (b : Bool). is_id s.added nid || b) (q.subnode nid) ∙ sym (id-append s.added q.added nid);
   records = AreRecords-push 2 6 rs r s.records q.key q.size;
+  plain = plain-push vs rs v r s.plain q.plain;
   count = length_push rs r ∙ ap (λ (n : ℕ). n + 1) s.count ∙ sym (length_push vs v);
 }
 
@@ -376,6 +389,16 @@ written heap0 heap1 heap2 p0 p1 vs rs blocks root rest subs s m heap items placi
       values_are = s.reads (item blocks) (data_of subs) (λ hid x e. found hid x (m.kept hid x e)) (all-data p1 subs is);
       rest_is = sym (ap (without (is_named rs) false) is ∙ without-same (is_named rs) (is_id s.added) false (flattened (p1.placed.items ++ p1.left.items)) s.subnodes ∙ all.1);
     }
+
+pub written-fields : (heap0 heap1 heap2 : List (List (List ℕ))) (p0 p1 : Placer) (vs : List Val) (rs : List (ℕ × List ℕ)) (blocks : List (List ℕ)) (root : ℕ)
+    → PutsValues heap0 heap1 p0 p1 vs rs → Makes heap1 heap2 root 2 6 rs → IsHeap blocks 0xBC root → ((hid : ℕ) → item blocks hid ≡ item_in heap2 hid) → WritesFields blocks vs
+written-fields heap0 heap1 heap2 p0 p1 vs rs blocks root s m heap items = record {
+  root = root;
+  heap = heap;
+  records = rs;
+  tree = bth-kept (item_in heap2) (item blocks) root 2 6 rs (λ hid x e. items hid ∙ e) m.tree;
+  plain = s.plain;
+}
 
 pub written-long : (heap0 heap1 : List (List (List ℕ))) (p0 p1 : Placer) (vs : List Val) (rs : List (ℕ × List ℕ)) (rest subs : List Flat) → PutsValues heap0 heap1 p0 p1 vs rs → Placing p0 [] rest
     → subs ≡ flattened (p1.placed.items ++ p1.left.items) → AddsLong vs rest subs

@@ -88,6 +88,28 @@ fn a_found_context_is_read(rt: HostRuntime) -> Result<(), Fail> {
     Ok(())
 }
 
+/// How many bytes the property has, or 99 where it isn't there.
+fn length(props: &Props, id: u16) -> usize {
+    match props.get(id) {
+        Some(value) => value.len(),
+        None => 99,
+    }
+}
+
+/// The lengths of the name, of the first count and of the flag, or what is wrong.
+fn lengths(alloc: Global, blocks: &Blocks) -> Result<Result<[usize; 3], PcFault>, Fail> {
+    let none = Subs::new(alloc);
+    match read_pc(alloc, blocks.as_slice(), &none) {
+        Ok((props, _rest)) => Ok(Ok([
+            length(&props, 0x3001),
+            length(&props, 0x3602),
+            length(&props, 0x360A),
+        ])),
+        Err(MemOr::Refused(fault)) => Ok(Err(fault)),
+        Err(MemOr::Memory) => Err(Fail::from("no memory")),
+    }
+}
+
 #[test]
 fn each_change_has_its_lengths_or_its_fault(rt: HostRuntime) -> Result<(), Fail> {
     let rows: [([(usize, u8); 2], Result<[usize; 3], PcFault>); 14] = [
@@ -109,19 +131,13 @@ fn each_change_has_its_lengths_or_its_fault(rt: HostRuntime) -> Result<(), Fail>
         ([(13, 4), (2, 0xEB)], Err(PcFault::Heap)),
         ([(13, 4), (72, 0x3F)], Err(PcFault::Heap)),
     ];
-    let none = Subs::new(rt.alloc());
     for (changes, expected) in rows {
         let blocks = changed(rt.alloc(), &changes)?;
-        let at = changes[0].0;
-        match read_pc(rt.alloc(), blocks.as_slice(), &none) {
-            Ok((props, _)) => {
-                let length = |id: u16| props.get(id).map(|value| value.len()).unwrap_or(99);
-                let lengths = [length(0x3001), length(0x3602), length(0x360A)];
-                assert!(rt; expected == Ok(lengths), "{at}");
-            }
-            Err(MemOr::Refused(fault)) => assert!(rt; expected == Err(fault), "{at}"),
-            Err(MemOr::Memory) => return Err(Fail::from("no memory")),
-        }
+        assert!(rt;
+            lengths(rt.alloc(), &blocks)? == expected,
+            "{}",
+            changes[0].0
+        );
     }
     Ok(())
 }

@@ -9,7 +9,7 @@ ghost use Rattle.write_limits.specs.Limits.{long_values, props_fit};
 ghost use Rattle.property_context.specs.Context.{IsPropertyContext};
 ghost use Rattle.property_context.specs.Subnodes.{ids_ascend};
 ghost use Rattle.property_context.specs.Placing.{AddsLong, Placing, span};
-ghost use Rattle.property_context.specs.Writing.{PutsBytes, PutsValue, PutsValues};
+ghost use Rattle.property_context.specs.Writing.{PutsBytes, PutsValue, PutsValues, WritesFields};
 
 use crate::placing::{Placer, all_placed, begin, place};
 use bth_tree::bth_make;
@@ -99,6 +99,7 @@ pub fn write_pc(alloc: Global, p: &Props, rest: Subs) -> Result<(Blocks, Subs), 
     requires fit { props_fit p.now rest ≡ true }
     requires ascend { ids_ascend 0 rest ≡ true }
     ensures exact { IfOk result (λ made. IsPropertyContext made.0 made.1 p.now rest) }
+    ensures fields { IfOk result (λ made. WritesFields made.0 p.now) }
     ensures subnodes { IfOk result (λ made. AddsLong p.now rest made.1) }
     ensures plain { IfOk result (λ made. (k : ℕ) → k < length made.0 → IsPlain k (get_or made.0 k [])) }
     ensures tight { IfOk result (λ made. PacksTight made.0) }
