@@ -4,7 +4,6 @@ ghost use Rattle.std.specs.List.{concat};
 ghost use Rattle.std.specs.Ordering.{nat_cmp};
 ghost use Rattle.std.specs.BTreeSet.{contains};
 ghost use Rattle.pst_base.specs.Stops.{Finds};
-ghost use Rattle.mapi_values.specs.Values.{in_field};
 ghost use Rattle.heap_on_node.specs.Heap.{item};
 ghost use Rattle.bth_tree.specs.Answers.{IsRecord, seen};
 ghost use Rattle.property_context.specs.Context.{fitting, is_named, named, names, of_field, value_of, values_of};

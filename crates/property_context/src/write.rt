@@ -2,7 +2,6 @@
 ghost use Rattle.std.specs.Prelude.{◌≡◌, ◌+◌, ◌-◌, ◌*◌, ◌≤◌, ◌<◌, ◌^◌, ◌∷◌, ◌++◌, ℕ, List, [], true, length, get_or, replicate, IfOk};
 ghost use Rattle.byteorder.specs.Endian.{little_bytes};
 ghost use Rattle.pst_base.specs.Flat.{Flat};
-ghost use Rattle.pst_base.specs.Subs.{flattened};
 ghost use Rattle.heap_on_node.specs.Packing.{IsPlain, PacksTight};
 ghost use Rattle.mapi_values.specs.Properties.{ascend_from};
 ghost use Rattle.write_limits.specs.Limits.{long_values, props_fit};
