@@ -1,0 +1,6 @@
+pub mod SubLaws
+pub mod ValueLaws
+pub mod UniqueLaws
+pub mod PlaceLaws
+pub mod WriteLaws
+pub mod RoomLaws

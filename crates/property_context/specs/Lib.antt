@@ -1,0 +1,4 @@
+pub mod Context
+pub mod Placing
+pub mod Subnodes
+pub mod Writing
