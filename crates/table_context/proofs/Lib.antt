@@ -1,0 +1,6 @@
+pub mod FoundLaws
+pub mod StepLaws
+pub mod CellLaws
+pub mod LayoutLaws
+pub mod RowLaws
+pub mod ContextLaws

@@ -1,0 +1,5 @@
+pub mod Answers
+pub mod Context
+pub mod Header
+pub mod Rows
+pub mod Subnodes
