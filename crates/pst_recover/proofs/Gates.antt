@@ -2,6 +2,7 @@
 use Rattle.std.proofs.Common.{◌≡◌, ◌∙◌, ℕ, ap, refl, arith, true, false, eqb, eq-eqb, eqb-true, List, length, get_or, take, drop, length-drop}
 use Rattle.std.proofs.lemmas.Bool.{ne_eqb, and_parts}
 use Rattle.std.proofs.lemmas.List.{get_or-take, take_all}
+use Rattle.file_blocks.proofs.FileLaws.{open_size}
 use Rattle.gate_file.specs.Effective.{is_open, header_bytes}
 
 pub not_open : (side : List ℕ) → (length side ≡ 580 → ⊥) → is_open side ≡ false
@@ -12,9 +13,6 @@ gate_byte side byte size is =
     let e : eqb (length side) 580 ≡ true = eq-eqb _ _ size in
     let b : get_or byte 0 0 ≡ get_or side 0 0 = ap (λ (xs : List ℕ). get_or xs 0 0) is ∙ get_or-take 1 side 0 0 (omega arith) in
     rw (e, b) refl
-
-pub open_size : (side : List ℕ) → is_open side ≡ true → length side ≡ 580
-open_size side is = eqb-true _ _ (and_parts _ _ is).0
 
 pub header_behind : (main side bytes : List ℕ) → is_open side ≡ true → bytes ≡ take 564 (drop 16 side) → bytes ≡ header_bytes main side
 header_behind main side bytes is read =

@@ -11,7 +11,6 @@ use Rattle.btree_pages.specs.Pages.{Page, pieces, size_at, keys, key_in, ascend,
 use Rattle.btree_pages.specs.Pages as pages
 use Rattle.pst_recover.specs.declared.tree_pages.Seat.{Seat}
 use Rattle.pst_recover.specs.Trees.{is_placed, in_span, may_have, is_wanted, owed, sooner, page_in, page_with}
-use Rattle.pst_recover.proofs.Gates.{open_size}
 
 -- ---- where pages stand
 
@@ -35,35 +34,6 @@ placed-high eof ib high = elim (cases_lt eof (ib + 512)) [
 
 pub placed-rest : (eof ib last : ℕ) → 0x4400 ≤ ib → ib % 64 ≡ 0 → last ≡ eof - 512 → leb ib last ≡ is_placed eof ib
 placed-rest eof ib last high whole is = rw (le-leb 0x4400 ib high, eq-eqb (ib % 64) 0 whole, is) (placed-high eof ib high)
-
--- behind the header the store's file is Main
-pub behind_header : (main side : List ℕ) (at n : ℕ) → 564 ≤ at → take n (drop at main) ≡ take n (drop at (effective main side))
-behind_header main side at n behind = by_gate (is_open side) refl
-  where
-    later : (l : List ℕ) → drop at l ≡ drop (at - 564) (drop 564 l)
-    later l = let e : at ≡ 564 + (at - 564) = omega arith in ap (λ (k : ℕ). drop k l) e ∙ sym (drop-drop (at - 564) 564 l)
-
-    by_gate : (b : Bool) → is_open side ≡ b → take n (drop at main) ≡ take n (drop at (effective main side))
-    by_gate false shut = rw shut refl
-    by_gate true is =
-        let size = open_size side is in
-        let header : length (drop 16 side) ≡ 564 = omega (arith, length-drop 16 side, size) in
-        let whole : List ℕ = drop 16 side ++ drop 564 main in
-        let same : drop at whole ≡ drop at main =
-        later whole ∙ ap (drop (at - 564)) (drop_at (drop 16 side) (drop 564 main) 564 header) ∙ sym (later main) in
-        rw is (ap (take n) (sym same))
-
--- the store's file is no shorter than Main
-pub no_shorter : (main side : List ℕ) → length main ≤ length (effective main side)
-no_shorter main side = by_gate (is_open side) refl
-  where
-    by_gate : (b : Bool) → is_open side ≡ b → length main ≤ length (effective main side)
-    by_gate false shut = rw shut (omega arith)
-    by_gate true is =
-        let size = open_size side is in
-        let long : length main ≤ length (drop 16 side ++ drop 564 main) =
-        omega (arith, length-append (drop 16 side) (drop 564 main), length-drop 16 side, length-drop 564 main, size) in
-        rw is long
 
 -- ---- keys
 

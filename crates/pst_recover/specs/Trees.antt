@@ -6,7 +6,6 @@ use Rattle.pst_base.specs.declared.stops.PageFault.{PageFault}
 use Rattle.pst_base.specs.declared.stops.PageFault.TheVariants.{Count, Level, Key}
 use Rattle.pst_base.specs.Fields.{number_at}
 use Rattle.pst_outside.specs.World.{Image}
-use Rattle.gate_file.specs.Effective.{effective}
 use Rattle.page_frame.specs.Page.{reading, IsPage}
 use Rattle.btree_pages.specs.Entries.{inner_of}
 use Rattle.btree_pages.specs.Pages.{Page, pieces, size_at, key_in, keys, ascend, is_counted}
@@ -14,9 +13,8 @@ use Rattle.pst_recover.specs.declared.stops.PageRefusal.{PageRefusal}
 use Rattle.pst_recover.specs.declared.stops.PageRefusal.TheVariants.{Outside, Faulty}
 use Rattle.pst_recover.specs.declared.tree_pages.Seat.{Seat}
 
--- the store's file: the bytes that the two parts stand for
-abbrev pub file_of : Image → List ℕ
-file_of image = effective image.main image.side
+-- the store's file
+pub use Rattle.file_blocks.specs.Blocks.{file_of}
 
 -- ---- one page
 

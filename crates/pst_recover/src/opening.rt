@@ -7,14 +7,9 @@ ghost use Rattle.gate_file.specs.Effective.{is_open, header_bytes};
 ghost use Rattle.pst_recover.specs.Opening.{Opens, ReadsAs};
 
 use crate::stops::{OpenRefusal, OpenStop};
+use gate_file::{HEADER_LEN, SIDE_LEN};
 use pst_header::Header;
 use pst_outside::{Failed, Outside, Part, read_part};
-
-/// The length of the gate's file, in bytes: the gate's byte, 15 zeros, and a header.
-const GATE_LEN: u64 = 580;
-
-/// The length of a header, in bytes.
-const HEADER_LEN: u64 = 564;
 
 /// A header that counts, and whether it does so behind an open gate.
 #[derive(Clone, Copy, Debug, PartialEq, Eq)]
@@ -38,10 +33,10 @@ pub fn open_header<W: Outside>(w: &mut W) -> Result<Opened, OpenStop>
         return Err(OpenStop::Refused(OpenRefusal::Empty));
     }
     let side_len = w.len(Part::Side)?;
-    if side_len > GATE_LEN {
+    if side_len > SIDE_LEN {
         return Err(OpenStop::Refused(OpenRefusal::Gate { len: side_len }));
     }
-    if main_len < HEADER_LEN {
+    if main_len < HEADER_LEN as u64 {
         return Err(OpenStop::Refused(OpenRefusal::Short { len: main_len }));
     }
     let gate_open = read_gate(w, side_len)?;
@@ -56,7 +51,7 @@ fn read_gate<W: Outside>(w: &mut W, side_len: u64) -> Result<bool, Failed>
     ensures cause { OnErr result (Rose (W.view w.old).disk_faults (W.view w.new).disk_faults) }
     ensures same { Untouched (W.view w.old) (W.view w.new) }
 {
-    if side_len != GATE_LEN {
+    if side_len != SIDE_LEN {
         return Ok(false);
     }
     let mut gate = [0];

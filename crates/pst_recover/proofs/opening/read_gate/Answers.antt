@@ -3,8 +3,8 @@ use Rattle.pst_outside.specs.World.{Image}
 use Rattle.pst_recover.proofs.Gates.{not_open, gate_byte}
 use Rattle.pst_recover.proofs.opening.read_gate.Goals as goal
 
-pub returns-then-side_len-ne-GATE_LEN-clause-gate : goal.returns-then-side_len-ne-GATE_LEN-clause-gate
-returns-then-side_len-ne-GATE_LEN-clause-gate g c = λ told. sym (not_open (g.W.Outside.view c.args.w.now).here.side (λ is. omega (arith, c.requires told)))
+pub returns-then-side_len-ne-SIDE_LEN-clause-gate : goal.returns-then-side_len-ne-SIDE_LEN-clause-gate
+returns-then-side_len-ne-SIDE_LEN-clause-gate g c = λ told. sym (not_open (g.W.Outside.view c.args.w.now).here.side (λ is. omega (arith, c.requires told)))
 
 pub returns-clause-gate : goal.returns-clause-gate
 returns-clause-gate g c = λ told.

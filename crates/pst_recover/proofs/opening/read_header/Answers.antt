@@ -1,7 +1,8 @@
 use Rattle.std.proofs.Common.{◌≡◌, ◌≤◌, ◌∙◌, ap, sym, arith, length, true, false}
 use Rattle.pst_outside.specs.World.{Image}
 use Rattle.gate_file.specs.Effective.{is_open}
-use Rattle.pst_recover.proofs.Gates.{open_size, header_behind, header_in_main}
+use Rattle.file_blocks.proofs.FileLaws.{open_size}
+use Rattle.pst_recover.proofs.Gates.{header_behind, header_in_main}
 use Rattle.pst_recover.proofs.opening.read_header.Goals as goal
 
 pub returns-in_ok-read_part-clause-bytes : goal.returns-in_ok-read_part-clause-bytes

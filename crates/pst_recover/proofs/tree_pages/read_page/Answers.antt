@@ -1,7 +1,7 @@
 use Rattle.std.proofs.Common.{◌≤◌, ◌+◌, ◌∙◌, ap, arith, length, take, drop}
 use Rattle.pst_outside.specs.World.{Image}
 use Rattle.pst_recover.specs.Trees.{file_of}
-use Rattle.pst_recover.proofs.SeatLaws.{behind_header}
+use Rattle.file_blocks.proofs.FileLaws.{behind_header}
 use Rattle.pst_recover.proofs.tree_pages.read_page.Goals as goal
 
 pub returns-clause-bytes : goal.returns-clause-bytes

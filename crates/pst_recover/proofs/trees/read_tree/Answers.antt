@@ -3,7 +3,7 @@ use Rattle.std.proofs.lemmas.Result.{on_ok_weaker, IfErr-weaker}
 use Rattle.pst_outside.specs.World.{Image}
 use Rattle.pst_recover.specs.Trees.{tree_in, IsWhole}
 use Rattle.pst_recover.specs.Walk.{StopsTree}
-use Rattle.pst_recover.proofs.SeatLaws.{no_shorter}
+use Rattle.file_blocks.proofs.FileLaws.{no_shorter}
 use Rattle.pst_recover.proofs.WalkLaws.{walk-whole, whole-walk, found_same, adds-same, stops-tree}
 use Rattle.pst_recover.proofs.trees.read_tree.Goals as goal
 
