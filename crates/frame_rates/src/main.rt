@@ -25,10 +25,10 @@ enum Work {
 }
 
 /// The stored checksum of the data, sealed.
-fn sealed_checksum(alloc: Global, data: &[u8]) -> Result<u32, AllocError>
-    requires { length data.now ≡ 8176 }
+fn sealed_checksum(alloc: Global, body: &[u8]) -> Result<u32, AllocError>
+    requires { length body.now ≡ 8176 }
 {
-    let block = seal(alloc, data, AT)?;
+    let block = seal(alloc, body, AT)?;
     let bytes = block.as_slice();
     Ok(if bytes.len() == 8192 {
         u32_at(bytes, 8180)
