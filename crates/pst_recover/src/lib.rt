@@ -10,6 +10,8 @@ mod nodes;
 mod opening;
 mod places;
 mod scan;
+#[cfg(test)]
+mod scan_tests;
 mod stops;
 #[cfg(test)]
 mod tests;

@@ -195,85 +195,67 @@ fn an_empty_root_is_a_tree(rt: HostRuntime) -> Result<(), Fail> {
     Ok(())
 }
 
+/// What reading a tree of these two leaves and this root stops with.
+fn stop_of(
+    rt: &HostRuntime,
+    first: [u8; 496],
+    second: [u8; 496],
+    root: [u8; 496],
+) -> Result<Option<OpenStop>, Fail> {
+    let pages = [
+        seal(&first, BLOCKS, at(0x4400)),
+        seal(&second, BLOCKS, at(0x4600)),
+        seal(&root, BLOCKS, at(0x4800)),
+    ];
+    let seen = read::<BlockEntry>(rt, pages, BLOCKS, 0, at(0x4800))?;
+    Ok(seen.stop)
+}
+
 #[test]
-fn a_child_owes_its_level_its_count_and_its_keys(rt: HostRuntime) -> Result<(), Fail> {
+fn a_child_owes_its_level_and_its_count(rt: HostRuntime) -> Result<(), Fail> {
     let full = write_leaf(&[A, B]);
+    let later = write_leaf(&[C]);
     let empty = write_leaf::<BlockEntry>(&[]);
     let inner = write_inner::<BlockEntry>(1, &[FIRST, LATER]);
     let mut deep = inner;
     deep[491] = 8;
+    let itself = Inner {
+        page: at(0x4800),
+        ..FIRST
+    };
+    let itself = write_inner::<BlockEntry>(1, &[itself]);
+    let level = PageFault::Level;
+    let count = PageFault::Count;
+    for (name, second, root, wanted) in [
+        ("whole", later, inner, None),
+        ("deep root", later, deep, faulty(0x4800, level)),
+        ("root below itself", later, itself, faulty(0x4800, level)),
+        ("inner child", inner, inner, faulty(0x4600, level)),
+        ("empty child", empty, inner, faulty(0x4600, count)),
+    ] {
+        let stop = stop_of(&rt, full, second, root)?;
+        assert_eq!(rt; stop, wanted, "{name}");
+    }
+    Ok(())
+}
+
+#[test]
+fn keys_ascend_within_the_span_of_their_page(rt: HostRuntime) -> Result<(), Fail> {
+    let full = write_leaf(&[A, B]);
+    let later = write_leaf(&[C]);
+    let inner = write_inner::<BlockEntry>(1, &[FIRST, LATER]);
     let mut twice = full;
     twice[24] = 5;
     let high = write_inner::<BlockEntry>(1, &[Inner { key: 6, ..FIRST }, LATER]);
     let low = write_inner::<BlockEntry>(1, &[FIRST, Inner { key: 8, ..LATER }]);
-    let itself = write_inner::<BlockEntry>(
-        1,
-        &[Inner {
-            page: at(0x4800),
-            ..FIRST
-        }],
-    );
-    let later = write_leaf(&[C]);
-    let table = [
-        ("whole", full, later, inner, None),
-        (
-            "deep root",
-            full,
-            later,
-            deep,
-            faulty(0x4800, PageFault::Level),
-        ),
-        (
-            "root below itself",
-            full,
-            later,
-            itself,
-            faulty(0x4800, PageFault::Level),
-        ),
-        (
-            "inner child",
-            full,
-            inner,
-            inner,
-            faulty(0x4600, PageFault::Level),
-        ),
-        (
-            "empty child",
-            full,
-            empty,
-            inner,
-            faulty(0x4600, PageFault::Count),
-        ),
-        (
-            "equal keys",
-            twice,
-            later,
-            inner,
-            faulty(0x4400, PageFault::Key),
-        ),
-        (
-            "key below its span",
-            full,
-            later,
-            high,
-            faulty(0x4400, PageFault::Key),
-        ),
-        (
-            "key above its span",
-            full,
-            later,
-            low,
-            faulty(0x4400, PageFault::Key),
-        ),
-    ];
-    for (name, first, second, root, wanted) in table {
-        let pages = [
-            seal(&first, BLOCKS, at(0x4400)),
-            seal(&second, BLOCKS, at(0x4600)),
-            seal(&root, BLOCKS, at(0x4800)),
-        ];
-        let seen = read::<BlockEntry>(&rt, pages, BLOCKS, 0, at(0x4800))?;
-        assert_eq!(rt; seen.stop, wanted, "{name}");
+    for (name, first, root, wanted) in [
+        ("whole", full, inner, None),
+        ("equal keys", twice, inner, faulty(0x4400, PageFault::Key)),
+        ("below its span", full, high, faulty(0x4400, PageFault::Key)),
+        ("above its span", full, low, faulty(0x4400, PageFault::Key)),
+    ] {
+        let stop = stop_of(&rt, first, later, root)?;
+        assert_eq!(rt; stop, wanted, "{name}");
     }
     Ok(())
 }
