@@ -10,6 +10,63 @@ use std::process::Abort;
 use std::sync::ledger::Blank;
 use std::test::Fail;
 
+/// The bytes that are no zeros of a file of 20480 bytes: a header, an empty block tree at 4C00h, and a node tree at 4E00h with the nodes 122h and 8022h, which name no blocks.
+const TWO_NODES: [(usize, u8); 53] = [
+    (0, 33),
+    (1, 66),
+    (2, 68),
+    (3, 78),
+    (4, 4),
+    (5, 30),
+    (6, 119),
+    (7, 185),
+    (8, 83),
+    (9, 77),
+    (10, 23),
+    (32, 3),
+    (185, 80),
+    (216, 2),
+    (225, 78),
+    (232, 1),
+    (241, 76),
+    (516, 4),
+    (524, 204),
+    (525, 145),
+    (526, 188),
+    (527, 52),
+    (19945, 20),
+    (19946, 24),
+    (19952, 128),
+    (19953, 128),
+    (19954, 1),
+    (19955, 76),
+    (19956, 43),
+    (19957, 56),
+    (19958, 20),
+    (19959, 124),
+    (19960, 1),
+    (19968, 34),
+    (19969, 1),
+    (19992, 34),
+    (19993, 1),
+    (20000, 34),
+    (20001, 128),
+    (20024, 34),
+    (20025, 1),
+    (20456, 2),
+    (20457, 15),
+    (20458, 32),
+    (20464, 129),
+    (20465, 129),
+    (20466, 2),
+    (20467, 78),
+    (20468, 182),
+    (20469, 40),
+    (20470, 12),
+    (20471, 151),
+    (20472, 2),
+];
+
 /// The bytes of a header that are no zeros: eof 271360, next block 100h, next page 10h, maps 2.
 const HEADER: [(usize, u8); 24] = [
     (0, 33),
@@ -219,6 +276,19 @@ fn info_reads_the_header_that_counts(rt: HostRuntime) -> Result<(), Fail> {
             wanted,
             exit,
         )?;
+    }
+    Ok(())
+}
+
+#[test]
+fn nodes_of_a_file_are_said(rt: HostRuntime) -> Result<(), Fail> {
+    for (changes, wanted, exit) in [
+        (&[][..], "- 0x122 0x122 0 0\n- 0x8022 0x122 0 0\nok 2\n", 0),
+        (&[(0x4df0, 0x81)][..], "refused page 0x4c00 kind\n", 3),
+        (&[(0x4ffc, 1)][..], "refused page 0x4e00 bid\n", 3),
+    ] {
+        let main = file(&rt, 0x5000, &TWO_NODES, changes)?;
+        said_of(&rt, "nodes", main, Bytes::new(rt.alloc()), wanted, exit)?;
     }
     Ok(())
 }
