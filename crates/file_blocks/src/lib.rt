@@ -8,6 +8,8 @@
 mod check;
 mod entries;
 mod source;
+#[cfg(test)]
+mod tests;
 
 pub use check::{BlockRefusal, BlockStop, check_block, read_block};
 pub use entries::find_entry;
