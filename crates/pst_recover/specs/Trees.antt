@@ -12,7 +12,6 @@ use Rattle.btree_pages.specs.Pages.{Page, pieces, size_at, key_in, keys, ascend,
 use Rattle.pst_recover.specs.declared.stops.PageRefusal.{PageRefusal}
 use Rattle.pst_recover.specs.declared.stops.PageRefusal.TheVariants.{Outside, Faulty}
 use Rattle.pst_recover.specs.declared.tree_pages.Seat.{Seat}
-
 -- the store's file
 pub use Rattle.file_blocks.specs.Blocks.{file_of}
 
