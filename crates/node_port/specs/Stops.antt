@@ -1,0 +1,64 @@
+-- Why calls on a keeper stop.
+use Rattle.std.specs.Prelude.{◌≡◌, ℕ, ◌+◌, ◌*◌, ◌/◌, ◌^◌, ◌<◌, ◌≤◌, min, max, Bool, true, false, List, [], ◌∷◌, length, Option, None, Some, Result, Ok, Err}
+use Rattle.pst_base.specs.Flat.{Flat}
+use Rattle.pst_base.specs.declared.ids.Nid.{Nid}
+use Rattle.pst_outside.specs.Calls.{Rose}
+use Rattle.node_port.specs.Nodes.{Nodes}
+use Rattle.node_port.specs.declared.node.NodeRec.{NodeRec}
+use Rattle.node_port.specs.declared.keeper.KeepStop.{KeepStop}
+use Rattle.node_port.specs.declared.keeper.KeepStop.TheVariants as keep
+use Rattle.node_port.specs.declared.keeper.PrepareStop.{PrepareStop}
+use Rattle.node_port.specs.declared.keeper.PrepareStop.TheVariants as prepare
+
+-- whatever nodes are held, this is so of them
+abbrev pub Tells : (Nodes → Type 0) → (Nodes → Type 0) → Type 0
+Tells held P = (N : Nodes) → held N → P N
+
+-- a fault shows in the count of the disk's; what was found changed never comes where nodes are told
+abbrev pub KeepStops : ℕ → ℕ → (Nodes → Type 0) → KeepStop → Type 0
+KeepStops before after held keep.Fault = Rose before after
+KeepStops before after held (keep.Changed ib stored computed) = (N : Nodes) → held N → ⊥
+KeepStops before after held keep.Memory = Unit {0}
+
+-- the same; the others are `RoomDecides`
+abbrev pub PrepareStops : ℕ → ℕ → (Nodes → Type 0) → PrepareStop → Type 0
+PrepareStops before after held prepare.Fault = Rose before after
+PrepareStops before after held (prepare.Changed ib stored computed) = (N : Nodes) → held N → ⊥
+PrepareStops before after held prepare.Memory = Unit {0}
+PrepareStops before after held (prepare.Full free need) = Unit {0}
+PrepareStops before after held prepare.IdsSpent = Unit {0}
+
+-- the free cells, the pages of the file's trees, and whether a next number is used up
+pub record Room : Type 0 where
+  pub free : ℕ
+  pub pages : ℕ
+  pub spent : Bool
+
+-- more than any change needs
+abbrev pub ample : Room
+ample = record { free = 2 ^ 64; pages = 0; spent = false }
+
+-- how many subnodes there are, and how many data blocks in them
+abbrev pub subs_size : List Flat → ℕ
+subs_size [] = 0
+subs_size (f ∷ flats) = 1 + length f.blocks + subs_size flats
+
+-- how many data blocks, nodes and subnodes are new
+abbrev pub size : List (Nid × Option NodeRec) → ℕ
+size [] = 0
+size ((nid, None) ∷ cs) = size cs
+size ((nid, Some node) ∷ cs) = 1 + length node.blocks + subs_size node.subs + size cs
+
+-- The cells that are kept for changes: some for each page of the trees, and three for each of the blocks that are asked for
+-- or that are new, whichever are more.
+abbrev pub need : ℕ → ℕ → List (Nid × Option NodeRec) → ℕ
+need pages room cs = pages / 16 + 3 * max room (min (size cs) (2 ^ 60)) + 16
+
+-- `Full` comes just where no number is used up and too little is free, and `IdsSpent` just where one is
+abbrev pub RoomDecides : {R : Type 0} → Room → ℕ → List (Nid × Option NodeRec) → Result R PrepareStop → Type 0
+RoomDecides has room cs (Ok ready) = (has.spent ≡ false) × (need has.pages room cs ≤ has.free)
+RoomDecides has room cs (Err (prepare.Full free needed)) = (has.spent ≡ false) × (has.free < need has.pages room cs) × (free ≡ has.free) × (needed ≡ need has.pages room cs)
+RoomDecides has room cs (Err prepare.IdsSpent) = has.spent ≡ true
+RoomDecides has room cs (Err prepare.Fault) = Unit {0}
+RoomDecides has room cs (Err (prepare.Changed ib stored computed)) = Unit {0}
+RoomDecides has room cs (Err prepare.Memory) = Unit {0}
