@@ -46,7 +46,7 @@ pub width-none : (kind : ℕ) → in_cell kind ≡ None → cell_width kind ≡ 
 unfolding cell_width
 width-none kind e = rw e refl
 
-width-three : in_cell 3 ≡ Some 4
+pub width-three : in_cell 3 ≡ Some 4
 unfolding in_cell in_field
 width-three = refl
 

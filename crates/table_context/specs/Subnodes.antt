@@ -1,5 +1,5 @@
 -- The subnodes directly in a node, in the flat list of all that stand below it.
-use Rattle.std.specs.Prelude.{ℕ, ◌==◌, ◌&&◌, Bool, true, false, not, List, [], ◌∷◌, Option, None, Some, if◌then◌else◌}
+use Rattle.std.specs.Prelude.{ℕ, suc, nat_le, ◌==◌, ◌&&◌, Bool, true, false, not, List, [], ◌∷◌, Option, None, Some, if◌then◌else◌}
 use Rattle.std.specs.List.{list_any}
 use Rattle.pst_base.specs.Flat.{Flat}
 use Rattle.pst_base.specs.declared.subs.Sub.{Sub}
@@ -25,3 +25,8 @@ stays ids above f = if f.level == 0 then not (is_among ids f.nid) else above
 abbrev pub others : List ℕ → Bool → List Flat → List Flat
 others ids above [] = []
 others ids above (f ∷ fs) = if stays ids above f then f ∷ others ids true fs else others ids false fs
+
+-- the ids of the subnodes directly in the list ascend strictly, from low on
+abbrev pub ids_ascend : ℕ → List Flat → Bool
+ids_ascend low [] = true
+ids_ascend low (f ∷ fs) = if f.level == 0 then nat_le low f.nid && ids_ascend (suc f.nid) fs else ids_ascend low fs

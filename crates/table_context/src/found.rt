@@ -30,7 +30,7 @@ impl<'a> Model for Found<'a> {
 }
 
 /// Whether the ids ascend strictly.
-fn ids_ascend(entries: &[Sub]) -> bool
+pub fn ids_ascend(entries: &[Sub]) -> bool
     ensures { result ≡ keys_ascend sub_id 0 entries.now }
 {
     let mut low = 0u64;

@@ -92,8 +92,8 @@ fn set_of(alloc: Global, ids: &[u32]) -> Result<BTreeSet<u32>, AllocError>
 }
 
 /// The same subnode again.
-fn copy_sub(alloc: Global, sub: &Sub) -> Result<Sub, AllocError>
-    ensures { IfOk result (λ copied. flattened (copied ∷ []) ≡ flattened (sub.now ∷ [])) }
+pub fn copy_sub(alloc: Global, sub: &Sub) -> Result<Sub, AllocError>
+    ensures { IfOk result (λ copied. copied ≡ sub.now) }
 {
     Ok(Sub {
         nid: sub.nid,
