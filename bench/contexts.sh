@@ -1,5 +1,5 @@
 #!/bin/sh
-# Prints how long writing and reading a property context takes, and copying its values, for 1,000 and for 10,000 values of 63 bytes in the mean, in microseconds.
+# Prints how long writing and reading a property context takes, and copying its values, for 1,000 and for 10,000 values of 63 bytes in the mean, and the same of tables of 10,000 and of 100,000 rows with a name of 33 bytes in the mean, in microseconds.
 # A time comes from the time between two numbers of passes, so that the start doesn't count.
 # Needs crates/context_rates/out/context_rates, which `rt run` in crates/context_rates builds.
 cd "$(dirname "$0")/.." || exit 1
@@ -18,8 +18,9 @@ def seconds(work, values, count):
     return min(once() for _ in range(TRIES))
 
 
-for values, few, many in (1_000, 10, 510), (10_000, 1, 51):
+CASES = (1_000, 10, 510, ""), (10_000, 1, 51, ""), (10_000, 1, 21, "-rows"), (100_000, 1, 4, "-rows")
+for size, few, many, subject in CASES:
     for work in "copy", "write", "read":
-        took = (seconds(work, values, many) - seconds(work, values, few)) / (many - few)
-        print(f"{values:6} values {work:5} {took * 1e6:9.0f} us")
+        took = (seconds(work + subject, size, many) - seconds(work + subject, size, few)) / (many - few)
+        print(f"{size:6} {work + subject:10} {took * 1e6:9.0f} us")
 END
