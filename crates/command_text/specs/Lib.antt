@@ -1,4 +1,5 @@
 pub mod Words
+pub mod Arguments
 pub mod Lines
 pub mod Limits
 pub mod Refusals

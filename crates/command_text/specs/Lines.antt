@@ -1,42 +1,125 @@
 -- What a line asks for.
-use Rattle.std.specs.Prelude.{ℕ, List, Bool, Option, None, Some, Result, Ok, Err, ok_or, bytes_eq, codes, if◌then◌else◌}
+use Rattle.std.specs.Prelude.{ℕ, List, Option, None, Some, Result, Ok, Err, ok_or, bytes_eq, codes, if◌then◌else◌}
 use Rattle.std.specs.Str.{is_utf8}
+use Rattle.value_text.specs.Forms.{value_said}
+use Rattle.value_text.specs.Numbers.{magnitude}
 use Rattle.command_text.specs.declared.command.Command.{Command}
-use Rattle.command_text.specs.declared.command.Command.TheVariants.{MakeFolder, ListFolder, Quit}
+use Rattle.command_text.specs.declared.command.Command.TheVariants.{MakeFolder, RenameFolder, MoveFolder, RemoveFolder, ListFolder, NewMessage, SetProperty, UnsetProperty, GetProperty, ListProperties, MoveMessage, CopyMessage, RemoveMessage, Save, Quit}
 use Rattle.command_text.specs.declared.command.LineRefusal.{LineRefusal}
 use Rattle.command_text.specs.declared.command.LineRefusal.TheVariants.{Line, Value}
-use Rattle.command_text.specs.Words.{cut, id_of, name_of}
-
-infixl 1 ◌>>=◌
--- one reading after another, up to the first refusal
-abbrev pub ◌>>=◌ : {A B : Type 0} → Result A LineRefusal → (A → Result B LineRefusal) → Result B LineRefusal
-(Ok a) >>= next = next a
-(Err refusal) >>= next = Err refusal
+use Rattle.command_text.specs.Words.{cut, name_of, tag_of}
+use Rattle.command_text.specs.Arguments.{◌>>=◌, one_id, two_ids, id_and_tag, id_and_name}
 
 -- mkdir: the parent's id, and the name, spaces and all
 unfoldable pub make_folder : List ℕ → Result Command LineRefusal
 make_folder rest = do
-  words ← ok_or (cut rest) Line
-  parent ← ok_or (id_of words.0) Line
-  name ← ok_or (name_of words.1) Value
-  Ok (MakeFolder (record { bits = parent }) name)
+  given ← id_and_name rest
+  Ok (MakeFolder given.0 given.1)
+
+-- rename: the folder's id, and the name, spaces and all
+unfoldable pub rename_folder : List ℕ → Result Command LineRefusal
+rename_folder rest = do
+  given ← id_and_name rest
+  Ok (RenameFolder given.0 given.1)
+
+-- mvdir: the folder's id, and its new parent's
+unfoldable pub move_folder : List ℕ → Result Command LineRefusal
+move_folder rest = do
+  ids ← two_ids rest
+  Ok (MoveFolder ids.0 ids.1)
+
+-- rmdir: the folder's id
+unfoldable pub remove_folder : List ℕ → Result Command LineRefusal
+remove_folder rest = do
+  folder ← one_id rest
+  Ok (RemoveFolder folder)
 
 -- ls: the folder's id
 unfoldable pub list_folder : List ℕ → Result Command LineRefusal
 list_folder rest = do
-  folder ← ok_or (id_of rest) Line
-  Ok (ListFolder (record { bits = folder }))
+  folder ← one_id rest
+  Ok (ListFolder folder)
+
+-- new: the folder's id, the class, which is of the form of a name, and the time, in decimal; the class is looked at last
+unfoldable pub new_message : List ℕ → Result Command LineRefusal
+new_message rest = do
+  words ← ok_or (cut rest) Line
+  folder ← one_id words.0
+  others ← ok_or (cut words.1) Line
+  time ← ok_or (magnitude others.1) Line
+  class ← ok_or (name_of others.0) Value
+  Ok (NewMessage folder class time)
+
+-- set: the message's id, the tag, and the value that the rest of the line says, spaces and all
+unfoldable pub set_property : List ℕ → Result Command LineRefusal
+set_property rest = do
+  words ← ok_or (cut rest) Line
+  message ← one_id words.0
+  others ← ok_or (cut words.1) Line
+  tag ← ok_or (tag_of others.0) Line
+  value ← ok_or (value_said tag.id tag.kind others.1) Value
+  Ok (SetProperty message value)
+
+-- unset: the message's id, and the tag
+unfoldable pub unset_property : List ℕ → Result Command LineRefusal
+unset_property rest = do
+  given ← id_and_tag rest
+  Ok (UnsetProperty given.0 given.1)
+
+-- get: the message's id, and the tag
+unfoldable pub get_property : List ℕ → Result Command LineRefusal
+get_property rest = do
+  given ← id_and_tag rest
+  Ok (GetProperty given.0 given.1)
+
+-- props: the message's id
+unfoldable pub list_properties : List ℕ → Result Command LineRefusal
+list_properties rest = do
+  message ← one_id rest
+  Ok (ListProperties message)
+
+-- mv: the message's id, and the folder's
+unfoldable pub move_message : List ℕ → Result Command LineRefusal
+move_message rest = do
+  ids ← two_ids rest
+  Ok (MoveMessage ids.0 ids.1)
+
+-- cp: the message's id, and the folder's
+unfoldable pub copy_message : List ℕ → Result Command LineRefusal
+copy_message rest = do
+  ids ← two_ids rest
+  Ok (CopyMessage ids.0 ids.1)
+
+-- rm: the message's id
+unfoldable pub remove_message : List ℕ → Result Command LineRefusal
+remove_message rest = do
+  message ← one_id rest
+  Ok (RemoveMessage message)
 
 -- a line without a space
 unfoldable pub one_word : List ℕ → Result Command LineRefusal
-one_word word = if bytes_eq word (codes "quit") then Ok Quit else Err Line
+one_word word =
+    if bytes_eq word (codes "save") then Ok Save
+    else (if bytes_eq word (codes "quit") then Ok Quit
+    else Err Line)
 
 -- a line with a space: its first word, and what stands behind the space
 unfoldable pub with_arguments : List ℕ → List ℕ → Result Command LineRefusal
 with_arguments word rest =
     if bytes_eq word (codes "mkdir") then make_folder rest
+    else (if bytes_eq word (codes "rename") then rename_folder rest
+    else (if bytes_eq word (codes "mvdir") then move_folder rest
+    else (if bytes_eq word (codes "rmdir") then remove_folder rest
     else (if bytes_eq word (codes "ls") then list_folder rest
-    else Err Line)
+    else (if bytes_eq word (codes "new") then new_message rest
+    else (if bytes_eq word (codes "set") then set_property rest
+    else (if bytes_eq word (codes "unset") then unset_property rest
+    else (if bytes_eq word (codes "get") then get_property rest
+    else (if bytes_eq word (codes "props") then list_properties rest
+    else (if bytes_eq word (codes "mv") then move_message rest
+    else (if bytes_eq word (codes "cp") then copy_message rest
+    else (if bytes_eq word (codes "rm") then remove_message rest
+    else Err Line))))))))))))
 
 -- the line is cut at its first space, if it has one
 abbrev pub cut_line : List ℕ → Option (List ℕ × List ℕ) → Result Command LineRefusal

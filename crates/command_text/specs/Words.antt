@@ -1,9 +1,10 @@
 -- The words of a line, and what stands in them.
-use Rattle.std.specs.Prelude.{ℕ, Bool, ◌&&◌, ◌==◌, nat_le, List, [], ◌∷◌, length, chars, Option, None, Some, option_and_then, if◌then◌else◌}
+use Rattle.std.specs.Prelude.{ℕ, ◌/◌, ◌%◌, ◌&&◌, ◌==◌, nat_le, List, ◌∷◌, length, chars, Option, None, Some, option_and_then, option_map, if◌then◌else◌}
 use Rattle.std.specs.List.{position_or_len, before_first, after_first, list_all}
 use Rattle.std.specs.Char.{is_digit}
 use Rattle.std.specs.Str.Parse.{digits_value}
 use Rattle.mapi_values.specs.Spelling.{units_of}
+use Rattle.mapi_values.specs.declared.value.Tag.{Tag}
 
 -- what stands before and after the first space, if there is one
 unfoldable pub cut : List ℕ → Option (List ℕ × List ℕ)
@@ -22,6 +23,19 @@ hex_number ds = if nat_le 1 (length ds) && nat_le (length ds) 8 then hex_value d
 unfoldable pub id_of : List ℕ → Option ℕ
 id_of (a ∷ b ∷ ds) = if (a == 48) && (b == 120) then hex_number ds else None
 id_of word = None
+
+-- a tag as one number, its id above its kind
+unfoldable pub tag_from : ℕ → Tag
+tag_from n = record { id = n / 65536; kind = n % 65536 }
+
+-- the tag that 8 hex digits write
+unfoldable pub tag_digits : List ℕ → Option Tag
+tag_digits ds = if length ds == 8 then option_map tag_from (hex_value ds) else None
+
+-- the tag that a word writes: 0x and 8 hex digits, those of the id and then those of the kind
+unfoldable pub tag_of : List ℕ → Option Tag
+tag_of (a ∷ b ∷ ds) = if (a == 48) && (b == 120) then tag_digits ds else None
+tag_of word = None
 
 -- the units of a name: a text with good escapes, of 1 to 255 units
 unfoldable pub name_of : List ℕ → Option (List ℕ)

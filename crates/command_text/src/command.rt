@@ -1,14 +1,74 @@
 //! What a line asks for.
-use mapi_values::Units;
+use mapi_values::{Tag, Units, Value};
 use pst_base::Nid;
 
 /// A command, one variant for each form of line, with its arguments in their order.
 #[derive(Debug, Drop)]
 pub enum Command {
     /// `mkdir P NAME`: a new plain folder in P.
-    MakeFolder { parent: Nid, name: Units },
+    MakeFolder {
+        parent: Nid,
+        name: Units,
+    },
+    /// `rename F NAME`: the folder F gets another name.
+    RenameFolder {
+        folder: Nid,
+        name: Units,
+    },
+    /// `mvdir F P`: the folder F, with all below it, moves into P.
+    MoveFolder {
+        folder: Nid,
+        parent: Nid,
+    },
+    /// `rmdir F`: the empty folder F goes.
+    RemoveFolder {
+        folder: Nid,
+    },
     /// `ls F`: what stands in the folder F.
-    ListFolder { folder: Nid },
+    ListFolder {
+        folder: Nid,
+    },
+    /// `new F CLASS TIME`: a new message in F.
+    NewMessage {
+        folder: Nid,
+        class: Units,
+        time: u64,
+    },
+    /// `set M TAG VALUE`: the message M gets the value, in place of one with its id.
+    SetProperty {
+        message: Nid,
+        value: Value,
+    },
+    /// `unset M TAG`: the property of that id and kind goes.
+    UnsetProperty {
+        message: Nid,
+        tag: Tag,
+    },
+    /// `get M TAG`: the value of that id and kind.
+    GetProperty {
+        message: Nid,
+        tag: Tag,
+    },
+    /// `props M`: the properties, recipients and attachments of the message M.
+    ListProperties {
+        message: Nid,
+    },
+    /// `mv M F`: the message M moves into F.
+    MoveMessage {
+        message: Nid,
+        folder: Nid,
+    },
+    /// `cp M F`: a copy of the message M in F.
+    CopyMessage {
+        message: Nid,
+        folder: Nid,
+    },
+    /// `rm M`: the message M goes.
+    RemoveMessage {
+        message: Nid,
+    },
+    /// `save`: what is known of the file is written down in full.
+    Save,
     /// `quit`: the session ends.
     Quit,
 }

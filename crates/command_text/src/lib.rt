@@ -5,6 +5,7 @@
 //! Leaves to others: cutting the input into lines, and what a command does.
 #![tactic(auto)]
 
+mod arguments;
 mod command;
 mod printing;
 mod reading;

@@ -2,23 +2,91 @@
 ghost use Rattle.std.specs.Prelude.{◌≡◌, ◌++◌, IfOk, OnOk, string_bytes};
 ghost use Rattle.command_text.specs.Limits.{limit_word};
 ghost use Rattle.command_text.specs.Refusals.{refusal_words};
-ghost use Rattle.command_text.specs.Replies.{listed, data_text, last_text, text};
+ghost use Rattle.command_text.specs.Replies.{id_text, name_end, listed, message_text, property_text, recipient_text, attachment_text, data_text, last_text, text};
 
 use crate::reply::{CommandRefusal, DataLine, LastLine, Limit, Reply};
-use mapi_values::{Units, push_quoted};
+use mapi_values::{Tag, Units, push_quoted};
 use pst_base::{Bytes, Nid};
 use std::alloc::{AllocError, Global};
 use std::fmt::Write;
+use value_text::{push_signed, value_text};
+
+/// Puts an id at the end of a text.
+#[tactic(auto, unfolding(crate::specs::Replies::id_text))]
+fn push_id(text: &mut String, id: Nid) -> Result<(), AllocError>
+    ensures { OnOk result (string_bytes text.new ≡ string_bytes text.old ++ id_text id.bits) }
+{
+    write!(text, "0x{:x}", id.bits)
+}
+
+/// Puts the end of a line at the end of a text: a space, a name in quotes, and LF.
+#[tactic(auto, unfolding(crate::specs::Replies::name_end))]
+fn push_name_end(text: &mut String, name: &Units) -> Result<(), AllocError>
+    ensures { OnOk result (string_bytes text.new ≡ string_bytes text.old ++ name_end name.now) }
+{
+    text.push(' ')?;
+    push_quoted(text, name)?;
+    text.push('\n')
+}
 
 /// Puts the line of a folder at the end of a text.
 #[tactic(auto, unfolding(crate::specs::Replies::listed))]
 fn push_listed(text: &mut String, kind: &str, id: Nid, name: &Units) -> Result<(), AllocError>
     ensures { OnOk result (string_bytes text.new ≡ string_bytes text.old ++ listed kind.now id.bits name.now) }
 {
-    write!(text, "- 0x{:x} {kind} ", id.bits)?;
-    push_quoted(text, name)?;
-    text.push('\n')?;
-    Ok(())
+    text.push_str("- ")?;
+    push_id(text, id)?;
+    write!(text, " {kind}")?;
+    push_name_end(text, name)
+}
+
+/// Puts the line of a message at the end of a text.
+#[tactic(auto, unfolding(crate::specs::Replies::message_text))]
+fn push_message(text: &mut String, id: Nid, size: u32, subject: &Units) -> Result<(), AllocError>
+    ensures { OnOk result (string_bytes text.new ≡ string_bytes text.old ++ message_text id.bits size subject.now) }
+{
+    text.push_str("- ")?;
+    push_id(text, id)?;
+    text.push_str(" message ")?;
+    push_signed(text, 1 << 31, u64::from(size))?;
+    push_name_end(text, subject)
+}
+
+/// Puts the line of a property at the end of a text.
+#[tactic(auto, unfolding(crate::specs::Replies::property_text))]
+fn push_property(text: &mut String, tag: Tag, len: u64) -> Result<(), AllocError>
+    ensures { OnOk result (string_bytes text.new ≡ string_bytes text.old ++ property_text tag len) }
+{
+    writeln!(text, "- 0x{:04x}{:04x} {len}", tag.id, tag.kind)
+}
+
+/// Puts the line of a recipient at the end of a text.
+#[tactic(auto, unfolding(crate::specs::Replies::recipient_text))]
+fn push_recipient(
+    text: &mut String,
+    row: u32,
+    kind: u32,
+    address: &Units,
+    name: &Units,
+) -> Result<(), AllocError>
+    ensures { OnOk result (string_bytes text.new ≡ string_bytes text.old ++ recipient_text row kind address.now name.now) }
+{
+    write!(text, "- rcpt {row} ")?;
+    push_signed(text, 1 << 31, u64::from(kind))?;
+    text.push(' ')?;
+    push_quoted(text, address)?;
+    push_name_end(text, name)
+}
+
+/// Puts the line of an attachment at the end of a text.
+#[tactic(auto, unfolding(crate::specs::Replies::attachment_text))]
+fn push_attachment(text: &mut String, id: Nid, len: u64, name: &Units) -> Result<(), AllocError>
+    ensures { OnOk result (string_bytes text.new ≡ string_bytes text.old ++ attachment_text id.bits len name.now) }
+{
+    text.push_str("- attach ")?;
+    push_id(text, id)?;
+    write!(text, " {len}")?;
+    push_name_end(text, name)
 }
 
 /// Puts a line of data at the end of a text.
@@ -30,6 +98,15 @@ fn push_data(text: &mut String, line: &DataLine) -> Result<(), AllocError>
         DataLine::Folder { id, name } => push_listed(text, "folder", *id, name),
         DataLine::Search { id, name } => push_listed(text, "search", *id, name),
         DataLine::Foreign { id, name } => push_listed(text, "foreign", *id, name),
+        DataLine::Message { id, size, subject } => push_message(text, *id, *size, subject),
+        DataLine::Property { tag, len } => push_property(text, *tag, *len),
+        DataLine::Recipient {
+            row,
+            kind,
+            address,
+            name,
+        } => { push_recipient(text, *row, *kind, address, name) }
+        DataLine::Attachment { id, len, name } => push_attachment(text, *id, *len, name),
     }
 }
 
@@ -75,16 +152,23 @@ fn push_refusal(text: &mut String, refusal: CommandRefusal) -> Result<(), AllocE
 
 /// Puts the last line of a reply at the end of a text.
 #[tactic(auto, unfolding(crate::specs::Replies::last_text))]
-fn push_last(text: &mut String, last: LastLine) -> Result<(), AllocError>
-    ensures { OnOk result (string_bytes text.new ≡ string_bytes text.old ++ last_text last) }
+fn push_last(alloc: Global, text: &mut String, last: &LastLine) -> Result<(), AllocError>
+    ensures { OnOk result (string_bytes text.new ≡ string_bytes text.old ++ last_text last.now) }
 {
     match last {
         LastLine::Done => text.push_str("ok")?,
-        LastLine::Made(id) => write!(text, "ok 0x{:x}", id.bits)?,
+        LastLine::Made(id) => {
+            text.push_str("ok ")?;
+            push_id(text, *id)?;
+        }
         LastLine::Count(count) => write!(text, "ok {count}")?,
+        LastLine::Value(value) => {
+            text.push_str("ok ")?;
+            text.push_str(value_text(alloc, value)?.as_str())?;
+        }
         LastLine::Refused(refusal) => {
             text.push_str("no ")?;
-            push_refusal(text, refusal)?;
+            push_refusal(text, *refusal)?;
         }
         LastLine::NoMemory => text.push_str("no memory")?,
     }
@@ -101,6 +185,6 @@ pub fn reply_text(alloc: Global, reply: &Reply) -> Result<Bytes, AllocError>
     for line in reply.lines.as_slice() {
         push_data(&mut text, line)?;
     }
-    push_last(&mut text, reply.last)?;
+    push_last(alloc, &mut text, &reply.last)?;
     Ok(Bytes::from_vec(text.into_bytes()))
 }

@@ -1,27 +1,48 @@
 //! A line read as a command.
 ghost use Rattle.pst_base.specs.Stops.{Gives};
-ghost use Rattle.command_text.specs.Lines.{make_folder, list_folder, one_word, with_arguments, command};
+ghost use Rattle.command_text.specs.Lines.{make_folder, rename_folder, move_folder, remove_folder, list_folder, new_message, set_property, unset_property, get_property, list_properties, move_message, copy_message, remove_message, one_word, with_arguments, command};
 
+use crate::arguments::{id_and_name, id_and_tag, one_id, two_ids};
 use crate::command::{Command, LineRefusal};
-use crate::words::{as_text, cut, read_id, read_name};
+use crate::words::{as_text, cut, read_name, read_tag};
 use pst_base::MemOr;
 use std::alloc::Global;
+use value_text::{magnitude, parse_value};
 
 /// What stands behind `mkdir `: the parent's id, and the name, spaces and all.
 #[tactic(auto, unfolding(crate::specs::Lines::make_folder))]
 fn make_folder(alloc: Global, rest: &str) -> Result<Command, MemOr<LineRefusal>>
     ensures { Gives (λ c. c) result (make_folder rest.now) }
 {
-    let Some((id, name)) = cut(rest) else {
-        return Err(MemOr::Refused(LineRefusal::Line));
-    };
-    let Some(parent) = read_id(id) else {
-        return Err(MemOr::Refused(LineRefusal::Line));
-    };
-    match read_name(alloc, name) {
-        Ok(name) => Ok(Command::MakeFolder { parent, name }),
-        Err(stop) => Err(stop),
-    }
+    let (parent, name) = id_and_name(alloc, rest)?;
+    Ok(Command::MakeFolder { parent, name })
+}
+
+/// What stands behind `rename `: the folder's id, and the name, spaces and all.
+#[tactic(auto, unfolding(crate::specs::Lines::rename_folder))]
+fn rename_folder(alloc: Global, rest: &str) -> Result<Command, MemOr<LineRefusal>>
+    ensures { Gives (λ c. c) result (rename_folder rest.now) }
+{
+    let (folder, name) = id_and_name(alloc, rest)?;
+    Ok(Command::RenameFolder { folder, name })
+}
+
+/// What stands behind `mvdir `: the folder's id, and its new parent's.
+#[tactic(auto, unfolding(crate::specs::Lines::move_folder))]
+fn move_folder(rest: &str) -> Result<Command, MemOr<LineRefusal>>
+    ensures { Gives (λ c. c) result (move_folder rest.now) }
+{
+    let (folder, parent) = two_ids(rest)?;
+    Ok(Command::MoveFolder { folder, parent })
+}
+
+/// What stands behind `rmdir `: the folder's id.
+#[tactic(auto, unfolding(crate::specs::Lines::remove_folder))]
+fn remove_folder(rest: &str) -> Result<Command, MemOr<LineRefusal>>
+    ensures { Gives (λ c. c) result (remove_folder rest.now) }
+{
+    let folder = one_id(rest)?;
+    Ok(Command::RemoveFolder { folder })
 }
 
 /// What stands behind `ls `: the folder's id.
@@ -29,10 +50,107 @@ fn make_folder(alloc: Global, rest: &str) -> Result<Command, MemOr<LineRefusal>>
 fn list_folder(rest: &str) -> Result<Command, MemOr<LineRefusal>>
     ensures { Gives (λ c. c) result (list_folder rest.now) }
 {
-    match read_id(rest) {
-        Some(folder) => Ok(Command::ListFolder { folder }),
-        None => Err(MemOr::Refused(LineRefusal::Line)),
+    let folder = one_id(rest)?;
+    Ok(Command::ListFolder { folder })
+}
+
+/// What stands behind `new `: the folder's id, the class and the time. The class is looked at last, since another fault of the line comes before it.
+#[tactic(auto, unfolding(crate::specs::Lines::new_message))]
+fn new_message(alloc: Global, rest: &str) -> Result<Command, MemOr<LineRefusal>>
+    ensures { Gives (λ c. c) result (new_message rest.now) }
+{
+    let Some((folder, rest)) = cut(rest) else {
+        return Err(MemOr::Refused(LineRefusal::Line));
+    };
+    let folder = one_id(folder)?;
+    let Some((class, time)) = cut(rest) else {
+        return Err(MemOr::Refused(LineRefusal::Line));
+    };
+    let Some(time) = magnitude(time) else {
+        return Err(MemOr::Refused(LineRefusal::Line));
+    };
+    let class = read_name(alloc, class)?;
+    Ok(Command::NewMessage {
+        folder,
+        class,
+        time,
+    })
+}
+
+/// What stands behind `set `: the message's id, the tag, and the value, spaces and all.
+#[tactic(auto, unfolding(crate::specs::Lines::set_property))]
+fn set_property(alloc: Global, rest: &str) -> Result<Command, MemOr<LineRefusal>>
+    ensures { Gives (λ c. c) result (set_property rest.now) }
+{
+    let Some((message, rest)) = cut(rest) else {
+        return Err(MemOr::Refused(LineRefusal::Line));
+    };
+    let message = one_id(message)?;
+    let Some((tag, value)) = cut(rest) else {
+        return Err(MemOr::Refused(LineRefusal::Line));
+    };
+    let Some(tag) = read_tag(tag) else {
+        return Err(MemOr::Refused(LineRefusal::Line));
+    };
+    match parse_value(alloc, tag, value) {
+        Ok(value) => Ok(Command::SetProperty { message, value }),
+        Err(MemOr::Refused(_)) => Err(MemOr::Refused(LineRefusal::Value)),
+        Err(MemOr::Memory) => Err(MemOr::Memory),
     }
+}
+
+/// What stands behind `unset `: the message's id, and the tag.
+#[tactic(auto, unfolding(crate::specs::Lines::unset_property))]
+fn unset_property(rest: &str) -> Result<Command, MemOr<LineRefusal>>
+    ensures { Gives (λ c. c) result (unset_property rest.now) }
+{
+    let (message, tag) = id_and_tag(rest)?;
+    Ok(Command::UnsetProperty { message, tag })
+}
+
+/// What stands behind `get `: the message's id, and the tag.
+#[tactic(auto, unfolding(crate::specs::Lines::get_property))]
+fn get_property(rest: &str) -> Result<Command, MemOr<LineRefusal>>
+    ensures { Gives (λ c. c) result (get_property rest.now) }
+{
+    let (message, tag) = id_and_tag(rest)?;
+    Ok(Command::GetProperty { message, tag })
+}
+
+/// What stands behind `props `: the message's id.
+#[tactic(auto, unfolding(crate::specs::Lines::list_properties))]
+fn list_properties(rest: &str) -> Result<Command, MemOr<LineRefusal>>
+    ensures { Gives (λ c. c) result (list_properties rest.now) }
+{
+    let message = one_id(rest)?;
+    Ok(Command::ListProperties { message })
+}
+
+/// What stands behind `mv `: the message's id, and the folder's.
+#[tactic(auto, unfolding(crate::specs::Lines::move_message))]
+fn move_message(rest: &str) -> Result<Command, MemOr<LineRefusal>>
+    ensures { Gives (λ c. c) result (move_message rest.now) }
+{
+    let (message, folder) = two_ids(rest)?;
+    Ok(Command::MoveMessage { message, folder })
+}
+
+/// What stands behind `cp `: the message's id, and the folder's.
+#[tactic(auto, unfolding(crate::specs::Lines::copy_message))]
+fn copy_message(rest: &str) -> Result<Command, MemOr<LineRefusal>>
+    ensures { Gives (λ c. c) result (copy_message rest.now) }
+{
+    let (message, folder) = two_ids(rest)?;
+    Ok(Command::CopyMessage { message, folder })
+}
+
+/// What stands behind `rm `: the message's id.
+#[tactic(auto, unfolding(crate::specs::Lines::remove_message))]
+fn remove_message(rest: &str) -> Result<Command, MemOr<LineRefusal>>
+    ensures { Gives (λ c. c) result (remove_message rest.now) }
+{
+    let message = one_id(rest)?;
+    Ok(Command::RemoveMessage { message })
 }
 
 /// A line without a space.
@@ -40,10 +158,10 @@ fn list_folder(rest: &str) -> Result<Command, MemOr<LineRefusal>>
 fn one_word(word: &str) -> Result<Command, MemOr<LineRefusal>>
     ensures { Gives (λ c. c) result (one_word word.now) }
 {
-    if word == "quit" {
-        Ok(Command::Quit)
-    } else {
-        Err(MemOr::Refused(LineRefusal::Line))
+    match word {
+        "save" => Ok(Command::Save),
+        "quit" => Ok(Command::Quit),
+        _ => Err(MemOr::Refused(LineRefusal::Line)),
     }
 }
 
@@ -54,12 +172,25 @@ fn with_arguments(alloc: Global, word: &str, rest: &str) -> Result<Command, MemO
 {
     match word {
         "mkdir" => make_folder(alloc, rest),
+        "rename" => rename_folder(alloc, rest),
+        "mvdir" => move_folder(rest),
+        "rmdir" => remove_folder(rest),
         "ls" => list_folder(rest),
+        "new" => new_message(alloc, rest),
+        "set" => set_property(alloc, rest),
+        "unset" => unset_property(rest),
+        "get" => get_property(rest),
+        "props" => list_properties(rest),
+        "mv" => move_message(rest),
+        "cp" => copy_message(rest),
+        "rm" => remove_message(rest),
         _ => Err(MemOr::Refused(LineRefusal::Line)),
     }
 }
 
-/// The command that a line is, without its LF. `Line` says that it isn't UTF-8, is none of the forms, or has an id that isn't `0x` and 1 to 8 hex digits; `Value`, that only a name in it isn't of its form: text with good escapes, of 1 to 255 units. A line is cut at each single space, so that two spaces make an empty word; a name runs to the end of the line.
+/// The command that a line is, without its LF. A line is cut at each single space, so that two spaces make an empty word; a name or a value runs to the end of the line.
+///
+/// `Line` says that it isn't UTF-8 or is none of the forms: that its first word or the number of its words is another one, that an id isn't `0x` and 1 to 8 hex digits, that a tag isn't `0x` and 8 of them, or that a time isn't decimal digits of a number below 2^64. `Value` says that only a name, a class or a value in it isn't of its form: a name and a class are text with good escapes, of 1 to 255 units; a value is what `parse_value` says of its tag.
 #[tactic(auto, unfolding(crate::specs::Lines::command))]
 pub fn read_line(alloc: Global, line: &[u8]) -> Result<Command, MemOr<LineRefusal>>
     ensures { Gives (λ c. c) result (command line.now) }

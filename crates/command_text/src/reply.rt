@@ -2,7 +2,7 @@
 ghost use Rattle.std.specs.Prelude.{◌≡◌, [], length};
 
 use crate::command::LineRefusal;
-use mapi_values::Units;
+use mapi_values::{Tag, Units, Value};
 use pst_base::Nid;
 use std::alloc::Global;
 use std::marker::Model;
@@ -11,11 +11,44 @@ use std::marker::Model;
 #[derive(Debug, Drop)]
 pub enum DataLine {
     /// A plain folder.
-    Folder { id: Nid, name: Units },
+    Folder {
+        id: Nid,
+        name: Units,
+    },
     /// A search folder of our own.
-    Search { id: Nid, name: Units },
+    Search {
+        id: Nid,
+        name: Units,
+    },
     /// A search folder that another program made.
-    Foreign { id: Nid, name: Units },
+    Foreign {
+        id: Nid,
+        name: Units,
+    },
+    /// A message: the size that it tells of itself, as the bits of a signed number, and its subject.
+    Message {
+        id: Nid,
+        size: u32,
+        subject: Units,
+    },
+    /// A property: its tag, and how many bytes its value has.
+    Property {
+        tag: Tag,
+        len: u64,
+    },
+    /// A recipient: its row, its type, as the bits of a signed number, its address and its name.
+    Recipient {
+        row: u32,
+        kind: u32,
+        address: Units,
+        name: Units,
+    },
+    /// An attachment: how many bytes its data has, and its name.
+    Attachment {
+        id: Nid,
+        len: u64,
+        name: Units,
+    },
 }
 
 /// The lines of data of a reply. Contracts see their list.
@@ -119,7 +152,7 @@ impl From<LineRefusal> for CommandRefusal {
 }
 
 /// The last line of a reply, one variant for each form.
-#[derive(Clone, Copy, Debug, PartialEq, Eq)]
+#[derive(Debug, Drop)]
 pub enum LastLine {
     /// `ok`
     Done,
@@ -127,6 +160,8 @@ pub enum LastLine {
     Made(Nid),
     /// `ok` and how many lines of data stand before it.
     Count(u64),
+    /// `ok` and a value.
+    Value(Value),
     /// `no` and the refusal.
     Refused(CommandRefusal),
     /// `no memory`

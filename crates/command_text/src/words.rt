@@ -3,10 +3,10 @@ ghost use Rattle.std.specs.Prelude.{◌≡◌, ◌≤◌, ◌<◌, Bool, true, f
 ghost use Rattle.std.specs.Str.{is_utf8};
 ghost use Rattle.pst_base.specs.Stops.{Gives};
 ghost use Rattle.command_text.specs.declared.command.LineRefusal.{LineRefusal};
-ghost use Rattle.command_text.specs.Words.{cut, hex_value, hex_number, id_of, name_of};
+ghost use Rattle.command_text.specs.Words.{cut, hex_value, hex_number, id_of, tag_digits, tag_of, name_of};
 
 use crate::command::LineRefusal;
-use mapi_values::{Units, parse_units};
+use mapi_values::{Tag, Units, parse_units};
 use pst_base::{MemOr, Nid};
 use std::alloc::Global;
 
@@ -65,6 +65,34 @@ pub fn read_id(word: &str) -> Option<Nid>
             Some(bits) => Some(Nid { bits }),
             None => None,
         },
+        _ => None,
+    }
+}
+
+/// The tag that 8 hex digits write.
+#[tactic(auto, unfolding(crate::specs::Words::tag_digits, crate::specs::Words::tag_from))]
+fn tag_digits(digits: &[u8]) -> Option<Tag>
+    ensures { result ≡ tag_digits digits.now }
+{
+    if digits.len() != 8 {
+        return None;
+    }
+    match hex_value(digits) {
+        Some(bits) => Some(Tag {
+            id: (bits / 65536) as u16,
+            kind: (bits % 65536) as u16,
+        }),
+        None => None,
+    }
+}
+
+/// The tag that a word writes: `0x` and 8 hex digits, those of the id and then those of the kind.
+#[tactic(auto, unfolding(crate::specs::Words::tag_of))]
+pub fn read_tag(word: &str) -> Option<Tag>
+    ensures { result ≡ tag_of word.now }
+{
+    match word.as_bytes() {
+        [b'0', b'x', digits @ ..] => tag_digits(digits),
         _ => None,
     }
 }

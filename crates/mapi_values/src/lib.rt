@@ -23,6 +23,7 @@ mod tests;
 mod units;
 mod value;
 
+pub use characters::{Character, split_character};
 pub use column::{Column, cell_width, fixed_width, has_column, is_layout, suits_cell};
 pub use keyed::{Keyed, drop_keyed, find_keyed, put_keyed};
 pub use message::Message;

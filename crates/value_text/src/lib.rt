@@ -14,8 +14,10 @@ mod tests;
 mod unit_bytes;
 
 pub use hex::{push_hex, read_hex};
+pub use numbers::{magnitude, push_signed};
 pub use printing::value_text;
 pub use reading::parse_value;
+pub use unit_bytes::{bytes_of_units, units_of_bytes};
 
 /// A text that isn't a value of the kind.
 #[derive(Clone, Copy, Debug, PartialEq, Eq)]

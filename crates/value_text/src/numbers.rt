@@ -21,7 +21,7 @@ fn all_digits(text: &str) -> bool
 
 /// The number that one or more digits write, where it is below 2^64.
 #[tactic(auto, unfolding(crate::specs::Numbers::magnitude))]
-fn magnitude(digits: &str) -> Option<u64>
+pub fn magnitude(digits: &str) -> Option<u64>
     ensures { result ≡ magnitude digits.now }
 {
     if !all_digits(digits) {
@@ -124,7 +124,7 @@ pub fn read_number(alloc: Global, kind: u16, text: &str) -> Result<Bytes, MemOr<
 
 /// Puts a number in decimal at the end of a text, of bits that are two's complement by this half.
 #[tactic(auto, unfolding(crate::specs::Numbers::signed_text))]
-fn push_signed(text: &mut String, half: u64, bits: u64) -> Result<(), AllocError>
+pub fn push_signed(text: &mut String, half: u64, bits: u64) -> Result<(), AllocError>
     requires { bits < half + half }
     ensures { OnOk result (string_bytes text.new ≡ string_bytes text.old ++ signed_text half bits) }
 {

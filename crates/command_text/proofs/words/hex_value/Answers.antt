@@ -1,5 +1,4 @@
-use Rattle.std.proofs.Common.{arith, rules, refl, sym, ◌+◌, ◌*◌, ◌<◌}
-use Rattle.std.specs.Prelude.{◌^◌}
+use Rattle.std.proofs.Common.{arith, rules, refl, sym, ◌<◌}
 use Rattle.command_text.proofs.DigitLaws.{hex-small, hex-more, hex-fault, hex-end}
 use Rattle.command_text.proofs.words.hex_value.Goals as goal
 
