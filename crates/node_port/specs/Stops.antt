@@ -14,19 +14,19 @@ use Rattle.node_port.specs.declared.keeper.PrepareStop.TheVariants as prepare
 abbrev pub Tells : (Nodes → Type 0) → (Nodes → Type 0) → Type 0
 Tells held P = (N : Nodes) → held N → P N
 
--- a fault shows in the count of the disk's; what was found changed never comes where nodes are told
-abbrev pub KeepStops : ℕ → ℕ → (Nodes → Type 0) → KeepStop → Type 0
-KeepStops before after held keep.Fault = Rose before after
-KeepStops before after held (keep.Changed ib stored computed) = (N : Nodes) → held N → ⊥
-KeepStops before after held keep.Memory = Unit {0}
+-- a fault comes only of a reader that has a disk, and shows in the count of the disk's; what was found changed never comes where nodes are told
+abbrev pub KeepStops : Bool → ℕ → ℕ → (Nodes → Type 0) → KeepStop → Type 0
+KeepStops disk before after held keep.Fault = Rose before after × (disk ≡ true)
+KeepStops disk before after held (keep.Changed ib stored computed) = (N : Nodes) → held N → ⊥
+KeepStops disk before after held keep.Memory = Unit {0}
 
 -- the same; the others are `RoomDecides`
-abbrev pub PrepareStops : ℕ → ℕ → (Nodes → Type 0) → PrepareStop → Type 0
-PrepareStops before after held prepare.Fault = Rose before after
-PrepareStops before after held (prepare.Changed ib stored computed) = (N : Nodes) → held N → ⊥
-PrepareStops before after held prepare.Memory = Unit {0}
-PrepareStops before after held (prepare.Full free need) = Unit {0}
-PrepareStops before after held prepare.IdsSpent = Unit {0}
+abbrev pub PrepareStops : Bool → ℕ → ℕ → (Nodes → Type 0) → PrepareStop → Type 0
+PrepareStops disk before after held prepare.Fault = Rose before after × (disk ≡ true)
+PrepareStops disk before after held (prepare.Changed ib stored computed) = (N : Nodes) → held N → ⊥
+PrepareStops disk before after held prepare.Memory = Unit {0}
+PrepareStops disk before after held (prepare.Full free need) = Unit {0}
+PrepareStops disk before after held prepare.IdsSpent = Unit {0}
 
 -- the free cells, the pages of the file's trees, and whether a next number is used up
 pub record Room : Type 0 where

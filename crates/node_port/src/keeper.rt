@@ -1,5 +1,5 @@
 //! What the store asks of what keeps its nodes.
-ghost use Rattle.std.specs.Prelude.{◌≡◌, ◌≤◌, ◌^◌, ℕ, List, Option, IfOk, IfErr, OnOk, OnErr, IsTrue};
+ghost use Rattle.std.specs.Prelude.{◌≡◌, ◌≤◌, ◌^◌, ℕ, List, Option, Bool, true, IfOk, IfErr, OnOk, OnErr, IsTrue};
 ghost use Rattle.pst_base.specs.declared.ids.Nid.{Nid as Id};
 ghost use Rattle.pst_outside.specs.World.{World};
 ghost use Rattle.pst_outside.specs.Calls.{NeverFall, Rose, Untouched};
@@ -71,10 +71,13 @@ pub trait NodeReader<W: Outside> {
     /// What room there is for more.
     ghost room: { Self → Room };
 
+    /// Whether the nodes stand on a disk, which can fail.
+    ghost has_disk: { Bool };
+
     /// The node with this id, or `None` where there is none. `Fault` comes where the disk failed, `Changed` where something isn't as it was found before, and never of a reader that tells its nodes.
     fn get(&mut self, alloc: Global, w: &mut W, nid: Nid) -> Result<Option<NodeRec>, KeepStop>
         ensures node { IfOk result (λ node. Tells (holds self.old (W.view w.old)) (λ N. node ≡ node_at N nid.bits)) }
-        ensures stops { IfErr result (KeepStops (W.view w.old).disk_faults (W.view w.new).disk_faults (holds self.old (W.view w.old))) }
+        ensures stops { IfErr result (KeepStops has_disk (W.view w.old).disk_faults (W.view w.new).disk_faults (holds self.old (W.view w.old))) }
         ensures stays { Tells (holds self.old (W.view w.old)) (holds self.new (W.view w.new)) }
         ensures last { last self.new ≡ last self.old }
         ensures room { room self.new ≡ room self.old }
@@ -83,7 +86,7 @@ pub trait NodeReader<W: Outside> {
     /// The least id of a node above this one, or the least of all for `None`; `None` where there is none. It stops as `get`.
     fn next_after(&mut self, w: &mut W, nid: Option<Nid>) -> Result<Option<Nid>, KeepStop>
         ensures next { IfOk result (λ next. Tells (holds self.old (W.view w.old)) (λ N. IsNext N nid next)) }
-        ensures stops { IfErr result (KeepStops (W.view w.old).disk_faults (W.view w.new).disk_faults (holds self.old (W.view w.old))) }
+        ensures stops { IfErr result (KeepStops has_disk (W.view w.old).disk_faults (W.view w.new).disk_faults (holds self.old (W.view w.old))) }
         ensures stays { Tells (holds self.old (W.view w.old)) (holds self.new (W.view w.new)) }
         ensures last { last self.new ≡ last self.old }
         ensures room { room self.new ≡ room self.old }
@@ -118,7 +121,7 @@ pub trait Keeper<W: Outside>: NodeReader<W> {
         requires room { changes.room ≤ 2 ^ 60 }
         ensures fits { IfOk result (λ ready. fits self.new ready changes.counts.last changes.nodes.items) }
         ensures full { Tells (Self.holds self.old (W.view w.old)) (λ N. RoomDecides (Self.room self.old) changes.room changes.nodes.items result) }
-        ensures stops { IfErr result (PrepareStops (W.view w.old).disk_faults (W.view w.new).disk_faults (Self.holds self.old (W.view w.old))) }
+        ensures stops { IfErr result (PrepareStops Self.has_disk (W.view w.old).disk_faults (W.view w.new).disk_faults (Self.holds self.old (W.view w.old))) }
         ensures stays { Tells (Self.holds self.old (W.view w.old)) (Self.holds self.new (W.view w.new)) }
         ensures last { Self.last self.new ≡ Self.last self.old }
         ensures room { Self.room self.new ≡ Self.room self.old }
@@ -127,10 +130,10 @@ pub trait Keeper<W: Outside>: NodeReader<W> {
     /// Makes the changes of the latest plan. It fails only where the disk failed. Takes no memory.
     fn apply(&mut self, w: &mut W, ready: Self::Ready) -> Result<(), Failed>
         requires fits { (last : List ℕ) × (cs : List (Id × Option Rec)) × fits self.old ready last cs }
-        ensures made { OnOk result ((last : List ℕ) (cs : List (Id × Option Rec)) → fits self.old ready last cs → (W.view w.new).tells
+        ensures made { OnOk result ((last : List ℕ) (cs : List (Id × Option Rec)) → fits self.old ready last cs → (Self.has_disk ≡ true → (W.view w.new).tells)
             → (N : Nodes) → Self.holds self.old (W.view w.old) N → Self.holds self.new (W.view w.new) (changed N cs)) }
         ensures last { OnOk result ((last : List ℕ) (cs : List (Id × Option Rec)) → fits self.old ready last cs → Self.last self.new ≡ last) }
         ensures applied { OnOk result (applied (W.view w.old) (W.view w.new)) }
-        ensures cause { OnErr result (Rose (W.view w.old).disk_faults (W.view w.new).disk_faults) }
+        ensures cause { OnErr result (Rose (W.view w.old).disk_faults (W.view w.new).disk_faults × (Self.has_disk ≡ true)) }
         ensures counts { NeverFall (W.view w.old) (W.view w.new) };
 }

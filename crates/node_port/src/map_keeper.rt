@@ -41,12 +41,15 @@ impl MapKeeper {
 impl<W: Outside> NodeReader<W> for MapKeeper {
     ghost use Rattle.node_port.specs.Slots.{Keeps};
     ghost use Rattle.node_port.specs.Stops.{ample};
+    ghost use Rattle.std.specs.Prelude.{false};
 
     ghost holds = { λ k v. Keeps k.nodes };
 
     ghost last = { λ k. k.counts.last };
 
     ghost room = { λ k. ample };
+
+    ghost has_disk = { false };
 
     fn get(&mut self, alloc: Global, _w: &mut W, nid: Nid) -> Result<Option<NodeRec>, KeepStop> {
         match find(&self.nodes, nid.bits) {
