@@ -1,0 +1,5 @@
+pub mod Answers
+pub mod Message
+pub mod Reading
+pub mod Subnodes
+pub mod Writing

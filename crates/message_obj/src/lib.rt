@@ -1,0 +1,22 @@
+//! A message as a node ([MS-PST] 2.4.5): its properties, its recipients, its attachments, and the subnodes that none of these uses.
+//!
+//! Promises: `read_message` gives the message that a node is (`ShowsMessage`), exactly where it is one, and `write_message` makes a node that is the message. A node is at most one message (`one_message`).
+//!
+//! Leaves to others: where messages stand, and what their values mean.
+#![tactic(auto)]
+
+mod fault;
+mod finder;
+mod ids;
+mod kept;
+mod law;
+mod order;
+mod read;
+#[cfg(test)]
+mod tests;
+mod write;
+
+pub use fault::NodeFault;
+pub use law::one_message;
+pub use read::read_message;
+pub use write::{is_formed, write_message};

@@ -1,0 +1,158 @@
+//! Reading a message.
+ghost use Rattle.std.specs.Prelude.{◌≡◌, false, map, option_copied, IfOk};
+ghost use Rattle.std.specs.Option.{option_map};
+ghost use Rattle.mapi_values.specs.Messages.{is_own, row_ids};
+ghost use Rattle.property_context.specs.Subnodes.{without};
+ghost use Rattle.property_context.specs.Context.{IsPropertyContext};
+ghost use Rattle.message_obj.specs.Answers.{LacksOne, Reads, ShowsBelow, contents, context_fault, table_fault};
+ghost use Rattle.message_obj.specs.Message.{ShowsPart, ShowsParts, ShowsTable};
+ghost use Rattle.message_obj.specs.Reading.{LacksBelow, LacksContext, LacksPart, LacksTable, ReadsMessage};
+ghost use Rattle.message_obj.specs.Subnodes.{is_table, subnode};
+
+use crate::fault::NodeFault;
+use crate::finder::Finder;
+use crate::ids::{ATTACHMENTS, RECIPIENTS, is_table};
+use crate::kept::without_own;
+use mapi_values::{Message, Part, Props, Table};
+use node_port::NodeRec;
+use property_context::{PcFault, read_pc};
+use pst_base::{Bytes, MemOr, Nid, Sub, Subs};
+use std::alloc::Global;
+use table_context::{TcFault, read_tc};
+
+/// The fault of a message, for one of a property context.
+fn context_fault(fault: PcFault) -> NodeFault
+    ensures { result ≡ context_fault fault }
+{
+    match fault {
+        PcFault::Heap => NodeFault::Heap,
+        PcFault::Bth => NodeFault::Bth,
+        PcFault::Pc => NodeFault::Pc,
+    }
+}
+
+/// The fault of a message, for one of a table.
+fn table_fault(fault: TcFault) -> NodeFault
+    ensures { result ≡ table_fault fault }
+{
+    match fault {
+        TcFault::Heap => NodeFault::Heap,
+        TcFault::Bth => NodeFault::Bth,
+        TcFault::Tc => NodeFault::Tc,
+    }
+}
+
+/// The properties in blocks and subnodes, and the subnodes that no property names.
+fn read_context(
+    alloc: Global,
+    blocks: &[Bytes],
+    subs: &Subs,
+) -> Result<(Props, Subs), MemOr<NodeFault>>
+    ensures { Reads (λ found. IsPropertyContext blocks.now subs.now found.0 found.1) (LacksContext blocks.now subs.now) result }
+{
+    match read_pc(alloc, blocks, subs) {
+        Ok(found) => Ok(found),
+        Err(MemOr::Memory) => Err(MemOr::Memory),
+        Err(MemOr::Refused(fault)) => Err(MemOr::Refused(context_fault(fault))),
+    }
+}
+
+/// The table in the subnode with this id, if that is there.
+fn read_table(alloc: Global, finder: &Finder, id: u32) -> Result<Option<Table>, MemOr<NodeFault>>
+    ensures { Reads (ShowsTable (subnode finder.now id)) (LacksTable (subnode finder.now id)) result }
+{
+    let Some(sub) = finder.find(id) else {
+        return Ok(None);
+    };
+    match read_tc(alloc, sub.blocks.as_slice(), &sub.subs) {
+        Ok(table) => Ok(Some(table)),
+        Err(MemOr::Memory) => Err(MemOr::Memory),
+        Err(MemOr::Refused(fault)) => Err(MemOr::Refused(table_fault(fault))),
+    }
+}
+
+/// The subnode of the attachment with this id, which is none of the tables.
+fn part_sub<'a>(finder: &Finder<'a>, id: u32) -> Option<&'a Sub>
+    ensures { option_map contents (option_copied result) ≡ subnode (without is_table false finder.now) id }
+{
+    if is_table(id) {
+        return None;
+    }
+    finder.find(id)
+}
+
+/// The attachment with this id.
+fn read_part(alloc: Global, finder: &Finder, id: u32) -> Result<Part, MemOr<NodeFault>>
+    ensures { Reads (ShowsPart (subnode (without is_table false finder.now) id) id) (LacksPart (subnode (without is_table false finder.now) id)) result }
+{
+    let Some(sub) = part_sub(finder, id) else {
+        return Err(MemOr::Refused(NodeFault::Attach));
+    };
+    let (props, kept) = read_context(alloc, sub.blocks.as_slice(), &sub.subs)?;
+    Ok(Part {
+        nid: Nid { bits: id },
+        props,
+        kept,
+    })
+}
+
+/// The attachments that the rows of their table name.
+fn read_parts(
+    alloc: Global,
+    finder: &Finder,
+    rows: &[(u32, Props)],
+) -> Result<Vec<Part>, MemOr<NodeFault>>
+    ensures { Reads (λ parts. ShowsParts (without is_table false finder.now) (map (λ r. r.0) rows.now) parts.items) (LacksOne (without is_table false finder.now) (map (λ r. r.0) rows.now)) result }
+{
+    let mut parts = Vec::with_capacity(alloc, rows.len())?;
+    for row in rows {
+        parts.push(read_part(alloc, finder, row.0)?)?;
+    }
+    Ok(parts)
+}
+
+/// The attachments that the table of attachments names, if there is one.
+fn read_named(
+    alloc: Global,
+    finder: &Finder,
+    attachments: &Option<Table>,
+) -> Result<Vec<Part>, MemOr<NodeFault>>
+    ensures { Reads (λ parts. ShowsParts (without is_table false finder.now) (row_ids attachments.now) parts.items) (LacksOne (without is_table false finder.now) (row_ids attachments.now)) result }
+{
+    match attachments {
+        Some(table) => read_parts(alloc, finder, table.rows()),
+        None => Ok(Vec::new(alloc)),
+    }
+}
+
+/// The tables of recipients and of attachments, and the attachments, among the subnodes that no value of the message uses.
+fn read_below(
+    alloc: Global,
+    rest: &Subs,
+) -> Result<(Option<Table>, Option<Table>, Vec<Part>), MemOr<NodeFault>>
+    ensures { Reads (λ below. ShowsBelow rest.now below.0 below.1 below.2.items) (LacksBelow rest.now) result }
+{
+    let finder = Finder::new(alloc, rest)?;
+    let recipients = read_table(alloc, &finder, RECIPIENTS)?;
+    let attachments = read_table(alloc, &finder, ATTACHMENTS)?;
+    let parts = read_named(alloc, &finder, &attachments)?;
+    Ok((recipients, attachments, parts))
+}
+
+/// The message that the node with this id is. The folder is the node's parent. A refusal comes exactly where the node is no message, and names what is wrong with the first part that is: the message's own values, the table of recipients, the table of attachments, and each attachment in the order of the rows.
+pub fn read_message(alloc: Global, nid: Nid, node: &NodeRec) -> Result<Message, MemOr<NodeFault>>
+    ensures { ReadsMessage nid.bits node.now result }
+{
+    let (props, rest) = read_context(alloc, node.blocks.as_slice(), &node.subs)?;
+    let (recipients, attachments, parts) = read_below(alloc, &rest)?;
+    let kept = without_own(alloc, rest, parts.as_slice())?;
+    Ok(Message {
+        nid,
+        folder: node.parent,
+        props,
+        recipients,
+        attachments,
+        parts,
+        kept,
+    })
+}
