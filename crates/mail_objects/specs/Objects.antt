@@ -1,0 +1,47 @@
+-- Which node is which object, and which objects are small enough to be written.
+use Rattle.std.specs.Prelude.{◌≡◌, ◌==◌, ℕ, Bool, true}
+use Rattle.mapi_values.specs.Messages.{Mes}
+use Rattle.node_port.specs.declared.node.NodeRec.{NodeRec}
+use Rattle.property_context.specs.Context.{IsPropertyContext}
+use Rattle.property_context.specs.Subnodes.{ids_ascend}
+use Rattle.table_context.specs.Context.{IsTableContext}
+use Rattle.message_obj.specs.Message.{ShowsMessage, is_formed}
+use Rattle.write_limits.specs.Limits.{props_fit, table_fits, message_fits}
+use Rattle.mail_objects.specs.Forms.{Ctx, Tbl}
+use Rattle.mail_objects.specs.declared.object.Object.{Object}
+use Rattle.mail_objects.specs.declared.object.Object.TheVariants.{Context, Table, Message}
+
+-- the node is a property context with these values, whose other subnodes ascend by id
+pub record ShowsContext (node : NodeRec) (c : Ctx) : Type 0 where
+  pub parent : c.parent ≡ node.parent.bits
+  pub context : IsPropertyContext node.blocks node.subs c.props c.kept
+  pub ascend : ids_ascend 0 c.kept ≡ true
+
+-- the node is this table, whose other subnodes ascend by id
+pub record ShowsTable (node : NodeRec) (t : Tbl) : Type 0 where
+  pub parent : t.parent ≡ node.parent.bits
+  pub table : IsTableContext node.blocks node.subs t.table
+  pub ascend : ids_ascend 0 t.table.kept ≡ true
+
+-- the node is this message, which can be laid out again
+pub record ShowsMail (nid : ℕ) (node : NodeRec) (m : Mes) : Type 0 where
+  pub message : ShowsMessage nid node m
+  pub formed : is_formed m ≡ true
+
+-- the node with this id is this object
+abbrev pub ShowsObject : ℕ → NodeRec → Object → Type 0
+ShowsObject nid node (Context c) = ShowsContext node c
+ShowsObject nid node (Table t) = ShowsTable node t
+ShowsObject nid node (Message m) = ShowsMail nid node m
+
+-- the object may stand at this id: a message tells its own
+abbrev pub stands_at : ℕ → Object → Bool
+stands_at nid (Context c) = true
+stands_at nid (Table t) = true
+stands_at nid (Message m) = m.nid == nid
+
+-- the object is small enough to be written
+abbrev pub object_fits : Object → Bool
+object_fits (Context c) = props_fit c.props c.kept
+object_fits (Table t) = table_fits t.table
+object_fits (Message m) = message_fits m

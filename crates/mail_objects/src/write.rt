@@ -1,0 +1,63 @@
+//! Writing objects as nodes.
+ghost use Rattle.std.specs.Prelude.{◌≡◌, ℕ, true, IfOk};
+ghost use Rattle.write_limits.specs.Limits.{props_fit, table_fits};
+ghost use Rattle.mail_objects.specs.Objects.{ShowsContext, ShowsObject, ShowsTable, object_fits, stands_at};
+
+use crate::context::Context;
+use crate::object::Object;
+use crate::table::TableNode;
+use message_obj::write_message;
+use node_port::NodeRec;
+use property_context::write_pc;
+use std::alloc::{AllocError, Global};
+use table_context::write_tc;
+use write_limits::{message_fits, props_fit, table_fits};
+
+/// Whether an object is small enough to be written: its tables and values keep to the limits on what a command writes.
+pub fn object_fits(object: &Object) -> bool
+    ensures { result ≡ object_fits object.now }
+{
+    match object {
+        Object::Context(context) => props_fit(context.props(), context.kept()),
+        Object::Table(table) => table_fits(table.table()),
+        Object::Message(mail) => message_fits(mail.message()),
+    }
+}
+
+/// The node of properties.
+fn write_context(alloc: Global, context: &Context) -> Result<NodeRec, AllocError>
+    requires { props_fit context.now.props context.now.kept ≡ true }
+    ensures { IfOk result (λ node. ShowsContext node context.now) }
+{
+    let (blocks, subs) = write_pc(alloc, context.props(), context.kept().copy(alloc)?)?;
+    Ok(NodeRec {
+        parent: context.parent(),
+        blocks,
+        subs,
+    })
+}
+
+/// The node of a table.
+fn write_table(alloc: Global, table: &TableNode) -> Result<NodeRec, AllocError>
+    requires { table_fits table.now.table ≡ true }
+    ensures { IfOk result (λ node. ShowsTable node table.now) }
+{
+    let (blocks, subs) = write_tc(alloc, table.table())?;
+    Ok(NodeRec {
+        parent: table.parent(),
+        blocks,
+        subs,
+    })
+}
+
+/// The node of an object that is small enough. The error: memory ran out.
+pub fn write_object(alloc: Global, object: &Object) -> Result<NodeRec, AllocError>
+    requires { object_fits object.now ≡ true }
+    ensures { IfOk result (λ node. (nid : ℕ) → stands_at nid object.now ≡ true → ShowsObject nid node object.now) }
+{
+    match object {
+        Object::Context(context) => write_context(alloc, context),
+        Object::Table(table) => write_table(alloc, table),
+        Object::Message(mail) => write_message(alloc, mail.message()),
+    }
+}
