@@ -1,0 +1,166 @@
+-- What each command does, in the words of mail.
+use Rattle.std.specs.Prelude.{◌≡◌, ℕ, Bool, true, false, not, IfOk, List, filter, length, Option, None, Some, Ok}
+use Rattle.std.specs.List.{list_any}
+use Rattle.pst_base.specs.declared.ids.Nid.{Nid}
+use Rattle.mapi_values.specs.Messages.{Mes}
+use Rattle.mapi_values.specs.Properties.{ascend_from, find}
+use Rattle.mapi_values.specs.Tables.{find_row, mirror}
+use Rattle.mapi_values.specs.Values.{Val}
+use Rattle.mapi_values.specs.declared.value.Tag.{Tag}
+use Rattle.command_text.specs.declared.command.Command.{Command}
+use Rattle.command_text.specs.declared.command.Command.TheVariants.{MakeFolder, RenameFolder, MoveFolder, RemoveFolder, ListFolder, NewMessage, SetProperty, UnsetProperty, GetProperty, ListProperties, MoveMessage, CopyMessage, RemoveMessage, Save, Quit}
+use Rattle.command_text.specs.declared.reply.LastLine.TheVariants.{Made, Value}
+use Rattle.mail_objects.specs.Forms.{Ctx, Tbl}
+use Rattle.mail_objects.specs.declared.object.Object.{Object}
+use Rattle.mail_objects.specs.declared.object.Object.TheVariants.{Context, Message, Table}
+use Rattle.mail_tree.specs.declared.places.Place.{Place}
+use Rattle.mail_tree.specs.Places.{ROOT, find_place, is_child, is_plain}
+use Rattle.mail_tree.specs.Tree.{Tree, object_at}
+use Rattle.mail_tree.specs.Values.{is_read, number, text, time_value, truth, with_props}
+use Rattle.mail_tree.specs.Changing.{as_message, contents, hierarchy}
+use Rattle.mail_tree.specs.Settling.{message_ids}
+use Rattle.mail_tree.specs.Folders.{place, replied, unchanged}
+use Rattle.mail_tree.specs.Messages.{copy_of, in_folder}
+use Rattle.mail_tree.specs.Step.{after, outcome}
+use Rattle.mail_tree.specs.Whole.{IsWhole}
+
+-- the message with this id, if there is one
+abbrev pub message_with : Tree → ℕ → Option Mes
+message_with T m = as_message (object_at T m)
+
+-- this message is now so, or there is none, and each other is as it was
+pub record OnlyMessage (T T' : Tree) (m : ℕ) (now : Option Mes) : Type 0 where
+  pub here : message_with T' m ≡ now
+  pub others : (k : ℕ) → (k ≡ m → ⊥) → message_with T' k ≡ message_with T k
+  pub places : T'.places ≡ T.places
+
+-- this folder now stands so, or there is none, each other stands where it stood, and each message is as it was
+pub record OnlyPlace (T T' : Tree) (f : ℕ) (now : Option Place) : Type 0 where
+  pub here : find_place f T'.places ≡ now
+  pub others : (g : ℕ) → (g ≡ f → ⊥) → find_place g T'.places ≡ find_place g T.places
+  pub messages : (k : ℕ) → message_with T' k ≡ message_with T k
+
+-- the values but for those of the flags, of the size and of this id are the same
+abbrev pub SameButFor : ℕ → List Val → List Val → Type 0
+SameButFor own old new = (id : ℕ) → (id ≡ 0x0E07 → ⊥) → (id ≡ 0x0E08 → ⊥) → (id ≡ own → ⊥) → find id new ≡ find id old
+
+-- after `rm` the message is gone, and all else is as it was
+abbrev pub Removes : Type 0
+Removes = (T : Tree) (m : Nid) → IsWhole T → IfOk (outcome T (RemoveMessage m)) (λ o. OnlyMessage T (after T o) m.bits None)
+
+-- after `mv` the message is in that folder, with all that it had
+abbrev pub Moves : Type 0
+Moves = (T : Tree) (m folder : Nid) → IsWhole T
+    → IfOk (outcome T (MoveMessage m folder)) (λ o. (M : Mes) × (message_with T m.bits ≡ Some M) × OnlyMessage T (after T o) m.bits (Some (in_folder folder.bits M)))
+
+-- after `cp` there is a message with the id that is replied, in that folder, with all that the other has
+abbrev pub Copies : Type 0
+Copies = (T : Tree) (m folder : Nid) → IsWhole T → IfOk (outcome T (CopyMessage m folder)) (λ o. (M : Mes) × (n : Nid) × (message_with T m.bits ≡ Some M) × (o.reply ≡ replied (Made n))
+    × (object_at T n.bits ≡ None) × OnlyMessage T (after T o) n.bits (Some (copy_of n.bits folder.bits M)))
+
+-- after `new` there is a message with the id that is replied, in that folder, of that class and time
+abbrev pub MakesMessage : Type 0
+MakesMessage = (T : Tree) (folder : Nid) (class : List ℕ) (time : ℕ) → IsWhole T → IfOk (outcome T (NewMessage folder class time)) (λ o. (n : Nid) × (M : Mes) × (o.reply ≡ replied (Made n))
+    × (object_at T n.bits ≡ None) × OnlyMessage T (after T o) n.bits (Some M) × (M.folder ≡ folder.bits) × (find 0x001A M.props ≡ Some (text 0x001A class)) × (find 0x3007 M.props ≡ Some (time_value 0x3007 time)))
+
+-- after `set` the message has the value, but for a bit of its flags that follows its attachments, and its other values but for its size, and all else that it had
+abbrev pub Sets : Type 0
+Sets = (T : Tree) (m : Nid) (v : Val) → IsWhole T → IfOk (outcome T (SetProperty m v)) (λ o. (M : Mes) × (props : List Val) × (message_with T m.bits ≡ Some M) × OnlyMessage T (after T o) m.bits (Some (with_props props M))
+    × ((v.id ≡ 0x0E07 → ⊥) → find v.id props ≡ Some v) × SameButFor v.id M.props props)
+
+-- after `unset` the message, whose values ascend as those of each node do, hasn't the value, and has its others but for its size, and all else that it had
+abbrev pub Unsets : Type 0
+Unsets = (T : Tree) (m : Nid) (tag : Tag) → IsWhole T → IfOk (outcome T (UnsetProperty m tag)) (λ o. (M : Mes) × (props : List Val) × (message_with T m.bits ≡ Some M) × OnlyMessage T (after T o) m.bits (Some (with_props props M))
+    × (ascend_from 0 M.props ≡ true → find tag.id props ≡ None) × SameButFor tag.id M.props props)
+
+-- `get` after `set` replies the value that was set
+abbrev pub GetsWhatWasSet : Type 0
+GetsWhatWasSet = (T : Tree) (m : Nid) (v : Val) → IsWhole T → (v.id ≡ 0x0E07 → ⊥)
+    → IfOk (outcome T (SetProperty m v)) (λ o. let T' = after T o in outcome T' (GetProperty m (record { id = v.id; kind = v.kind })) ≡ Ok (unchanged T' (replied (Value v))))
+
+-- the folder has this name
+abbrev pub IsNamed : Tree → ℕ → List ℕ → Type 0
+IsNamed T f name = (c : Ctx) × (object_at T f ≡ Some (Context c)) × (find 0x3001 c.props ≡ Some (text 0x3001 name))
+
+-- after `mkdir` there is a folder with the id that is replied, in that one, of that name
+abbrev pub MakesFolder : Type 0
+MakesFolder = (T : Tree) (parent : Nid) (name : List ℕ) → IsWhole T → IfOk (outcome T (MakeFolder parent name)) (λ o. (f : Nid) × (o.reply ≡ replied (Made f))
+    × (object_at T f.bits ≡ None) × OnlyPlace T (after T o) f.bits (Some (place f.bits parent.bits)) × IsNamed (after T o) f.bits name)
+
+-- after `rename` the folder has that name, and stands where it stood
+abbrev pub RenamesFolder : Type 0
+RenamesFolder = (T : Tree) (f : Nid) (name : List ℕ) → IsWhole T
+    → IfOk (outcome T (RenameFolder f name)) (λ o. (p : Place) × (find_place f.bits T.places ≡ Some p) × OnlyPlace T (after T o) f.bits (Some p) × IsNamed (after T o) f.bits name)
+
+-- after `mvdir` the folder stands in that one
+abbrev pub MovesFolder : Type 0
+MovesFolder = (T : Tree) (f parent : Nid) → IsWhole T → IfOk (outcome T (MoveFolder f parent)) (λ o. OnlyPlace T (after T o) f.bits (Some (place f.bits parent.bits)))
+
+-- after `rmdir` there is no such folder
+abbrev pub RemovesFolder : Type 0
+RemovesFolder = (T : Tree) (f : Nid) → IsWhole T → IfOk (outcome T (RemoveFolder f)) (λ o. OnlyPlace T (after T o) f.bits None)
+
+-- the command only looks, or ends a file's session
+abbrev pub only_reads : Command → Bool
+only_reads (ListFolder folder) = true
+only_reads (GetProperty message tag) = true
+only_reads (ListProperties message) = true
+only_reads Save = true
+only_reads Quit = true
+only_reads other = false
+
+-- `ls`, `get`, `props`, `save` and `quit` change nothing
+abbrev pub Reads : Type 0
+Reads = (T : Tree) (c : Command) → only_reads c ≡ true → IfOk (outcome T c) (λ o. o ≡ unchanged T o.reply)
+
+-- the table has a row of this id that mirrors these values
+abbrev pub Shows : Option Object → ℕ → List Val → Type 0
+Shows object id props = (t : Tbl) × (object ≡ Some (Table t)) × (find_row id t.table.rows ≡ Some (id, mirror t.table.columns props))
+
+-- each folder but the root is shown by a row of its parent's table, and each message by one of its folder's
+pub record AreShown (places : List Place) (at : ℕ → Option Object) : Type 0 where
+  pub folders : (f : ℕ) (p : Place) (c : Ctx) → find_place f places ≡ Some p → (f ≡ ROOT → ⊥) → at f ≡ Some (Context c) → Shows (at (hierarchy c.parent)) f c.props
+  pub messages : (m : ℕ) (M : Mes) → at m ≡ Some (Message M) → Shows (at (contents M.folder)) m M.props
+
+-- the rows of a tree mirror what they show
+abbrev pub Mirrors : Tree → Type 0
+Mirrors T = AreShown T.places (object_at T)
+
+-- where rows mirror what they show they do so after each command
+abbrev pub MirrorsStay : Type 0
+MirrorsStay = (T : Tree) (c : Command) → IsWhole T → Mirrors T → IfOk (outcome T c) (λ o. Mirrors (after T o))
+
+-- what stands there is a message that wasn't read
+abbrev pub is_unread : Option Object → Bool
+is_unread (Some (Message m)) = not (is_read m.props)
+is_unread other = false
+
+-- a folder's values tell how many messages its table lists, how many of them weren't read, and whether it has folders
+pub record IsCounted (places : List Place) (at : ℕ → Option Object) (f : ℕ) (c : Ctx) (t : Tbl) : Type 0 where
+  pub messages : find 0x3602 c.props ≡ Some (number 0x3602 (length (message_ids t.table)))
+  pub unread : find 0x3603 c.props ≡ Some (number 0x3603 (length (filter (λ m. is_unread (at m)) (message_ids t.table))))
+  pub folders : find 0x360A c.props ≡ Some (truth 0x360A (list_any (is_child f) places))
+
+-- each plain folder's counts are right, but for these
+abbrev pub AreCountedBut : (ℕ → Type 0) → List Place → (ℕ → Option Object) → Type 0
+AreCountedBut E places at = (f : ℕ) (p : Place) (c : Ctx) (t : Tbl) → find_place f places ≡ Some p → is_plain p ≡ true → (E f → ⊥) → at f ≡ Some (Context c) → at (contents f) ≡ Some (Table t) → IsCounted places at f c t
+
+-- the counts of each plain folder are right
+abbrev pub Counts : Tree → Type 0
+Counts T = AreCountedBut (λ f. ⊥) T.places (object_at T)
+
+-- the counts of this plain folder are right
+abbrev pub CountsOf : Tree → ℕ → Type 0
+CountsOf T f = AreCountedBut (λ g. g ≡ f → ⊥) T.places (object_at T)
+
+-- where counts are right they are so after each command
+abbrev pub CountsStay : Type 0
+CountsStay = (T : Tree) (c : Command) → IsWhole T → Counts T → IfOk (outcome T c) (λ o. Counts (after T o))
+
+-- after a message came, changed or went, the counts of its folder are right, whatever they were
+pub record CountsAnew : Type 0 where
+  pub makes : (T : Tree) (folder : Nid) (class : List ℕ) (time : ℕ) → IsWhole T → IfOk (outcome T (NewMessage folder class time)) (λ o. CountsOf (after T o) folder.bits)
+  pub copies : (T : Tree) (m folder : Nid) → IsWhole T → IfOk (outcome T (CopyMessage m folder)) (λ o. CountsOf (after T o) folder.bits)
+  pub sets : (T : Tree) (m : Nid) (v : Val) → IsWhole T → IfOk (outcome T (SetProperty m v)) (λ o. (M : Mes) × (message_with T m.bits ≡ Some M) × CountsOf (after T o) M.folder)
+  pub unsets : (T : Tree) (m : Nid) (tag : Tag) → IsWhole T → IfOk (outcome T (UnsetProperty m tag)) (λ o. (M : Mes) × (message_with T m.bits ≡ Some M) × CountsOf (after T o) M.folder)
+  pub removes : (T : Tree) (m : Nid) → IsWhole T → IfOk (outcome T (RemoveMessage m)) (λ o. (M : Mes) × (message_with T m.bits ≡ Some M) × CountsOf (after T o) M.folder)

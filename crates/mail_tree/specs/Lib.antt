@@ -1,0 +1,13 @@
+pub mod Places
+pub mod Values
+pub mod Tree
+pub mod Changing
+pub mod Settling
+pub mod Columns
+pub mod Ids
+pub mod Folders
+pub mod Messages
+pub mod Step
+pub mod Whole
+pub mod Start
+pub mod Laws

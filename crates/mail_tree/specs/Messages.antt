@@ -1,0 +1,151 @@
+-- The commands on messages: what each refuses, in its order, and what it changes.
+use Rattle.std.specs.Prelude.{ℕ, ◌==◌, ◌||◌, Bool, not, nat_le, nat_lt, List, [], ◌++◌, length, map, Option, None, Some, Ok, if◌then◌else◌}
+use Rattle.std.specs.Option.{option_map, option_and_then, is_some}
+use Rattle.std.specs.List.{list_any}
+use Rattle.pst_base.specs.Ids.{kind_of}
+use Rattle.node_port.specs.Nodes.{node_at}
+use Rattle.node_port.specs.declared.node.NodeRec.{NodeRec}
+use Rattle.mapi_values.specs.Messages.{Mes}
+use Rattle.mapi_values.specs.Properties.{find, put, remove_id}
+use Rattle.mapi_values.specs.Tables.{Tab, find_row}
+use Rattle.mapi_values.specs.Values.{Val}
+use Rattle.mapi_values.specs.declared.part.Part.{Part}
+use Rattle.mapi_values.specs.declared.value.Tag.{Tag}
+use Rattle.command_text.specs.declared.reply.CommandRefusal.TheVariants.{Object, Property, Protected, Limit, Ids}
+use Rattle.command_text.specs.declared.reply.Limit.TheVariants.{Rows}
+use Rattle.command_text.specs.declared.reply.DataLine.{DataLine}
+use Rattle.command_text.specs.declared.reply.DataLine.TheVariants as lines
+use Rattle.command_text.specs.declared.reply.LastLine.TheVariants.{Done, Value}
+use Rattle.mail_objects.specs.declared.object.Object.{Object as Obj}
+use Rattle.mail_objects.specs.declared.object.Object.TheVariants as objects
+use Rattle.mail_tree.specs.Places.{find_place, is_plain}
+use Rattle.mail_tree.specs.Tree.{Tree, object_at}
+use Rattle.mail_tree.specs.Values.{bytes_of, finished, is_set_protected, is_unset_protected, length_of, message_props, number_of, text_of, with_props}
+use Rattle.mail_tree.specs.Changing.{Answer, Changed, ◌>>=◌, add_shown, contents, context_at, drop_shown, found, message_at, nothing, put_shown, refused_if, table_at, with_object, with_values}
+use Rattle.mail_tree.specs.Settling.{settled}
+use Rattle.mail_tree.specs.Ids.{is_spent, message_kinds, new_id, next_index}
+use Rattle.mail_tree.specs.Folders.{Outcome, changing, folder_in, listed, making, replied, unchanged, unless_full, unless_plain}
+
+-- the parent that an object tells
+abbrev pub parent_of : Obj → ℕ
+parent_of (objects.Context c) = c.parent
+parent_of (objects.Table t) = t.parent
+parent_of (objects.Message m) = m.folder
+
+-- the parent of a node, an object or as it is
+abbrev pub parent_told : Option Obj → Option NodeRec → Option ℕ
+parent_told None other = option_map (λ rec. rec.parent.bits) other
+parent_told (Some object) other = Some (parent_of object)
+
+-- the parent of the node at an id, whatever stands there
+abbrev pub parent_at : Tree → ℕ → Option ℕ
+parent_at T q = parent_told (object_at T q) (node_at T.others q)
+
+-- the message with this id: its node's parent is a plain folder, which lists it
+unfoldable pub message_in : Tree → ℕ → Answer Mes
+message_in T m = refused_if (not (kind_of m == 4)) Object >>= λ u. found Object (parent_at T m) >>= λ f. found Object (find_place f T.places) >>= λ p.
+    refused_if (not (is_plain p)) Object >>= λ v. table_at T nothing (contents f) >>= λ t. refused_if (not (is_some (find_row m t.table.rows))) Object >>= λ w. message_at T nothing m
+
+-- a message as it was and as it is now
+abbrev pub with_message : Mes → Mes → Changed → Changed
+with_message old m D = with_values m.nid (objects.Message m) old.props m.props D
+
+-- a message got other values: its flags and its size are made right, its row shows it, and its folder is counted anew
+unfoldable pub changed_message : Tree → Mes → List Val → Answer Outcome
+changed_message T old props =
+    let m = finished (with_props props old) in
+    put_shown T (contents m.folder) m.nid m.props (with_message old m nothing) >>= settled T T.places m.folder >>= changing T (replied Done)
+
+-- a new message: its folder lists it in a row that shows it, and is counted anew
+abbrev pub added_message : Tree → Mes → Changed → Answer Changed
+added_message T m D = add_shown T (contents m.folder) m.nid m.props (with_object m.nid (Some (objects.Message m)) D) >>= settled T T.places m.folder
+
+-- a message without recipients, attachments and other subnodes
+abbrev pub plain_message : ℕ → ℕ → List Val → Mes
+plain_message m folder props = record { nid = m; folder = folder; props = props; recipients = None; attachments = None; parts = []; kept = [] }
+
+-- a new message of this index
+unfoldable pub making_message : Tree → ℕ → List ℕ → ℕ → List Val → ℕ → Answer Outcome
+making_message T folder class time store index = refused_if (is_spent index) Ids >>= λ u.
+    let m = new_id 4 index in
+    added_message T (finished (plain_message m folder (message_props m class time store))) nothing >>= making T T.places 4 index
+
+-- `new`
+unfoldable pub new_message : Tree → ℕ → List ℕ → ℕ → Answer Outcome
+new_message T folder class time = folder_in T folder >>= λ p. unless_plain p >>= λ u. context_at T nothing 0x21 >>= λ store. unless_full T (contents folder) >>= λ v.
+    making_message T folder class time store.props (next_index T 4 message_kinds)
+
+-- `set`: until names are there, no id of 8000h or more has one
+unfoldable pub set_value : Tree → ℕ → Val → Answer Outcome
+set_value T m v = message_in T m >>= λ M. refused_if (is_set_protected v.id M.props) Protected >>= λ u. refused_if (nat_le 0x8000 v.id) Property >>= λ w.
+    changed_message T M (put v M.props)
+
+-- `unset`
+unfoldable pub unset_value : Tree → ℕ → Tag → Answer Outcome
+unset_value T m tag = message_in T m >>= λ M. refused_if (is_unset_protected tag.id tag.kind M.props) Protected >>= λ u.
+    refused_if (not (is_some (bytes_of tag.id tag.kind M.props))) Property >>= λ w. changed_message T M (remove_id tag.id M.props)
+
+-- the value of this id, if it is of this kind
+abbrev pub value_of : Tag → List Val → Option Val
+value_of tag props = option_and_then (λ v. if v.kind == tag.kind then Some v else None) (find tag.id props)
+
+-- `get`
+unfoldable pub value_in : Tree → ℕ → Tag → Answer Outcome
+value_in T m tag = message_in T m >>= λ M. found Property (value_of tag M.props) >>= λ v. Ok (unchanged T (replied (Value v)))
+
+abbrev pub property_line : Val → DataLine
+property_line v = lines.Property (record { id = v.id; kind = v.kind }) (length v.bytes)
+
+abbrev pub recipient_line : ℕ × List Val → DataLine
+recipient_line r = lines.Recipient r.0 (number_of 0x0C15 r.1) (text_of 0x3003 r.1) (text_of 0x3001 r.1)
+
+abbrev pub rows_of : Option Tab → List (ℕ × List Val)
+rows_of None = []
+rows_of (Some t) = t.rows
+
+abbrev pub attachment_line : Part → DataLine
+attachment_line part = lines.Attachment part.nid (length_of (find 0x3701 part.props)) (text_of 0x3704 part.props)
+
+-- `props`: the properties by their ids, the recipients by their rows, and the attachments by their ids
+unfoldable pub details : Tree → ℕ → Answer Outcome
+details T m = message_in T m >>= λ M. Ok (unchanged T (listed (map property_line M.props ++ (map recipient_line (rows_of M.recipients) ++ map attachment_line M.parts))))
+
+abbrev pub in_folder : ℕ → Mes → Mes
+in_folder folder m = record m { folder = folder }
+
+-- `mv`
+unfoldable pub moved_message : Tree → ℕ → ℕ → Answer Outcome
+moved_message T m folder = message_in T m >>= λ M. folder_in T folder >>= λ p. unless_plain p >>= λ u.
+    if M.folder == folder then Ok (unchanged T (replied Done)) else
+    (drop_shown T (contents M.folder) m (with_object m (Some (objects.Message (in_folder folder M))) nothing) >>= λ D.
+    add_shown T (contents folder) m M.props D >>= settled T T.places M.folder >>= settled T T.places folder >>= changing T (replied Done))
+
+-- there are more than 100,000 rows
+abbrev pub is_overfull : Option Tab → Bool
+is_overfull t = nat_lt 100000 (length (rows_of t))
+
+-- there are more than 1,000 values
+abbrev pub is_crowded : List Val → Bool
+is_crowded props = nat_lt 1000 (length props)
+
+-- a new object of these values, of the message or of one of its attachments, has too many
+abbrev pub is_crowded_message : Mes → Bool
+is_crowded_message m = is_crowded m.props || list_any (λ (part : Part). is_crowded part.props) m.parts
+
+-- a copy with its own id in a folder
+abbrev pub copy_of : ℕ → ℕ → Mes → Mes
+copy_of m folder original = record original { nid = m; folder = folder }
+
+-- a copy of this index
+unfoldable pub copying : Tree → Mes → ℕ → ℕ → Answer Outcome
+copying T M folder index = refused_if (is_spent index) Ids >>= λ u.
+    added_message T (copy_of (new_id 4 index) folder M) (record nothing { crowded = is_crowded_message M }) >>= making T T.places 4 index
+
+-- `cp`: recipients, attachments and all subnodes are copied
+unfoldable pub copied_message : Tree → ℕ → ℕ → Answer Outcome
+copied_message T m folder = message_in T m >>= λ M. folder_in T folder >>= λ p. unless_plain p >>= λ u.
+    refused_if (is_overfull M.recipients || is_overfull M.attachments) (Limit Rows) >>= λ v. unless_full T (contents folder) >>= λ w. copying T M folder (next_index T 4 message_kinds)
+
+-- `rm`
+unfoldable pub removed_message : Tree → ℕ → Answer Outcome
+removed_message T m = message_in T m >>= λ M. drop_shown T (contents M.folder) m (with_object m None nothing) >>= settled T T.places M.folder >>= changing T (replied Done)

@@ -1,0 +1,45 @@
+-- What a command leaves in order: a folder's counts, and the row that shows it.
+use Rattle.std.specs.Prelude.{ℕ, ◌+◌, ◌%◌, ◌==◌, Bool, List, [], ◌∷◌, filter, length, map, Ok, if◌then◌else◌}
+use Rattle.std.specs.List.{list_any}
+use Rattle.mapi_values.specs.Tables.{Tab}
+use Rattle.mapi_values.specs.Values.{Val}
+use Rattle.mail_objects.specs.Forms.{Ctx}
+use Rattle.mail_objects.specs.declared.object.Object.TheVariants.{Context}
+use Rattle.mail_tree.specs.declared.places.Place.{Place}
+use Rattle.mail_tree.specs.Places.{ROOT, is_child}
+use Rattle.mail_tree.specs.Tree.{Tree}
+use Rattle.mail_tree.specs.Values.{is_read, with_counts}
+use Rattle.mail_tree.specs.Changing.{Answer, Changed, ◌>>=◌, contents, context_at, hierarchy, message_at, put_shown, table_at, with_values}
+
+-- the row is that of a message
+abbrev pub is_message_row : ℕ × List Val → Bool
+is_message_row row = row.0 % 32 == 4
+
+-- the ids of the messages that a folder's table lists
+abbrev pub message_ids : Tab → List ℕ
+message_ids t = map (λ r. r.0) (filter is_message_row t.rows)
+
+abbrev pub one_if_unread : List Val → ℕ
+one_if_unread props = if is_read props then 0 else 1
+
+-- how many of these messages are unread
+abbrev pub unread_among : Tree → Changed → List ℕ → Answer ℕ
+unread_among T D [] = Ok 0
+unread_among T D (m ∷ ms) = message_at T D m >>= λ M. unread_among T D ms >>= λ n. Ok (one_if_unread M.props + n)
+
+-- the same node of properties with other values
+abbrev pub with_context : ℕ → Ctx → List Val → Changed → Changed
+with_context f c props D = with_values f (Context (record c { props = props })) c.props props D
+
+-- a folder is counted anew: its messages, those that are unread, and whether it has folders
+unfoldable pub counted : Tree → List Place → ℕ → Changed → Answer Changed
+counted T places f D = context_at T D f >>= λ c. table_at T D (contents f) >>= λ t. unread_among T D (message_ids t.table) >>= λ unread.
+    Ok (with_context f c (with_counts (length (message_ids t.table)) unread (list_any (is_child f) places) c.props) D)
+
+-- the row of a folder in its parent's table shows it; the root has no row
+unfoldable pub mirrored : Tree → ℕ → Changed → Answer Changed
+mirrored T f D = if f == ROOT then Ok D else (context_at T D f >>= λ c. put_shown T (hierarchy c.parent) f c.props D)
+
+-- a folder in which something came, went or changed is counted anew, and its row shows it
+unfoldable pub settled : Tree → List Place → ℕ → Changed → Answer Changed
+settled T places f D = counted T places f D >>= mirrored T f
