@@ -1,0 +1,43 @@
+-- A draft's entries are its changes.
+use Rattle.std.proofs.Common.{◌≡◌, ◌&&◌, ℕ, true, List, [], ◌∷◌, Option, Some, refl, sym, ◌∙◌, ap, cond, subst}
+use Rattle.std.proofs.lemmas.Bool.{and_parts, and_from}
+use Rattle.std.specs.declared.cmp.Ordering.TheVariants.{Less, Equal, Greater}
+use Rattle.std.specs.Ordering.{nat_cmp, eq_by_cmp, match_ordering}
+use Rattle.std.specs.Cmp.{nat_cmp_total, eq_by_cmp_equiv}
+use Rattle.std.specs.FinMap as map
+use Rattle.std.specs.Map.{lookup}
+use Rattle.std.specs.BTreeMap.{insert_entry, is_at}
+use Rattle.mail_objects.specs.declared.object.Object.{Object}
+use Rattle.mail_draft.specs.Placed.{is_placed, are_placed}
+
+pub found_is : {X : Type 0} (q : ℕ) (es : List (ℕ × X)) → lookup (is_at (nat_cmp q)) es ≡ map.find nat_cmp q es
+found_is q [] = refl
+found_is q (e ∷ es) = ap (cond (eq_by_cmp nat_cmp q e.0) _) (found_is q es)
+
+-- what the entries have at an id, the changes have
+pub entry_is : {X : Type 0} (q : ℕ) (es : List (ℕ × X)) → map.get (map.from_entries {R = nat_cmp} es) q ≡ lookup (is_at (nat_cmp q)) es
+entry_is q es = map.get-from_entries nat_cmp_total es q ∙ sym (found_is q es)
+
+-- an entry that is put is a change that is put
+pub entry_put : {X : Type 0} (k : ℕ) (x : X) (old new : List (ℕ × X))
+    → ((q : ℕ) → lookup (is_at (nat_cmp q)) new ≡ cond (is_at (nat_cmp k) q) (Some x) (lookup (is_at (nat_cmp q)) old))
+    → map.from_entries {R = nat_cmp} new ≡ map.insert (map.from_entries old) k x
+entry_put k x old new updates =
+    map.same_map nat_cmp_total map.nat_cmp-IsAntisymmetric (map.from_entries new) (map.insert (map.from_entries old) k x)
+    (λ q. entry_is q new ∙ updates q
+    ∙ ap (λ b. cond b (Some x) (lookup (is_at (nat_cmp q)) old)) ((eq_by_cmp_equiv nat_cmp_total).symm k q)
+    ∙ ap (cond (eq_by_cmp nat_cmp q k) (Some x)) (sym (entry_is q old))
+    ∙ sym (map.get-insert nat_cmp_total (map.from_entries old) k x q))
+
+-- entries stay at their own ids where one is put at its own
+pub put_placed : (k : ℕ) (object : Option Object) (es : List (ℕ × Option Object))
+    → is_placed (k, object) ≡ true → are_placed es ≡ true → are_placed (insert_entry nat_cmp es k object) ≡ true
+put_placed k object [] own all = and_from (is_placed (k, object)) true own refl
+put_placed k object (e ∷ es) own all =
+    let p = and_parts (is_placed e) (are_placed es) all in
+    elim (nat_cmp k e.0) as (λ r. nat_cmp k e.0 ≡ r → are_placed (match_ordering r ((k, object) ∷ e ∷ es) ((e.0, object) ∷ es) (e ∷ insert_entry nat_cmp es k object)) ≡ true) [
+      | Less ↦ λ _. and_from (is_placed (k, object)) (is_placed e && are_placed es) own all
+      | Equal ↦ λ same. and_from (is_placed (e.0, object)) (are_placed es)
+          (subst (λ q. is_placed (q, object) ≡ true) (map.nat_cmp-IsAntisymmetric k e.0 same) own) p.1
+      | Greater ↦ λ _. and_from (is_placed e) (are_placed (insert_entry nat_cmp es k object)) p.0 (put_placed k object es own p.1)
+    ] refl

@@ -1,0 +1,12 @@
+pub mod DraftLaws
+pub mod FitLaws
+pub mod Looking
+pub mod Passes
+pub mod RowLaws
+pub mod SortedLaws
+pub mod StandingLaws
+pub mod ValueLaws
+pub mod WrittenLaws
+pub mod UnreadLaws
+pub mod SettleLaws
+pub mod WalkLaws

@@ -1,0 +1,48 @@
+-- What a folder's counts and rows come from.
+use Rattle.std.proofs.Common.{◌≡◌, ◌≢◌, ℕ, Bool, List, length, Result, Ok, ap, ◌∙◌, refl, subst}
+use Rattle.std.proofs.lemmas.Bool.{eq-eqb, ne_eqb}
+use Rattle.std.specs.List.{list_any}
+use Rattle.mapi_values.specs.Tables.{Tab}
+use Rattle.mapi_values.specs.Values.{Val}
+use Rattle.mail_objects.specs.Forms.{Ctx}
+use Rattle.mail_tree.specs.declared.places.Place.{Place}
+use Rattle.mail_tree.specs.Places.{ROOT, is_child}
+use Rattle.mail_tree.specs.Tree.{Tree}
+use Rattle.mail_tree.specs.Values.{with_counts}
+use Rattle.mail_tree.specs.Changing.{Answer, Changed, ◌>>=◌, context_at, hierarchy, put_shown}
+use Rattle.mail_tree.specs.Settling.{message_ids, mirrored, with_context}
+use Rattle.mail_draft.specs.declared.draft.Draft.{Draft}
+use Rattle.mail_draft.specs.declared.stop.Stop.{Stop}
+use Rattle.mail_draft.specs.Answers.{Says}
+use Rattle.mail_draft.specs.Drafts.{changed_of}
+
+-- a call at the same place
+pub says_at : {X A B : Type 0} (view : B → A) (ask : X → Answer A) (x y : X) (r : Result B Stop) → x ≡ y → Says view (ask x) r → Says view (ask y) r
+says_at view ask x y r e s = subst (λ z. Says view (ask z) r) e s
+
+-- a folder that was counted
+pub counted_put : (q : ℕ) (c : Ctx) (t : Tab) (places : List Place) (n unread : ℕ) (has : Bool) (ids : List ℕ) (old props : List Val) (D D' : Changed)
+    → ids ≡ message_ids t → n ≡ length ids → has ≡ list_any (is_child q) places → old ≡ c.props → props ≡ with_counts n unread has old
+    → D' ≡ with_context q c props D → D' ≡ with_context q c (with_counts (length (message_ids t)) unread (list_any (is_child q) places) c.props) D
+counted_put q c t places n unread has ids old props D D' listed len child same counts put =
+    put ∙ ap (λ p. with_context q c p D) (counts
+    ∙ ap (λ k. with_counts k unread has old) (len ∙ ap length listed)
+    ∙ ap (λ b. with_counts (length (message_ids t)) unread b old) child
+    ∙ ap (with_counts (length (message_ids t)) unread (list_any (is_child q) places)) same)
+
+-- the root has no row
+pub mirrors_root : (T : Tree) (f : ℕ) (d : Draft) → f ≡ ROOT → Says changed_of (mirrored T f (changed_of d)) (Ok d)
+unfolding mirrored
+mirrors_root T f d e = rw (eq-eqb f ROOT e) refl
+
+-- another folder has one
+pub mirrors_other : (T : Tree) (f : ℕ) (D : Changed) (r : Result Draft Stop) → f ≢ ROOT
+    → Says changed_of (context_at T D f >>= λ c. put_shown T (hierarchy c.parent) f c.props D) r → Says changed_of (mirrored T f D) r
+unfolding mirrored
+mirrors_other T f D r n h = rw (ne_eqb f ROOT n) h
+
+-- the row of the same object in the same table
+pub puts_same : (T : Tree) (q q' id : ℕ) (props props' : List Val) (D : Changed) (r : Result Draft Stop) → q ≡ q' → props ≡ props'
+    → Says changed_of (put_shown T q id props D) r → Says changed_of (put_shown T q' id props' D) r
+puts_same T q q' id props props' D r same values h =
+    subst (λ vs. Says changed_of (put_shown T q' id vs D) r) values (subst (λ z. Says changed_of (put_shown T z id props D) r) same h)

@@ -1,0 +1,20 @@
+use Rattle.std.proofs.Common.{ap, ◌∙◌}
+use Rattle.std.proofs.lemmas.Result.{err_from_is_err_and}
+use Rattle.mail_tree.specs.Changing.{hierarchy}
+use Rattle.mail_draft.proofs.Looking.{shown_still}
+use Rattle.mail_draft.proofs.Passes.{stop_says, then_says}
+use Rattle.mail_draft.proofs.SettleLaws.{mirrors_other, mirrors_root, puts_same}
+use Rattle.mail_draft.proofs.settle.mirrored.Goals as goal
+
+pub returns-then-folder-eq-ROOT_FOLDER-clause-answer : goal.returns-then-folder-eq-ROOT_FOLDER-clause-answer
+returns-then-folder-eq-ROOT_FOLDER-clause-answer g c = λ T s. mirrors_root T c.args.folder.bits c.args.draft c.if-folder-eq-ROOT_FOLDER.true
+
+pub returns-in_err-context-clause-answer : goal.returns-in_err-context-clause-answer
+returns-in_err-context-clause-answer g c =
+    let p = err_from_is_err_and c.from_residual.result c.from_residual.ensures.1 in
+    rw (p.1, p.2) (λ T s. mirrors_other T c.args.folder.bits _ _ c.if-folder-eq-ROOT_FOLDER.false (stop_says _ _ _ _ _ (c.in_err-context.ensures.answer T s)))
+
+pub returns-clause-answer : goal.returns-clause-answer
+returns-clause-answer g c = λ T s.
+    mirrors_other T c.args.folder.bits _ _ c.if-folder-eq-ROOT_FOLDER.false (then_says _ _ _ _ _ _ (c.in_ok-context.ensures.answer T s)
+    (puts_same T _ _ _ _ _ _ _ (c.hierarchy-table.ensures ∙ ap hierarchy c.parent.ensures) c.props.ensures (c.put_shown.ensures.answer T (shown_still T c.in_ok-context.ensures.looks s))))

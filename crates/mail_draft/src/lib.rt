@@ -1,0 +1,32 @@
+//! Changes of a tree in the making: a command reads what stands in the nodes through the draft of what it has changed, so that a later part of it sees what an earlier one did.
+//!
+//! Promises: each call answers what the definition of its name in mail_tree says of every tree that the nodes show (`Says`), and only looks at the nodes (`Looks`).
+//!
+//! Leaves to others: which commands there are, and carrying the changes out.
+#![tactic(auto)]
+
+mod beside;
+mod draft;
+mod ending;
+mod ids;
+mod kept;
+mod outcome;
+mod read;
+mod rows;
+mod settle;
+mod stop;
+mod values;
+
+pub use beside::{associated, contents, hierarchy};
+pub use draft::Draft;
+pub use ending::{finish, within_limits};
+pub use ids::{new_id, next_index};
+pub use outcome::Outcome;
+pub use read::{context_at, message_at, table_at};
+pub use rows::{add_shown, drop_shown, put_shown};
+pub use settle::{counted, mirrored, settled, with_context};
+pub use stop::Stop;
+pub use values::{
+    bytes_of, crowds, is_read, name_of, number_of, put_number, put_text, put_time, put_truth,
+    text_of, with_counts,
+};

@@ -1,0 +1,86 @@
+//! Rows that show objects.
+ghost use Rattle.std.specs.Prelude.{◌≡◌, ℕ, List, length, IfErr};
+ghost use Rattle.mapi_values.specs.Values.{Val};
+ghost use Rattle.mail_tree.specs.Tree.{Shown, Tree};
+ghost use Rattle.mail_draft.specs.Answers.{IsCaused, Looks, Says};
+ghost use Rattle.mail_draft.specs.Drafts.{changed_of};
+ghost use Rattle.mail_tree.specs.Changing.{add_shown, drop_shown, overfills, put_shown};
+
+use crate::draft::Draft;
+use crate::read::table_at;
+use crate::stop::Stop;
+use command_text::{CommandRefusal, Limit};
+use mail_objects::Object;
+use mapi_values::{Props, Table};
+use node_port::NodeReader;
+use pst_base::Nid;
+use pst_outside::Outside;
+use std::alloc::Global;
+
+/// Whether a table has more than 100,000 rows, and more than it had.
+fn overfills(old_len: usize, table: &Table) -> bool
+    ensures { (old : List (ℕ × List Val)) → length old ≡ old_len → result ≡ overfills old table.now.rows }
+{
+    let len = table.rows().len();
+    len > 100_000 && len > old_len
+}
+
+/// Makes the row of an object in a table show it. The draft is lost with an `Err`.
+pub fn put_shown<W: Outside, K: NodeReader<W>>(
+    alloc: Global,
+    keeper: &mut K,
+    w: &mut W,
+    draft: Draft,
+    table: Nid,
+    id: Nid,
+    props: &Props,
+) -> Result<Draft, Stop>
+    ensures answer { (T : Tree) → Shown (K.holds keeper.old (W.view w.old)) (K.last keeper.old) T → Says changed_of (put_shown T table.bits id.bits props.now (changed_of draft)) result }
+    ensures looks { Looks (K.holds keeper.old (W.view w.old)) (K.holds keeper.new (W.view w.new)) (K.last keeper.old) (K.last keeper.new) (K.room keeper.old) (K.room keeper.new) (W.view w.old) (W.view w.new) }
+    ensures cause { IfErr result (IsCaused K.has_disk (W.view w.old).disk_faults (W.view w.new).disk_faults) }
+{
+    let node = table_at(alloc, keeper, w, &draft, table)?;
+    let shown = node.with_row(alloc, id.bits, props)?;
+    Ok(draft.with(table, Some(Object::Table(shown)))?)
+}
+
+/// Adds a row that shows an object to a table. Refused where the table would then have more than 100,000 rows, and more than before.
+pub fn add_shown<W: Outside, K: NodeReader<W>>(
+    alloc: Global,
+    keeper: &mut K,
+    w: &mut W,
+    draft: Draft,
+    table: Nid,
+    id: Nid,
+    props: &Props,
+) -> Result<Draft, Stop>
+    ensures answer { (T : Tree) → Shown (K.holds keeper.old (W.view w.old)) (K.last keeper.old) T → Says changed_of (add_shown T table.bits id.bits props.now (changed_of draft)) result }
+    ensures looks { Looks (K.holds keeper.old (W.view w.old)) (K.holds keeper.new (W.view w.new)) (K.last keeper.old) (K.last keeper.new) (K.room keeper.old) (K.room keeper.new) (W.view w.old) (W.view w.new) }
+    ensures cause { IfErr result (IsCaused K.has_disk (W.view w.old).disk_faults (W.view w.new).disk_faults) }
+{
+    let node = table_at(alloc, keeper, w, &draft, table)?;
+    let old_len = node.table().rows().len();
+    let shown = node.with_row(alloc, id.bits, props)?;
+    if overfills(old_len, shown.table()) {
+        return Err(Stop::Refused(CommandRefusal::Limit(Limit::Rows)));
+    }
+    Ok(draft.with(table, Some(Object::Table(shown)))?)
+}
+
+/// Takes a row out of a table.
+pub fn drop_shown<W: Outside, K: NodeReader<W>>(
+    alloc: Global,
+    keeper: &mut K,
+    w: &mut W,
+    draft: Draft,
+    table: Nid,
+    id: Nid,
+) -> Result<Draft, Stop>
+    ensures answer { (T : Tree) → Shown (K.holds keeper.old (W.view w.old)) (K.last keeper.old) T → Says changed_of (drop_shown T table.bits id.bits (changed_of draft)) result }
+    ensures looks { Looks (K.holds keeper.old (W.view w.old)) (K.holds keeper.new (W.view w.new)) (K.last keeper.old) (K.last keeper.new) (K.room keeper.old) (K.room keeper.new) (W.view w.old) (W.view w.new) }
+    ensures cause { IfErr result (IsCaused K.has_disk (W.view w.old).disk_faults (W.view w.new).disk_faults) }
+{
+    let node = table_at(alloc, keeper, w, &draft, table)?;
+    let shown = node.without_row(id.bits);
+    Ok(draft.with(table, Some(Object::Table(shown)))?)
+}

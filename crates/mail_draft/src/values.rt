@@ -1,0 +1,129 @@
+//! Values of objects that the store reads and makes.
+ghost use Rattle.std.specs.Prelude.{◌≡◌, IfOk, IfSome, IsTrue, OnErr, OnOk, List, length, option_copied};
+ghost use Rattle.mapi_values.specs.Properties.{put};
+ghost use Rattle.mapi_values.specs.Values.{Val, fits};
+ghost use Rattle.mail_tree.specs.Values.{bytes_of, crowds, is_read, name_of, number, number_of, text, text_of, time_value, truth, with_counts};
+
+use mapi_values::{Props, Tag, Units, Value, fits};
+use pst_base::{Bytes, u32_at};
+use std::alloc::{AllocError, Global};
+use value_text::{bytes_of_units, units_of_bytes};
+
+/// The kind of a whole number of 4 bytes.
+const NUMBER: u16 = 0x0003;
+/// The kind of a truth value, of one byte.
+const TRUTH: u16 = 0x000B;
+/// The kind of a text, as UTF-16 units.
+const TEXT: u16 = 0x001F;
+/// The kind of a time, of 8 bytes.
+const TIME: u16 = 0x0040;
+
+/// The bytes of the value of this id, if it is of this kind.
+pub fn bytes_of(props: &Props, id: u16, kind: u16) -> Option<&[u8]>
+    ensures bytes { option_copied result ≡ bytes_of id kind props.now }
+    ensures fit { IfSome result (λ bytes. IsTrue (fits kind (length bytes.now))) }
+{
+    let value = props.get(id)?;
+    if value.kind() == kind {
+        Some(value.bytes())
+    } else {
+        None
+    }
+}
+
+/// The text of this id, empty where there is none.
+pub fn text_of(alloc: Global, props: &Props, id: u16) -> Result<Units, AllocError>
+    ensures { IfOk result (λ units. units ≡ text_of id props.now) }
+{
+    match bytes_of(props, id, TEXT) {
+        Some(bytes) => units_of_bytes(alloc, bytes),
+        None => Ok(Units::from_vec(Vec::new(alloc))),
+    }
+}
+
+/// A folder's name.
+pub fn name_of(alloc: Global, props: &Props) -> Result<Units, AllocError>
+    ensures { IfOk result (λ units. units ≡ name_of props.now) }
+{
+    text_of(alloc, props, 0x3001)
+}
+
+/// The number of this id, 0 where there is none.
+pub fn number_of(props: &Props, id: u16) -> u32
+    ensures { result ≡ number_of id props.now }
+{
+    match bytes_of(props, id, NUMBER) {
+        Some(bytes) => u32_at(bytes, 0),
+        None => 0,
+    }
+}
+
+/// Whether a message with these values was read.
+pub fn is_read(props: &Props) -> bool
+    ensures { result ≡ is_read props.now }
+{
+    number_of(props, 0x0E07) % 2 == 1
+}
+
+/// Whether an object has more than 1,000 values, and more than it had.
+pub fn crowds(old_len: usize, props: &Props) -> bool
+    ensures { (old : List Val) → length old ≡ old_len → result ≡ crowds old props.now }
+{
+    props.len() > 1000 && props.len() > old_len
+}
+
+/// Puts a text, in place of the value of its id. An `Err` changes nothing: memory ran out, or the text has 2^31 units or more.
+pub fn put_text(alloc: Global, props: &mut Props, id: u16, units: &Units) -> Result<(), AllocError>
+    ensures ok { OnOk result (props.new ≡ put (text id units.now) props.old) }
+    ensures err { OnErr result (props.new ≡ props.old) }
+{
+    let bytes = bytes_of_units(alloc, units)?;
+    if !fits(TEXT, bytes.len()) {
+        return Err(AllocError);
+    }
+    props.put(Value::new(Tag { id, kind: TEXT }, bytes))
+}
+
+/// Puts a number of 4 bytes, in place of the value of its id; a greater one loses its higher bytes. An `Err` changes nothing.
+pub fn put_number(alloc: Global, props: &mut Props, id: u16, count: u64) -> Result<(), AllocError>
+    ensures ok { OnOk result (props.new ≡ put (number id count) props.old) }
+    ensures err { OnErr result (props.new ≡ props.old) }
+{
+    let bytes = Bytes::from_slice(alloc, &count.to_le_bytes()[..4])?;
+    props.put(Value::new(Tag { id, kind: NUMBER }, bytes))
+}
+
+/// Puts a time, in place of the value of its id. An `Err` changes nothing.
+pub fn put_time(alloc: Global, props: &mut Props, id: u16, time: u64) -> Result<(), AllocError>
+    ensures ok { OnOk result (props.new ≡ put (time_value id time) props.old) }
+    ensures err { OnErr result (props.new ≡ props.old) }
+{
+    let bytes = Bytes::from_slice(alloc, &time.to_le_bytes())?;
+    props.put(Value::new(Tag { id, kind: TIME }, bytes))
+}
+
+/// Puts a truth value, in place of the value of its id. An `Err` changes nothing.
+pub fn put_truth(alloc: Global, props: &mut Props, id: u16, is_so: bool) -> Result<(), AllocError>
+    ensures ok { OnOk result (props.new ≡ put (truth id is_so) props.old) }
+    ensures err { OnErr result (props.new ≡ props.old) }
+{
+    let bytes = Bytes::from_slice(alloc, &[u8::from(is_so)])?;
+    props.put(Value::new(Tag { id, kind: TRUTH }, bytes))
+}
+
+/// A folder's values with other counts: its messages, those that are unread, and whether it has folders. The values are lost with an `Err`.
+pub fn with_counts(
+    alloc: Global,
+    props: Props,
+    messages: u64,
+    unread: u64,
+    has_folders: bool,
+) -> Result<Props, AllocError>
+    ensures { IfOk result (λ counted. counted ≡ with_counts messages unread has_folders props) }
+{
+    let mut counted = props;
+    put_number(alloc, &mut counted, 0x3602, messages)?;
+    put_number(alloc, &mut counted, 0x3603, unread)?;
+    put_truth(alloc, &mut counted, 0x360A, has_folders)?;
+    Ok(counted)
+}
