@@ -1,0 +1,84 @@
+-- The commands on folders, part by part.
+use Rattle.std.specs.Prelude.{ℕ, ◌||◌, ◌++◌, nat_eq, List, [], ◌∷◌, filter, Ok, false}
+use Rattle.std.specs.Cmp.Lexicographic.{pointwise}
+use Rattle.mapi_values.specs.Characters.{folded}
+use Rattle.mapi_values.specs.Keyed.{drop_key, put_key}
+use Rattle.mapi_values.specs.Properties.{put}
+use Rattle.mapi_values.specs.Values.{Val}
+use Rattle.command_text.specs.declared.reply.CommandRefusal.TheVariants.{NameTaken, NotEmpty, Limit}
+use Rattle.command_text.specs.declared.reply.Limit.TheVariants.{Depth}
+use Rattle.command_text.specs.declared.reply.DataLine.{DataLine}
+use Rattle.command_text.specs.declared.reply.DataLine.TheVariants as lines
+use Rattle.command_text.specs.declared.reply.LastLine.TheVariants.{Done}
+use Rattle.mail_tree.specs.declared.places.Place.{Place}
+use Rattle.mail_tree.specs.Places.{children, is_child, moves_deep, place_id}
+use Rattle.mail_tree.specs.Tree.{Tree}
+use Rattle.mail_tree.specs.Values.{name_of, number_of, text, text_of}
+use Rattle.mail_tree.specs.Changing.{Answer, Changed, ◌>>=◌, add_shown, contents, context_at, drop_shown, hierarchy, message_at, nothing, refused_if, table_at}
+use Rattle.mail_tree.specs.Settling.{message_ids, mirrored, settled, with_context}
+use Rattle.mail_tree.specs.Folders.{Outcome, associated_in, folder_in, folder_line, has_associated, has_rows, listed, moved_between, moving, nid, place, replied, unchanged, unless_named, unless_plain, without_folder}
+
+-- where a folder stands that holds folders and messages
+unfoldable pub plain_in : Tree → ℕ → Answer Place
+plain_in T f = folder_in T f >>= λ p. unless_plain p >>= λ u. Ok p
+
+-- where the first of two such folders stands; what isn't there comes before what is of another sort
+unfoldable pub both_plain_in : Tree → ℕ → ℕ → Answer Place
+both_plain_in T f g = folder_in T f >>= λ p. folder_in T g >>= λ q. unless_plain p >>= λ u. unless_plain q >>= λ v. Ok p
+
+-- the folder has this name, whose case is folded
+unfoldable pub unless_has_name : Tree → List ℕ → ℕ → Answer (Unit {0})
+unless_has_name T name f = context_at T nothing f >>= λ c. refused_if (pointwise nat_eq (folded false (name_of c.props)) name) NameTaken
+
+-- the folder gets the name, and its row shows it
+unfoldable pub named_anew : Tree → ℕ → List ℕ → Answer Changed
+named_anew T f name = context_at T nothing f >>= λ c. mirrored T f (with_context f c (put (text 0x3001 name) c.props) nothing)
+
+-- the folder's row is added to its new parent's table, and both parents are counted anew
+unfoldable pub added_between : Tree → ℕ → ℕ → ℕ → List Place → List Val → Changed → Answer Changed
+added_between T f from to places props D = add_shown T (hierarchy to) f props D >>= settled T places from >>= settled T places to
+
+-- a folder in that parent has the name that this one has
+unfoldable pub unless_crowds_name : Tree → ℕ → ℕ → Answer (Unit {0})
+unless_crowds_name T f parent = context_at T nothing f >>= λ c. unless_named T (folded false (name_of c.props)) (children parent T.places)
+
+-- the folder f moves from one parent to another, and stands there
+unfoldable pub placing_folder : Tree → ℕ → ℕ → ℕ → Answer Outcome
+placing_folder T f from to = let places = put_key place_id (place f to) T.places in moved_between T f from to places >>= moving T places (replied Done)
+
+-- the folder f moves to another parent than it has
+unfoldable pub moving_folder : Tree → ℕ → ℕ → ℕ → Answer Outcome
+moving_folder T f from to = unless_crowds_name T f to >>= λ u. refused_if (moves_deep T.places f to) (Limit Depth) >>= λ v. placing_folder T f from to
+
+-- one of the folder's tables has rows
+unfoldable pub unless_filled : Tree → ℕ → Answer (Unit {0})
+unless_filled T f = table_at T nothing (hierarchy f) >>= λ a. table_at T nothing (contents f) >>= λ b. associated_in T f >>= λ c.
+    refused_if (has_rows a || (has_rows b || has_associated c)) NotEmpty
+
+-- the folder in that parent goes, with its row, and the parent is counted anew
+unfoldable pub removing_folder : Tree → ℕ → ℕ → Answer Outcome
+removing_folder T f parent =
+    let places = drop_key place_id f T.places in
+    drop_shown T (hierarchy parent) f (without_folder T f nothing) >>= settled T places parent >>= moving T places (replied Done)
+
+-- the line of the folder at a place
+unfoldable pub line_of_folder : Tree → Place → Answer DataLine
+line_of_folder T p = context_at T nothing p.nid.bits >>= λ c. Ok (folder_line p c.props)
+
+-- the line of a message: what it tells of its size, and its subject
+unfoldable pub line_of_message : Tree → ℕ → Answer DataLine
+line_of_message T m = message_at T nothing m >>= λ M. Ok (lines.Message (nid m) (number_of 0x0E08 M.props) (text_of 0x0037 M.props))
+
+-- what each gives, one after the other
+abbrev pub each : {A B : Type 0} → (A → Answer B) → List A → Answer (List B)
+each f [] = Ok []
+each f (x ∷ xs) = f x >>= λ y. each f xs >>= λ ys. Ok (y ∷ ys)
+
+-- the lines of the folders and of the messages in a folder
+unfoldable pub lines_in : Tree → ℕ → Answer (List DataLine)
+lines_in T f = each (line_of_folder T) (filter (is_child f) T.places) >>= λ folders. table_at T nothing (contents f) >>= λ t. each (line_of_message T) (message_ids t.table) >>= λ messages.
+    Ok (folders ++ messages)
+
+-- what is listed of a plain folder
+unfoldable pub plain_listing : Tree → ℕ → Answer Outcome
+plain_listing T f = lines_in T f >>= λ all. Ok (unchanged T (listed all))

@@ -1,0 +1,195 @@
+//! `ls`
+ghost use Rattle.std.specs.Prelude.{◌≡◌, filter, IfErr, IfOk};
+ghost use Rattle.mail_tree.specs.Tree.{Shown, Tree};
+ghost use Rattle.mail_tree.specs.Folders.{listed, listing};
+ghost use Rattle.mail_folders.specs.Pieces.{each, line_of_folder, line_of_message, lines_in, plain_listing};
+ghost use Rattle.mail_tree.specs.Places.{is_child};
+ghost use Rattle.mail_tree.specs.Settling.{message_ids};
+ghost use Rattle.mail_draft.specs.Answers.{IsCaused, Looks, Says};
+ghost use Rattle.mail_draft.specs.Outcomes.{outcome_of};
+
+use crate::finding::folder_in;
+use crate::names::is_child;
+use crate::reading::{context_in, message_in, table_in};
+use command_text::{DataLine, DataLines, LastLine, Reply};
+use mail_draft::{Outcome, Stop, contents, name_of, number_of, text_of};
+use mail_tree::{Place, Places, Sort};
+use mapi_values::Table;
+use node_port::NodeReader;
+use pst_base::Nid;
+use pst_outside::Outside;
+use std::alloc::{AllocError, Global};
+
+/// Lists the folders and then the messages in a folder. Refused where it isn't there.
+#[tactic(auto, unfolding(mail_tree::specs::Folders::listing))]
+pub fn list_folder<W: Outside, K: NodeReader<W>>(
+    alloc: Global,
+    keeper: &mut K,
+    w: &mut W,
+    places: &Places,
+    folder: Nid,
+) -> Result<Outcome, Stop>
+    ensures answer { (T : Tree) → Shown (K.holds keeper.old (W.view w.old)) (K.last keeper.old) T → T.places ≡ places.now → Says (outcome_of T) (listing T folder.bits) result }
+    ensures looks { Looks (K.holds keeper.old (W.view w.old)) (K.holds keeper.new (W.view w.new)) (K.last keeper.old) (K.last keeper.new) (K.room keeper.old) (K.room keeper.new) (W.view w.old) (W.view w.new) }
+    ensures cause { IfErr result (IsCaused K.has_disk (W.view w.old).disk_faults (W.view w.new).disk_faults) }
+{
+    let place = folder_in(places, folder)?;
+    match place.sort {
+        Sort::Plain => plain_listing(alloc, keeper, w, places, folder),
+        Sort::Foreign => Ok(Outcome::unchanged(alloc, listed(Vec::new(alloc)))),
+    }
+}
+
+/// A reply of lines of data and their number.
+fn listed(lines: Vec<DataLine>) -> Reply
+    ensures { result ≡ listed lines.items }
+{
+    let count = lines.len() as u64;
+    Reply {
+        lines: DataLines::from_vec(lines),
+        last: LastLine::Count(count),
+    }
+}
+
+/// What is listed of a plain folder.
+#[tactic(auto, unfolding(crate::specs::Pieces::plain_listing))]
+fn plain_listing<W: Outside, K: NodeReader<W>>(
+    alloc: Global,
+    keeper: &mut K,
+    w: &mut W,
+    places: &Places,
+    folder: Nid,
+) -> Result<Outcome, Stop>
+    ensures answer { (T : Tree) → Shown (K.holds keeper.old (W.view w.old)) (K.last keeper.old) T → T.places ≡ places.now → Says (outcome_of T) (plain_listing T folder.bits) result }
+    ensures looks { Looks (K.holds keeper.old (W.view w.old)) (K.holds keeper.new (W.view w.new)) (K.last keeper.old) (K.last keeper.new) (K.room keeper.old) (K.room keeper.new) (W.view w.old) (W.view w.new) }
+    ensures cause { IfErr result (IsCaused K.has_disk (W.view w.old).disk_faults (W.view w.new).disk_faults) }
+{
+    let lines = lines_in(alloc, keeper, w, places, folder)?;
+    Ok(Outcome::unchanged(alloc, listed(lines)))
+}
+
+/// The lines of the folders and of the messages in a folder.
+#[tactic(auto, unfolding(crate::specs::Pieces::lines_in))]
+fn lines_in<W: Outside, K: NodeReader<W>>(
+    alloc: Global,
+    keeper: &mut K,
+    w: &mut W,
+    places: &Places,
+    folder: Nid,
+) -> Result<Vec<DataLine>, Stop>
+    ensures answer { (T : Tree) → Shown (K.holds keeper.old (W.view w.old)) (K.last keeper.old) T → T.places ≡ places.now → Says (λ lines. lines.items) (lines_in T folder.bits) result }
+    ensures looks { Looks (K.holds keeper.old (W.view w.old)) (K.holds keeper.new (W.view w.new)) (K.last keeper.old) (K.last keeper.new) (K.room keeper.old) (K.room keeper.new) (W.view w.old) (W.view w.new) }
+    ensures cause { IfErr result (IsCaused K.has_disk (W.view w.old).disk_faults (W.view w.new).disk_faults) }
+{
+    let child_places = places_in(alloc, places, folder)?;
+    let mut lines = folder_lines(alloc, keeper, w, child_places.as_slice())?;
+    let table = table_in(alloc, keeper, w, contents(folder))?;
+    let ids = message_ids(alloc, table.table())?;
+    let mut messages = message_lines(alloc, keeper, w, ids.as_slice())?;
+    lines.append(&mut messages)?;
+    Ok(lines)
+}
+
+/// The places of the folders directly in a folder.
+fn places_in(alloc: Global, places: &Places, folder: Nid) -> Result<Vec<Place>, AllocError>
+    ensures { IfOk result (λ found. found.items ≡ filter (is_child folder.bits) places.now) }
+{
+    places
+        .as_slice()
+        .iter()
+        .copied()
+        .filter(|place| is_child(folder, place))
+        .collect(alloc)
+}
+
+/// The ids of the messages that a folder's table lists.
+fn message_ids(alloc: Global, table: &Table) -> Result<Vec<u32>, AllocError>
+    ensures { IfOk result (λ ids. ids.items ≡ message_ids table.now) }
+{
+    let mut ids = Vec::new(alloc);
+    for row in table.rows() {
+        if row.0 % 32 == 4 {
+            ids.push(row.0)?;
+        }
+    }
+    Ok(ids)
+}
+
+/// The line of a folder.
+#[tactic(auto, unfolding(crate::specs::Pieces::line_of_folder))]
+fn line_of_folder<W: Outside, K: NodeReader<W>>(
+    alloc: Global,
+    keeper: &mut K,
+    w: &mut W,
+    place: Place,
+) -> Result<DataLine, Stop>
+    ensures answer { (T : Tree) → Shown (K.holds keeper.old (W.view w.old)) (K.last keeper.old) T → Says (λ line. line) (line_of_folder T place) result }
+    ensures looks { Looks (K.holds keeper.old (W.view w.old)) (K.holds keeper.new (W.view w.new)) (K.last keeper.old) (K.last keeper.new) (K.room keeper.old) (K.room keeper.new) (W.view w.old) (W.view w.new) }
+    ensures cause { IfErr result (IsCaused K.has_disk (W.view w.old).disk_faults (W.view w.new).disk_faults) }
+{
+    let context = context_in(alloc, keeper, w, place.nid)?;
+    let id = place.nid;
+    let name = name_of(alloc, context.props())?;
+    Ok(match place.sort {
+        Sort::Plain => DataLine::Folder { id, name },
+        Sort::Foreign => DataLine::Foreign { id, name },
+    })
+}
+
+/// The line of a message: what it tells of its size, and its subject.
+#[tactic(auto, unfolding(crate::specs::Pieces::line_of_message))]
+fn line_of_message<W: Outside, K: NodeReader<W>>(
+    alloc: Global,
+    keeper: &mut K,
+    w: &mut W,
+    message: u32,
+) -> Result<DataLine, Stop>
+    ensures answer { (T : Tree) → Shown (K.holds keeper.old (W.view w.old)) (K.last keeper.old) T → Says (λ line. line) (line_of_message T message) result }
+    ensures looks { Looks (K.holds keeper.old (W.view w.old)) (K.holds keeper.new (W.view w.new)) (K.last keeper.old) (K.last keeper.new) (K.room keeper.old) (K.room keeper.new) (W.view w.old) (W.view w.new) }
+    ensures cause { IfErr result (IsCaused K.has_disk (W.view w.old).disk_faults (W.view w.new).disk_faults) }
+{
+    let id = Nid { bits: message };
+    let mail = message_in(alloc, keeper, w, id)?;
+    let props = &mail.message().props;
+    let subject = text_of(alloc, props, 0x0037)?;
+    let size = number_of(props, 0x0E08);
+    Ok(DataLine::Message { id, size, subject })
+}
+
+/// The lines of folders.
+fn folder_lines<W: Outside, K: NodeReader<W>>(
+    alloc: Global,
+    keeper: &mut K,
+    w: &mut W,
+    places: &[Place],
+) -> Result<Vec<DataLine>, Stop>
+    ensures answer { (T : Tree) → Shown (K.holds keeper.old (W.view w.old)) (K.last keeper.old) T → Says (λ lines. lines.items) (each (line_of_folder T) places.now) result }
+    ensures looks { Looks (K.holds keeper.old (W.view w.old)) (K.holds keeper.new (W.view w.new)) (K.last keeper.old) (K.last keeper.new) (K.room keeper.old) (K.room keeper.new) (W.view w.old) (W.view w.new) }
+    ensures cause { IfErr result (IsCaused K.has_disk (W.view w.old).disk_faults (W.view w.new).disk_faults) }
+{
+    let mut lines = Vec::new(alloc);
+    for place in places {
+        let line = line_of_folder(alloc, keeper, w, *place)?;
+        lines.push(line)?;
+    }
+    Ok(lines)
+}
+
+/// The lines of messages.
+fn message_lines<W: Outside, K: NodeReader<W>>(
+    alloc: Global,
+    keeper: &mut K,
+    w: &mut W,
+    messages: &[u32],
+) -> Result<Vec<DataLine>, Stop>
+    ensures answer { (T : Tree) → Shown (K.holds keeper.old (W.view w.old)) (K.last keeper.old) T → Says (λ lines. lines.items) (each (line_of_message T) messages.now) result }
+    ensures looks { Looks (K.holds keeper.old (W.view w.old)) (K.holds keeper.new (W.view w.new)) (K.last keeper.old) (K.last keeper.new) (K.room keeper.old) (K.room keeper.new) (W.view w.old) (W.view w.new) }
+    ensures cause { IfErr result (IsCaused K.has_disk (W.view w.old).disk_faults (W.view w.new).disk_faults) }
+{
+    let mut lines = Vec::new(alloc);
+    for message in messages {
+        let line = line_of_message(alloc, keeper, w, *message)?;
+        lines.push(line)?;
+    }
+    Ok(lines)
+}
