@@ -1,0 +1,73 @@
+-- Calls one after another: what the later ones say goes on from what the earlier ones said.
+use Rattle.std.proofs.Common.{◌≡◌, ◌∙◌, ℕ, Bool, Option, None, Some, Result, Ok, Err, sym, ap, subst}
+use Rattle.std.specs.FinMap as map
+use Rattle.std.specs.Ordering.{nat_cmp}
+use Rattle.std.specs.Result.{IsErrAnd}
+use Rattle.command_text.specs.declared.reply.CommandRefusal.TheVariants.{Ids}
+use Rattle.mail_tree.specs.Changing.{Answer, Changed, ◌>>=◌, refused_if}
+use Rattle.mail_tree.specs.Ids.{is_spent}
+use Rattle.mail_objects.specs.declared.object.Object.{Object}
+use Rattle.mail_draft.specs.declared.stop.Stop.{Stop}
+use Rattle.mail_draft.specs.Answers.{IsNoMatter, Says}
+use Rattle.mail_messages.specs.Parts.{left}
+use Rattle.mail_draft.proofs.Passes.{no_matter, stop_says}
+
+-- the exit of a `?`
+pub exits : {A B C D : Type 0} (view : B → A) (view' : D → C) (answer : Answer A) (f : A → Answer C) (stop : Stop) (result : Result D Stop)
+    → Says view answer (Err stop) → IsErrAnd result (λ e. e ≡ stop) → Says view' (answer >>= f) result
+exits view view' answer f stop (Ok x) first is = absurd is
+exits view view' answer f stop (Err e) first is = subst (λ z. Says view' (answer >>= f) (Err z)) (sym is) (stop_says view view' answer f stop first)
+
+-- the same of an equal thing
+pub as_at : {X A B : Type 0} (view : B → A) (answer : X → Answer A) (result : Result B Stop) {x x' : X} → x ≡ x' → Says view (answer x) result → Says view (answer x') result
+as_at view answer result e said = subst (λ z. Says view (answer z) result) e said
+
+-- the same of two equal things
+pub as_at2 : {X Y A B : Type 0} (view : B → A) (answer : X → Y → Answer A) (result : Result B Stop) {x x' : X} {y y' : Y}
+    → x ≡ x' → y ≡ y' → Says view (answer x y) result → Says view (answer x' y') result
+as_at2 view answer result {x} {x'} {y} {y'} e e' said = subst (λ z. Says view (answer x' z) result) e' (subst (λ z. Says view (answer z y) result) e said)
+
+-- steps grouped from the right
+pub regroup : {A B C D : Type 0} (view : D → C) (answer : Answer A) (f : A → Answer B) (g : B → Answer C) (result : Result D Stop)
+    → Says view ((answer >>= f) >>= g) result → Says view (answer >>= λ x. f x >>= g) result
+regroup view (Ok x) f g result said = said
+regroup view (Err e) f g result said = said
+
+-- steps grouped from the left
+pub ungroup : {A B C D : Type 0} (view : D → C) (answer : Answer A) (f : A → Answer B) (g : B → Answer C) (result : Result D Stop)
+    → Says view (answer >>= λ x. f x >>= g) result → Says view ((answer >>= f) >>= g) result
+ungroup view (Ok x) f g result said = said
+ungroup view (Err e) f g result said = said
+
+-- the same of four equal things
+pub as_at4 : {X Y Z U A B : Type 0} (view : B → A) (answer : X → Y → Z → U → Answer A) (result : Result B Stop) {x x' : X} {y y' : Y} {z z' : Z} {u u' : U}
+    → x ≡ x' → y ≡ y' → z ≡ z' → u ≡ u' → Says view (answer x y z u) result → Says view (answer x' y' z' u') result
+as_at4 view answer result {x} {x'} {y} {y'} {z} {z'} {u} {u'} e e' f f' said =
+    as_at2 view (answer x' y') result f f' (as_at2 view (λ a b. answer a b z u) result e e' said)
+
+-- four steps grouped from the left
+pub ungroup3 : {A B C D E : Type 0} (view : E → D) (answer : Answer A) (f : A → Answer B) (g : B → Answer C) (h : C → Answer D) (result : Result E Stop)
+    → Says view (answer >>= λ x. f x >>= λ y. g y >>= h) result → Says view (((answer >>= f) >>= g) >>= h) result
+ungroup3 view (Ok x) f g h result said = ungroup view (f x) g h result said
+ungroup3 view (Err e) f g h result said = said
+
+-- what a call gives goes into the next step, which may use that it is the answer
+pub then_is : {A B C D : Type 0} (view : B → A) (view' : D → C) (answer : Answer A) (f : A → Answer C) (y : B) (result : Result D Stop)
+    → Says view answer (Ok y) → (answer ≡ Ok (view y) → Says view' (f (view y)) result) → Says view' (answer >>= f) result
+then_is view view' (Ok x) f y result first then = subst (λ z. Says view' (f z) result) first (then (ap Ok (sym first)))
+then_is view view' (Err None) f y result first then = tt
+then_is view view' (Err (Some refusal)) f y result first then = absurd first
+
+-- the exit of a `?` of what is no matter of the tree
+pub unrelated : {A D : Type 0} (view : D → A) (answer : Answer A) (stop : Stop) (result : Result D Stop) → IsNoMatter stop → IsErrAnd result (λ e. e ≡ stop) → Says view answer result
+unrelated view answer stop (Ok x) first is = absurd is
+unrelated view answer stop (Err e) first is = subst (λ z. Says view answer (Err z)) (sym is) (no_matter view answer stop first)
+
+-- two parts make the changes
+pub changed_same : (D E : Changed) → D.objects ≡ E.objects → D.crowded ≡ E.crowded → D ≡ E
+changed_same D E objects crowded = ap (λ (o : map.FinMap nat_cmp (Option Object)). record D { objects = o }) objects ∙ ap (λ (b : Bool). record E { crowded = b }) crowded
+
+-- an index that was left goes into the next step
+pub left_then : {C D : Type 0} (view : D → C) (index : ℕ) (f : ℕ → Answer C) (result : Result D Stop)
+    → Says view (left index >>= f) result → Says view (refused_if (is_spent index) Ids >>= λ u. f index) result
+left_then view index f result said = regroup view (refused_if (is_spent index) Ids) (λ u. Ok index) f result said

@@ -1,0 +1,4 @@
+pub mod Faults
+pub mod Finding
+pub mod Parts
+pub mod Pieces

@@ -1,0 +1,96 @@
+-- Commands on messages, part by part.
+use Rattle.std.specs.Prelude.{ℕ, ◌==◌, ◌||◌, ◌++◌, List, length, map, nat_le, not, is_some, Ok, if◌then◌else◌}
+use Rattle.command_text.specs.declared.reply.CommandRefusal.TheVariants.{Ids, Limit, Property, Protected, Reserved}
+use Rattle.command_text.specs.declared.reply.Limit.TheVariants.{Rows}
+use Rattle.command_text.specs.declared.reply.DataLine.{DataLine}
+use Rattle.command_text.specs.declared.reply.LastLine.TheVariants.{Done, Value}
+use Rattle.mapi_values.specs.Messages.{Mes}
+use Rattle.mapi_values.specs.Properties.{put, remove_id}
+use Rattle.mapi_values.specs.Values.{Val}
+use Rattle.mail_objects.specs.Forms.{Tbl}
+use Rattle.mapi_values.specs.declared.value.Tag.{Tag}
+use Rattle.mail_tree.specs.Tree.{Tree}
+use Rattle.mail_tree.specs.Values.{bytes_of, is_set_protected, is_unset_protected}
+use Rattle.mail_tree.specs.Changing.{Answer, Changed, ◌>>=◌, add_shown, contents, found, put_shown, refused_if}
+use Rattle.mail_tree.specs.Settling.{settled}
+use Rattle.mail_tree.specs.Ids.{is_spent, message_kinds, next_index}
+use Rattle.mail_tree.specs.Folders.{Outcome, changing, making, replied, unchanged, unless_full}
+use Rattle.mail_messages.specs.Finding.{plain_at}
+use Rattle.mail_tree.specs.Messages.{added_message, attachment_line, changed_message, copying, is_overfull, making_message, property_line, recipient_line, rows_of, value_of}
+use Rattle.mail_messages.specs.Pieces.{moving_message}
+
+-- a folder is counted anew, and that is all
+abbrev pub settling : Tree → ℕ → Changed → Answer Outcome
+settling T f D = settled T T.places f D >>= changing T (replied Done)
+
+-- the row of a message in this folder shows these values of it, and the folder is counted anew
+abbrev pub showing_row : Tree → ℕ → ℕ → List Val → Changed → Answer Outcome
+showing_row T f m props D = put_shown T (contents f) m props D >>= settling T f
+
+-- a value of this id may be set
+abbrev pub may_set : ℕ → List Val → Answer (Unit {0})
+may_set id props = refused_if (is_set_protected id props) Protected >>= λ u. refused_if (nat_le 0x8000 id) Property
+
+-- a message gets a value
+abbrev pub putting_value : Tree → Val → Mes → Answer Outcome
+putting_value T v M = may_set v.id M.props >>= λ u. changed_message T M (put v M.props)
+
+-- the value of this id and kind may be removed
+abbrev pub may_unset : Tag → List Val → Answer (Unit {0})
+may_unset tag props = refused_if (is_unset_protected tag.id tag.kind props) Protected >>= λ u. refused_if (not (is_some (bytes_of tag.id tag.kind props))) Property
+
+-- a message loses a value
+abbrev pub removing_value : Tree → Tag → Mes → Answer Outcome
+removing_value T tag M = may_unset tag M.props >>= λ u. changed_message T M (remove_id tag.id M.props)
+
+-- the value is the reply
+abbrev pub telling_value : Tree → Tag → List Val → Answer Outcome
+telling_value T tag props = found Property (value_of tag props) >>= λ v. Ok (unchanged T (replied (Value v)))
+
+-- an index, if one was left
+abbrev pub left : ℕ → Answer ℕ
+left index = refused_if (is_spent index) Ids >>= λ u. Ok index
+
+-- a table has few enough rows to get another
+abbrev pub may_grow : Tbl → Answer (Unit {0})
+may_grow t = refused_if (nat_le 100000 (length t.table.rows)) (Limit Rows)
+
+-- a folder lists a message with these values in a row, and is counted anew
+abbrev pub adding_row : Tree → ℕ → ℕ → List Val → Changed → Answer Changed
+adding_row T f m props D = add_shown T (contents f) m props D >>= settled T T.places f
+
+-- a new message with this index, which its folder lists
+abbrev pub adding : Tree → Mes → Changed → ℕ → Answer Outcome
+adding T m D index = added_message T m D >>= making T T.places 4 index
+
+-- a folder that has room for it gets a new message of this class and time, in a store of these values
+abbrev pub making_in : Tree → ℕ → List ℕ → ℕ → List Val → Answer Outcome
+making_in T folder class time store = unless_full T (contents folder) >>= λ u. making_message T folder class time store (next_index T 4 message_kinds)
+
+-- a folder that has room for it gets a copy of a message
+abbrev pub copying_in : Tree → ℕ → Mes → Answer Outcome
+copying_in T folder M = unless_full T (contents folder) >>= λ u. copying T M folder (next_index T 4 message_kinds)
+
+-- two folders are counted anew, and that is all
+abbrev pub settling_both : Tree → ℕ → ℕ → Changed → Answer Outcome
+settling_both T from to D = settled T T.places from D >>= settling T to
+
+-- a message comes from one folder into another, which lists it
+abbrev pub arriving : Tree → ℕ → ℕ → ℕ → List Val → Changed → Answer Outcome
+arriving T from to m props D = add_shown T (contents to) m props D >>= settling_both T from to
+
+-- a message goes into a folder that is plain, if it isn't there
+abbrev pub moving_into : Tree → ℕ → ℕ → Mes → Answer Outcome
+moving_into T m folder M = plain_at folder Reserved T.places >>= λ u. if M.folder == folder then Ok (unchanged T (replied Done)) else moving_message T m folder M
+
+-- the tables of a message have few enough rows to be copied
+abbrev pub may_copy : Mes → Answer (Unit {0})
+may_copy M = refused_if (is_overfull M.recipients || is_overfull M.attachments) (Limit Rows)
+
+-- a message is copied into a folder that is plain
+abbrev pub copying_into : Tree → ℕ → Mes → Answer Outcome
+copying_into T folder M = plain_at folder Reserved T.places >>= λ u. may_copy M >>= λ v. copying_in T folder M
+
+-- the lines that tell of a message
+abbrev pub detail_lines : Mes → List DataLine
+detail_lines M = map property_line M.props ++ (map recipient_line (rows_of M.recipients) ++ map attachment_line M.parts)

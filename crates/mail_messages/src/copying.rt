@@ -1,0 +1,101 @@
+//! `cp`
+ghost use Rattle.std.specs.Prelude.{◌≡◌, IfErr};
+ghost use Rattle.mail_tree.specs.Tree.{Shown, Tree};
+ghost use Rattle.mail_tree.specs.Messages.{copied_message, is_overfull};
+ghost use Rattle.mail_draft.specs.Answers.{IsCaused, Looks, Says};
+ghost use Rattle.mail_draft.specs.Outcomes.{outcome_of};
+ghost use Rattle.mail_messages.specs.Faults.{IsFaultless};
+ghost use Rattle.mail_messages.specs.Parts.{copying_in, copying_into, may_copy};
+
+use crate::adding::{adding, left_index, unless_full};
+use crate::find::{check_plain, message_in};
+use crate::mails::{copy_of, is_crowded_message};
+use command_text::{CommandRefusal, Limit};
+use mail_draft::{Draft, Outcome, Stop, new_id};
+use mail_objects::Mail;
+use mail_tree::Places;
+use mapi_values::Table;
+use node_port::{Keeper, NodeReader};
+use pst_base::Nid;
+use pst_outside::Outside;
+use std::alloc::Global;
+
+/// How many rows a command may give a table.
+const MOST_ROWS: usize = 100_000;
+
+/// Whether a table has more rows than a command may give one.
+fn is_overfull(table: &Option<Table>) -> bool
+    ensures { result ≡ is_overfull table.now }
+{
+    match table {
+        Some(table) => table.rows().len() > MOST_ROWS,
+        None => false,
+    }
+}
+
+/// Checks that the tables of a message may be copied.
+fn check_rows(mail: &Mail) -> Result<(), Stop>
+    ensures answer { Says (λ u. u) (may_copy mail.now) result }
+    ensures cause { IfErr result IsFaultless }
+{
+    let message = mail.message();
+    if is_overfull(&message.recipients) || is_overfull(&message.attachments) {
+        return Err(Stop::Refused(CommandRefusal::Limit(Limit::Rows)));
+    }
+    Ok(())
+}
+
+/// Puts a copy of a message into a folder that has room for it.
+fn copy_mail<W: Outside, K: Keeper<W>>(
+    alloc: Global,
+    keeper: &mut K,
+    w: &mut W,
+    places: &Places,
+    folder: Nid,
+    mail: Mail,
+) -> Result<Outcome, Stop>
+    ensures answer { (T : Tree) → Shown (K.holds keeper.old (W.view w.old)) (K.last keeper.old) T → T.places ≡ places.now → Says (outcome_of T) (copying_in T folder.bits mail) result }
+    ensures looks { Looks (K.holds keeper.old (W.view w.old)) (K.holds keeper.new (W.view w.new)) (K.last keeper.old) (K.last keeper.new) (K.room keeper.old) (K.room keeper.new) (W.view w.old) (W.view w.new) }
+    ensures cause { IfErr result (IsCaused K.has_disk (W.view w.old).disk_faults (W.view w.new).disk_faults) }
+{
+    unless_full(alloc, keeper, w, folder)?;
+    let index = left_index(alloc, keeper, w)?;
+    let draft = Draft::new(alloc).crowded(is_crowded_message(&mail));
+    let copy = copy_of(new_id(4, u64::from(index)), folder, mail);
+    adding(alloc, keeper, w, places, draft, copy, index)
+}
+
+/// Copies a message into a folder that is plain.
+fn copy_into<W: Outside, K: Keeper<W>>(
+    alloc: Global,
+    keeper: &mut K,
+    w: &mut W,
+    places: &Places,
+    folder: Nid,
+    mail: Mail,
+) -> Result<Outcome, Stop>
+    ensures answer { (T : Tree) → Shown (K.holds keeper.old (W.view w.old)) (K.last keeper.old) T → T.places ≡ places.now → Says (outcome_of T) (copying_into T folder.bits mail) result }
+    ensures looks { Looks (K.holds keeper.old (W.view w.old)) (K.holds keeper.new (W.view w.new)) (K.last keeper.old) (K.last keeper.new) (K.room keeper.old) (K.room keeper.new) (W.view w.old) (W.view w.new) }
+    ensures cause { IfErr result (IsCaused K.has_disk (W.view w.old).disk_faults (W.view w.new).disk_faults) }
+{
+    check_plain(places, folder, CommandRefusal::Reserved)?;
+    check_rows(&mail)?;
+    copy_mail(alloc, keeper, w, places, folder, mail)
+}
+
+/// Copies a message with its recipients, attachments and all subnodes into a folder. Refused, in this order: the message isn't there, or the folder (`Object`), the folder isn't plain (`Reserved`), the copy or the folder's table would have too many rows (`Limit(Rows)`), no index is left (`Ids`), an object would have too many values (`Limit(Properties)`).
+pub fn copy_message<W: Outside, K: Keeper<W>>(
+    alloc: Global,
+    keeper: &mut K,
+    w: &mut W,
+    places: &Places,
+    message: Nid,
+    folder: Nid,
+) -> Result<Outcome, Stop>
+    ensures answer { (T : Tree) → Shown (K.holds keeper.old (W.view w.old)) (K.last keeper.old) T → T.places ≡ places.now → Says (outcome_of T) (copied_message T message.bits folder.bits) result }
+    ensures looks { Looks (K.holds keeper.old (W.view w.old)) (K.holds keeper.new (W.view w.new)) (K.last keeper.old) (K.last keeper.new) (K.room keeper.old) (K.room keeper.new) (W.view w.old) (W.view w.new) }
+    ensures cause { IfErr result (IsCaused K.has_disk (W.view w.old).disk_faults (W.view w.new).disk_faults) }
+{
+    let mail = message_in(alloc, keeper, w, places, message)?;
+    copy_into(alloc, keeper, w, places, folder, mail)
+}

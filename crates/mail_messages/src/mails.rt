@@ -1,0 +1,245 @@
+//! Messages with other values, in other places, and new ones.
+ghost use Rattle.std.specs.Prelude.{◌≡◌, ◌+◌, ◌++◌, IfOk, IfErr, OnOk, length};
+ghost use Rattle.mapi_values.specs.Messages.{Mes, size};
+ghost use Rattle.mapi_values.specs.Properties.{put, remove_id};
+ghost use Rattle.mail_tree.specs.Changing.{nothing};
+ghost use Rattle.mail_tree.specs.Values.{bytes_of, finished, has_parts, key_front, message_props, number, search_key, with_attachment_flag, with_flag, with_props};
+ghost use Rattle.mail_tree.specs.Messages.{copy_of, is_crowded_message, plain_message, with_message};
+ghost use Rattle.mail_draft.specs.Drafts.{changed_of};
+
+use mail_draft::{Draft, bytes_of, crowds, number_of, put_number, put_text, put_time};
+use mail_objects::{Mail, Object};
+use mapi_values::{Message, Props, Tag, Units, Value, size};
+use pst_base::{Bytes, Nid, Subs};
+use std::alloc::{AllocError, Global};
+
+/// The flags of a message, of which bit 10h says that it has attachments.
+const FLAGS: u16 = 0x0E07;
+/// The size that a message tells of itself.
+const SIZE: u16 = 0x0E08;
+/// The kind of a whole number of 4 bytes.
+const NUMBER: u16 = 0x0003;
+/// The kind of bytes.
+const BINARY: u16 = 0x0102;
+/// How many values an object may have that a command makes.
+const MOST_VALUES: usize = 1000;
+
+/// The same message with other properties.
+#[tactic(auto, unfolding(message_obj::specs::Message::is_formed))]
+pub(crate) fn with_props(mail: Mail, props: Props) -> Mail
+    ensures { result ≡ with_props props mail }
+{
+    let message = mail.into_message();
+    Mail::new(Message {
+        nid: message.nid,
+        folder: message.folder,
+        props,
+        recipients: message.recipients,
+        attachments: message.attachments,
+        parts: message.parts,
+        kept: message.kept,
+    })
+}
+
+/// The same message with another id, in another folder.
+#[tactic(auto, unfolding(message_obj::specs::Message::is_formed))]
+pub(crate) fn copy_of(nid: Nid, folder: Nid, original: Mail) -> Mail
+    ensures { result ≡ copy_of nid.bits folder.bits original }
+{
+    let original = original.into_message();
+    Mail::new(Message {
+        nid,
+        folder,
+        props: original.props,
+        recipients: original.recipients,
+        attachments: original.attachments,
+        parts: original.parts,
+        kept: original.kept,
+    })
+}
+
+/// A message without recipients, attachments and other subnodes.
+#[tactic(auto, unfolding(message_obj::specs::Message::is_formed))]
+pub(crate) fn plain_message(alloc: Global, nid: Nid, folder: Nid, props: Props) -> Mail
+    ensures { result ≡ plain_message nid.bits folder.bits props }
+{
+    Mail::new(Message {
+        nid,
+        folder,
+        props,
+        recipients: None,
+        attachments: None,
+        parts: Vec::new(alloc),
+        kept: Subs::new(alloc),
+    })
+}
+
+/// The flags with bit 10h as it is to be.
+fn with_flag(on: bool, flags: u32) -> u32
+    ensures { result ≡ with_flag on flags }
+{
+    let cleared = flags - 16 * (flags / 16 % 2);
+    if on { cleared + 16 } else { cleared }
+}
+
+/// The properties with a number in place of the value of its id. They are lost with an `Err`.
+fn with_number(alloc: Global, props: Props, id: u16, n: u32) -> Result<Props, AllocError>
+    ensures { IfOk result (λ p. p ≡ put (number id n) props) }
+{
+    let mut numbered = props;
+    put_number(alloc, &mut numbered, id, u64::from(n))?;
+    Ok(numbered)
+}
+
+/// The properties with bit 10h of the flags right. Flags that aren't there come only with an attachment.
+#[tactic(auto, unfolding(mail_tree::specs::Values::with_attachment_flag))]
+fn with_attachment_flag(alloc: Global, on: bool, props: Props) -> Result<Props, AllocError>
+    ensures { IfOk result (λ p. p ≡ with_attachment_flag on props) }
+{
+    if bytes_of(&props, FLAGS, NUMBER).is_some() {
+        let flags = with_flag(on, number_of(&props, FLAGS));
+        return with_number(alloc, props, FLAGS, flags);
+    }
+    if on {
+        with_number(alloc, props, FLAGS, 16)
+    } else {
+        Ok(props)
+    }
+}
+
+/// The message with its flags right.
+#[tactic(auto, unfolding(message_obj::specs::Message::is_formed))]
+fn flagged(alloc: Global, mail: Mail) -> Result<Mail, AllocError>
+    ensures { IfOk result (λ m. m ≡ with_props (with_attachment_flag (has_parts mail.parts) mail.props) mail) }
+{
+    let message = mail.into_message();
+    let props = with_attachment_flag(alloc, message.parts.len() > 0, message.props)?;
+    Ok(Mail::new(Message {
+        nid: message.nid,
+        folder: message.folder,
+        props,
+        recipients: message.recipients,
+        attachments: message.attachments,
+        parts: message.parts,
+        kept: message.kept,
+    }))
+}
+
+/// The message with its size right.
+#[tactic(auto, unfolding(message_obj::specs::Message::is_formed))]
+fn sized(alloc: Global, mail: Mail) -> Result<Mail, AllocError>
+    ensures { IfOk result (λ m. m ≡ with_props (put (number 0x0E08 (size mail)) mail.props) mail) }
+{
+    let size = size(mail.message());
+    let message = mail.into_message();
+    let props = with_number(alloc, message.props, SIZE, size)?;
+    Ok(Mail::new(Message {
+        nid: message.nid,
+        folder: message.folder,
+        props,
+        recipients: message.recipients,
+        attachments: message.attachments,
+        parts: message.parts,
+        kept: message.kept,
+    }))
+}
+
+/// The message with its flags and its size right. It is lost with an `Err`.
+#[tactic(auto, unfolding(mail_tree::specs::Values::finished))]
+pub(crate) fn finished(alloc: Global, mail: Mail) -> Result<Mail, AllocError>
+    ensures { IfOk result (λ m. m ≡ finished mail) }
+{
+    sized(alloc, flagged(alloc, mail)?)
+}
+
+/// The properties of a message with a value in place of the one of its id.
+pub(crate) fn with_value(alloc: Global, mail: &Mail, value: &Value) -> Result<Props, AllocError>
+    ensures { IfOk result (λ p. p ≡ put value.now mail.now.props) }
+{
+    let mut props = mail.message().props.copy(alloc)?;
+    props.put(value.copy(alloc)?)?;
+    Ok(props)
+}
+
+/// The properties of a message without the value of this id.
+pub(crate) fn without_value(alloc: Global, mail: &Mail, id: u16) -> Result<Props, AllocError>
+    ensures { IfOk result (λ p. p ≡ remove_id id mail.now.props) }
+{
+    let mut props = mail.message().props.copy(alloc)?;
+    let _was_there = props.remove(id);
+    Ok(props)
+}
+
+/// Pushes the first 12 bytes of the store's record key, or zeros where it is shorter or isn't there.
+fn push_key(bytes: &mut Vec<u8>, store: &Props) -> Result<(), AllocError>
+    ensures front { OnOk result (bytes.new.items ≡ bytes.old.items ++ key_front (bytes_of 0x0FF9 0x0102 store.now)) }
+    ensures len { OnOk result (length bytes.new.items ≡ length bytes.old.items + 12) }
+{
+    let zeros = [0; 12];
+    match bytes_of(store, 0x0FF9, BINARY) {
+        Some(key) => {
+            if key.len() >= 12 {
+                bytes.extend_from_slice(&key[..12])
+            } else {
+                bytes.extend_from_slice(&zeros)
+            }
+        }
+        None => bytes.extend_from_slice(&zeros),
+    }
+}
+
+/// The search key of a new message: its id and the front of the store's record key.
+fn search_key(alloc: Global, message: Nid, store: &Props) -> Result<Bytes, AllocError>
+    ensures key { IfOk result (λ key. key ≡ search_key message.bits store.now) }
+    ensures len { IfOk result (λ key. length key ≡ 16) }
+{
+    let mut bytes = Vec::from_slice(alloc, &message.bits.to_le_bytes())?;
+    push_key(&mut bytes, store)?;
+    Ok(Bytes::from_vec(bytes))
+}
+
+/// The values of a new message, but for its size.
+#[tactic(auto, unfolding(mapi_values::specs::Values::fits, mapi_values::specs::Values::in_field))]
+pub(crate) fn message_props(
+    alloc: Global,
+    message: Nid,
+    class: &Units,
+    time: u64,
+    store: &Props,
+) -> Result<Props, AllocError>
+    ensures { IfOk result (λ p. p ≡ message_props message.bits class.now time store.now) }
+{
+    let mut props = Props::new(alloc);
+    put_text(alloc, &mut props, 0x001A, class)?;
+    put_number(alloc, &mut props, FLAGS, 0)?;
+    put_time(alloc, &mut props, 0x3007, time)?;
+    put_time(alloc, &mut props, 0x3008, time)?;
+    let tag = Tag {
+        id: 0x300B,
+        kind: BINARY,
+    };
+    props.put(Value::new(tag, search_key(alloc, message, store)?))?;
+    Ok(props)
+}
+
+/// Whether a new object of these values, of the message or of one of its attachments, has too many.
+pub(crate) fn is_crowded_message(mail: &Mail) -> bool
+    ensures { result ≡ is_crowded_message mail.now }
+{
+    let message = mail.message();
+    message.props.len() > MOST_VALUES
+        || message
+            .parts
+            .iter()
+            .any(|part| part.props.len() > MOST_VALUES)
+}
+
+/// The draft of a message that had so many values before.
+pub(crate) fn message_draft(alloc: Global, old_len: usize, mail: Mail) -> Result<Draft, AllocError>
+    ensures { IfOk result (λ d. (old : Mes) → length old.props ≡ old_len → changed_of d ≡ with_message old mail nothing) }
+{
+    let crowds = crowds(old_len, &mail.message().props);
+    let nid = mail.message().nid;
+    let draft = Draft::new(alloc).with(nid, Some(Object::Message(mail)))?;
+    Ok(draft.crowded(crowds))
+}

@@ -1,0 +1,151 @@
+//! `set` and `unset`
+ghost use Rattle.std.specs.Prelude.{◌≡◌, IfErr};
+ghost use Rattle.mail_tree.specs.Tree.{Shown, Tree};
+ghost use Rattle.mail_tree.specs.Messages.{set_value, unset_value};
+ghost use Rattle.mail_draft.specs.Answers.{IsCaused, Looks, Says};
+ghost use Rattle.mail_draft.specs.Outcomes.{outcome_of};
+ghost use Rattle.mail_tree.specs.Values.{is_own_id, is_set_protected, is_unset_protected};
+ghost use Rattle.mail_messages.specs.Faults.{IsFaultless};
+ghost use Rattle.mail_messages.specs.Parts.{may_set, may_unset, putting_value, removing_value};
+
+use crate::changes::change_message;
+use crate::find::message_in;
+use crate::mails::{with_value, without_value};
+use command_text::CommandRefusal;
+use mail_draft::{Outcome, Stop, bytes_of};
+use mail_objects::Mail;
+use mail_tree::Places;
+use mapi_values::{Props, Tag, Value};
+use node_port::NodeReader;
+use pst_base::Nid;
+use pst_outside::Outside;
+use std::alloc::Global;
+
+/// The flags of a message.
+const FLAGS: u16 = 0x0E07;
+/// The kind of an object that another program embedded.
+const OBJECT: u16 = 0x000D;
+/// The first id of a property that has a name.
+const FIRST_NAMED: u16 = 0x8000;
+
+/// Whether the store keeps the values of this id itself.
+fn is_own_id(id: u16) -> bool
+    ensures { result ≡ is_own_id id }
+{
+    matches!(id, 0x0E08 | 0x0E12 | 0x0E13 | 0x300B | 0x67F2 | 0x67F3)
+}
+
+/// Whether a value of this id may not be set.
+fn is_set_protected(id: u16, props: &Props) -> bool
+    ensures { result ≡ is_set_protected id props.now }
+{
+    is_own_id(id) || bytes_of(props, id, OBJECT).is_some()
+}
+
+/// Whether the value of this tag may not be removed.
+fn is_unset_protected(tag: Tag, props: &Props) -> bool
+    ensures { result ≡ is_unset_protected tag.id tag.kind props.now }
+{
+    is_own_id(tag.id)
+        || tag.id == FLAGS
+        || (tag.kind == OBJECT && bytes_of(props, tag.id, OBJECT).is_some())
+}
+
+/// Checks that a value of this id may be set.
+fn check_set(id: u16, mail: &Mail) -> Result<(), Stop>
+    ensures answer { Says (λ u. u) (may_set id mail.now.props) result }
+    ensures cause { IfErr result IsFaultless }
+{
+    if is_set_protected(id, &mail.message().props) {
+        return Err(Stop::Refused(CommandRefusal::Protected));
+    }
+    if id >= FIRST_NAMED {
+        return Err(Stop::Refused(CommandRefusal::Property));
+    }
+    Ok(())
+}
+
+/// Checks that the value of this tag may be removed.
+fn check_unset(tag: Tag, mail: &Mail) -> Result<(), Stop>
+    ensures answer { Says (λ u. u) (may_unset tag mail.now.props) result }
+    ensures cause { IfErr result IsFaultless }
+{
+    let props = &mail.message().props;
+    if is_unset_protected(tag, props) {
+        return Err(Stop::Refused(CommandRefusal::Protected));
+    }
+    if bytes_of(props, tag.id, tag.kind).is_none() {
+        return Err(Stop::Refused(CommandRefusal::Property));
+    }
+    Ok(())
+}
+
+/// Puts a value into this message.
+fn put_value<W: Outside, K: NodeReader<W>>(
+    alloc: Global,
+    keeper: &mut K,
+    w: &mut W,
+    places: &Places,
+    mail: Mail,
+    value: &Value,
+) -> Result<Outcome, Stop>
+    ensures answer { (T : Tree) → Shown (K.holds keeper.old (W.view w.old)) (K.last keeper.old) T → T.places ≡ places.now → Says (outcome_of T) (putting_value T value.now mail) result }
+    ensures looks { Looks (K.holds keeper.old (W.view w.old)) (K.holds keeper.new (W.view w.new)) (K.last keeper.old) (K.last keeper.new) (K.room keeper.old) (K.room keeper.new) (W.view w.old) (W.view w.new) }
+    ensures cause { IfErr result (IsCaused K.has_disk (W.view w.old).disk_faults (W.view w.new).disk_faults) }
+{
+    check_set(value.id(), &mail)?;
+    let props = with_value(alloc, &mail, value)?;
+    change_message(alloc, keeper, w, places, mail, props)
+}
+
+/// Removes a value from this message.
+fn remove_value<W: Outside, K: NodeReader<W>>(
+    alloc: Global,
+    keeper: &mut K,
+    w: &mut W,
+    places: &Places,
+    mail: Mail,
+    tag: Tag,
+) -> Result<Outcome, Stop>
+    ensures answer { (T : Tree) → Shown (K.holds keeper.old (W.view w.old)) (K.last keeper.old) T → T.places ≡ places.now → Says (outcome_of T) (removing_value T tag mail) result }
+    ensures looks { Looks (K.holds keeper.old (W.view w.old)) (K.holds keeper.new (W.view w.new)) (K.last keeper.old) (K.last keeper.new) (K.room keeper.old) (K.room keeper.new) (W.view w.old) (W.view w.new) }
+    ensures cause { IfErr result (IsCaused K.has_disk (W.view w.old).disk_faults (W.view w.new).disk_faults) }
+{
+    check_unset(tag, &mail)?;
+    let props = without_value(alloc, &mail, tag.id)?;
+    change_message(alloc, keeper, w, places, mail, props)
+}
+
+/// Puts a value into a message. Refused where the message isn't there, the id is the store's own or that of an object (`Protected`), or it is 8000h or more (`Property`).
+pub fn set_value<W: Outside, K: NodeReader<W>>(
+    alloc: Global,
+    keeper: &mut K,
+    w: &mut W,
+    places: &Places,
+    message: Nid,
+    value: &Value,
+) -> Result<Outcome, Stop>
+    ensures answer { (T : Tree) → Shown (K.holds keeper.old (W.view w.old)) (K.last keeper.old) T → T.places ≡ places.now → Says (outcome_of T) (set_value T message.bits value.now) result }
+    ensures looks { Looks (K.holds keeper.old (W.view w.old)) (K.holds keeper.new (W.view w.new)) (K.last keeper.old) (K.last keeper.new) (K.room keeper.old) (K.room keeper.new) (W.view w.old) (W.view w.new) }
+    ensures cause { IfErr result (IsCaused K.has_disk (W.view w.old).disk_faults (W.view w.new).disk_faults) }
+{
+    let mail = message_in(alloc, keeper, w, places, message)?;
+    put_value(alloc, keeper, w, places, mail, value)
+}
+
+/// Removes a value of this id and kind from a message. Refused where the message isn't there, the value is the store's own or an object (`Protected`), or there is none (`Property`).
+pub fn unset_value<W: Outside, K: NodeReader<W>>(
+    alloc: Global,
+    keeper: &mut K,
+    w: &mut W,
+    places: &Places,
+    message: Nid,
+    tag: Tag,
+) -> Result<Outcome, Stop>
+    ensures answer { (T : Tree) → Shown (K.holds keeper.old (W.view w.old)) (K.last keeper.old) T → T.places ≡ places.now → Says (outcome_of T) (unset_value T message.bits tag) result }
+    ensures looks { Looks (K.holds keeper.old (W.view w.old)) (K.holds keeper.new (W.view w.new)) (K.last keeper.old) (K.last keeper.new) (K.room keeper.old) (K.room keeper.new) (W.view w.old) (W.view w.new) }
+    ensures cause { IfErr result (IsCaused K.has_disk (W.view w.old).disk_faults (W.view w.new).disk_faults) }
+{
+    let mail = message_in(alloc, keeper, w, places, message)?;
+    remove_value(alloc, keeper, w, places, mail, tag)
+}
