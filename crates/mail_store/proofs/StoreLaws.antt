@@ -1,0 +1,61 @@
+-- What a store plans and commits.
+use Rattle.std.proofs.Common.{◌≡◌, ℕ, Bool, true, false, List, [], Option, None, Some, Result, Ok, Err, refl, sym, subst, ◌∙◌, ap}
+use Rattle.std.specs.Bool.{OnTrue}
+use Rattle.std.specs.Result.{OnOk}
+use Rattle.std.specs.FinMap as map
+use Rattle.command_text.specs.declared.reply.CommandRefusal.{CommandRefusal}
+use Rattle.node_port.specs.Nodes.{Nodes, changed}
+use Rattle.node_port.specs.Stops.{Room}
+use Rattle.node_port.specs.declared.node.NodeRec.{NodeRec}
+use Rattle.pst_base.specs.declared.ids.Nid.{Nid}
+use Rattle.mail_tree.specs.Changing.{Answer}
+use Rattle.mail_tree.specs.Folders.{Outcome}
+use Rattle.mail_tree.specs.Step.{after, with_changes, without_changed}
+use Rattle.mail_tree.specs.Tree.{Shown, Tree}
+use Rattle.mail_draft.specs.Answers.{Says}
+use Rattle.mail_draft.specs.Drafts.{changed_of}
+use Rattle.mail_draft.specs.Outcomes.{last_after, outcome_of, places_after}
+use Rattle.mail_draft.specs.declared.outcome.Outcome.{Outcome as Coming}
+use Rattle.mail_draft.specs.declared.stop.Stop.{Stop}
+use Rattle.mail_draft.proofs.FitLaws.{no-entries}
+use Rattle.mail_store.specs.Planning.{Carries, IsHindered, Plans}
+
+-- changes that were applied make the nodes show the tree after them
+pub applied : {R A E : Type 0} (r : Result A E) (holds holds' : Nodes → Type 0) (last last' : List ℕ) (fits : R → List ℕ → List (Nid × Option NodeRec) → Type 0) (ready : R) (told : Type 0)
+    → OnOk r ((n : List ℕ) (cs : List (Nid × Option NodeRec)) → fits ready n cs → told → (N : Nodes) → holds N → holds' (changed N cs))
+    → OnOk r ((n : List ℕ) (cs : List (Nid × Option NodeRec)) → fits ready n cs → last' ≡ n)
+    → OnOk r ((T : Tree) (o : Outcome) → Shown holds last T → Carries fits T o (Some ready) → told → Shown holds' last' (after T o))
+applied (Ok u) holds holds' last last' fits ready told made kept = λ T o s carries is_told. record {
+  nodes = changed s.nodes carries.0;
+  held = made o.last carries.0 carries.1 is_told s.nodes s.held;
+  at = carries.2 s.nodes s.at;
+  counters = sym (kept o.last carries.0 carries.1);
+}
+applied (Err e) holds holds' last last' fits ready told made kept = tt
+
+-- a command that only replies leaves the tree
+pub quiet : (oc : Coming) → oc.places ≡ None → oc.last ≡ None → (changed_of oc.draft).objects ≡ map.empty → (T : Tree) → after T (outcome_of T oc) ≡ T
+quiet oc places last none T =
+    let entries = no-entries (changed_of oc.draft) none in
+    λ i. record {
+      places = places_after T.places (places i);
+      objects = with_changes (entries i) T.objects;
+      others = without_changed (entries i) T.others;
+      last = last_after T.last (last i);
+    }
+
+pub on_true : {A B : Type 0} (b : Bool) → (A → B) → OnTrue b A → OnTrue b B
+on_true true f h = f h
+on_true false f h = tt
+
+-- what was planned of an answer
+pub plans_made : {A P : Type 0} (view : A → Outcome) (room : Room) (plans : Outcome → P → Type 0) (answer : Answer Outcome) (oc : A) (planned : P) → Says view answer (Ok oc) → plans (view oc) planned → Plans room plans answer (Ok planned)
+plans_made view room plans (Ok o) oc planned says made = subst (λ x. plans x planned) says made
+plans_made view room plans (Err None) oc planned says made = tt
+plans_made view room plans (Err (Some refusal)) oc planned says made = absurd says
+
+-- what hindered the plan of an answer
+pub plans_hindered : {A P : Type 0} (view : A → Outcome) (room : Room) (plans : Outcome → P → Type 0) (answer : Answer Outcome) (oc : A) (stop : Stop) → Says view answer (Ok oc) → IsHindered room stop → Plans room plans answer (Err stop)
+plans_hindered view room plans (Ok o) oc stop says hindered = hindered
+plans_hindered view room plans (Err None) oc stop says hindered = tt
+plans_hindered view room plans (Err (Some refusal)) oc stop says hindered = absurd says

@@ -1,0 +1,6 @@
+use Rattle.std.proofs.Common.{refl}
+use Rattle.mail_draft.specs.Outcomes.{outcome_of}
+use Rattle.mail_store.proofs.store.plan_outcome.Goals as goal
+
+pub returns-clause-carries : goal.returns-clause-carries
+returns-clause-carries g c = λ T s. c.in_ok-ready.ensures.carries T (outcome_of T c.args.outcome.now) s refl refl

@@ -1,0 +1,55 @@
+-- What a store stands for, and what it plans.
+use Rattle.std.specs.Prelude.{◌≡◌, ◌<◌, ℕ, Bool, true, List, Option, None, Some, Result, Ok, Err}
+use Rattle.pst_base.specs.declared.ids.Nid.{Nid}
+use Rattle.command_text.specs.declared.reply.CommandRefusal.{CommandRefusal}
+use Rattle.command_text.specs.declared.reply.CommandRefusal.TheVariants as refusals
+use Rattle.command_text.specs.declared.reply.Reply.{Reply}
+use Rattle.node_port.specs.Nodes.{Nodes, changed, node_at}
+use Rattle.node_port.specs.Stops.{Room}
+use Rattle.node_port.specs.declared.node.NodeRec.{NodeRec}
+use Rattle.mail_tree.specs.declared.places.Place.{Place}
+use Rattle.mail_tree.specs.Changing.{Answer}
+use Rattle.mail_tree.specs.Folders.{Outcome}
+use Rattle.mail_tree.specs.Step.{after}
+use Rattle.mail_tree.specs.Tree.{Shown, StandsAt, Tree, object_at}
+use Rattle.mail_draft.specs.Answers.{IsRefusal}
+use Rattle.mail_draft.specs.Outcomes.{places_after}
+use Rattle.mail_draft.specs.declared.stop.Stop.{Stop}
+use Rattle.mail_draft.specs.declared.stop.Stop.TheVariants.{Refused, Fault, Changed, Memory}
+
+-- a store over these nodes and counters, with these places, has the tree
+pub record Stores (holds : Nodes → Type 0) (last : List ℕ) (places : List Place) (T : Tree) : Type 0 where
+  pub shown : Shown holds last T
+  pub where_is : T.places ≡ places
+
+-- nodes show a tree
+abbrev pub ShowsTree : Nodes → Tree → Type 0
+ShowsTree N T = (q : ℕ) → StandsAt q (node_at N q) (object_at T q) (node_at T.others q)
+
+-- changes of nodes that a keeper has planned make of a tree what the command comes to; without them the tree stays
+abbrev pub Carries : {R : Type 0} → (R → List ℕ → List (Nid × Option NodeRec) → Type 0) → Tree → Outcome → Option R → Type 0
+Carries fits T o None = after T o ≡ T
+Carries fits T o (Some ready) = (cs : List (Nid × Option NodeRec)) × fits ready o.last cs × ((N : Nodes) → ShowsTree N T → ShowsTree (changed N cs) (after T o))
+
+-- what was planned comes to this: the reply, the places, and the changes
+pub record PlansTo {R : Type 0} (fits : R → List ℕ → List (Nid × Option NodeRec) → Type 0) (T : Tree) (o : Outcome) (change : Option R) (places : Option (List Place)) (reply : Reply) : Type 0 where
+  pub reply_is : reply ≡ o.reply
+  pub places_are : o.places ≡ places_after T.places places
+  pub carries : Carries fits T o change
+
+-- A stop that is no matter of the tree: the disk failed, memory ran out, or the file has no room or no numbers left.
+abbrev pub IsHindered : Room → Stop → Type 0
+IsHindered room (Refused (refusals.Full free need)) = (free ≡ room.free) × (free < need)
+IsHindered room (Refused refusals.Ids) = room.spent ≡ true
+IsHindered room (Refused other) = ⊥
+IsHindered room Fault = Unit {0}
+IsHindered room (Changed ib stored computed) = ⊥
+IsHindered room Memory = Unit {0}
+
+-- The answer of a command was planned as the definition says. Where something isn't of its form, nothing is said.
+abbrev pub Plans : {P : Type 0} → Room → (Outcome → P → Type 0) → Answer Outcome → Result P Stop → Type 0
+Plans room plans (Ok o) (Ok planned) = plans o planned
+Plans room plans (Ok o) (Err stop) = IsHindered room stop
+Plans room plans (Err (Some refusal)) (Ok planned) = ⊥
+Plans room plans (Err (Some refusal)) (Err stop) = IsRefusal refusal stop
+Plans room plans (Err None) result = Unit {0}

@@ -1,0 +1,72 @@
+//! Each command, by its name.
+ghost use Rattle.std.specs.Prelude.{◌≡◌, IfErr};
+ghost use Rattle.mail_tree.specs.Step.{outcome};
+ghost use Rattle.mail_tree.specs.Tree.{Shown, Tree};
+ghost use Rattle.mail_draft.specs.Answers.{IsCaused, Looks, Says};
+ghost use Rattle.mail_draft.specs.Outcomes.{outcome_of};
+
+use command_text::{Command, LastLine, Reply};
+use mail_draft::{Outcome, Stop};
+use mail_folders::{list_folder, make_folder, move_folder, remove_folder, rename_folder};
+use mail_messages::{
+    copy_message, get_value, list_details, move_message, new_message, remove_message, set_value,
+    unset_value,
+};
+use mail_tree::Places;
+use node_port::Keeper;
+use pst_outside::Outside;
+use std::alloc::Global;
+
+/// What a command comes to, or why it is refused.
+#[tactic(auto, unfolding(mail_tree::specs::Step::outcome))]
+pub(crate) fn outcome<W: Outside, K: Keeper<W>>(
+    alloc: Global,
+    keeper: &mut K,
+    w: &mut W,
+    places: &Places,
+    command: &Command,
+) -> Result<Outcome, Stop>
+    ensures answer { (T : Tree) → Shown (K.holds keeper.old (W.view w.old)) (K.last keeper.old) T → T.places ≡ places.now → Says (outcome_of T) (outcome T command.now) result }
+    ensures looks { Looks (K.holds keeper.old (W.view w.old)) (K.holds keeper.new (W.view w.new)) (K.last keeper.old) (K.last keeper.new) (K.room keeper.old) (K.room keeper.new) (W.view w.old) (W.view w.new) }
+    ensures cause { IfErr result (IsCaused K.has_disk (W.view w.old).disk_faults (W.view w.new).disk_faults) }
+{
+    match command {
+        Command::MakeFolder { parent, name } => make_folder(
+            alloc, keeper, w, places, *parent, name,
+        ),
+        Command::RenameFolder { folder, name } => {
+            rename_folder(alloc, keeper, w, places, *folder, name)
+        }
+        Command::MoveFolder { folder, parent } => {
+            move_folder(alloc, keeper, w, places, *folder, *parent)
+        }
+        Command::RemoveFolder { folder } => remove_folder(alloc, keeper, w, places, *folder),
+        Command::ListFolder { folder } => list_folder(alloc, keeper, w, places, *folder),
+        Command::NewMessage {
+            folder,
+            class,
+            time,
+        } => new_message(alloc, keeper, w, places, *folder, class, *time),
+        Command::SetProperty { message, value } => {
+            set_value(alloc, keeper, w, places, *message, value)
+        }
+        Command::UnsetProperty { message, tag } => {
+            unset_value(alloc, keeper, w, places, *message, *tag)
+        }
+        Command::GetProperty { message, tag } => get_value(
+            alloc, keeper, w, places, *message, *tag,
+        ),
+        Command::ListProperties { message } => list_details(alloc, keeper, w, places, *message),
+        Command::MoveMessage { message, folder } => {
+            move_message(alloc, keeper, w, places, *message, *folder)
+        }
+        Command::CopyMessage { message, folder } => {
+            copy_message(alloc, keeper, w, places, *message, *folder)
+        }
+        Command::RemoveMessage { message } => remove_message(alloc, keeper, w, places, *message),
+        Command::Save | Command::Quit => {
+            let reply = Reply::without_data(alloc, LastLine::Done);
+            Ok(Outcome::unchanged(alloc, reply))
+        }
+    }
+}

@@ -1,0 +1,11 @@
+//! A command that is planned.
+use command_text::Reply;
+use mail_tree::Places;
+
+/// A command that is planned: what its keeper is to change, if anything, the places of the folders after it, `None` where they stay, and its reply. It may be given up: then nothing has changed.
+#[derive(Drop)]
+pub struct Planned<R> {
+    pub change: Option<R>,
+    pub places: Option<Places>,
+    pub reply: Reply,
+}

@@ -1,0 +1,176 @@
+//! The store over a keeper.
+ghost use Rattle.std.specs.Prelude.{◌≡◌, ℕ, List, Option, None, true, IfOk, IfErr, OnErr, OnOk};
+ghost use Rattle.std.specs.Bool.{OnTrue};
+ghost use Rattle.std.specs.Option.{ForSome};
+ghost use Rattle.pst_base.specs.declared.ids.Nid.{Nid as Id};
+ghost use Rattle.node_port.specs.declared.node.NodeRec.{NodeRec as Rec};
+ghost use Rattle.pst_outside.specs.Calls.{NeverFall, Rose};
+ghost use Rattle.mail_tree.specs.Step.{after, outcome};
+ghost use Rattle.mail_tree.specs.Tree.{Shown, Tree};
+ghost use Rattle.mail_tree.specs.Folders.{Outcome as Coming};
+ghost use Rattle.mail_draft.specs.Answers.{IsCaused, Looks};
+ghost use Rattle.mail_draft.specs.Drafts.{all_fit, changed_of};
+ghost use Rattle.mail_draft.specs.Outcomes.{last_after, outcome_of, places_after};
+ghost use Rattle.mail_store.specs.Planning.{Carries, IsHindered, Plans, PlansTo, Stores};
+
+use crate::commands::outcome;
+use crate::planned::Planned;
+use command_text::{Command, Reply};
+use mail_draft::{Draft, Outcome, Stop, finish};
+use mail_tree::Places;
+use node_port::{Changes, Counts, Keeper};
+use pst_outside::{Failed, Outside};
+use std::alloc::Global;
+
+/// A store: what keeps its nodes, and where its folders stand.
+#[derive(Drop)]
+pub struct Store<K> {
+    pub keeper: K,
+    pub places: Places,
+}
+
+/// The counters after a command.
+fn counts_after<W: Outside, K: Keeper<W>>(_w: &W, keeper: &K, last: &Option<Counts>) -> Counts
+    ensures { result.last ≡ last_after (K.last keeper.now) last.now }
+{
+    match last {
+        Some(counts) => *counts,
+        None => keeper.counts(),
+    }
+}
+
+/// Plans the changes of a draft, all of which may be written.
+fn plan_changes<W: Outside, K: Keeper<W>>(
+    alloc: Global,
+    keeper: &mut K,
+    w: &mut W,
+    draft: &Draft,
+    last: &Option<Counts>,
+) -> Result<K::Ready, Stop>
+    requires { all_fit (changed_of draft.now) ≡ true }
+    ensures carries { IfOk result (λ ready. (T : Tree) (o : Coming) → Shown (K.holds keeper.old (W.view w.old)) (K.last keeper.old) T → o.changed ≡ changed_of draft.now → o.last ≡ last_after T.last last.now
+        → Carries (K.fits keeper.new) T o (Option.Some ready)) }
+    ensures fits { IfOk result (λ ready. (after : List ℕ) × (cs : List (Id × Option Rec)) × K.fits keeper.new ready after cs) }
+    ensures hindered { IfErr result (λ stop. (T : Tree) → Shown (K.holds keeper.old (W.view w.old)) (K.last keeper.old) T → IsHindered (K.room keeper.old) stop) }
+    ensures looks { Looks (K.holds keeper.old (W.view w.old)) (K.holds keeper.new (W.view w.new)) (K.last keeper.old) (K.last keeper.new) (K.room keeper.old) (K.room keeper.new) (W.view w.old) (W.view w.new) }
+    ensures cause { IfErr result (IsCaused K.has_disk (W.view w.old).disk_faults (W.view w.new).disk_faults) }
+{
+    let counts = counts_after(w, keeper, last);
+    let nodes = finish(alloc, draft)?;
+    let changes = Changes {
+        nodes,
+        counts,
+        room: 0,
+    };
+    Ok(keeper.prepare(alloc, w, changes)?)
+}
+
+/// Whether a command only replies.
+fn is_quiet(outcome: &Outcome) -> bool
+    ensures { OnTrue result ((T : Tree) → after T (outcome_of T outcome.now) ≡ T) }
+{
+    match &outcome.places {
+        Some(_) => false,
+        None => match &outcome.last {
+            Some(_) => false,
+            None => outcome.draft.is_empty(),
+        },
+    }
+}
+
+/// Plans what a command comes to, if it does more than reply.
+fn plan_outcome<W: Outside, K: Keeper<W>>(
+    alloc: Global,
+    keeper: &mut K,
+    w: &mut W,
+    outcome: &Outcome,
+) -> Result<Option<K::Ready>, Stop>
+    ensures carries { IfOk result (λ change. (T : Tree) → Shown (K.holds keeper.old (W.view w.old)) (K.last keeper.old) T → Carries (K.fits keeper.new) T (outcome_of T outcome.now) change) }
+    ensures fits { IfOk result (λ change. ForSome change (λ ready. (after : List ℕ) × (cs : List (Id × Option Rec)) × K.fits keeper.new ready after cs)) }
+    ensures hindered { IfErr result (λ stop. (T : Tree) → Shown (K.holds keeper.old (W.view w.old)) (K.last keeper.old) T → IsHindered (K.room keeper.old) stop) }
+    ensures looks { Looks (K.holds keeper.old (W.view w.old)) (K.holds keeper.new (W.view w.new)) (K.last keeper.old) (K.last keeper.new) (K.room keeper.old) (K.room keeper.new) (W.view w.old) (W.view w.new) }
+    ensures cause { IfErr result (IsCaused K.has_disk (W.view w.old).disk_faults (W.view w.new).disk_faults) }
+{
+    if is_quiet(outcome) {
+        return Ok(None);
+    }
+    let ready = plan_changes(alloc, keeper, w, &outcome.draft, &outcome.last)?;
+    Ok(Some(ready))
+}
+
+/// Plans a command: what it answers, and what is to be changed for it. Nothing changes. Refused as the command is refused, and where the file has no room (`Full`) or no numbers (`Ids`) left.
+pub fn plan<W: Outside, K: Keeper<W>>(
+    alloc: Global,
+    store: &mut Store<K>,
+    w: &mut W,
+    command: &Command,
+) -> Result<Planned<K::Ready>, Stop>
+    ensures answer { (T : Tree) → Stores (K.holds store.old.keeper (W.view w.old)) (K.last store.old.keeper) store.old.places T
+        → Plans (K.room store.old.keeper) (λ o planned. PlansTo (K.fits store.new.keeper) T o planned.change planned.places planned.reply) (outcome T command.now) result }
+    ensures fits { IfOk result (λ planned. ForSome planned.change (λ ready. (after : List ℕ) × (cs : List (Id × Option Rec)) × K.fits store.new.keeper ready after cs)) }
+    ensures places { store.new.places ≡ store.old.places }
+    ensures looks { Looks (K.holds store.old.keeper (W.view w.old)) (K.holds store.new.keeper (W.view w.new)) (K.last store.old.keeper) (K.last store.new.keeper) (K.room store.old.keeper) (K.room store.new.keeper) (W.view w.old) (W.view w.new) }
+    ensures cause { IfErr result (IsCaused K.has_disk (W.view w.old).disk_faults (W.view w.new).disk_faults) }
+{
+    let outcome = outcome(alloc, &mut store.keeper, w, &store.places, command)?;
+    match plan_outcome(alloc, &mut store.keeper, w, &outcome) {
+        Ok(change) => Ok(Planned {
+            change,
+            places: outcome.places,
+            reply: outcome.reply,
+        }),
+        Err(stop) => Err(stop),
+    }
+}
+
+/// Makes the changes that were planned, if any.
+fn apply_change<W: Outside, K: Keeper<W>>(
+    keeper: &mut K,
+    w: &mut W,
+    change: Option<K::Ready>,
+) -> Result<(), Failed>
+    requires { ForSome change (λ ready. (after : List ℕ) × (cs : List (Id × Option Rec)) × K.fits keeper.old ready after cs) }
+    ensures made { OnOk result ((T : Tree) (o : Coming) → Shown (K.holds keeper.old (W.view w.old)) (K.last keeper.old) T → Carries (K.fits keeper.old) T o change → (K.has_disk ≡ true → (W.view w.new).tells)
+        → Shown (K.holds keeper.new (W.view w.new)) (K.last keeper.new) (after T o)) }
+    ensures cause { OnErr result (Rose (W.view w.old).disk_faults (W.view w.new).disk_faults × (K.has_disk ≡ true)) }
+    ensures counts { NeverFall (W.view w.old) (W.view w.new) }
+{
+    match change {
+        Some(ready) => keeper.apply(w, ready),
+        None => Ok(()),
+    }
+}
+
+/// The places after a command.
+fn settle_places(places: &mut Places, after: Option<Places>)
+    ensures { places.new ≡ places_after places.old after }
+{
+    match after {
+        Some(after) => *places = after,
+        None => (),
+    }
+}
+
+/// Makes the changes of the latest plan, and gives its reply. It fails only where the disk failed. Takes no memory.
+pub fn commit<W: Outside, K: Keeper<W>>(
+    store: &mut Store<K>,
+    w: &mut W,
+    planned: Planned<K::Ready>,
+) -> Result<Reply, Failed>
+    requires { ForSome planned.change (λ ready. (after : List ℕ) × (cs : List (Id × Option Rec)) × K.fits store.old.keeper ready after cs) }
+    ensures made { OnOk result ((T : Tree) (o : Coming) → Stores (K.holds store.old.keeper (W.view w.old)) (K.last store.old.keeper) store.old.places T
+        → PlansTo (K.fits store.old.keeper) T o planned.change planned.places planned.reply → (K.has_disk ≡ true → (W.view w.new).tells)
+        → Stores (K.holds store.new.keeper (W.view w.new)) (K.last store.new.keeper) store.new.places (after T o)) }
+    ensures reply { IfOk result (λ reply. reply ≡ planned.reply) }
+    ensures cause { OnErr result (Rose (W.view w.old).disk_faults (W.view w.new).disk_faults × (K.has_disk ≡ true)) }
+    ensures counts { NeverFall (W.view w.old) (W.view w.new) }
+{
+    let Planned {
+        change,
+        places,
+        reply,
+    } = planned;
+    apply_change(&mut store.keeper, w, change)?;
+    settle_places(&mut store.places, places);
+    Ok(reply)
+}
