@@ -1,0 +1,5 @@
+pub mod EntryLaws
+pub mod FitLaws
+pub mod KeyLaws
+pub mod LayoutLaws
+pub mod ShowingLaws
