@@ -1,17 +1,33 @@
--- The answers that need no line.
-use Rattle.std.proofs.Common.{◌≡◌, ℕ, List, [], ◌++◌, ◌∷◌, inl, refl, ap, subst}
-use Rattle.std.specs.Prelude.{codes}
+-- The answers that need no line, and what a mailbox's answers say of its trees.
+use Rattle.std.proofs.Common.{◌≡◌, ℕ, List, [], ◌++◌, ◌∷◌, Result, Ok, Err, inl, inr, refl, sym, subst}
+use Rattle.std.specs.Prelude.{codes, IfOk}
+use Rattle.command_text.specs.declared.command.Command.{Command}
+use Rattle.command_text.specs.declared.command.LineRefusal.{LineRefusal}
 use Rattle.command_text.specs.Replies.{text, last_text}
 use Rattle.command_text.specs.Refusals.{refusal_words}
 use Rattle.command_text.specs.Limits.{limit_word}
-use Rattle.mail_session.specs.declared.folder.Folder.{Folder}
+use Rattle.node_port.specs.declared.map_keeper.MapKeeper.{MapKeeper}
+use Rattle.mail_store.specs.declared.store.Store.{Store}
 use Rattle.mail_session.specs.Lines.{Piece, line, too_long, further}
-use Rattle.mail_session.specs.Run.{Answers, answered}
+use Rattle.mail_session.specs.Boxes.{Answering, DoesStep, Holds}
+use Rattle.mail_session.specs.Run.{Carries}
+use Rattle.mail_tree.specs.Tree.{Tree}
 
-pub further_answers : (tree : List Folder) (spoken : List ℕ) → spoken ≡ [] → Answers tree further spoken tree
-unfolding answered
-further_answers tree spoken is = inl (λ i. (tree, is i))
+pub further_answers : (store : Store MapKeeper) (spoken : List ℕ) → spoken ≡ [] → Answering store further spoken store
+further_answers store spoken is T holds = (T, inl (is, refl), holds)
 
-pub too_long_answers : (tree : List Folder) → Answers tree too_long (codes "no limit line" ++ 10 ∷ []) tree
-unfolding answered text last_text refusal_words limit_word
-too_long_answers tree = inl refl
+pub too_long_answers : (store : Store MapKeeper) → Answering store too_long (codes "no limit line" ++ 10 ∷ []) store
+unfolding text last_text refusal_words limit_word
+too_long_answers store T holds = (T, inl (refl, refl), holds)
+
+-- what was done to a line is what a command does
+pub carried : {E : Type 0} (r : Result (List ℕ) E) (old new : Store MapKeeper) (c : Command) (asked : Result Command LineRefusal) → asked ≡ Ok c
+    → IfOk r (λ t. DoesStep old c t new) → IfOk r (λ t. (T : Tree) → Holds old T → (U : Tree) × Carries T asked t U × Holds new U)
+carried (Ok t) old new c asked is does = λ T holds. let done = does T holds in (done.0, subst (λ a. Carries T a t done.0) (sym is) done.1, done.2)
+carried (Err e) old new c asked is does = tt
+
+-- a line that is refused changes nothing
+pub refused_line : {E : Type 0} (r : Result (List ℕ) E) (store : Store MapKeeper) (asked : Result Command LineRefusal) (said : List ℕ)
+    → ((T : Tree) (t : List ℕ) → t ≡ said → Carries T asked t T) → IfOk r (λ t. t ≡ said) → IfOk r (λ t. (T : Tree) → Holds store T → (U : Tree) × Carries T asked t U × Holds store U)
+refused_line (Ok t) store asked said carries is = λ T holds. (T, carries T t is, holds)
+refused_line (Err e) store asked said carries is = tt

@@ -4,34 +4,37 @@ use Rattle.std.proofs.lemmas.Bool.{true≢false}
 use Rattle.std.proofs.lemmas.List.{append-nil, take_all}
 use Rattle.std.specs.List.{concat, list_any}
 use Rattle.pst_outside.specs.World.{World}
-use Rattle.mail_session.specs.declared.folder.Folder.{Folder}
 use Rattle.mail_session.specs.declared.exit.Status.{Status}
 use Rattle.mail_session.specs.declared.exit.Status.TheVariants.{Done, Words, Refused, Disk, Input, Output, Memory, Lines, Changed}
 use Rattle.mail_session.specs.Lines.{Piece, cut, is_quit, up_to_quit, lines}
-use Rattle.mail_session.specs.Run.{Run, Answers}
-use Rattle.mail_session.specs.Step.{start_tree}
+use Rattle.mail_session.specs.Run.{Run, last_tree}
+use Rattle.mail_tree.specs.Start.{IsStart}
+use Rattle.mail_tree.specs.Tree.{Tree}
+use Rattle.mail_session.specs.Boxes.{Holds, NAME}
 use Rattle.mail_session.specs.Turn.{State, IsAllowed, Hears, AnswersNext, TurnsOn, TurnsOut, BreaksOff, FallsSilent, Turns}
-use Rattle.mail_session.specs.Scratch.{SoFar, ScratchEnds, LINES}
+use Rattle.mail_session.specs.Scratch.{SoFar, ScratchEnds, Starts, LINES}
 use Rattle.mail_session.specs.Worlds.{KeepsDisk}
 use Rattle.mail_session.proofs.Disks.{keeps_started, keeps_along}
 use Rattle.mail_session.proofs.Pieces.{nothing_cuts, broken_cuts}
 use Rattle.mail_session.proofs.RunLaws.{run_on, last_tree_on, no_quit_on, quit_on, up_to_quit-past, concat_on, length_on}
 
 -- before the first turn
-pub started : (world : World) → SoFar world world (record { tree = start_tree; held = []; long = false; ended = false }) 0
-started world = record {
+pub started : (world : World) (state : State) → Starts state → SoFar world world state 0
+started world state starts = record {
   keeps = keeps_started world;
   taken = [];
   done = [];
   replies = [];
+  start = starts.start;
+  is_start = starts.is_start;
   trees = [];
   run = tt;
-  tree = refl;
+  holds = starts.holds;
   counted = refl;
   no_quit = refl;
-  cuts = λ all more allowed. refl;
+  cuts = λ all more allowed. λ i. cut all (sym starts.short i) [] (sym starts.nothing_held i ++ more);
   input = λ t. refl;
-  end = λ is t. absurd (true≢false (sym is));
+  end = λ is t. absurd (true≢false (sym is ∙ starts.unended));
   said = λ t. sym (append-nil _);
 }
 
@@ -42,8 +45,12 @@ pub record Goes (first mid now : World) (old new : State) (count : ℕ) (quit : 
   pub before : List Piece
   pub piece : Piece
   pub replies : List (List ℕ)
-  pub trees : List (List Folder)
-  pub run : Run start_tree (before ++ piece ∷ []) (replies ++ reply ∷ []) (trees ++ new.tree ∷ [])
+  pub start : Tree
+  pub is_start : IsStart NAME start
+  pub trees : List Tree
+  pub next_tree : Tree
+  pub run : Run start (before ++ piece ∷ []) (replies ++ reply ∷ []) (trees ++ next_tree ∷ [])
+  pub holds : Holds new.store.store next_tree
   pub counted : length before ≡ count
   pub no_quit : list_any is_quit before ≡ false
   pub quits : quit ≡ is_quit piece
@@ -60,29 +67,33 @@ allowed_before old is taken more all stays none allowed = record {
 }
 
 pub goes : (first mid now : World) (old new : State) (count : ℕ) (quit : Bool) (reply : List ℕ) → SoFar first mid old count → AnswersNext old new reply quit mid now → Goes first mid now old new count quit reply
-goes first mid now old new count quit reply so_far next = record {
-  keeps = keeps_along so_far.keeps next.hears.keeps;
-  taken = so_far.taken ++ next.hears.goes_on.more;
-  before = so_far.done;
-  piece = next.answers.piece;
-  replies = so_far.replies;
-  trees = so_far.trees;
-  run = run_on start_tree so_far.done so_far.replies so_far.trees next.answers.piece reply new.tree so_far.run
-      (subst (λ t. Answers t next.answers.piece reply new.tree) (sym so_far.tree) next.answers.answers);
-  counted = so_far.counted;
-  no_quit = so_far.no_quit;
-  quits = next.answers.quits;
-  cuts = λ all more allowed.
-      let more' = next.hears.goes_on.more in
-      let before = allowed_before old.ended new.ended more' more all next.hears.ends.stays next.hears.goes_on.none allowed in
-      ap (λ x. cut all false [] x) (append_assoc so_far.taken more' more)
-      ∙ so_far.cuts all (more' ++ more) before
-      ∙ ap (λ x. so_far.done ++ cut all old.long [] x) (sym (append_assoc old.held more' more) ∙ ap (λ x. x ++ more) (sym next.hears.goes_on.behind))
-      ∙ ap (λ x. so_far.done ++ x) (next.answers.cuts all more allowed);
-  input = λ t. so_far.input (next.hears.keeps.told t) ∙ ap (λ x. so_far.taken ++ x) (next.hears.goes_on.input t) ∙ sym (append_assoc so_far.taken next.hears.goes_on.more _);
-  end = next.hears.ends.end so_far.end;
-  said = so_far.said;
-}
+goes first mid now old new count quit reply so_far next =
+    let answered = next.answers.answers (last_tree so_far.start so_far.trees) so_far.holds in record {
+      keeps = keeps_along so_far.keeps next.hears.keeps;
+      taken = so_far.taken ++ next.hears.goes_on.more;
+      before = so_far.done;
+      piece = next.answers.piece;
+      replies = so_far.replies;
+      start = so_far.start;
+      is_start = so_far.is_start;
+      trees = so_far.trees;
+      next_tree = answered.0;
+      run = run_on so_far.start so_far.done so_far.replies so_far.trees next.answers.piece reply answered.0 so_far.run answered.1;
+      holds = answered.2;
+      counted = so_far.counted;
+      no_quit = so_far.no_quit;
+      quits = next.answers.quits;
+      cuts = λ all more allowed.
+          let more' = next.hears.goes_on.more in
+          let before = allowed_before old.ended new.ended more' more all next.hears.ends.stays next.hears.goes_on.none allowed in
+          ap (λ x. cut all false [] x) (append_assoc so_far.taken more' more)
+          ∙ so_far.cuts all (more' ++ more) before
+          ∙ ap (λ x. so_far.done ++ cut all old.long [] x) (sym (append_assoc old.held more' more) ∙ ap (λ x. x ++ more) (sym next.hears.goes_on.behind))
+          ∙ ap (λ x. so_far.done ++ x) (next.answers.cuts all more allowed);
+      input = λ t. so_far.input (next.hears.keeps.told t) ∙ ap (λ x. so_far.taken ++ x) (next.hears.goes_on.input t) ∙ sym (append_assoc so_far.taken next.hears.goes_on.more _);
+      end = next.hears.ends.end so_far.end;
+      said = so_far.said;
+    }
 
 -- a turn more
 pub goes_on : (first mid now : World) (old new : State) (count : ℕ) → SoFar first mid old count → TurnsOn old new false mid now → SoFar first now new (count + 1)
@@ -93,9 +104,11 @@ goes_on first mid now old new count so_far turn =
       taken = g.taken;
       done = g.before ++ g.piece ∷ [];
       replies = g.replies ++ turn.reply ∷ [];
-      trees = g.trees ++ new.tree ∷ [];
+      start = g.start;
+      is_start = g.is_start;
+      trees = g.trees ++ g.next_tree ∷ [];
       run = g.run;
-      tree = last_tree_on start_tree g.trees new.tree;
+      holds = subst (Holds new.store.store) (sym (last_tree_on g.start g.trees g.next_tree)) g.holds;
       counted = length_on g.before g.piece ∙ ap (λ n. n + 1) g.counted;
       no_quit = no_quit_on g.before g.piece g.no_quit (sym g.quits);
       cuts = λ all more allowed. g.cuts all more allowed ∙ sym (append_assoc g.before (g.piece ∷ []) _);
@@ -146,8 +159,7 @@ ends_by_quit first mid now old new count few so_far turn =
       left = left_of g.piece rest;
       cuts = lines_are g;
       replies = g.replies ++ turn.reply ∷ [];
-      trees = g.trees ++ new.tree ∷ [];
-      run = g.run;
+      run = inr (g.start, g.trees ++ g.next_tree ∷ [], g.is_start, g.run);
       front = λ t. (length (concat (g.replies ++ turn.reply ∷ [])), all_said t ∙ ap (λ x. first.here.said ++ x) (sym (take_all _ (concat (g.replies ++ turn.reply ∷ [])) (omega arith))));
       whole = λ no t. all_said t;
       statuses = inl refl;
@@ -189,8 +201,7 @@ ends_by_end first mid now old count few so_far turn =
       left = [];
       cuts = rests first mid now old count [] true so_far turn.hears (nothing_cuts true old.long);
       replies = so_far.replies;
-      trees = so_far.trees;
-      run = so_far.run;
+      run = inr (so_far.start, so_far.trees, so_far.is_start, so_far.run);
       front = λ t. (length (concat so_far.replies), said t ∙ ap (λ x. first.here.said ++ x) (sym (take_all _ (concat so_far.replies) (omega arith))));
       whole = λ no t. said t;
       statuses = inl refl;
@@ -216,8 +227,7 @@ ends_by_input first mid now old count few so_far turn =
       left = [];
       cuts = rests first mid now old count turn.taken false so_far turn.hears (broken_cuts old.long turn.taken turn.stands.0 turn.stands.1);
       replies = so_far.replies;
-      trees = so_far.trees;
-      run = so_far.run;
+      run = inr (so_far.start, so_far.trees, so_far.is_start, so_far.run);
       front = λ t. (length (concat so_far.replies), said t ∙ ap (λ x. first.here.said ++ x) (sym (take_all _ (concat so_far.replies) (omega arith))));
       whole = λ no t. said t;
       statuses = inr (inl refl);
@@ -244,8 +254,7 @@ ends_by_output first mid now old new count few so_far turn =
       left = left_of g.piece rest;
       cuts = lines_are g;
       replies = g.replies ++ turn.reply ∷ [];
-      trees = g.trees ++ new.tree ∷ [];
-      run = g.run;
+      run = inr (g.start, g.trees ++ g.next_tree ∷ [], g.is_start, g.run);
       front = λ t.
           let k = (turn.said t).0 in (
             length (concat g.replies) + k,
@@ -274,8 +283,7 @@ ends_by_lines first now state so_far = record {
   left = up_to_quit (cut state.ended state.long [] (state.held ++ []));
   cuts = ap (λ x. up_to_quit (cut state.ended false [] x)) (sym (append-nil so_far.taken)) ∙ ap up_to_quit (so_far.cuts state.ended [] (here_allowed state.ended)) ∙ up_to_quit-past so_far.done _ so_far.no_quit;
   replies = so_far.replies;
-  trees = so_far.trees;
-  run = so_far.run;
+  run = inr (so_far.start, so_far.trees, so_far.is_start, so_far.run);
   front = λ t. (length (concat so_far.replies), so_far.said t ∙ ap (λ x. first.here.said ++ x) (sym (take_all _ (concat so_far.replies) (omega arith))));
   whole = λ no t. so_far.said t;
   statuses = inr (inr (inr (inr refl)));
@@ -299,8 +307,7 @@ ends_by_memory world = record {
   left = [];
   cuts = ap up_to_quit (nothing_cuts false false);
   replies = [];
-  trees = [];
-  run = tt;
+  run = inl (refl, refl);
   front = λ t. (0, sym (append-nil _));
   whole = λ no t. sym (append-nil _);
   statuses = inr (inr (inr (inl refl)));

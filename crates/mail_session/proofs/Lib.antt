@@ -1,12 +1,11 @@
 pub mod AnswerLaws
 pub mod Answered
 pub mod Cuts
-pub mod EntryLaws
+pub mod Boxed
 pub mod EndLaws
 pub mod Feeds
 pub mod InfoLaws
 pub mod Inputs
-pub mod NameLaws
 pub mod NodesLaws
 pub mod Pieces
 pub mod Ranges

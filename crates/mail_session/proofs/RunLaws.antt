@@ -3,11 +3,11 @@ use Rattle.std.proofs.Common.{◌≡◌, ◌∙◌, ℕ, suc, ◌+◌, ap, sym, 
 use Rattle.std.proofs.lemmas.Bool.{true≢false}
 use Rattle.std.proofs.lemmas.List.{append-nil}
 use Rattle.std.specs.List.{concat, list_any}
-use Rattle.mail_session.specs.declared.folder.Folder.{Folder}
+use Rattle.mail_tree.specs.Tree.{Tree}
 use Rattle.mail_session.specs.Lines.{Piece, is_quit, up_to_quit}
 use Rattle.mail_session.specs.Run.{Run, Answers, last_tree}
 
-pub run_on : (first : List Folder) (ps : List Piece) (rs : List (List ℕ)) (ts : List (List Folder)) (p : Piece) (r : List ℕ) (t : List Folder)
+pub run_on : (first : Tree) (ps : List Piece) (rs : List (List ℕ)) (ts : List Tree) (p : Piece) (r : List ℕ) (t : Tree)
     → Run first ps rs ts → Answers (last_tree first ts) p r t → Run first (ps ++ p ∷ []) (rs ++ r ∷ []) (ts ++ t ∷ [])
 run_on first [] [] [] p r t run answers = (answers, tt)
 run_on first (q ∷ ps) (s ∷ rs) (u ∷ ts) p r t run answers = (run.0, run_on u ps rs ts p r t run.1 answers)
@@ -18,7 +18,7 @@ run_on first (q ∷ ps) [] [] p r t run answers = absurd run
 run_on first (q ∷ ps) [] (u ∷ ts) p r t run answers = absurd run
 run_on first (q ∷ ps) (s ∷ rs) [] p r t run answers = absurd run
 
-pub last_tree_on : (first : List Folder) (ts : List (List Folder)) (t : List Folder) → last_tree first (ts ++ t ∷ []) ≡ t
+pub last_tree_on : (first : Tree) (ts : List Tree) (t : Tree) → last_tree first (ts ++ t ∷ []) ≡ t
 last_tree_on first [] t = refl
 last_tree_on first (u ∷ ts) t = last_tree_on u ts t
 

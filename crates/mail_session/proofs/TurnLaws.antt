@@ -36,15 +36,15 @@ speaks_some_on first mid last text listens told speaks = λ t. let k = (speaks t
 
 -- a turn with an answer
 turned : (old new : State) (holds : List ℕ) (first mid last : World) (answer : Answer) (result : Option Status) → GoesOn old.ended old.held holds first mid → EndsIn old.ended new.ended first mid → Listens first mid
-    → AnswersPiece new.ended old.tree holds old.long new.tree new.held new.long (spoken_text answer.spoken) answer.quit → Spoke answer mid last result → Turns old new first last result
+    → AnswersPiece new.ended old.store holds old.long new.store new.held new.long (spoken_text answer.spoken) answer.quit → Spoke answer mid last result → Turns old new first last result
 turned old new holds first mid last answer None held ends listens answers spoke = record {
   reply = spoken_text answer.spoken;
-  next = record { taken = holds; hears = hears_spoken held ends listens spoke.1; answers = subst (AnswersPiece new.ended old.tree holds old.long new.tree new.held new.long (spoken_text answer.spoken)) spoke.0 answers };
+  next = record { taken = holds; hears = hears_spoken held ends listens spoke.1; answers = subst (AnswersPiece new.ended old.store holds old.long new.store new.held new.long (spoken_text answer.spoken)) spoke.0 answers };
   said = speaks_on first mid last (spoken_text answer.spoken) listens spoke.1.keeps.told spoke.2;
 }
 turned old new holds first mid last answer (Some Done) held ends listens answers spoke = inl record {
   reply = spoken_text answer.spoken;
-  next = record { taken = holds; hears = hears_spoken held ends listens spoke.1; answers = subst (AnswersPiece new.ended old.tree holds old.long new.tree new.held new.long (spoken_text answer.spoken)) spoke.0 answers };
+  next = record { taken = holds; hears = hears_spoken held ends listens spoke.1; answers = subst (AnswersPiece new.ended old.store holds old.long new.store new.held new.long (spoken_text answer.spoken)) spoke.0 answers };
   said = speaks_on first mid last (spoken_text answer.spoken) listens spoke.1.keeps.told spoke.2;
 }
 turned old new holds first mid last answer (Some Output) held ends listens answers spoke = record {
@@ -64,8 +64,8 @@ turned old new holds first mid last answer (Some (Changed at)) held ends listens
 
 -- the same, where the answer left what is known of the input's end
 pub answered_turn : (is : Bool) (old new : State) (holds : List ℕ) (first mid last : World) (answer : Answer) (result : Option Status) → new.ended ≡ is → GoesOn old.ended old.held holds first mid → EndsIn old.ended is first mid → Listens first mid
-    → AnswersPiece is old.tree holds old.long new.tree new.held new.long (spoken_text answer.spoken) answer.quit → Spoke answer mid last result → Turns old new first last result
+    → AnswersPiece is old.store holds old.long new.store new.held new.long (spoken_text answer.spoken) answer.quit → Spoke answer mid last result → Turns old new first last result
 answered_turn is old new holds first mid last answer result same held ends listens answers spoke =
     turned old new holds first mid last answer result held
     (subst (λ e. EndsIn old.ended e first mid) (sym same) ends) listens
-    (subst (λ e. AnswersPiece e old.tree holds old.long new.tree new.held new.long (spoken_text answer.spoken) answer.quit) (sym same) answers) spoke
+    (subst (λ e. AnswersPiece e old.store holds old.long new.store new.held new.long (spoken_text answer.spoken) answer.quit) (sym same) answers) spoke

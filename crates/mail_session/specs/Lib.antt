@@ -1,5 +1,4 @@
-pub mod Entries
-pub mod Folders
+pub mod Boxes
 pub mod Fronts
 pub mod Info
 pub mod Lines
@@ -9,7 +8,6 @@ pub mod Scratch
 pub mod Spoken
 pub mod States
 pub mod Statuses
-pub mod Step
 pub mod Taking
 pub mod Texts
 pub mod Turn

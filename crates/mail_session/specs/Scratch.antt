@@ -3,12 +3,13 @@ use Rattle.std.specs.Prelude.{◌≡◌, ◌⊎◌, ℕ, ◌<◌, ◌≤◌, Boo
 use Rattle.std.specs.List.{concat, list_any}
 use Rattle.pst_outside.specs.World.{World}
 use Rattle.pst_outside.specs.Calls.{Rose}
-use Rattle.mail_session.specs.declared.folder.Folder.{Folder}
 use Rattle.mail_session.specs.declared.exit.Status.{Status}
 use Rattle.mail_session.specs.declared.exit.Status.TheVariants.{Done, Input, Output, Memory, Lines}
 use Rattle.mail_session.specs.Lines.{Piece, cut, is_quit, lines}
+use Rattle.mail_session.specs.Boxes.{Holds, IsSession, NAME}
 use Rattle.mail_session.specs.Run.{Run, last_tree}
-use Rattle.mail_session.specs.Step.{start_tree}
+use Rattle.mail_tree.specs.Start.{IsStart}
+use Rattle.mail_tree.specs.Tree.{Tree}
 use Rattle.mail_session.specs.Turn.{State, IsAllowed}
 use Rattle.mail_session.specs.Worlds.{KeepsDisk}
 
@@ -16,15 +17,26 @@ use Rattle.mail_session.specs.Worlds.{KeepsDisk}
 abbrev pub LINES : ℕ
 LINES = 4294967296
 
+-- A session that has taken nothing, over a new store.
+pub record Starts (state : State) : Type 0 where
+  pub start : Tree
+  pub is_start : IsStart NAME start
+  pub holds : Holds state.store.store start
+  pub nothing_held : state.held ≡ []
+  pub short : state.long ≡ false
+  pub unended : state.ended ≡ false
+
 -- From its start on a session has answered the lines of the input that it has taken, but for what it holds, and has said their replies.
 pub record SoFar (first now : World) (state : State) (count : ℕ) : Type 0 where
   pub keeps : KeepsDisk first now
   pub taken : List ℕ
   pub done : List Piece
   pub replies : List (List ℕ)
-  pub trees : List (List Folder)
-  pub run : Run start_tree done replies trees
-  pub tree : last_tree start_tree trees ≡ state.tree
+  pub start : Tree
+  pub is_start : IsStart NAME start
+  pub trees : List Tree
+  pub run : Run start done replies trees
+  pub holds : Holds state.store.store (last_tree start trees)
   pub counted : length done ≡ count
   pub no_quit : list_any is_quit done ≡ false
   pub cuts : (all : Bool) (more : List ℕ) → IsAllowed state.ended all more → cut all false [] (taken ++ more) ≡ done ++ cut all state.long [] (state.held ++ more)
@@ -32,7 +44,7 @@ pub record SoFar (first now : World) (state : State) (count : ℕ) : Type 0 wher
   pub end : state.ended ≡ true → now.tells → now.input ≡ []
   pub said : now.tells → now.here.said ≡ first.here.said ++ concat replies
 
--- How a session in memory ends, over any world: its replies are those of a run from the start tree over lines that are the first
+-- How a session in memory ends, over any world: its replies are those of a run from the tree of a new store over lines that are the first
 -- of those that it has taken.
 pub record ScratchEnds (first now : World) (status : Status) : Type 0 where
   -- no disk is touched
@@ -46,10 +58,9 @@ pub record ScratchEnds (first now : World) (status : Status) : Type 0 where
   pub done : List Piece
   pub left : List Piece
   pub cuts : lines all taken ≡ done ++ left
-  -- the replies to them, and the trees after them
+  -- the replies to them are those of a plain tree
   pub replies : List (List ℕ)
-  pub trees : List (List Folder)
-  pub run : Run start_tree done replies trees
+  pub run : IsSession done replies
   -- a front of the replies was said, and all of them unless the output failed
   pub front : now.tells → (k : ℕ) × (now.here.said ≡ first.here.said ++ take k (concat replies))
   pub whole : (status ≡ Output → ⊥) → now.tells → now.here.said ≡ first.here.said ++ concat replies

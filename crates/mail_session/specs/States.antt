@@ -11,7 +11,7 @@ use Rattle.mail_session.specs.Turn.{State, Speaks, SpeaksSome}
 use Rattle.mail_session.specs.Worlds.{KeepsDisk}
 
 abbrev pub state_of : Session → State
-state_of s = record { tree = s.tree; held = s.lines; long = s.long; ended = s.ended }
+state_of s = record { store = s.mailbox; held = s.lines; long = s.long; ended = s.ended }
 
 -- what saying an answer keeps
 pub record Speaking (before after : World) : Type 0 where

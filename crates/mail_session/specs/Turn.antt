@@ -2,13 +2,13 @@
 use Rattle.std.specs.Prelude.{◌≡◌, ◌⊎◌, ℕ, Bool, true, false, List, [], ◌∷◌, ◌++◌, take, Option, Some, None}
 use Rattle.pst_outside.specs.World.{World}
 use Rattle.pst_outside.specs.Calls.{Rose}
-use Rattle.mail_session.specs.declared.folder.Folder.{Folder}
+use Rattle.mail_session.specs.declared.mailbox.Mailbox.{Mailbox}
 use Rattle.mail_session.specs.declared.lines.Front.TheVariants.{Open}
 use Rattle.mail_session.specs.declared.exit.Status.{Status}
 use Rattle.mail_session.specs.declared.exit.Status.TheVariants as statuses
 use Rattle.mail_session.specs.Fronts.{StandsAt}
 use Rattle.mail_session.specs.Lines.{Piece, cut, is_quit}
-use Rattle.mail_session.specs.Run.{Answers}
+use Rattle.mail_session.specs.Boxes.{Answering}
 use Rattle.mail_session.specs.Taking.{GoesOn, EndsIn}
 use Rattle.mail_session.specs.Worlds.{KeepsDisk}
 
@@ -18,15 +18,15 @@ pub record IsAllowed (ended : Bool) (all : Bool) (more : List ℕ) : Type 0 wher
   pub none : ended ≡ true → more ≡ []
 
 -- A piece at the front of what was held was answered: it, and the pieces of what is held now and of whatever comes behind, are the pieces from before.
-pub record AnswersPiece (ended : Bool) (tree : List Folder) (held : List ℕ) (long : Bool) (tree' : List Folder) (held' : List ℕ) (long' : Bool) (reply : List ℕ) (quit : Bool) : Type 0 where
+pub record AnswersPiece (ended : Bool) (store : Mailbox) (held : List ℕ) (long : Bool) (store' : Mailbox) (held' : List ℕ) (long' : Bool) (reply : List ℕ) (quit : Bool) : Type 0 where
   pub piece : Piece
   pub cuts : (all : Bool) (more : List ℕ) → IsAllowed ended all more → cut all long [] (held ++ more) ≡ piece ∷ cut all long' [] (held' ++ more)
-  pub answers : Answers tree piece reply tree'
+  pub answers : Answering store.store piece reply store'.store
   pub quits : quit ≡ is_quit piece
 
--- A session between two lines: its tree, the bytes that it has taken and not answered, whether they go on with a line that is too long, and whether the input has ended.
+-- A session between two lines: its store, the bytes that it has taken and not answered, whether they go on with a line that is too long, and whether the input has ended.
 pub record State : Type 0 where
-  pub tree : List Folder
+  pub store : Mailbox
   pub held : List ℕ
   pub long : Bool
   pub ended : Bool
@@ -48,7 +48,7 @@ SpeaksSome text before after = after.tells → (k : ℕ) × (after.here.said ≡
 pub record AnswersNext (old new : State) (reply : List ℕ) (quit : Bool) (before after : World) : Type 0 where
   pub taken : List ℕ
   pub hears : Hears old taken new.ended before after
-  pub answers : AnswersPiece new.ended old.tree taken old.long new.tree new.held new.long reply quit
+  pub answers : AnswersPiece new.ended old.store taken old.long new.store new.held new.long reply quit
 
 -- A piece was answered, and its whole reply said.
 pub record TurnsOn (old new : State) (quit : Bool) (before after : World) : Type 0 where

@@ -2,12 +2,15 @@
 ghost use Rattle.std.specs.Prelude.{◌≡◌, [], IfOk, OnErr};
 ghost use Rattle.command_text.specs.Lines.{command};
 ghost use Rattle.mail_session.specs.Lines.{without_cr, line};
-ghost use Rattle.mail_session.specs.Run.{Answers, carried_out};
+ghost use Rattle.command_text.specs.declared.reply.CommandRefusal.{CommandRefusal as Refusal};
+ghost use Rattle.mail_session.specs.Boxes.{Answering, StaysAs};
+ghost use Rattle.mail_session.specs.Run.{Carries, refused};
+ghost use Rattle.mail_session.specs.Boxes.{Holds};
+ghost use Rattle.mail_tree.specs.Tree.{Tree};
 ghost use Rattle.mail_session.specs.Spoken.{spoken_text};
 
-use crate::step::{refusal_text, step};
-use crate::tree::Tree;
-use command_text::{CommandRefusal, LineRefusal, read_line};
+use crate::mailbox::Mailbox;
+use command_text::{CommandRefusal, LastLine, LineRefusal, Reply, read_line, reply_text};
 use pst_base::{Bytes, MemOr};
 use std::alloc::{AllocError, Global};
 
@@ -49,13 +52,23 @@ pub(crate) fn without_cr(bytes: &[u8]) -> &[u8]
     }
 }
 
+/// The text of a refusal.
+pub(crate) fn refusal_text(alloc: Global, refusal: CommandRefusal) -> Result<Bytes, AllocError>
+    ensures { IfOk result (λ t. t ≡ refused refusal) }
+{
+    reply_text(
+        alloc,
+        &Reply::without_data(alloc, LastLine::Refused(refusal)),
+    )
+}
+
 /// Carries out what a line asks for. An `Err` changes nothing.
-fn carry_out(alloc: Global, tree: &mut Tree, bytes: &[u8]) -> Result<Bytes, AllocError>
-    ensures ok { IfOk result (λ t. (tree.new, t) ≡ carried_out tree.old (command bytes.now)) }
-    ensures err { OnErr result (tree.new ≡ tree.old) }
+fn carry_out(alloc: Global, mailbox: &mut Mailbox, bytes: &[u8]) -> Result<Bytes, AllocError>
+    ensures ok { IfOk result (λ t. (T : Tree) → Holds mailbox.old.store T → (U : Tree) × Carries T (command bytes.now) t U × Holds mailbox.new.store U) }
+    ensures err { OnErr result (StaysAs mailbox.old.store mailbox.new.store) }
 {
     match read_line(alloc, bytes) {
-        Ok(command) => step(alloc, tree, command),
+        Ok(command) => mailbox.carry_out(alloc, &command),
         Err(MemOr::Refused(LineRefusal::Line)) => refusal_text(alloc, CommandRefusal::Line),
         Err(MemOr::Refused(LineRefusal::Value)) => refusal_text(alloc, CommandRefusal::Value),
         Err(MemOr::Memory) => Err(AllocError),
@@ -63,10 +76,10 @@ fn carry_out(alloc: Global, tree: &mut Tree, bytes: &[u8]) -> Result<Bytes, Allo
 }
 
 /// Answers a line.
-pub(crate) fn answer_line(alloc: Global, tree: &mut Tree, bytes: &[u8]) -> Spoken
-    ensures { Answers tree.old (line bytes.now) (spoken_text result) tree.new }
+pub(crate) fn answer_line(alloc: Global, mailbox: &mut Mailbox, bytes: &[u8]) -> Spoken
+    ensures { Answering mailbox.old.store (line bytes.now) (spoken_text result) mailbox.new.store }
 {
-    match carry_out(alloc, tree, bytes) {
+    match carry_out(alloc, mailbox, bytes) {
         Ok(text) => Spoken::Reply(text),
         Err(AllocError) => Spoken::NoMemory,
     }

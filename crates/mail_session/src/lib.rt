@@ -10,21 +10,18 @@ mod answers;
 mod byte_world;
 mod call;
 mod exit;
-mod folder;
 mod info;
 mod input;
 mod lines;
-mod names;
+mod mailbox;
 mod nodes;
+mod nowhere;
 mod session;
-mod start;
-mod step;
 #[cfg(test)]
 mod tests;
 #[cfg(test)]
 mod text_tests;
 mod texts;
-mod tree;
 mod turns;
 mod words;
 

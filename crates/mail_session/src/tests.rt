@@ -431,6 +431,100 @@ fn a_session_answers_its_lines(rt: HostRuntime) -> Result<(), Fail> {
     Ok(())
 }
 
+/// Lines that make the folders `Inbox` (0x8082) and, in it, `Sent` (0x80a2), and in `Inbox` the message 0x200024.
+const BEGINNING: &str = "mkdir 0x8022 Inbox\nmkdir 0x8082 Sent\nnew 0x8082 IPM.Note 0\n";
+
+#[test]
+fn messages_are_made_set_moved_copied_and_removed(rt: HostRuntime) -> Result<(), Fail> {
+    let table: [(&[u8], &[u8]); 4] = [
+        (
+            b"mkdir 0x8022 Inbox\nnew 0x8082 IPM.Note 0\nset 0x200024 0x0037001f Hello\nget 0x200024 0x0037001f\nls 0x8082\nrm 0x200024\nls 0x8082\nquit\n",
+            b"ok 0x8082\nok 0x200024\nok\nok \"Hello\"\n- 0x200024 message 62 \"Hello\"\nok 1\nok\nok 0\nok\n",
+        ),
+        (
+            b"new 0x8062 IPM.Note 0\nls 0x8062\nprops 0x200024\n",
+            b"ok 0x200024\n- 0x200024 message 52 \"\"\nok 1\n- 0x001a001f 16\n- 0x0e070003 4\n- 0x0e080003 4\n- 0x30070040 8\n- 0x30080040 8\n- 0x300b0102 16\nok 6\n",
+        ),
+        (
+            b"new 0x8022 IPM.Note 0\nset 0x200024 0x0037001f Hello\nmv 0x200024 0x8062\nls 0x8062\ncp 0x200024 0x8042\nrm 0x200024\nls 0x8042\nls 0x8062\nnew 0x8062 IPM.Note 0\n",
+            b"ok 0x200024\nok\nok\n- 0x200024 message 62 \"Hello\"\nok 1\nok 0x200044\nok\n- 0x200044 message 62 \"Hello\"\nok 1\nok 0\nok 0x200064\n",
+        ),
+        (
+            b"new 0x8022 IPM.Note 0\nset 0x200024 0x0e070003 1\nget 0x200024 0x0e070003\nunset 0x200024 0x001a001f\nget 0x200024 0x001a001f\nsave\n",
+            b"ok 0x200024\nok\nok 1\nok\nno property\nok\n",
+        ),
+    ];
+    for (input, wanted) in table {
+        session(&rt, input, FailPlan::none(rt.alloc()), wanted, 0)?;
+    }
+    Ok(())
+}
+
+#[test]
+fn folders_are_renamed_moved_and_removed(rt: HostRuntime) -> Result<(), Fail> {
+    let table: [(&[u8], &[u8]); 3] = [
+        (
+            b"mkdir 0x8022 Inbox\nrename 0x8082 INBOX\nls 0x8022\n",
+            b"ok 0x8082\nok\n- 0x8082 folder \"INBOX\"\nok 1\n",
+        ),
+        (
+            b"mkdir 0x8022 A\nmkdir 0x8022 B\nmvdir 0x80a2 0x8082\nls 0x8022\nls 0x8082\nmvdir 0x80a2 0x8082\n",
+            b"ok 0x8082\nok 0x80a2\nok\n- 0x8082 folder \"A\"\nok 1\n- 0x80a2 folder \"B\"\nok 1\nok\n",
+        ),
+        (
+            b"mkdir 0x8022 A\nrmdir 0x8082\nls 0x8022\nmkdir 0x8022 A\n",
+            b"ok 0x8082\nok\nok 0\nok 0x80a2\n",
+        ),
+    ];
+    for (input, wanted) in table {
+        session(&rt, input, FailPlan::none(rt.alloc()), wanted, 0)?;
+    }
+    Ok(())
+}
+
+/// After `BEGINNING`, a line is refused with these words.
+fn refused_of(rt: &(impl Abort + AllocGlobal), line: &str, wanted: &str) -> Result<(), Fail> {
+    let mut input = String::new(rt.alloc());
+    write!(input, "{BEGINNING}{line}\n")?;
+    let mut said = String::new(rt.alloc());
+    write!(said, "ok 0x8082\nok 0x80a2\nok 0x200024\nno {wanted}\n")?;
+    session(
+        rt,
+        input.as_bytes(),
+        FailPlan::none(rt.alloc()),
+        said.as_bytes(),
+        0,
+    )
+}
+
+#[test]
+fn each_refusal_comes_alone_and_before_later_ones(rt: HostRuntime) -> Result<(), Fail> {
+    let table = [
+        ("mkdir 8022 \\x", "line"),
+        ("mkdir 0x8022 \\x", "value"),
+        ("mkdir 0x999 \\x", "value"),
+        ("rm 0x999", "object"),
+        ("set 0x999 0x0e080003 1", "object"),
+        ("rmdir 0x8062", "protected"),
+        ("rmdir 0x122", "protected"),
+        ("mvdir 0x8022 0x8022", "protected"),
+        ("unset 0x200024 0x0e070003", "protected"),
+        ("set 0x200024 0x300b0102 00", "protected"),
+        ("mvdir 0x8082 0x80a2", "cycle"),
+        ("mvdir 0x8082 0x8082", "cycle"),
+        ("rmdir 0x8082", "not-empty"),
+        ("get 0x200024 0x0037001f", "property"),
+        ("unset 0x200024 0x0037001f", "property"),
+        ("set 0x200024 0x8000001f A", "property"),
+        ("mkdir 0x8082 SENT", "name-taken"),
+        ("rename 0x80a2 \\x", "value"),
+    ];
+    for (line, wanted) in table {
+        refused_of(&rt, line, wanted)?;
+    }
+    Ok(())
+}
+
 #[test]
 fn a_session_ends_with_its_device(rt: HostRuntime) -> Result<(), Fail> {
     session(

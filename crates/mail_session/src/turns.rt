@@ -4,15 +4,13 @@ ghost use Rattle.mail_session.specs.Fronts.{IsReady};
 ghost use Rattle.mail_session.specs.Spoken.{spoken_text};
 ghost use Rattle.mail_session.specs.Turn.{AnswersPiece, Turns, State};
 ghost use Rattle.mail_session.specs.States.{state_of, Spoke};
-ghost use Rattle.mail_session.specs.Step.{start_tree};
-ghost use Rattle.mail_session.specs.Scratch.{ScratchEnds};
+ghost use Rattle.mail_session.specs.Scratch.{ScratchEnds, Starts};
 
 use crate::exit::Status;
 use crate::input::next_front;
 use crate::lines::{Front, LineBuffer};
+use crate::mailbox::Mailbox;
 use crate::session::{Answer, answer_feed, answer_last, answer_overlong};
-use crate::start::start;
-use crate::tree::Tree;
 use pst_outside::{Failed, Outside, say_all};
 use std::alloc::{AllocError, Global};
 
@@ -22,7 +20,7 @@ const LINES: u64 = 1 << 32;
 /// A session between two lines.
 #[derive(Drop)]
 pub(crate) struct Session {
-    tree: Tree,
+    mailbox: Mailbox,
     lines: LineBuffer,
     long: bool,
     ended: bool,
@@ -31,10 +29,10 @@ pub(crate) struct Session {
 impl Session {
     /// A session that has taken nothing. All memory that its input needs is taken here.
     fn start(alloc: Global) -> Result<Session, AllocError>
-        ensures { IfOk result (λ s. state_of s ≡ record { tree = start_tree; held = []; long = false; ended = false }) }
+        ensures { IfOk result (λ s. Starts (state_of s)) }
     {
         Ok(Session {
-            tree: start(alloc)?,
+            mailbox: Mailbox::new(alloc)?,
             lines: LineBuffer::new(alloc)?,
             long: false,
             ended: false,
@@ -44,7 +42,7 @@ impl Session {
     /// Answers what stands at the front, or gives None where the input has ended and all of it was answered.
     fn answer(&mut self, alloc: Global, front: Front) -> Option<Answer>
         requires { IsReady front self.old.ended self.old.lines }
-        ensures some { IfSome result (λ a. AnswersPiece self.old.ended self.old.tree self.old.lines self.old.long self.new.tree self.new.lines self.new.long (spoken_text a.spoken) a.quit) }
+        ensures some { IfSome result (λ a. AnswersPiece self.old.ended self.old.mailbox self.old.lines self.old.long self.new.mailbox self.new.lines self.new.long (spoken_text a.spoken) a.quit) }
         ensures none { IsNone result → (self.old.lines ≡ []) × (self.old.ended ≡ true) }
         ensures ended { self.new.ended ≡ self.old.ended }
     {
@@ -52,7 +50,7 @@ impl Session {
             Front::Line { feed } => {
                 let answer = answer_feed(
                     alloc,
-                    &mut self.tree,
+                    &mut self.mailbox,
                     &mut self.lines,
                     &mut self.long,
                     feed,
@@ -67,7 +65,7 @@ impl Session {
                 if self.lines.held().len() == 0 {
                     return None;
                 }
-                let answer = answer_last(alloc, &mut self.tree, &mut self.lines, &mut self.long);
+                let answer = answer_last(alloc, &mut self.mailbox, &mut self.lines, &mut self.long);
                 Some(answer)
             }
         }

@@ -10,8 +10,7 @@ returns-in_default-clause-ends g c = ends_by_memory (g.W.Outside.view c.args.wor
 
 pub loop-count-init : goal.loop-count-init
 loop-count-init g c =
-    let world = g.W.Outside.view c.args.world.now in
-    subst (λ (s : State). SoFar world world s 0) (sym c.in-Ok.ensures) (started world)
+    started (g.W.Outside.view c.args.world.now) _ c.in-Ok.ensures
 
 pub loop-count-preserved : goal.loop-count-preserved
 loop-count-preserved g c =

@@ -1,0 +1,44 @@
+-- The store of a session in memory, and the tree that it has.
+use Rattle.std.specs.Prelude.{◌≡◌, ◌⊎◌, ℕ, Bool, true, false, List, [], codes}
+use Rattle.command_text.specs.declared.command.Command.{Command}
+use Rattle.command_text.specs.declared.reply.CommandRefusal.{CommandRefusal}
+use Rattle.command_text.specs.declared.reply.CommandRefusal.TheVariants.{Full}
+use Rattle.node_port.specs.Slots.{Keeps}
+use Rattle.node_port.specs.declared.map_keeper.MapKeeper.{MapKeeper}
+use Rattle.mail_store.specs.Planning.{Stores}
+use Rattle.mail_store.specs.declared.store.Store.{Store}
+use Rattle.mail_tree.specs.Start.{IsStart}
+use Rattle.mail_tree.specs.Tree.{Tree}
+use Rattle.mail_tree.specs.Whole.{IsWhole}
+use Rattle.mail_session.specs.Lines.{Piece}
+use Rattle.mail_session.specs.Run.{Answers, Run, Steps}
+
+-- the store has this tree, and it is whole
+pub record Holds (store : Store MapKeeper) (T : Tree) : Type 0 where
+  pub stores : Stores (Keeps store.keeper.nodes) store.keeper.counts.last store.places T
+  pub whole : IsWhole T
+
+-- whatever tree the store had, it has it still
+abbrev pub StaysAs : Store MapKeeper → Store MapKeeper → Type 0
+StaysAs old new = (T : Tree) → Holds old T → Holds new T
+
+-- whatever tree the store had, it has the one after the step of a command, and the text is that of its reply
+abbrev pub DoesStep : Store MapKeeper → Command → List ℕ → Store MapKeeper → Type 0
+DoesStep old c said new = (T : Tree) → Holds old T → (U : Tree) × Steps T c said U × Holds new U
+
+-- a piece was answered over a store
+abbrev pub Answering : Store MapKeeper → Piece → List ℕ → Store MapKeeper → Type 0
+Answering old piece said new = (T : Tree) → Holds old T → (U : Tree) × Answers T piece said U × Holds new U
+
+-- the name of the store in memory
+abbrev pub NAME : List ℕ
+NAME = codes "scratch"
+
+-- the replies to lines are those of a run from the tree of a new store; or there were no lines
+abbrev pub IsSession : List Piece → List (List ℕ) → Type 0
+IsSession done replies = ((done ≡ []) × (replies ≡ [])) ⊎ ((start : Tree) × (trees : List Tree) × IsStart NAME start × Run start done replies trees)
+
+-- the refusal is that of a full file
+abbrev pub is_full : CommandRefusal → Bool
+is_full (Full free need) = true
+is_full other = false
