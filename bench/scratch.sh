@@ -1,12 +1,12 @@
 #!/bin/sh
-# Prints the seconds and the greatest memory of sessions in memory of 100,000 lines: folders all in one folder, folders and lists mixed over 500 folders, and lines that change nothing.
+# Prints the seconds and the greatest memory of sessions in memory of 2,000 lines: folders all in one folder, folders and lists mixed over 500 folders, and lines that change nothing.
 # The last two rows show that memory grows with the tree and not with the lines.
 # Needs crates/pstore/out/pstore, which `./pstore` builds.
 cd "$(dirname "$0")/.." || exit 1
 exec python3 - crates/pstore/out/pstore <<'END'
 import subprocess, sys, tempfile, time
 
-LINES = 100_000
+LINES = 2_000
 
 
 def folders(parents, lines):
