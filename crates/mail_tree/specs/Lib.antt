@@ -11,3 +11,5 @@ pub mod Step
 pub mod Whole
 pub mod Start
 pub mod Laws
+pub mod Found
+pub mod Stays
