@@ -32,14 +32,12 @@ use pst_base::{Nid, Subs};
 use pst_outside::Outside;
 use std::alloc::{AllocError, Global};
 
-/// The last index that a node can have.
-const LAST_INDEX: u64 = 134_217_727;
 /// The number of rows at which no folder is made in a table.
 const FULL_ROWS: usize = 100_000;
 /// The kinds of a folder's nodes.
 const FOLDER_KINDS: [u8; 4] = [0x02, 0x0D, 0x0E, 0x0F];
 
-/// A new folder of this name in a parent. Refused, in this order: the parent isn't there (`Object`) or isn't plain (`Reserved`), a folder in it has the name (`NameTaken`), it would stand below more than 64 others (`Limit(Depth)`), its parent has 100,000 folders or more (`Limit(Rows)`), no index is left (`Ids`), a table would have too many rows (`Limit(Rows)`), a folder would have too many values (`Limit(Properties)`).
+/// A new folder of this name in a parent. Refused, in this order: the parent isn't there (`Object`) or isn't plain (`Reserved`), a folder in it has the name (`NameTaken`), it would stand below more than 64 others (`Limit(Depth)`), its parent has 100,000 folders or more or its table would have too many rows (`Limit(Rows)`), a folder would have too many values (`Limit(Properties)`), no index is left (`Ids`).
 #[tactic(auto, unfolding(mail_tree::specs::Folders::made_folder))]
 pub fn make_folder<W: Outside, K: Keeper<W>>(
     alloc: Global,
@@ -76,18 +74,6 @@ fn unless_full<W: Outside, K: NodeReader<W>>(
     let node = table_in(alloc, keeper, w, nid)?;
     if node.table().rows().len() >= FULL_ROWS {
         return Err(Stop::Refused(CommandRefusal::Limit(Limit::Rows)));
-    }
-    Ok(())
-}
-
-/// Refused where an index is past the last one.
-fn unless_spent(index: u64) -> Result<(), Stop>
-    ensures answer { Says (λ u. u) (refused_if (is_spent index) Ids) result }
-    ensures few { OnOk result (index ≤ 134217727) }
-    ensures calm { IfErr result IsCalm }
-{
-    if index > LAST_INDEX {
-        return Err(Stop::Refused(CommandRefusal::Ids));
     }
     Ok(())
 }
@@ -157,7 +143,6 @@ fn making_folder<W: Outside, K: Keeper<W>>(
     ensures looks { Looks (K.holds keeper.old (W.view w.old)) (K.holds keeper.new (W.view w.new)) (K.last keeper.old) (K.last keeper.new) (K.room keeper.old) (K.room keeper.new) (W.view w.old) (W.view w.new) }
     ensures cause { IfErr result (IsCaused K.has_disk (W.view w.old).disk_faults (W.view w.new).disk_faults) }
 {
-    unless_spent(index)?;
     let folder = new_id(2, index);
     let after = with_place(alloc, places, folder, parent)?;
     let with_row = added(alloc, keeper, w, folder, parent, name)?;

@@ -3,13 +3,10 @@ use Rattle.std.proofs.Common.{◌≡◌, ◌∙◌, ℕ, Bool, Option, None, Som
 use Rattle.std.specs.FinMap as map
 use Rattle.std.specs.Ordering.{nat_cmp}
 use Rattle.std.specs.Result.{IsErrAnd}
-use Rattle.command_text.specs.declared.reply.CommandRefusal.TheVariants.{Ids}
-use Rattle.mail_tree.specs.Changing.{Answer, Changed, ◌>>=◌, refused_if}
-use Rattle.mail_tree.specs.Ids.{is_spent}
+use Rattle.mail_tree.specs.Changing.{Answer, Changed, ◌>>=◌}
 use Rattle.mail_objects.specs.declared.object.Object.{Object}
 use Rattle.mail_draft.specs.declared.stop.Stop.{Stop}
 use Rattle.mail_draft.specs.Answers.{IsNoMatter, Says}
-use Rattle.mail_messages.specs.Parts.{left}
 use Rattle.mail_draft.proofs.Passes.{no_matter, stop_says}
 
 -- the exit of a `?`
@@ -66,8 +63,3 @@ unrelated view answer stop (Err e) first is = subst (λ z. Says view answer (Err
 -- two parts make the changes
 pub changed_same : (D E : Changed) → D.objects ≡ E.objects → D.crowded ≡ E.crowded → D ≡ E
 changed_same D E objects crowded = ap (λ (o : map.FinMap nat_cmp (Option Object)). record D { objects = o }) objects ∙ ap (λ (b : Bool). record E { crowded = b }) crowded
-
--- an index that was left goes into the next step
-pub left_then : {C D : Type 0} (view : D → C) (index : ℕ) (f : ℕ → Answer C) (result : Result D Stop)
-    → Says view (left index >>= f) result → Says view (refused_if (is_spent index) Ids >>= λ u. f index) result
-left_then view index f result said = regroup view (refused_if (is_spent index) Ids) (λ u. Ok index) f result said

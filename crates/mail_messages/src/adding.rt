@@ -1,5 +1,5 @@
 //! New messages in a folder.
-ghost use Rattle.std.specs.Prelude.{◌≡◌, IfErr};
+ghost use Rattle.std.specs.Prelude.{◌≡◌, IfErr, Ok};
 ghost use Rattle.mail_tree.specs.Tree.{Shown, Tree};
 ghost use Rattle.mail_tree.specs.Messages.{added_message};
 ghost use Rattle.mail_draft.specs.Answers.{IsCaused, Looks, Says};
@@ -9,7 +9,7 @@ ghost use Rattle.mail_tree.specs.Changing.{contents};
 ghost use Rattle.mail_tree.specs.Folders.{unless_full};
 ghost use Rattle.mail_tree.specs.Ids.{message_kinds, next_index};
 ghost use Rattle.mail_messages.specs.Faults.{IsFaultless};
-ghost use Rattle.mail_messages.specs.Parts.{adding, adding_row, left, may_grow};
+ghost use Rattle.mail_messages.specs.Parts.{adding, adding_row, may_grow};
 
 use crate::find::contents;
 use crate::outcomes::making;
@@ -23,8 +23,6 @@ use pst_base::Nid;
 use pst_outside::Outside;
 use std::alloc::Global;
 
-/// The last index that a node can have.
-const LAST_INDEX: u64 = 134_217_727;
 /// How many rows a command may bring a table to.
 const MOST_ROWS: usize = 100_000;
 
@@ -54,29 +52,17 @@ pub(crate) fn unless_full<W: Outside, K: NodeReader<W>>(
     check_growth(&table)
 }
 
-/// An index that a node can have. Refused where it is past the last one.
-fn check_index(index: u64) -> Result<u32, Stop>
-    ensures answer { Says (λ n. n) (left index) result }
-    ensures cause { IfErr result IsFaultless }
-{
-    if index > LAST_INDEX {
-        return Err(Stop::Refused(CommandRefusal::Ids));
-    }
-    Ok(index as u32)
-}
-
-/// The index of the next message. Refused where none is left.
-pub(crate) fn left_index<W: Outside, K: Keeper<W>>(
+/// The index of the next message, which may be past the last one.
+pub(crate) fn next_message<W: Outside, K: Keeper<W>>(
     alloc: Global,
     keeper: &mut K,
     w: &mut W,
-) -> Result<u32, Stop>
-    ensures answer { (T : Tree) → Shown (K.holds keeper.old (W.view w.old)) (K.last keeper.old) T → Says (λ n. n) (left (next_index T 4 message_kinds)) result }
+) -> Result<u64, Stop>
+    ensures answer { (T : Tree) → Shown (K.holds keeper.old (W.view w.old)) (K.last keeper.old) T → Says (λ n. n) (Ok (next_index T 4 message_kinds)) result }
     ensures looks { Looks (K.holds keeper.old (W.view w.old)) (K.holds keeper.new (W.view w.new)) (K.last keeper.old) (K.last keeper.new) (K.room keeper.old) (K.room keeper.new) (W.view w.old) (W.view w.new) }
     ensures cause { IfErr result (IsCaused K.has_disk (W.view w.old).disk_faults (W.view w.new).disk_faults) }
 {
-    let index = next_index(alloc, keeper, w, 4, &[4])?;
-    check_index(index)
+    next_index(alloc, keeper, w, 4, &[4])
 }
 
 /// Adds a row that shows these values of a message to its folder's table, and counts the folder anew.
@@ -126,7 +112,7 @@ pub(crate) fn adding<W: Outside, K: Keeper<W>>(
     places: &Places,
     draft: Draft,
     mail: Mail,
-    index: u32,
+    index: u64,
 ) -> Result<Outcome, Stop>
     ensures answer { (T : Tree) → Shown (K.holds keeper.old (W.view w.old)) (K.last keeper.old) T → T.places ≡ places.now → Says (outcome_of T) (adding T mail (changed_of draft) index) result }
     ensures looks { Looks (K.holds keeper.old (W.view w.old)) (K.holds keeper.new (W.view w.new)) (K.last keeper.old) (K.last keeper.new) (K.room keeper.old) (K.room keeper.new) (W.view w.old) (W.view w.new) }

@@ -7,7 +7,7 @@ ghost use Rattle.mail_draft.specs.Outcomes.{outcome_of};
 ghost use Rattle.mail_messages.specs.Faults.{IsFaultless};
 ghost use Rattle.mail_messages.specs.Parts.{copying_in, copying_into, may_copy};
 
-use crate::adding::{adding, left_index, unless_full};
+use crate::adding::{adding, next_message, unless_full};
 use crate::find::{check_plain, message_in};
 use crate::mails::{copy_of, is_crowded_message};
 use command_text::{CommandRefusal, Limit};
@@ -59,9 +59,9 @@ fn copy_mail<W: Outside, K: Keeper<W>>(
     ensures cause { IfErr result (IsCaused K.has_disk (W.view w.old).disk_faults (W.view w.new).disk_faults) }
 {
     unless_full(alloc, keeper, w, folder)?;
-    let index = left_index(alloc, keeper, w)?;
+    let index = next_message(alloc, keeper, w)?;
     let draft = Draft::new(alloc).crowded(is_crowded_message(&mail));
-    let copy = copy_of(new_id(4, u64::from(index)), folder, mail);
+    let copy = copy_of(new_id(4, index), folder, mail);
     adding(alloc, keeper, w, places, draft, copy, index)
 }
 
@@ -83,7 +83,7 @@ fn copy_into<W: Outside, K: Keeper<W>>(
     copy_mail(alloc, keeper, w, places, folder, mail)
 }
 
-/// Copies a message with its recipients, attachments and all subnodes into a folder. Refused, in this order: the message isn't there, or the folder (`Object`), the folder isn't plain (`Reserved`), the copy or the folder's table would have too many rows (`Limit(Rows)`), no index is left (`Ids`), an object would have too many values (`Limit(Properties)`).
+/// Copies a message with its recipients, attachments and all subnodes into a folder. Refused, in this order: the message isn't there, or the folder (`Object`), the folder isn't plain (`Reserved`), the copy or the folder's table would have too many rows (`Limit(Rows)`), an object would have too many values (`Limit(Properties)`), no index is left (`Ids`).
 pub fn copy_message<W: Outside, K: Keeper<W>>(
     alloc: Global,
     keeper: &mut K,

@@ -8,7 +8,7 @@ ghost use Rattle.mail_draft.specs.Answers.{IsCaused, Looks, Says};
 ghost use Rattle.mail_draft.specs.Outcomes.{outcome_of};
 ghost use Rattle.mail_messages.specs.Parts.{making_in};
 
-use crate::adding::{adding, left_index, unless_full};
+use crate::adding::{adding, next_message, unless_full};
 use crate::find::check_plain;
 use crate::mails::{finished, message_props, plain_message};
 use command_text::CommandRefusal;
@@ -31,11 +31,11 @@ fn new_mail(
     class: &Units,
     time: u64,
     store: &Context,
-    index: u32,
+    index: u64,
 ) -> Result<Mail, AllocError>
     ensures { IfOk result (λ m. m ≡ finished (plain_message (new_id 4 index) folder.bits (message_props (new_id 4 index) class.now time store.now.props))) }
 {
-    let nid = new_id(4, u64::from(index));
+    let nid = new_id(4, index);
     let props = message_props(alloc, nid, class, time, store.props())?;
     finished(alloc, plain_message(alloc, nid, folder, props))
 }
@@ -56,12 +56,12 @@ fn make_message<W: Outside, K: Keeper<W>>(
     ensures cause { IfErr result (IsCaused K.has_disk (W.view w.old).disk_faults (W.view w.new).disk_faults) }
 {
     unless_full(alloc, keeper, w, folder)?;
-    let index = left_index(alloc, keeper, w)?;
+    let index = next_message(alloc, keeper, w)?;
     let mail = new_mail(alloc, folder, class, time, store, index)?;
     adding(alloc, keeper, w, places, Draft::new(alloc), mail, index)
 }
 
-/// A new message of a class and a time in a folder. Refused, in this order: the folder isn't there (`Object`) or isn't plain (`Reserved`), its table would have too many rows (`Limit(Rows)`), no index is left (`Ids`), a folder would have too many values (`Limit(Properties)`).
+/// A new message of a class and a time in a folder. Refused, in this order: the folder isn't there (`Object`) or isn't plain (`Reserved`), its table would have too many rows (`Limit(Rows)`), a folder would have too many values (`Limit(Properties)`), no index is left (`Ids`).
 pub fn new_message<W: Outside, K: Keeper<W>>(
     alloc: Global,
     keeper: &mut K,

@@ -8,11 +8,15 @@ ghost use Rattle.mail_draft.specs.Answers.{Says};
 ghost use Rattle.mail_draft.specs.Drafts.{all_fit, changed_of};
 ghost use Rattle.mail_draft.specs.Outcomes.{outcome_of};
 ghost use Rattle.mail_messages.specs.Faults.{IsFaultless};
+ghost use Rattle.mail_messages.specs.Parts.{left};
 
-use command_text::{LastLine, Reply};
+use command_text::{CommandRefusal, LastLine, Reply};
 use mail_draft::{Draft, Outcome, Stop, new_id, within_limits};
 use node_port::Counts;
 use std::alloc::Global;
+
+/// The last index that a node can have.
+const LAST_INDEX: u64 = 134_217_727;
 
 /// Checks that a draft keeps to the limits. It reads no node, so that it never stops for a fault.
 fn check_limits(draft: &Draft) -> Result<(), Stop>
@@ -50,22 +54,34 @@ fn counted(counts: Counts, index: u32) -> Counts
     counted
 }
 
-/// The changes of a draft are made, if they keep to the limits, and with them a new message with this index.
+/// An index that a node can have. Refused where it is past the last one.
+fn check_index(index: u64) -> Result<u32, Stop>
+    ensures answer { Says (λ n. n) (left index) result }
+    ensures cause { IfErr result IsFaultless }
+{
+    if index > LAST_INDEX {
+        return Err(Stop::Refused(CommandRefusal::Ids));
+    }
+    Ok(index as u32)
+}
+
+/// The changes of a draft are made, if they keep to the limits, and with them a new message with this index. Refused where it is past the last one.
 pub(crate) fn making(
     alloc: Global,
     counts: Counts,
     draft: Draft,
-    index: u32,
+    index: u64,
 ) -> Result<Outcome, Stop>
     ensures answer { (T : Tree) → T.last ≡ counts.last → Says (outcome_of T) (making T T.places 4 index (changed_of draft)) result }
     ensures cause { IfErr result IsFaultless }
 {
     check_limits(&draft)?;
-    let made = LastLine::Made(new_id(4, u64::from(index)));
+    let left = check_index(index)?;
+    let made = LastLine::Made(new_id(4, index));
     Ok(Outcome {
         draft,
         places: None,
-        last: Some(counted(counts, index)),
+        last: Some(counted(counts, left)),
         reply: Reply::without_data(alloc, made),
     })
 }

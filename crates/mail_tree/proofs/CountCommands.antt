@@ -20,11 +20,12 @@ use Rattle.mail_tree.specs.declared.places.Place.{Place}
 use Rattle.mail_tree.specs.Places.{ROOT, children, find_place, is_child, is_deep, is_plain, is_within, moves_deep, place_id}
 use Rattle.mail_tree.specs.Tree.{Tree}
 use Rattle.mail_tree.specs.Values.{bytes_of, finished, folder_props, is_set_protected, is_unset_protected, message_props, name_of, text, truth, with_props}
+use Rattle.command_text.specs.declared.reply.CommandRefusal.TheVariants.{Ids}
 use Rattle.mail_tree.specs.Changing.{Answer, Changed, ◌>>=◌, add_shown, associated, beside, contents, context_at, drop_shown, hierarchy, nothing, now_at, put_shown, table_at, with_object, within_limits}
 use Rattle.mail_tree.specs.Columns.{contents_table, hierarchy_table}
 use Rattle.mail_tree.specs.Settling.{message_ids, mirrored, settled, with_context}
 use Rattle.mail_tree.specs.Ids.{folder_kinds, is_spent, is_taken, message_kinds, new_id, next_index}
-use Rattle.mail_tree.specs.Folders.{Outcome, associated_in, changing, folder_lines, has_associated, has_rows, listing, made_folder, making, making_folder, moved_between, moved_folder, place, removed_folder, without_folder, without_node, message_lines, moving, renamed_folder, replied, siblings, unless_full, unless_named, unless_protected}
+use Rattle.mail_tree.specs.Folders.{Outcome, associated_in, changing, folder_lines, has_associated, has_rows, listing, made_folder, making, making_folder, moved_between, moved_folder, place, removed_folder, without_folder, without_node, message_lines, moving, renamed_folder, replied, siblings, unless_full, unless_named, unless_protected, with_folder}
 use Rattle.mail_tree.specs.Messages.{added_message, changed_message, copied_message, copy_of, copying, details, in_folder, is_crowded_message, is_overfull, making_message, message_in, moved_message, new_message, plain_message, removed_message, set_value, unset_value, value_in, value_of, with_message}
 use Rattle.mail_tree.specs.Laws.{AreCountedBut, IsCounted}
 use Rattle.mail_tree.proofs.AfterTree.{puts_object, puts_values}
@@ -35,7 +36,7 @@ use Rattle.mail_tree.proofs.KeyedFinds.{find-put_same, find-put_other, find-drop
 use Rattle.mail_tree.proofs.FolderSteps.{beside_apart, fine_protected, not_placed}
 use Rattle.mail_tree.proofs.NewIds.{new_folder_id}
 use Rattle.mail_tree.specs.Step.{outcome}
-use Rattle.mail_tree.proofs.Keeping.{from_fine, if_any, if_then, if_weaker}
+use Rattle.mail_tree.proofs.Keeping.{from_fine, if_any, if_test, if_then, if_weaker, never_made}
 use Rattle.mail_tree.proofs.KindsOfPuts.{beside_kind, same_table}
 use Rattle.mail_tree.proofs.MessageSteps.{Before, fine_message_in, finished_folder, finished_id, home_of, new_message_id}
 use Rattle.mail_tree.proofs.MirrorSteps.{if_context}
@@ -71,7 +72,7 @@ module _ (T : Tree) (w : Before T) (E : ℕ → Type 0) (s : AreCountedBut E T.p
 
   making_ends : (F : ℕ) (a : Answer Changed) (kind index : ℕ) → IfOk a (In T.places (λ x. (E x ⊎ (x ≡ F)) × (x ≡ F → ⊥))) → IfOk (a >>= making T T.places kind index) (Ends F)
   unfolding Ends
-  making_ends F a kind index h = if_then (In T.places (λ x. (E x ⊎ (x ≡ F)) × (x ≡ F → ⊥))) (Ends F) a (making T T.places kind index) h (λ D k. limited (Ends F) D _ (ended E F T.places D k))
+  making_ends F a kind index h = if_then (In T.places (λ x. (E x ⊎ (x ≡ F)) × (x ≡ F → ⊥))) (Ends F) a (making T T.places kind index) h (λ D k. limited (Ends F) D _ (if_test (Ends F) (is_spent index) Ids _ (ended E F T.places D k)))
 
   -- a message is put
   message_put : (D D' : Changed) (m F : ℕ) (o : Option Object) → m % 32 ≡ 4 → In T.places E D → Puts (now_at T D) (now_at T D') m o → ((c : Ctx) → o ≡ Some (Context c) → ⊥)
@@ -168,8 +169,8 @@ module _ (T : Tree) (w : Before T) (E : ℕ → Type 0) (s : AreCountedBut E T.p
       | inl plain ↦ rw plain (elim (cases_Bool (is_overfull M.recipients || is_overfull M.attachments)) [
         | inl b ↦ rw b tt
         | inr b ↦ rw b (if_then (λ u. Unit {0}) (Ends folder) (unless_full T (contents folder)) _ (if_any (unless_full T (contents folder))) (λ u v. elim (cases_Bool (is_spent (next_index T 4 message_kinds))) [
-          | inl t ↦ rw t tt
-          | inr t ↦ let id = new_message_id T t in rw t (adds (copy_of (new_id 4 (next_index T 4 message_kinds)) folder M) (is_crowded_message M) p.0 (next_index T 4 message_kinds) id.0 id.1 p.1 plain)
+          | inl t ↦ never_made T T.places 4 (next_index T 4 message_kinds) (Ends folder) (added_message T (copy_of (new_id 4 (next_index T 4 message_kinds)) folder M) (record nothing { crowded = is_crowded_message M })) t
+          | inr t ↦ let id = new_message_id T t in (adds (copy_of (new_id 4 (next_index T 4 message_kinds)) folder M) (is_crowded_message M) p.0 (next_index T 4 message_kinds) id.0 id.1 p.1 plain)
         ]))
       ])
     ])
@@ -184,12 +185,15 @@ module _ (T : Tree) (w : Before T) (E : ℕ → Type 0) (s : AreCountedBut E T.p
       | inl plain ↦
           let store = store_of w in
           rw (plain, store.1) (if_then (λ u. Unit {0}) (Ends folder) (unless_full T (contents folder)) _ (if_any (unless_full T (contents folder))) (λ u v. elim (cases_Bool (is_spent (next_index T 4 message_kinds))) [
-            | inl t ↦ rw t tt
+            | inl t ↦
+                let index = next_index T 4 message_kinds in
+                let N = plain_message (new_id 4 index) folder (message_props (new_id 4 index) class time store.0.props) in
+                never_made T T.places 4 index (Ends folder) (added_message T (finished N) nothing) t
             | inr t ↦
                 let index = next_index T 4 message_kinds in let id = new_message_id T t in
                 let N = plain_message (new_id 4 index) folder (message_props (new_id 4 index) class time store.0.props) in
                 let a = added_message T (finished N) nothing >>= making T T.places 4 index in
-                rw t (subst (λ x. IfOk a (Ends x)) (finished_folder N)
+                (subst (λ x. IfOk a (Ends x)) (finished_folder N)
                 (adds (finished N) false p.0 index (ap (λ x. x % 32) (finished_id N) ∙ id.0) (ap (now_at T nothing) (finished_id N) ∙ id.1) (ap (λ x. find_place x T.places) (finished_folder N) ∙ p.1) plain))
           ]))
     ])
@@ -379,7 +383,9 @@ module _ (T : Tree) (w : Before T) (E : ℕ → Type 0) (s : AreCountedBut E T.p
           elim (cases_Bool (is_deep T.places parent)) [
             | inl b ↦ rw b tt
             | inr b ↦ rw b (if_then (λ v. Unit {0}) Keeps (unless_full T (hierarchy parent)) _ (if_any (unless_full T (hierarchy parent))) (λ v v'. elim (cases_Bool (is_spent (next_index T 2 folder_kinds))) [
-              | inl t ↦ rw t tt
+              | inl t ↦
+                  let index = next_index T 2 folder_kinds in let f = new_id 2 index in let places = put_key place_id (place f parent) T.places in
+                  never_made T places 2 index Keeps (add_shown T (hierarchy parent) f (folder_props name) (with_folder f parent name nothing) >>= settled T places parent) t
               | inr t ↦
                   let index = next_index T 2 folder_kinds in
                   let f = new_id 2 index in
@@ -410,10 +416,10 @@ module _ (T : Tree) (w : Before T) (E : ℕ → Type 0) (s : AreCountedBut E T.p
                   let same_t = same_table contents_table t' (sym is_t ∙ is_t') in
                   subst (λ (x : Ctx). IsCounted places (now_at T D4) f x t') same_c (subst (λ (x : Tbl). IsCounted places (now_at T D4) f c x) same_t (new_counts f parent name unplaced other (now_at T D4))))) in
                   let a = add_shown T (hierarchy parent) f (folder_props name) D4 in
-                  rw t (if_then (In places E) Keeps (a >>= settled T places parent) (making T places 2 index)
+                  (if_then (In places E) Keeps (a >>= settled T places parent) (making T places 2 index)
                   (one_ended parent places (a >>= settled T places parent) (then_counts T places places_ids E1 a parent (ids parent p.0 p.1 plain)
                   (add_counts T places places_ids E1 D4 (hierarchy parent) f (folder_props name) (hierarchy_high parent) (no_contents T places places_ids E1 parent) k5)))
-                  (λ D k. limited Keeps D _ k))
+                  (λ D k. limited Keeps D _ (if_test Keeps (is_spent index) Ids _ k)))
             ]))
           ]))
     ])

@@ -26,7 +26,7 @@ use Rattle.mail_tree.proofs.FineLaws.{cases_Option}
 use Rattle.mail_tree.proofs.Nearly.{folder_kind, message_id}
 use Rattle.mail_tree.proofs.KindsOfPuts.{low}
 use Rattle.mail_tree.proofs.MessageSteps.{Before, Keeps, fine_message_in, finished_folder, finished_id, home_of, new_message_id}
-use Rattle.mail_tree.proofs.Keeping.{Comes, Four, no_table, KeepsAt, PutsMessage, add_keeps, drop_keeps, from_fine, if_any, if_then, if_weaker, kept_after, put_keeps, table_apart, then_changing, then_making, then_settled}
+use Rattle.mail_tree.proofs.Keeping.{Comes, Four, no_table, KeepsAt, PutsMessage, add_keeps, drop_keeps, from_fine, if_any, if_then, if_weaker, kept_after, never_made, put_keeps, table_apart, then_changing, then_making, then_settled}
 use Rattle.mail_tree.proofs.Settles.{store_of}
 
 -- a folder is no message
@@ -123,11 +123,11 @@ copies T m folder w = if_then _ (Copied T m folder) (message_in T m) _ (from_fin
     | inl plain ↦ rw plain (elim (cases_Bool (is_overfull M.recipients || is_overfull M.attachments)) [
       | inl b ↦ rw b tt
       | inr b ↦ rw b (if_then (λ u. Unit {0}) (Copied T m folder) (unless_full T (contents folder)) _ (if_any (unless_full T (contents folder))) (λ u v. elim (cases_Bool (is_spent (next_index T 4 message_kinds))) [
-        | inl t ↦ rw t tt
+        | inl t ↦ never_made T T.places 4 (next_index T 4 message_kinds) (Copied T m folder) (added_message T (copy_of (new_id 4 (next_index T 4 message_kinds)) folder M) (record nothing { crowded = is_crowded_message M })) t
         | inr t ↦
             let index = next_index T 4 message_kinds in let id = new_message_id T t in
             let N = copy_of (new_id 4 index) folder M in
-            rw t (if_weaker (Adds T N index) (Copied T m folder) (added_message T N (record nothing { crowded = is_crowded_message M }) >>= making T T.places 4 index)
+            (if_weaker (Adds T N index) (Copied T m folder) (added_message T N (record nothing { crowded = is_crowded_message M }) >>= making T T.places 4 index)
             (adds T N (is_crowded_message M) p.0 index w id.0 p.1) (λ o a. (M, index, h.0, id.1, a)))
       ]))
     ])
@@ -175,11 +175,14 @@ makes T folder class time w = elim (cases_Option (find_place folder T.places)) [
     | inl plain ↦
         let store = store_of w in
         rw (plain, store.1) (if_then (λ u. Unit {0}) (MadeNew T folder class time) (unless_full T (contents folder)) _ (if_any (unless_full T (contents folder))) (λ u v. elim (cases_Bool (is_spent (next_index T 4 message_kinds))) [
-          | inl t ↦ rw t tt
+          | inl t ↦
+              let index = next_index T 4 message_kinds in
+              let N = plain_message (new_id 4 index) folder (message_props (new_id 4 index) class time store.0.props) in
+              never_made T T.places 4 index (MadeNew T folder class time) (added_message T (finished N) nothing) t
           | inr t ↦
               let index = next_index T 4 message_kinds in let id = new_message_id T t in
               let N = plain_message (new_id 4 index) folder (message_props (new_id 4 index) class time store.0.props) in
-              rw t (if_weaker (Adds T (finished N) index) (MadeNew T folder class time) (added_message T (finished N) nothing >>= making T T.places 4 index)
+              (if_weaker (Adds T (finished N) index) (MadeNew T folder class time) (added_message T (finished N) nothing >>= making T T.places 4 index)
               (adds T (finished N) false p.0 index w (ap (λ x. x % 32) (finished_id N) ∙ id.0) (ap (λ x. find_place x T.places) (finished_folder N) ∙ p.1))
               (λ o a. (index, finished N, finished_id N, id.1, new_is (new_id 4 index) folder class time store.0.props, a)))
         ]))

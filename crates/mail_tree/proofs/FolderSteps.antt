@@ -20,6 +20,7 @@ use Rattle.mail_tree.specs.declared.places.Place.{Place}
 use Rattle.mail_tree.specs.Places.{ROOT, children, find_place, is_child, is_deep, is_plain, is_within, moves_deep, place_id}
 use Rattle.mail_tree.specs.Tree.{Tree, object_at}
 use Rattle.mail_tree.specs.Values.{folder_props, is_special, name_of, text}
+use Rattle.command_text.specs.declared.reply.CommandRefusal.TheVariants.{Ids}
 use Rattle.mail_tree.specs.Changing.{Changed, ◌>>=◌, add_shown, associated, beside, contents, drop_shown, hierarchy, nothing, now_at, overfills, shown_row, with_object, with_rows}
 use Rattle.mail_tree.specs.Columns.{contents_table, hierarchy_table}
 use Rattle.mail_tree.specs.Settling.{message_ids, mirrored, settled, with_context}
@@ -29,7 +30,8 @@ use Rattle.mail_tree.specs.Whole.{AreWhole, Fine, HasNoStray, HasRow, fits_id}
 use Rattle.mail_tree.proofs.AfterTree.{now_nothing, puts_object}
 use Rattle.mail_tree.proofs.KeyedFinds.{find-put_same, find-drop_same, find-drop_other, kept-put}
 use Rattle.mail_tree.proofs.NewIds.{free_folder, new_id_is, next_is_free}
-use Rattle.mail_tree.proofs.FineLaws.{after_limits, cases_Option, fine_then, fine_weaker}
+use Rattle.mail_tree.proofs.FineLaws.{after_limits, after_test, cases_Option, fine_then, fine_weaker}
+use Rattle.mail_tree.proofs.Spent.{fine_planned_folder, new_id_kind, refused_later}
 use Rattle.mail_tree.proofs.Nearly.{AreNearly, nearly, plain_id, table_of, whole}
 use Rattle.mail_tree.proofs.KindsOfPuts.{beside_kind, folder_fits, puts_context, puts_folders, puts_free, same_folder, same_table}
 use Rattle.mail_tree.proofs.Closing.{plain_still, whole_folder, whole_without}
@@ -260,7 +262,10 @@ listed_new T f parent q name w two none found plain =
 pub fine_making_folder : (T : Tree) (parent : ℕ) (q : Place) (name : List ℕ) → Before T → find_place parent T.places ≡ Some q → is_plain q ≡ true → Fine (making_folder T parent name (next_index T 2 folder_kinds)) (Keeps T)
 unfolding making_folder
 fine_making_folder T parent q name w found plain = elim (cases_Bool (is_spent (next_index T 2 folder_kinds))) [
-  | inl t ↦ rw t tt
+  | inl t ↦
+      let index = next_index T 2 folder_kinds in let f = new_id 2 index in let places = put_key place_id (place f parent) T.places in
+      refused_later T places 2 index (Keeps T) (add_shown T (hierarchy parent) f (folder_props name) (with_folder f parent name nothing) >>= settled T places parent) t
+      (fine_planned_folder T f parent q name places w (new_id_kind 2 (next_index T 2 folder_kinds) (omega arith)) found plain)
   | inr t ↦
       let index = next_index T 2 folder_kinds in
       let f = new_id 2 index in
@@ -270,10 +275,10 @@ fine_making_folder T parent q name w found plain = elim (cases_Bool (is_spent (n
       let two : f % 32 ≡ 2 = ap (λ x. x % 32) id ∙ kind_two index in
       let none : now_at T nothing f ≡ None = ap (now_at T nothing) id ∙ ap (λ g. g (nid_of 2 index)) (now_nothing T false) ∙ free_folder T index free.0 in
       let still = plain_still T.places f parent parent q found plain in
-      rw t (fine_then (LeavesIn places T) (Keeps T) (add_shown T (hierarchy parent) f (folder_props name) (with_folder f parent name nothing) >>= settled T places parent) (making T places 2 index)
+      (fine_then (LeavesIn places T) (Keeps T) (add_shown T (hierarchy parent) f (folder_props name) (with_folder f parent name nothing) >>= settled T places parent) (making T places 2 index)
       (fine_then (LeavesIn places T) (LeavesIn places T) (add_shown T (hierarchy parent) f (folder_props name) (with_folder f parent name nothing)) (settled T places parent)
       (listed_new T f parent q name w two none found plain) (λ D v. fine_settled T places parent still.0 D v still.1 still.2))
-      (λ D v. after_limits (Keeps T) D _ v))
+      (λ D v. after_limits (Keeps T) D _ (after_test (Keeps T) (is_spent index) Ids _ (λ left. v))))
 ]
   where
     kind_two : (index : ℕ) → nid_of 2 index % 32 ≡ 2

@@ -1,8 +1,10 @@
 -- What a chain of steps leaves of the messages, where it answers.
-use Rattle.std.proofs.Common.{◌≡◌, ℕ, ◌%◌, ◌<◌, ◌==◌, List, Option, Some, IfOk, Ok, Err, arith, refl, subst, ◌∙◌, inl, inr}
+use Rattle.std.proofs.Common.{◌≡◌, ℕ, ◌%◌, ◌<◌, ◌==◌, Bool, true, false, List, Option, Some, IfOk, Ok, Err, arith, refl, subst, ◌∙◌, inl, inr}
 use Rattle.std.proofs.lemmas.Bool.{cases_Bool}
 use Rattle.mapi_values.specs.Tables.{drop_row}
 use Rattle.mapi_values.specs.Values.{Val}
+use Rattle.command_text.specs.declared.reply.CommandRefusal.{CommandRefusal}
+use Rattle.command_text.specs.declared.reply.CommandRefusal.TheVariants.{Ids}
 use Rattle.command_text.specs.declared.reply.Reply.{Reply}
 use Rattle.mail_objects.specs.Forms.{Ctx}
 use Rattle.mail_objects.specs.declared.object.Object.{Object}
@@ -10,11 +12,11 @@ use Rattle.mail_objects.specs.declared.object.Object.TheVariants.{Context}
 use Rattle.mail_tree.specs.declared.places.Place.{Place}
 use Rattle.mail_tree.specs.Places.{ROOT}
 use Rattle.mail_tree.specs.Tree.{Tree}
-use Rattle.mail_tree.specs.Changing.{Answer, Changed, ◌>>=◌, add_shown, beside, contents, context_at, drop_shown, hierarchy, now_at, overfills, put_shown, shown_row, table_at, with_rows, within_limits}
+use Rattle.mail_tree.specs.Changing.{Answer, Changed, ◌>>=◌, add_shown, beside, contents, context_at, drop_shown, hierarchy, now_at, overfills, put_shown, refused_if, shown_row, table_at, with_rows, within_limits}
 use Rattle.mail_tree.specs.Settling.{counted, message_ids, mirrored, settled, unread_among, with_context}
 use Rattle.mail_tree.specs.Folders.{Outcome, changing, making, moving, nid, replied}
 use Rattle.command_text.specs.declared.reply.LastLine.TheVariants.{Made}
-use Rattle.mail_tree.specs.Ids.{new_id}
+use Rattle.mail_tree.specs.Ids.{is_spent, new_id}
 use Rattle.mail_tree.specs.Whole.{Fine}
 use Rattle.mail_tree.proofs.AfterTree.{puts_object, puts_values}
 use Rattle.mail_tree.proofs.Nearly.{Puts}
@@ -28,6 +30,15 @@ if_then P Q (Err e) f first next = tt
 pub if_any : {A : Type 0} (a : Answer A) → IfOk a (λ x. Unit {0})
 if_any (Ok x) = tt
 if_any (Err e) = tt
+
+-- a test that refuses answers nothing
+pub if_test : {B : Type 0} (Q : B → Type 0) (b : Bool) (refusal : CommandRefusal) (f : Unit {0} → Answer B) → IfOk (f tt) Q → IfOk (refused_if b refusal >>= f) Q
+if_test Q true refusal f h = tt
+if_test Q false refusal f h = h
+
+-- where no index is left nothing is made
+pub never_made : (T : Tree) (places : List Place) (kind index : ℕ) (Q : Outcome → Type 0) (a : Answer Changed) → is_spent index ≡ true → IfOk (a >>= making T places kind index) Q
+never_made T places kind index Q a spent = if_then (λ D. Unit {0}) Q a (making T places kind index) (if_any a) (λ D u. if_then (λ v. Unit {0}) Q (within_limits D) _ (if_any (within_limits D)) (λ v v'. rw spent tt))
 
 -- what an answer is
 pub if_is : {A : Type 0} (a : Answer A) → IfOk a (λ x. a ≡ Ok x)
@@ -135,4 +146,5 @@ module _ (S : ℕ → Type 0) (no_hierarchy : (g : ℕ) → S (hierarchy g) → 
 
   pub then_making : (D : Changed) (a : Answer Changed) (places : List Place) (kind index : ℕ) → IfOk a (KeepsAt S T D) → IfOk (a >>= making T places kind index) (Comes D places (replied (Made (nid (new_id kind index)))))
   then_making D a places kind index h = if_then (KeepsAt S T D) (Comes D places (replied (Made (nid (new_id kind index))))) a (making T places kind index) h
-      (λ D' k. limited (Comes D places (replied (Made (nid (new_id kind index))))) D' _ (record { keeps = k; places_are = refl; reply_is = refl }))
+      (λ D' k. limited (Comes D places (replied (Made (nid (new_id kind index))))) D' _
+      (if_test (Comes D places (replied (Made (nid (new_id kind index))))) (is_spent index) Ids _ (record { keeps = k; places_are = refl; reply_is = refl })))

@@ -7,6 +7,7 @@ pub mod AfterTree
 pub mod KindsOfPuts
 pub mod Closing
 pub mod Settles
+pub mod Spent
 pub mod MessagePuts
 pub mod NewIds
 pub mod MessageSteps

@@ -16,6 +16,7 @@ use Rattle.mail_tree.specs.declared.places.Place.{Place}
 use Rattle.mail_tree.specs.Places.{find_place, is_plain}
 use Rattle.mail_tree.specs.Tree.{Tree}
 use Rattle.mail_tree.specs.Values.{bytes_of, finished, is_set_protected, is_unset_protected, message_props, with_props}
+use Rattle.command_text.specs.declared.reply.CommandRefusal.TheVariants.{Ids}
 use Rattle.mail_tree.specs.Changing.{Answer, Changed, ◌>>=◌, add_shown, contents, drop_shown, nothing, now_at, overfills, put_shown, shown_row, with_object, with_rows}
 use Rattle.mail_tree.specs.Settling.{settled}
 use Rattle.mail_tree.specs.Folders.{Outcome, changing, making, replied, unless_full}
@@ -24,12 +25,13 @@ use Rattle.mail_tree.specs.Ids.{is_spent, message_kinds, new_id, next_index}
 use Rattle.mail_tree.specs.Whole.{AreWhole, Fine}
 use Rattle.mail_tree.proofs.AfterTree.{now_nothing, puts_object, puts_values}
 use Rattle.mail_tree.proofs.NewIds.{free_message, new_id_is, next_is_free}
-use Rattle.mail_tree.proofs.FineLaws.{after_limits, cases_Option, fine_then}
+use Rattle.mail_tree.proofs.FineLaws.{after_limits, after_test, cases_Option, fine_then}
 use Rattle.mail_tree.proofs.Nearly.{AreNearly, Puts, message_id, table_of}
 use Rattle.mail_tree.proofs.KindsOfPuts.{beside_kind}
 use Rattle.mail_tree.proofs.Closing.{whole_message}
 use Rattle.mail_tree.proofs.MessagePuts.{apart, drops_message, lists_message, puts_at, removes_at}
 use Rattle.mail_tree.proofs.Settles.{fine_settled, messages_of, store_of}
+use Rattle.mail_tree.proofs.Spent.{fine_planned, new_id_kind, refused_later}
 
 -- the tree is whole before the command
 abbrev pub Before : Tree → Type 0
@@ -211,19 +213,23 @@ new_message_id T left =
     kind_four index = omega arith
 
 fine_making : (T : Tree) (a : Answer Changed) (kind index : ℕ) → Fine a (Leaves T) → Fine (a >>= making T T.places kind index) (Keeps T)
-fine_making T a kind index fine = fine_then (Leaves T) (Keeps T) a (making T T.places kind index) fine (λ D w. after_limits (Keeps T) D _ w)
+fine_making T a kind index fine = fine_then (Leaves T) (Keeps T) a (making T T.places kind index) fine (λ D w. after_limits (Keeps T) D _ (after_test (Keeps T) (is_spent index) Ids _ (λ left. w)))
 
 -- `new`
 fine_made : (T : Tree) (folder : ℕ) (p : Place) (class : List ℕ) (time : ℕ) (store : List Val) → Before T → find_place folder T.places ≡ Some p → is_plain p ≡ true
     → Fine (making_message T folder class time store (next_index T 4 message_kinds)) (Keeps T)
 unfolding making_message
 fine_made T folder p class time store w found plain = elim (cases_Bool (is_spent (next_index T 4 message_kinds))) [
-  | inl t ↦ rw t tt
+  | inl t ↦
+      let m = new_id 4 (next_index T 4 message_kinds) in
+      let M = plain_message m folder (message_props m class time store) in
+      refused_later T T.places 4 (next_index T 4 message_kinds) (Keeps T) (added_message T (finished M) nothing) t
+      (fine_planned T (finished M) false p w (ap (λ x. x % 32) (finished_id M) ∙ new_id_kind 4 (next_index T 4 message_kinds) (omega arith)) (ap (λ x. find_place x T.places) (finished_folder M) ∙ found) plain)
   | inr t ↦
       let m = new_id 4 (next_index T 4 message_kinds) in
       let id = new_message_id T t in
       let M = plain_message m folder (message_props m class time store) in
-      rw t (fine_making T (added_message T (finished M) nothing) 4 (next_index T 4 message_kinds)
+      (fine_making T (added_message T (finished M) nothing) 4 (next_index T 4 message_kinds)
       (fine_added T nothing (finished M) p w (ap (λ x. x % 32) (finished_id M) ∙ id.0) (ap (now_at T nothing) (finished_id M) ∙ id.1) (ap (λ x. find_place x T.places) (finished_folder M) ∙ found) plain))
 ]
 
@@ -243,12 +249,15 @@ fine_new T folder class time w = elim (cases_Option (find_place folder T.places)
 fine_copying : (T : Tree) (M : Mes) (folder : ℕ) (p : Place) → Before T → find_place folder T.places ≡ Some p → is_plain p ≡ true → Fine (copying T M folder (next_index T 4 message_kinds)) (Keeps T)
 unfolding copying
 fine_copying T M folder p w found plain = elim (cases_Bool (is_spent (next_index T 4 message_kinds))) [
-  | inl t ↦ rw t tt
+  | inl t ↦
+      let N = copy_of (new_id 4 (next_index T 4 message_kinds)) folder M in
+      refused_later T T.places 4 (next_index T 4 message_kinds) (Keeps T) (added_message T N (record nothing { crowded = is_crowded_message M })) t
+      (fine_planned T N (is_crowded_message M) p w (new_id_kind 4 (next_index T 4 message_kinds) (omega arith)) found plain)
   | inr t ↦
       let id = new_message_id T t in
       let D = record nothing { crowded = is_crowded_message M } in
       let N = copy_of (new_id 4 (next_index T 4 message_kinds)) folder M in
-      rw t (fine_making T (added_message T N D) 4 (next_index T 4 message_kinds) (fine_added T D N p w id.0 id.1 found plain))
+      (fine_making T (added_message T N D) 4 (next_index T 4 message_kinds) (fine_added T D N p w id.0 id.1 found plain))
 ]
 
 pub fine_copied : (T : Tree) (m folder : ℕ) → Before T → Fine (copied_message T m folder) (Keeps T)

@@ -20,11 +20,12 @@ use Rattle.mail_tree.specs.declared.places.Place.{Place}
 use Rattle.mail_tree.specs.Places.{ROOT, children, find_place, is_child, is_deep, is_plain, is_within, moves_deep, place_id}
 use Rattle.mail_tree.specs.Tree.{Tree}
 use Rattle.mail_tree.specs.Values.{bytes_of, finished, folder_props, is_set_protected, is_unset_protected, message_props, name_of, text, with_props}
+use Rattle.command_text.specs.declared.reply.CommandRefusal.TheVariants.{Ids}
 use Rattle.mail_tree.specs.Changing.{Answer, Changed, ◌>>=◌, add_shown, associated, beside, contents, context_at, drop_shown, hierarchy, nothing, now_at, put_shown, table_at, with_object, within_limits}
 use Rattle.mail_tree.specs.Columns.{contents_table, hierarchy_table}
 use Rattle.mail_tree.specs.Settling.{message_ids, mirrored, settled, with_context}
 use Rattle.mail_tree.specs.Ids.{folder_kinds, is_spent, is_taken, message_kinds, new_id, next_index}
-use Rattle.mail_tree.specs.Folders.{Outcome, associated_in, changing, folder_lines, has_associated, has_rows, listing, made_folder, making, making_folder, moved_between, moved_folder, place, removed_folder, without_folder, without_node, message_lines, moving, renamed_folder, replied, siblings, unless_full, unless_named, unless_protected}
+use Rattle.mail_tree.specs.Folders.{Outcome, associated_in, changing, folder_lines, has_associated, has_rows, listing, made_folder, making, making_folder, moved_between, moved_folder, place, removed_folder, without_folder, without_node, message_lines, moving, renamed_folder, replied, siblings, unless_full, unless_named, unless_protected, with_folder}
 use Rattle.mail_tree.specs.Messages.{added_message, changed_message, copied_message, copy_of, copying, details, in_folder, is_crowded_message, is_overfull, making_message, message_in, moved_message, new_message, plain_message, removed_message, set_value, unset_value, value_in, value_of, with_message}
 use Rattle.mail_tree.specs.Laws.{Shows}
 use Rattle.mail_tree.proofs.AfterTree.{puts_object, puts_values}
@@ -33,7 +34,7 @@ use Rattle.mail_tree.proofs.KeyedFinds.{find-put_other, find-drop_other, find-dr
 use Rattle.mail_tree.proofs.FolderSteps.{beside_apart, fine_protected, no_rows}
 use Rattle.mail_tree.proofs.NewIds.{new_folder_id}
 use Rattle.mail_tree.specs.Step.{outcome}
-use Rattle.mail_tree.proofs.Keeping.{from_fine, if_any, if_then, if_weaker}
+use Rattle.mail_tree.proofs.Keeping.{from_fine, if_any, if_test, if_then, if_weaker, never_made}
 use Rattle.mail_tree.proofs.KindsOfPuts.{beside_kind, same_table}
 use Rattle.mail_tree.proofs.MessageSteps.{Before, fine_message_in, finished_folder, finished_id, home_of, new_message_id}
 use Rattle.mail_tree.proofs.MirrorPuts.{AreShownBut, FolderIds, closes, shown_places, shown_put, shown_unlisting}
@@ -60,7 +61,7 @@ module _ (T : Tree) (w : Before T) (s : AreShownBut (λ x. ⊥) T.places (now_at
 
   then_making : (a : Answer Changed) (kind index : ℕ) → IfOk a Shows_now → IfOk (a >>= making T T.places kind index) After
   unfolding Shows_now After
-  then_making a kind index h = if_then Shows_now After a (making T T.places kind index) h (λ D k. limited After D _ k)
+  then_making a kind index h = if_then Shows_now After a (making T T.places kind index) h (λ D k. limited After D _ (if_test After (is_spent index) Ids _ k))
 
   -- a message is put: its row needn't show it yet
   message_opens : (D : Changed) (m : ℕ) (o : Option Object) (at' : ℕ → Option Object) → m % 32 ≡ 4 → Shows_now D → Puts (now_at T D) at' m o → AreShownBut (λ x. x ≡ m) T.places at'
@@ -125,8 +126,8 @@ module _ (T : Tree) (w : Before T) (s : AreShownBut (λ x. ⊥) T.places (now_at
       | inl plain ↦ rw plain (elim (cases_Bool (is_overfull M.recipients || is_overfull M.attachments)) [
         | inl b ↦ rw b tt
         | inr b ↦ rw b (if_then (λ u. Unit {0}) After (unless_full T (contents folder)) _ (if_any (unless_full T (contents folder))) (λ u v. elim (cases_Bool (is_spent (next_index T 4 message_kinds))) [
-          | inl t ↦ rw t tt
-          | inr t ↦ rw t (adds (copy_of (new_id 4 (next_index T 4 message_kinds)) folder M) (is_crowded_message M) p.0 (next_index T 4 message_kinds) (new_message_id T t).0 p.1)
+          | inl t ↦ never_made T T.places 4 (next_index T 4 message_kinds) After (added_message T (copy_of (new_id 4 (next_index T 4 message_kinds)) folder M) (record nothing { crowded = is_crowded_message M })) t
+          | inr t ↦ (adds (copy_of (new_id 4 (next_index T 4 message_kinds)) folder M) (is_crowded_message M) p.0 (next_index T 4 message_kinds) (new_message_id T t).0 p.1)
         ]))
       ])
     ])
@@ -141,11 +142,14 @@ module _ (T : Tree) (w : Before T) (s : AreShownBut (λ x. ⊥) T.places (now_at
       | inl plain ↦
           let store = store_of w in
           rw (plain, store.1) (if_then (λ u. Unit {0}) After (unless_full T (contents folder)) _ (if_any (unless_full T (contents folder))) (λ u v. elim (cases_Bool (is_spent (next_index T 4 message_kinds))) [
-            | inl t ↦ rw t tt
+            | inl t ↦
+                let index = next_index T 4 message_kinds in
+                let N = plain_message (new_id 4 index) folder (message_props (new_id 4 index) class time store.0.props) in
+                never_made T T.places 4 index After (added_message T (finished N) nothing) t
             | inr t ↦
                 let index = next_index T 4 message_kinds in
                 let N = plain_message (new_id 4 index) folder (message_props (new_id 4 index) class time store.0.props) in
-                rw t (adds (finished N) false p.0 index (ap (λ x. x % 32) (finished_id N) ∙ (new_message_id T t).0) (ap (λ x. find_place x T.places) (finished_folder N) ∙ p.1))
+                (adds (finished N) false p.0 index (ap (λ x. x % 32) (finished_id N) ∙ (new_message_id T t).0) (ap (λ x. find_place x T.places) (finished_folder N) ∙ p.1))
           ]))
     ])
   ]
@@ -224,7 +228,7 @@ module _ (T : Tree) (w : Before T) (s : AreShownBut (λ x. ⊥) T.places (now_at
 
   then_making_in : (places : List Place) (a : Answer Changed) (kind index : ℕ) → IfOk a (Shows_in places) → IfOk (a >>= making T places kind index) After
   unfolding Shows_in After
-  then_making_in places a kind index h = if_then (Shows_in places) After a (making T places kind index) h (λ D k. limited After D _ k)
+  then_making_in places a kind index h = if_then (Shows_in places) After a (making T places kind index) h (λ D k. limited After D _ (if_test After (is_spent index) Ids _ k))
 
   put_ids : (f parent : ℕ) → f % 32 ≡ 2 → FolderIds (put_key place_id (place f parent) T.places)
   put_ids f parent two g p e = elim (cases_eq g f) [
@@ -258,7 +262,9 @@ module _ (T : Tree) (w : Before T) (s : AreShownBut (λ x. ⊥) T.places (now_at
           elim (cases_Bool (is_deep T.places parent)) [
             | inl b ↦ rw b tt
             | inr b ↦ rw b (if_then (λ v. Unit {0}) After (unless_full T (hierarchy parent)) _ (if_any (unless_full T (hierarchy parent))) (λ v v'. elim (cases_Bool (is_spent (next_index T 2 folder_kinds))) [
-              | inl t ↦ rw t tt
+              | inl t ↦
+                  let index = next_index T 2 folder_kinds in let f = new_id 2 index in let places = put_key place_id (place f parent) T.places in
+                  never_made T places 2 index After (add_shown T (hierarchy parent) f (folder_props name) (with_folder f parent name nothing) >>= settled T places parent) t
               | inr t ↦
                   let index = next_index T 2 folder_kinds in
                   let f = new_id 2 index in
@@ -283,7 +289,7 @@ module _ (T : Tree) (w : Before T) (s : AreShownBut (λ x. ⊥) T.places (now_at
                   ∙ p1.others (associated f) (λ e. own f 15 new.0 (omega arith) (omega arith) (sym e)) ∙ new.4) in
                   let is : now_at T D4 f ≡ Some (Context c) = p4.others f (own f 15 new.0 (omega arith) (omega arith)) ∙ p3.others f (own f 14 new.0 (omega arith) (omega arith)) ∙ p2.others f (own f 13 new.0 (omega arith) (omega arith)) ∙ p1.here in
                   let a = add_shown T (hierarchy parent) f (folder_props name) D4 in
-                  rw t (then_making_in places (a >>= settled T places parent) 2 index
+                  (then_making_in places (a >>= settled T places parent) 2 index
                   (then_shows T places places_ids a parent (ids parent p.0 p.1) (add_folder T places places_ids D4 f c (inl new.0) s4 is)))
             ]))
           ]))

@@ -31,7 +31,7 @@ use Rattle.mail_tree.proofs.Nearly.{nearly, plain_id}
 use Rattle.mail_tree.proofs.KindsOfPuts.{beside_kind}
 use Rattle.mail_tree.proofs.MessageSteps.{Before, Keeps}
 use Rattle.mail_tree.proofs.FolderSteps.{fine_protected, not_placed}
-use Rattle.mail_tree.proofs.Keeping.{Comes, Four, no_table, Kept, KeepsAt, add_keeps, both, drop_keeps, from_fine, if_any, if_then, if_weaker, kept_put, mirrored_keeps, table_apart, then_changing, then_making, then_moving, then_settled}
+use Rattle.mail_tree.proofs.Keeping.{Comes, Four, no_table, Kept, KeepsAt, add_keeps, both, drop_keeps, from_fine, if_any, if_then, if_weaker, kept_put, mirrored_keeps, never_made, table_apart, then_changing, then_making, then_moving, then_settled}
 use Rattle.mail_tree.proofs.Effects.{no_message, place_apart}
 
 -- one folder stands so now, and the others where they stood
@@ -105,7 +105,9 @@ makes_folder T parent name w = elim (cases_Option (find_place parent T.places)) 
         elim (cases_Bool (is_deep T.places parent)) [
           | inl b ↦ rw b tt
           | inr b ↦ rw b (if_then (λ v. Unit {0}) (MadeFolder T parent name) (unless_full T (hierarchy parent)) _ (if_any (unless_full T (hierarchy parent))) (λ v v'. elim (cases_Bool (is_spent (next_index T 2 folder_kinds))) [
-            | inl t ↦ rw t tt
+            | inl t ↦
+                let index = next_index T 2 folder_kinds in let f = new_id 2 index in let places = put_key place_id (place f parent) T.places in
+                never_made T places 2 index (MadeFolder T parent name) (add_shown T (hierarchy parent) f (folder_props name) (with_folder f parent name nothing) >>= settled T places parent) t
             | inr t ↦
                 let index = next_index T 2 folder_kinds in
                 let f = new_id 2 index in
@@ -118,7 +120,7 @@ makes_folder T parent name w = elim (cases_Option (find_place parent T.places)) 
                 let a = add_shown T (hierarchy parent) f (folder_props name) D in
                 let other : parent ≡ f → ⊥ = λ e. none-some p.0 (sym (not_placed T f w none) ∙ ap (λ x. find_place x T.places) (sym e) ∙ p.1) in
                 let reply = replied (Made (nid f)) in
-                rw t (both (Comes Four no_table T D places reply) (Comes (λ k. k ≡ f) (no_folder_table f two) T D places reply) (MadeFolder T parent name) (a >>= settled T places parent >>= making T places 2 index)
+                (both (Comes Four no_table T D places reply) (Comes (λ k. k ≡ f) (no_folder_table f two) T D places reply) (MadeFolder T parent name) (a >>= settled T places parent >>= making T places 2 index)
                 (then_making Four no_table T D (a >>= settled T places parent) places 2 index (then_settled Four no_table T places parent D a (place_apart T w parent p.0 p.1)
                 (add_keeps Four no_table T (hierarchy parent) f (folder_props name) D (table_apart parent 13 (omega arith) (omega arith)))))
                 (then_making (λ k. k ≡ f) (no_folder_table f two) T D (a >>= settled T places parent) places 2 index (then_settled (λ k. k ≡ f) (no_folder_table f two) T places parent D a other

@@ -62,7 +62,7 @@ store_of {places} {at} w = values (at 0x21) (w.typed 0x21) w.store
     values (Some (Table t)) typed is = absurd (false≢true (typed (Table t) refl))
     values (Some (Message m)) typed is = absurd (false≢true (typed (Message m) refl))
 
-fine_unread : (T : Tree) (D : Changed) (ms : List ℕ) → EachMessage (now_at T D) ms → Fine (unread_among T D ms) (λ n. Unit {0})
+pub fine_unread : (T : Tree) (D : Changed) (ms : List ℕ) → EachMessage (now_at T D) ms → Fine (unread_among T D ms) (λ n. Unit {0})
 fine_unread T D [] each = tt
 fine_unread T D (m ∷ ms) each = rw each.0.1 (fine_then (λ n. Unit {0}) (λ n. Unit {0}) (unread_among T D ms) _ (fine_unread T D ms each.1) (λ n u. tt))
 

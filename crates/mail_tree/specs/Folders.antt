@@ -55,9 +55,9 @@ changing T reply D = within_limits D >>= λ u. Ok (record { changed = D; places 
 abbrev pub moving : Tree → List Place → Reply → Changed → Answer Outcome
 moving T places reply D = within_limits D >>= λ u. Ok (record { changed = D; places = places; last = T.last; reply = reply })
 
--- the same with a new object of a kind at this index, which the kind's counter then has
+-- the same with a new object of a kind at this index, which the kind's counter then has, unless it is past the last one
 abbrev pub making : Tree → List Place → ℕ → ℕ → Changed → Answer Outcome
-making T places kind index D = within_limits D >>= λ u. Ok (record { changed = D; places = places; last = set T.last kind index; reply = replied (Made (nid (new_id kind index))) })
+making T places kind index D = within_limits D >>= λ u. refused_if (is_spent index) Ids >>= λ v. Ok (record { changed = D; places = places; last = set T.last kind index; reply = replied (Made (nid (new_id kind index))) })
 
 abbrev pub folder_in : Tree → ℕ → Answer Place
 folder_in T f = found NoObject (find_place f T.places)
@@ -94,7 +94,7 @@ unless_full T q = table_at T nothing q >>= λ t. refused_if (nat_le 100000 (leng
 
 -- a new folder of this index: its parent lists it in a row that shows it, and is counted anew
 unfoldable pub making_folder : Tree → ℕ → List ℕ → ℕ → Answer Outcome
-making_folder T parent name index = refused_if (is_spent index) Ids >>= λ u.
+making_folder T parent name index =
     let f = new_id 2 index in let places = put_key place_id (place f parent) T.places in
     add_shown T (hierarchy parent) f (folder_props name) (with_folder f parent name nothing) >>= settled T places parent >>= making T places 2 index
 

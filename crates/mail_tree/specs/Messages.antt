@@ -11,7 +11,7 @@ use Rattle.mapi_values.specs.Tables.{Tab, find_row}
 use Rattle.mapi_values.specs.Values.{Val}
 use Rattle.mapi_values.specs.declared.part.Part.{Part}
 use Rattle.mapi_values.specs.declared.value.Tag.{Tag}
-use Rattle.command_text.specs.declared.reply.CommandRefusal.TheVariants.{Object, Property, Protected, Limit, Ids}
+use Rattle.command_text.specs.declared.reply.CommandRefusal.TheVariants.{Object, Property, Protected, Limit}
 use Rattle.command_text.specs.declared.reply.Limit.TheVariants.{Rows}
 use Rattle.command_text.specs.declared.reply.DataLine.{DataLine}
 use Rattle.command_text.specs.declared.reply.DataLine.TheVariants as lines
@@ -23,7 +23,7 @@ use Rattle.mail_tree.specs.Tree.{Tree, object_at}
 use Rattle.mail_tree.specs.Values.{bytes_of, finished, is_set_protected, is_unset_protected, length_of, message_props, number_of, text_of, with_props}
 use Rattle.mail_tree.specs.Changing.{Answer, Changed, ◌>>=◌, add_shown, contents, context_at, drop_shown, found, message_at, nothing, put_shown, refused_if, table_at, with_object, with_values}
 use Rattle.mail_tree.specs.Settling.{settled}
-use Rattle.mail_tree.specs.Ids.{is_spent, message_kinds, new_id, next_index}
+use Rattle.mail_tree.specs.Ids.{message_kinds, new_id, next_index}
 use Rattle.mail_tree.specs.Folders.{Outcome, changing, folder_in, listed, making, replied, unchanged, unless_full, unless_plain}
 
 -- the parent that an object tells
@@ -66,7 +66,7 @@ plain_message m folder props = record { nid = m; folder = folder; props = props;
 
 -- a new message of this index
 unfoldable pub making_message : Tree → ℕ → List ℕ → ℕ → List Val → ℕ → Answer Outcome
-making_message T folder class time store index = refused_if (is_spent index) Ids >>= λ u.
+making_message T folder class time store index =
     let m = new_id 4 index in
     added_message T (finished (plain_message m folder (message_props m class time store))) nothing >>= making T T.places 4 index
 
@@ -138,7 +138,7 @@ copy_of m folder original = record original { nid = m; folder = folder }
 
 -- a copy of this index
 unfoldable pub copying : Tree → Mes → ℕ → ℕ → Answer Outcome
-copying T M folder index = refused_if (is_spent index) Ids >>= λ u.
+copying T M folder index =
     added_message T (copy_of (new_id 4 index) folder M) (record nothing { crowded = is_crowded_message M }) >>= making T T.places 4 index
 
 -- `cp`: recipients, attachments and all subnodes are copied
