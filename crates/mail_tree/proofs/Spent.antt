@@ -88,10 +88,16 @@ fine_planned T M crowded p w four found plain =
           (N.0, p2.others m (λ e. omega (arith, beside_kind F 14 (omega arith))) ∙ p1.others m away ∙ N.1)
     ]) in
     let readable : IsReadable (now_at T D2) F = record {
-      context = (c.0, p2.others F (λ e. omega (arith, beside_kind F 14 (omega arith))) ∙ p1.others F (λ e. omega arith) ∙ c.1, (λ no_root.
-      let q = w.parents F p found no_root in let u = folders_of w p.parent.bits q.0 q.1 q.2 in
-      (u.0, p2.others (hierarchy c.0.parent) (λ e. omega (arith, beside_kind F 14 (omega arith), beside_kind c.0.parent 13 (omega arith)))
-      ∙ p1.others (hierarchy c.0.parent) (λ e. omega (arith, beside_kind c.0.parent 13 (omega arith))) ∙ ap (λ x. now_at T nothing (hierarchy x)) c.2 ∙ u.1)));
+      context = (
+        c.0,
+        p2.others F (λ e. omega (arith, beside_kind F 14 (omega arith))) ∙ p1.others F (λ e. omega arith) ∙ c.1,
+        (λ no_root.
+            let q = w.parents F p found no_root in let u = folders_of w p.parent.bits q.0 q.1 q.2 in (
+              u.0,
+              p2.others (hierarchy c.0.parent) (λ e. omega (arith, beside_kind F 14 (omega arith), beside_kind c.0.parent 13 (omega arith)))
+                  ∙ p1.others (hierarchy c.0.parent) (λ e. omega (arith, beside_kind c.0.parent 13 (omega arith))) ∙ ap (λ x. now_at T nothing (hierarchy x)) c.2 ∙ u.1,
+            )),
+      );
       table = (record { parent = t.0.parent; table = record t.0.table { rows = row } }, p2.here, each);
     } in
     fine_then (λ D. IsReadable (now_at T D) F) (λ D. Unit {0}) (add_shown T (contents F) M.nid M.props D1) (settled T T.places F)
@@ -145,8 +151,11 @@ module _ (T : Tree) (f parent : ℕ) (name : List ℕ) (two : f % 32 ≡ 2) wher
   still_table : (g : ℕ) (u : Tbl) → now_at T nothing (hierarchy g) ≡ Some (Table u) → (v : Tbl) × (now_at T D4 (hierarchy g) ≡ Some (Table v))
   still_table g u is = elim (cases_eq (hierarchy g) (hierarchy f)) [
     | inl same ↦ (hierarchy_table, ap (now_at T D4) same ∙ folders_here)
-    | inr away ↦ (u, elsewhere (hierarchy g) (λ e. omega (arith, beside_kind g 13 (omega arith))) away (λ e. omega (arith, beside_kind g 13 (omega arith), beside_kind f 14 (omega arith)))
-        (λ e. omega (arith, beside_kind g 13 (omega arith), beside_kind f 15 (omega arith))) ∙ is)
+    | inr away ↦ (
+      u,
+      elsewhere (hierarchy g) (λ e. omega (arith, beside_kind g 13 (omega arith))) away (λ e. omega (arith, beside_kind g 13 (omega arith), beside_kind f 14 (omega arith)))
+          (λ e. omega (arith, beside_kind g 13 (omega arith), beside_kind f 15 (omega arith))) ∙ is,
+    )
   ]
 
   module _ (q : Place) (w : AreWhole T.places (now_at T nothing)) (found : find_place parent T.places ≡ Some q) (plain : is_plain q ≡ true) (t : Tbl) (row : List (ℕ × List Val)) where
@@ -169,28 +178,39 @@ module _ (T : Tree) (f parent : ℕ) (name : List ℕ) (two : f % 32 ≡ 2) wher
 
     context_there : CanMirror (now_at T D5) parent
     context_there = elim (cases_eq parent f) [
-      | inl same ↦ (Own, beyond parent (λ e. omega (arith, parent_two)) ∙ ap (now_at T D4) same ∙ own_here, (λ no_root.
-          let u = folders_of w parent q found plain in let v = still_table parent u.0 u.1 in shown_table parent v.0 v.1))
+      | inl same ↦ (
+        Own,
+        beyond parent (λ e. omega (arith, parent_two)) ∙ ap (now_at T D4) same ∙ own_here,
+        (λ no_root.
+            let u = folders_of w parent q found plain in let v = still_table parent u.0 u.1 in shown_table parent v.0 v.1),
+      )
       | inr away ↦
-          let c = w.contexts parent q found in
-          (c.0, beyond parent (λ e. omega (arith, parent_two)) ∙ elsewhere parent away (λ e. omega (arith, parent_two, beside_kind f 13 (omega arith)))
-          (λ e. omega (arith, parent_two, beside_kind f 14 (omega arith))) (λ e. omega (arith, parent_two, beside_kind f 15 (omega arith))) ∙ c.1, (λ no_root.
-          let r = w.parents parent q found no_root in let u = folders_of w q.parent.bits r.0 r.1 r.2 in
-          let at : now_at T nothing (hierarchy c.0.parent) ≡ Some (Table u.0) = ap (λ x. now_at T nothing (hierarchy x)) c.2 ∙ u.1 in
-          let v = still_table c.0.parent u.0 at in shown_table c.0.parent v.0 v.1))
+          let c = w.contexts parent q found in (
+            c.0,
+            beyond parent (λ e. omega (arith, parent_two)) ∙ elsewhere parent away (λ e. omega (arith, parent_two, beside_kind f 13 (omega arith)))
+                (λ e. omega (arith, parent_two, beside_kind f 14 (omega arith))) (λ e. omega (arith, parent_two, beside_kind f 15 (omega arith))) ∙ c.1,
+            (λ no_root.
+                let r = w.parents parent q found no_root in let u = folders_of w q.parent.bits r.0 r.1 r.2 in
+                let at : now_at T nothing (hierarchy c.0.parent) ≡ Some (Table u.0) = ap (λ x. now_at T nothing (hierarchy x)) c.2 ∙ u.1 in
+                let v = still_table c.0.parent u.0 at in shown_table c.0.parent v.0 v.1),
+          )
     ]
 
     table_there : (u : Tbl) × (now_at T D5 (contents parent) ≡ Some (Table u)) × EachMessage (now_at T D5) (message_ids u.table)
     table_there = elim (cases_eq (contents parent) (contents f)) [
       | inl same ↦ (contents_table, beyond (contents parent) (λ e. omega (arith, beside_kind parent 14 (omega arith))) ∙ ap (now_at T D4) same ∙ messages_here, tt)
       | inr away ↦
-          let u = messages_of w parent q found plain in
-          (u.0, beyond (contents parent) (λ e. omega (arith, beside_kind parent 14 (omega arith))) ∙ elsewhere (contents parent) (λ e. omega (arith, beside_kind parent 14 (omega arith)))
-          (λ e. omega (arith, beside_kind parent 14 (omega arith), beside_kind f 13 (omega arith))) away (λ e. omega (arith, beside_kind parent 14 (omega arith), beside_kind f 15 (omega arith))) ∙ u.1,
-          each_message (now_at T D5) u.0.table.rows (λ m has kind.
-          let M = w.listed parent q u.0 m found plain u.1 has kind in
-          (M.0, beyond m (λ e. omega arith) ∙ elsewhere m (λ e. omega arith) (λ e. omega (arith, beside_kind f 13 (omega arith))) (λ e. omega (arith, beside_kind f 14 (omega arith)))
-          (λ e. omega (arith, beside_kind f 15 (omega arith))) ∙ M.1)))
+          let u = messages_of w parent q found plain in (
+            u.0,
+            beyond (contents parent) (λ e. omega (arith, beside_kind parent 14 (omega arith))) ∙ elsewhere (contents parent) (λ e. omega (arith, beside_kind parent 14 (omega arith)))
+                (λ e. omega (arith, beside_kind parent 14 (omega arith), beside_kind f 13 (omega arith))) away (λ e. omega (arith, beside_kind parent 14 (omega arith), beside_kind f 15 (omega arith))) ∙ u.1,
+            each_message (now_at T D5) u.0.table.rows (λ m has kind.
+                let M = w.listed parent q u.0 m found plain u.1 has kind in (
+                  M.0,
+                  beyond m (λ e. omega arith) ∙ elsewhere m (λ e. omega arith) (λ e. omega (arith, beside_kind f 13 (omega arith))) (λ e. omega (arith, beside_kind f 14 (omega arith)))
+                      (λ e. omega (arith, beside_kind f 15 (omega arith))) ∙ M.1,
+                )),
+          )
     ]
 
     readable_there : IsReadable (now_at T D5) parent

@@ -14,5 +14,5 @@ returns c =
     let mail : Mes = plain_message (new_id 4 c.args.index) f (message_props (new_id 4 c.args.index) class time store) in
     let is : c.plain_message.result ≡ mail = c.plain_message.ensures
     ∙ ap (λ (ps : List Val). plain_message nid f ps) (c.in_ok-props.ensures ∙ ap (λ (ps : List Val). message_props nid class time ps) c.props.ensures)
-    ∙ ap (λ (m : ℕ). plain_message m f (message_props m class time store)) (c.new_id-nid.ensures ∙ ap (new_id 4) c.from.ensures) in
+    ∙ ap (λ (m : ℕ). plain_message m f (message_props m class time store)) c.new_id-nid.ensures in
     IfOk-weaker c.finished.result (λ m. m ≡ finished c.plain_message.result) (λ m. m ≡ finished mail) (λ m e. e ∙ ap finished is) c.finished.ensures
