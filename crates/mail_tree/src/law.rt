@@ -92,7 +92,7 @@ pub fn some_is_whole()
     ensures { (T : Tree) × IsWhole T × Mirrors T × Counts T }
 {}
 
-/// The tree of a new store is whole, and its rows mirror what they show.
+/// The tree of a new store is whole, its rows mirror what they show, and its counts are right.
 pub fn starts_whole()
-    ensures { (name : List ℕ) (T : Tree) → IsStart name T → IsWhole T × Mirrors T }
+    ensures { (name : List ℕ) (T : Tree) → IsStart name T → IsWhole T × Mirrors T × Counts T }
 {}
