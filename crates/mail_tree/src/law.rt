@@ -3,6 +3,7 @@ ghost use Rattle.std.specs.Prelude.{ℕ, List};
 ghost use Rattle.command_text.specs.declared.command.Command.{Command};
 ghost use Rattle.mail_tree.specs.Laws.{Copies, Counts, CountsAnew, CountsStay, GetsWhatWasSet, MakesFolder, MakesMessage, Mirrors, MirrorsStay, Moves, MovesFolder, Reads, Removes, RemovesFolder, RenamesFolder, Sets, Unsets};
 ghost use Rattle.mail_tree.specs.Start.{IsStart};
+ghost use Rattle.mail_tree.specs.Stays.{KeepsNodes};
 ghost use Rattle.mail_tree.specs.Step.{after, outcome};
 ghost use Rattle.mail_tree.specs.Tree.{Tree};
 ghost use Rattle.mail_tree.specs.Whole.{Fine, IsWhole};
@@ -95,4 +96,9 @@ pub fn some_is_whole()
 /// The tree of a new store is whole, its rows mirror what they show, and its counts are right.
 pub fn starts_whole()
     ensures { (name : List ℕ) (T : Tree) → IsStart name T → IsWhole T × Mirrors T × Counts T }
+{}
+
+/// Each command leaves as it was every node that is no part of a folder, no message and not the store's own, and puts what is new where no node stood.
+pub fn keeps_nodes()
+    ensures { KeepsNodes }
 {}
