@@ -29,3 +29,4 @@ pub mod KeptObjects
 pub mod KeptSteps
 pub mod KeptCommands
 pub mod KeptLaws
+pub mod GivenIds

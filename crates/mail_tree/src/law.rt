@@ -3,7 +3,7 @@ ghost use Rattle.std.specs.Prelude.{ℕ, List};
 ghost use Rattle.command_text.specs.declared.command.Command.{Command};
 ghost use Rattle.mail_tree.specs.Laws.{Copies, Counts, CountsAnew, CountsStay, GetsWhatWasSet, MakesFolder, MakesMessage, Mirrors, MirrorsStay, Moves, MovesFolder, Reads, Removes, RemovesFolder, RenamesFolder, Sets, Unsets};
 ghost use Rattle.mail_tree.specs.Start.{IsStart};
-ghost use Rattle.mail_tree.specs.Stays.{KeepsNodes};
+ghost use Rattle.mail_tree.specs.Stays.{GivesNewIds, KeepsNodes};
 ghost use Rattle.mail_tree.specs.Step.{after, outcome};
 ghost use Rattle.mail_tree.specs.Tree.{Tree};
 ghost use Rattle.mail_tree.specs.Whole.{Fine, IsWhole};
@@ -101,4 +101,9 @@ pub fn starts_whole()
 /// Each command leaves as it was every node that is no part of a folder, no message and not the store's own, and puts what is new where no node stood.
 pub fn keeps_nodes()
     ensures { KeepsNodes }
+{}
+
+/// An id that a command gives lies behind all that the counter of its kind has passed, the counter has its index then, and no command changes a counter otherwise: so ids aren't used again.
+pub fn gives_new_ids()
+    ensures { GivesNewIds }
 {}
