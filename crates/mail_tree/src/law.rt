@@ -3,7 +3,7 @@ ghost use Rattle.std.specs.Prelude.{ℕ, List};
 ghost use Rattle.command_text.specs.declared.command.Command.{Command};
 ghost use Rattle.mail_tree.specs.Laws.{Copies, Counts, CountsAnew, CountsStay, GetsWhatWasSet, MakesFolder, MakesMessage, Mirrors, MirrorsStay, Moves, MovesFolder, Reads, Removes, RemovesFolder, RenamesFolder, Sets, Unsets};
 ghost use Rattle.mail_tree.specs.Start.{IsStart};
-ghost use Rattle.mail_tree.specs.Stays.{GivesNewIds, KeepsNodes};
+ghost use Rattle.mail_tree.specs.Stays.{GivesNewIds, KeepsNodes, KeepsValues};
 ghost use Rattle.mail_tree.specs.Step.{after, outcome};
 ghost use Rattle.mail_tree.specs.Tree.{Tree};
 ghost use Rattle.mail_tree.specs.Whole.{Fine, IsWhole};
@@ -106,4 +106,9 @@ pub fn keeps_nodes()
 /// An id that a command gives lies behind all that the counter of its kind has passed, the counter has its index then, and no command changes a counter otherwise: so ids aren't used again.
 pub fn gives_new_ids()
     ensures { GivesNewIds }
+{}
+
+/// Each command leaves every folder that stays its values but for its counts, and for its name where `rename` gives it one, and leaves the store all of its own.
+pub fn keeps_values()
+    ensures { KeepsValues }
 {}
