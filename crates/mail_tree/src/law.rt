@@ -3,7 +3,7 @@ ghost use Rattle.std.specs.Prelude.{ℕ, List};
 ghost use Rattle.command_text.specs.declared.command.Command.{Command};
 ghost use Rattle.mail_tree.specs.Laws.{Copies, Counts, CountsAnew, CountsStay, GetsWhatWasSet, MakesFolder, MakesMessage, Mirrors, MirrorsStay, Moves, MovesFolder, Reads, Removes, RemovesFolder, RenamesFolder, Sets, Unsets};
 ghost use Rattle.mail_tree.specs.Start.{IsStart};
-ghost use Rattle.mail_tree.specs.Stays.{GivesNewIds, KeepsNodes, KeepsValues};
+ghost use Rattle.mail_tree.specs.Stays.{GivesNewIds, KeepsNodes, KeepsTables, KeepsValues};
 ghost use Rattle.mail_tree.specs.Step.{after, outcome};
 ghost use Rattle.mail_tree.specs.Tree.{Tree};
 ghost use Rattle.mail_tree.specs.Whole.{Fine, IsWhole};
@@ -111,4 +111,9 @@ pub fn gives_new_ids()
 /// Each command leaves every folder that stays its values but for its counts, and for its name where `rename` gives it one, and leaves the store all of its own.
 pub fn keeps_values()
     ensures { KeepsValues }
+{}
+
+/// Each command leaves every table that stays its columns, what is kept below it, and each of its rows that names no folder and no message.
+pub fn keeps_tables()
+    ensures { KeepsTables }
 {}
