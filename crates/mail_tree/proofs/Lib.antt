@@ -26,3 +26,8 @@ pub mod CountSteps
 pub mod CountCommands
 pub mod Beginning
 pub mod Starting
+pub mod KeptObjects
+pub mod KeptSteps
+pub mod KeptCommands
+pub mod KeptLaws
+pub mod GivenIds

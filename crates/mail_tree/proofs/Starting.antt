@@ -1,10 +1,10 @@
--- The tree of a new store is whole, and its rows mirror what they show.
-use Rattle.std.proofs.Common.{◌≡◌, ℕ, ◌==◌, ◌%◌, Bool, true, false, List, [], ◌∷◌, IsSome, is_some, Option, None, Some, refl, sym, subst, ap, ◌∙◌, inl, inr, if◌then◌else◌, cond}
+-- The tree of a new store is whole, its rows mirror what they show, and its counts are right.
+use Rattle.std.proofs.Common.{◌≡◌, ℕ, ◌==◌, ◌%◌, Bool, true, false, List, [], ◌∷◌, IsSome, is_some, Option, None, Some, refl, sym, subst, ap, ◌∙◌, inl, inr, cond}
 use Rattle.std.proofs.lemmas.Bool.{cases_Bool, eqb-true, false≢true, and_parts}
 use Rattle.std.proofs.lemmas.Option.{none-some, same_Some}
 use Rattle.std.specs.Cmp.{nat_cmp_total}
 use Rattle.std.specs.List.{list_all}
-use Rattle.std.specs.Ordering.{nat_cmp, eq_by_cmp}
+use Rattle.std.specs.Ordering.{nat_cmp}
 use Rattle.std.specs.FinMap as map
 use Rattle.node_port.specs.Nodes.{node_at}
 use Rattle.mapi_values.specs.Keyed.{keys_ascend}
@@ -21,7 +21,7 @@ use Rattle.mail_tree.specs.Folders.{place}
 use Rattle.mail_tree.specs.Tree.{Tree, object_at}
 use Rattle.mail_tree.specs.Values.{folder_props}
 use Rattle.mail_tree.specs.Whole.{AreWhole, HasRow, HasNoStray, IsWhole, fits_id, kind_of_sort}
-use Rattle.mail_tree.specs.Laws.{AreShown, Mirrors, Shows}
+use Rattle.mail_tree.specs.Laws.{AreCountedBut, AreShown, Counts, IsCounted, Mirrors, Shows}
 use Rattle.mail_tree.specs.Start.{DELETED, IsStart, SEARCH_ROOT, TOP, deleted_name, root_hierarchy, root_props, search_name, start_objects, start_others, start_places, start_row, top_name}
 use Rattle.mail_tree.proofs.AfterTree.{tied}
 use Rattle.mail_tree.proofs.KindsOfPuts.{same_table}
@@ -118,6 +118,21 @@ is_shown name = record {
   messages = λ m M is. absurd (false≢true (find_passes no_message (start_objects name) m (Message M) is refl));
 }
 
+-- counts that are right of these values and of no messages are right of what stands there
+counted : (name : List ℕ) (f : ℕ) (x c : Ctx) (t : Tbl) → IsCounted start_places (at name) f x contents_table
+    → ◌≡◌ {A = Option Object} (Some (Context x)) (Some (Context c)) → ◌≡◌ {A = Option Object} (Some (Table contents_table)) (Some (Table t)) → IsCounted start_places (at name) f c t
+counted name f x c t right is_c is_t =
+    subst (λ y. IsCounted start_places (at name) f y t) (same_context x c is_c) (subst (λ y. IsCounted start_places (at name) f x y) (same_table contents_table t is_t) right)
+
+is_counted : (name : List ℕ) → AreCountedBut (λ x. ⊥) start_places (at name)
+unfolding at start_objects root_context folder_context
+is_counted name f p c t e plain free =
+    four (λ f p. at name f ≡ Some (Context c) → at name (contents f) ≡ Some (Table t) → IsCounted start_places (at name) f c t)
+    (counted name ROOT root_context c t (record { messages = refl; unread = refl; folders = refl }))
+    (counted name TOP (folder_context top_name) c t (record { messages = refl; unread = refl; folders = refl }))
+    (counted name SEARCH_ROOT (folder_context search_name) c t (record { messages = refl; unread = refl; folders = refl }))
+    (counted name DELETED (folder_context deleted_name) c t (record { messages = refl; unread = refl; folders = refl })) f p e
+
 at_is : (name : List ℕ) (T : Tree) → IsStart name T → at name ≡ object_at T
 unfolding at
 at_is name T s i q = sym (ap (λ x. map.get x q) s.objects ∙ map.get-from_entries nat_cmp_total (start_objects name) q) i
@@ -127,11 +142,12 @@ unfolding start_others
 no_stray name T s f p e plain =
     four (λ f p. node_at T.others (associated f) ≡ None) (s.others 0x12F) (s.others 0x802F) (s.others 0x804F) (s.others 0x806F) f p (ap (find_place f) (sym s.places) ∙ e)
 
-pub starts_whole : (name : List ℕ) (T : Tree) → IsStart name T → IsWhole T × Mirrors T
+pub starts_whole : (name : List ℕ) (T : Tree) → IsStart name T → IsWhole T × Mirrors T × Counts T
 starts_whole name T s = (
   record {
     objects = subst (λ places. AreWhole places (object_at T)) (sym s.places) (subst (AreWhole start_places) (at_is name T s) (is_whole name));
     no_stray = no_stray name T s;
   },
   subst (λ places. AreShown places (object_at T)) (sym s.places) (subst (AreShown start_places) (at_is name T s) (is_shown name)),
+  subst (λ places. AreCountedBut (λ x. ⊥) places (object_at T)) (sym s.places) (subst (AreCountedBut (λ x. ⊥) start_places) (at_is name T s) (is_counted name)),
 )

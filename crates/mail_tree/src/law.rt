@@ -3,6 +3,7 @@ ghost use Rattle.std.specs.Prelude.{ℕ, List};
 ghost use Rattle.command_text.specs.declared.command.Command.{Command};
 ghost use Rattle.mail_tree.specs.Laws.{Copies, Counts, CountsAnew, CountsStay, GetsWhatWasSet, MakesFolder, MakesMessage, Mirrors, MirrorsStay, Moves, MovesFolder, Reads, Removes, RemovesFolder, RenamesFolder, Sets, Unsets};
 ghost use Rattle.mail_tree.specs.Start.{IsStart};
+ghost use Rattle.mail_tree.specs.Stays.{GivesNewIds, KeepsNodes, KeepsTables, KeepsValues};
 ghost use Rattle.mail_tree.specs.Step.{after, outcome};
 ghost use Rattle.mail_tree.specs.Tree.{Tree};
 ghost use Rattle.mail_tree.specs.Whole.{Fine, IsWhole};
@@ -92,7 +93,27 @@ pub fn some_is_whole()
     ensures { (T : Tree) × IsWhole T × Mirrors T × Counts T }
 {}
 
-/// The tree of a new store is whole, and its rows mirror what they show.
+/// The tree of a new store is whole, its rows mirror what they show, and its counts are right.
 pub fn starts_whole()
-    ensures { (name : List ℕ) (T : Tree) → IsStart name T → IsWhole T × Mirrors T }
+    ensures { (name : List ℕ) (T : Tree) → IsStart name T → IsWhole T × Mirrors T × Counts T }
+{}
+
+/// Each command leaves as it was every node that is no part of a folder, no message and not the store's own, and puts what is new where no node stood.
+pub fn keeps_nodes()
+    ensures { KeepsNodes }
+{}
+
+/// An id that a command gives lies behind all that the counter of its kind has passed, the counter has its index then, and no command changes a counter otherwise: so ids aren't used again.
+pub fn gives_new_ids()
+    ensures { GivesNewIds }
+{}
+
+/// Each command leaves every folder that stays its values but for its counts, and for its name where `rename` gives it one, and leaves the store all of its own.
+pub fn keeps_values()
+    ensures { KeepsValues }
+{}
+
+/// Each command leaves every table that stays its columns, what is kept below it, and each of its rows that names no folder and no message.
+pub fn keeps_tables()
+    ensures { KeepsTables }
 {}
