@@ -25,3 +25,7 @@ pub mod CountSteps
 pub mod CountCommands
 pub mod Beginning
 pub mod Starting
+pub mod Depths
+pub mod FoundSteps
+pub mod FoundCommands
+pub mod FoundStart

@@ -3,6 +3,7 @@ ghost use Rattle.std.specs.Prelude.{ℕ, List};
 ghost use Rattle.command_text.specs.declared.command.Command.{Command};
 ghost use Rattle.mail_tree.specs.Laws.{Copies, Counts, CountsAnew, CountsStay, GetsWhatWasSet, MakesFolder, MakesMessage, Mirrors, MirrorsStay, Moves, MovesFolder, Reads, Removes, RemovesFolder, RenamesFolder, Sets, Unsets};
 ghost use Rattle.mail_tree.specs.Start.{IsStart};
+ghost use Rattle.mail_tree.specs.Stays.{StaysFound};
 ghost use Rattle.mail_tree.specs.Step.{after, outcome};
 ghost use Rattle.mail_tree.specs.Tree.{Tree};
 ghost use Rattle.mail_tree.specs.Whole.{Fine, IsWhole};
@@ -95,4 +96,9 @@ pub fn some_is_whole()
 /// The tree of a new store is whole, and its rows mirror what they show.
 pub fn starts_whole()
     ensures { (name : List ℕ) (T : Tree) → IsStart name T → IsWhole T × Mirrors T }
+{}
+
+/// The folders of a new store are those that its tables of folders list from the root down, each at most 64 folders below it; where a store's folders are so, they are so after every command.
+pub fn stays_found()
+    ensures { StaysFound }
 {}
