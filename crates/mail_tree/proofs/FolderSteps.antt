@@ -207,7 +207,7 @@ puts_empty E places T D f kind t is no_rows n none two =
     (λ u e. subst (λ x. keys_ascend (λ r. r.0) 0 x.table.rows ≡ true) (same_table t u e) (ap (λ x. keys_ascend (λ r. r.0) 0 x) no_rows)) (puts_object T D (beside f kind) (Some (Table t)))
 
 -- `mkdir`
-with_new_folder : (T : Tree) (f parent : ℕ) (name : List ℕ) → Before T → f % 32 ≡ 2 → find_place f T.places ≡ None
+pub with_new_folder : (T : Tree) (f parent : ℕ) (name : List ℕ) → Before T → f % 32 ≡ 2 → find_place f T.places ≡ None
     → AreNearly (λ x. x ≡ f) T.places (now_at T (with_folder f parent name nothing))
     × ((c : Ctx) × (now_at T (with_folder f parent name nothing) f ≡ Some (Context c)) × (c.parent ≡ parent))
     × (now_at T (with_folder f parent name nothing) (hierarchy f) ≡ Some (Table hierarchy_table))

@@ -31,3 +31,7 @@ pub mod KeptSteps
 pub mod KeptCommands
 pub mod KeptLaws
 pub mod GivenIds
+pub mod Depths
+pub mod FoundSteps
+pub mod FoundCommands
+pub mod FoundStart

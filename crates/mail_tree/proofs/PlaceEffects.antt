@@ -181,14 +181,14 @@ sort_plain : (s : Sort) → is_plain_sort s ≡ true → s ≡ Plain
 sort_plain Plain e = refl
 sort_plain Foreign e = cc
 
-found_id : (f : ℕ) (ps : List Place) (p : Place) → find_place f ps ≡ Some p → place_id p ≡ f
+pub found_id : (f : ℕ) (ps : List Place) (p : Place) → find_place f ps ≡ Some p → place_id p ≡ f
 found_id f [] p e = absurd (none-some p e)
 found_id f (q ∷ qs) p e = elim (cases_Bool (place_id q == f)) [
   | inl t ↦ ap place_id (sym (same_Some q p (rw t at e))) ∙ eqb-true (place_id q) f t
   | inr t ↦ found_id f qs p (rw t at e)
 ]
 
-is_place : (p : Place) (f parent : ℕ) → place_id p ≡ f → p.parent.bits ≡ parent → is_plain p ≡ true → p ≡ place f parent
+pub is_place : (p : Place) (f parent : ℕ) → place_id p ≡ f → p.parent.bits ≡ parent → is_plain p ≡ true → p ≡ place f parent
 is_place p f parent a b plain = λ i. record { nid = record { bits = a i }; parent = record { bits = b i }; sort = sort_plain p.sort plain i }
 
 pub moves_folder : (T : Tree) (f parent : ℕ) → Before T → IfOk (moved_folder T f parent) (Placed T f (Some (place f parent)))

@@ -41,7 +41,7 @@ moved : (R : ℕ → Place → Type 0) (k f : ℕ) (x p : Place) → k ≡ f →
 moved R k f x p a b r = subst (λ z. R z p) a (subst (λ z. R k z) b r)
 
 -- what holds of the four folders holds of each
-four : (R : ℕ → Place → Type 0) → R ROOT (place ROOT ROOT) → R TOP (place TOP ROOT) → R SEARCH_ROOT (place SEARCH_ROOT ROOT) → R DELETED (place DELETED ROOT)
+pub four : (R : ℕ → Place → Type 0) → R ROOT (place ROOT ROOT) → R TOP (place TOP ROOT) → R SEARCH_ROOT (place SEARCH_ROOT ROOT) → R DELETED (place DELETED ROOT)
     → (f : ℕ) (p : Place) → find_place f start_places ≡ Some p → R f p
 four R a b c d f p e = elim (cases_Bool (ROOT == f)) [
   | inl t ↦ moved R ROOT f (place ROOT ROOT) p (eqb-true ROOT f t) (same_Some (place ROOT ROOT) p (rw t at e)) a

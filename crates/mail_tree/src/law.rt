@@ -3,7 +3,7 @@ ghost use Rattle.std.specs.Prelude.{ℕ, List};
 ghost use Rattle.command_text.specs.declared.command.Command.{Command};
 ghost use Rattle.mail_tree.specs.Laws.{Copies, Counts, CountsAnew, CountsStay, GetsWhatWasSet, MakesFolder, MakesMessage, Mirrors, MirrorsStay, Moves, MovesFolder, Reads, Removes, RemovesFolder, RenamesFolder, Sets, Unsets};
 ghost use Rattle.mail_tree.specs.Start.{IsStart};
-ghost use Rattle.mail_tree.specs.Stays.{GivesNewIds, KeepsNodes, KeepsTables, KeepsValues};
+ghost use Rattle.mail_tree.specs.Stays.{GivesNewIds, KeepsNodes, KeepsTables, KeepsValues, StaysFound};
 ghost use Rattle.mail_tree.specs.Step.{after, outcome};
 ghost use Rattle.mail_tree.specs.Tree.{Tree};
 ghost use Rattle.mail_tree.specs.Whole.{Fine, IsWhole};
@@ -116,4 +116,9 @@ pub fn keeps_values()
 /// Each command leaves every table that stays its columns, what is kept below it, and each of its rows that names no folder and no message.
 pub fn keeps_tables()
     ensures { KeepsTables }
+{}
+
+/// The folders of a new store are those that its tables of folders list from the root down, each at most 64 folders below it; where a store's folders are so, they are so after every command.
+pub fn stays_found()
+    ensures { StaysFound }
 {}
