@@ -22,6 +22,7 @@ use Rattle.mail_tree.specs.declared.places.Place.{Place}
 use Rattle.mail_tree.specs.Places.{ROOT, children, find_place, is_deep, is_plain, is_within, moves_deep, place_id}
 use Rattle.mail_tree.specs.Tree.{Tree, object_at}
 use Rattle.mail_tree.specs.Values.{bytes_of, finished, folder_props, is_set_protected, is_unset_protected, message_props, name_of, text, with_props}
+use Rattle.command_text.specs.declared.reply.CommandRefusal.TheVariants.{Ids}
 use Rattle.mail_tree.specs.Changing.{Answer, Changed, ◌>>=◌, add_shown, associated, contents, context_at, drop_shown, hierarchy, newest, nothing, now_at, put_shown, table_at, with_object, with_rows, within_limits}
 use Rattle.mail_tree.specs.Columns.{hierarchy_table}
 use Rattle.mail_tree.specs.Settling.{mirrored, settled, with_context}
@@ -37,7 +38,7 @@ use Rattle.mail_tree.proofs.Depths.{AreReached, SameBut, made_reached, moved_rea
 use Rattle.mail_tree.proofs.FineLaws.{cases_Option}
 use Rattle.mail_tree.proofs.FolderSteps.{fine_protected, no_rows, not_placed, with_new_folder}
 use Rattle.mail_tree.proofs.FoundSteps.{Finds, PlainIds, finds_add, finds_add_message, finds_drop_message, finds_elsewhere, finds_mirrored, finds_put_message, finds_values, found_after, get_other, kind_apart, named_place, then_finds}
-use Rattle.mail_tree.proofs.Keeping.{from_fine, if_any, if_then, if_weaker}
+use Rattle.mail_tree.proofs.Keeping.{from_fine, if_any, if_test, if_then, if_weaker, never_made}
 use Rattle.mail_tree.proofs.KeyedFinds.{find-drop_other, find-drop_same, find-put_other, find-put_same}
 use Rattle.mail_tree.proofs.KindsOfPuts.{beside_kind, same_folder, same_table}
 use Rattle.mail_tree.proofs.LawSteps.{before, reads_only}
@@ -125,7 +126,7 @@ module _ (T : Tree) (w : Before T) (h : IsFound T) where
   then_moving places reached a reply k = if_then (Finds T places) After a (moving T places reply) k (λ D s. limited After D _ (s, reached))
 
   then_making : (places : List Place) → AreReached places → (a : Answer Changed) (kind index : ℕ) → IfOk a (Finds T places) → IfOk (a >>= making T places kind index) After
-  then_making places reached a kind index k = if_then (Finds T places) After a (making T places kind index) k (λ D s. limited After D _ (s, reached))
+  then_making places reached a kind index k = if_then (Finds T places) After a (making T places kind index) k (λ D s. limited After D _ (if_test After (is_spent index) Ids _ (s, reached)))
 
   -- a message is put, or goes
   message_changes : (D D' : Changed) (m : ℕ) (o : Option Object) → m % 32 ≡ 4 → Finds T T.places D → Puts (now_at T D) (now_at T D') m o → ((k : ℕ) → (k ≡ m → ⊥) → map.get D'.objects k ≡ map.get D.objects k) → Finds T T.places D'
@@ -182,8 +183,8 @@ module _ (T : Tree) (w : Before T) (h : IsFound T) where
       | inl plain ↦ rw plain (elim (cases_Bool (is_overfull M.recipients || is_overfull M.attachments)) [
         | inl b ↦ rw b tt
         | inr b ↦ rw b (if_then (λ u. Unit {0}) After (unless_full T (contents folder)) _ (if_any (unless_full T (contents folder))) (λ u v. elim (cases_Bool (is_spent (next_index T 4 message_kinds))) [
-          | inl t ↦ rw t tt
-          | inr t ↦ rw t (adds (copy_of (new_id 4 (next_index T 4 message_kinds)) folder M) (is_crowded_message M) p.0 (next_index T 4 message_kinds) (new_message_id T t).0 p.1 plain)
+          | inl t ↦ never_made T T.places 4 (next_index T 4 message_kinds) After (added_message T (copy_of (new_id 4 (next_index T 4 message_kinds)) folder M) (record nothing { crowded = is_crowded_message M })) t
+          | inr t ↦ (adds (copy_of (new_id 4 (next_index T 4 message_kinds)) folder M) (is_crowded_message M) p.0 (next_index T 4 message_kinds) (new_message_id T t).0 p.1 plain)
         ]))
       ])
     ])
@@ -199,11 +200,14 @@ module _ (T : Tree) (w : Before T) (h : IsFound T) where
       | inl plain ↦
           let store = store_of w in
           rw (plain, store.1) (if_then (λ u. Unit {0}) After (unless_full T (contents folder)) _ (if_any (unless_full T (contents folder))) (λ u v. elim (cases_Bool (is_spent (next_index T 4 message_kinds))) [
-            | inl t ↦ rw t tt
+            | inl t ↦
+                let index = next_index T 4 message_kinds in
+                let N = plain_message (new_id 4 index) folder (message_props (new_id 4 index) class time store.0.props) in
+                never_made T T.places 4 index After (added_message T (finished N) nothing) t
             | inr t ↦
                 let index = next_index T 4 message_kinds in
                 let N = plain_message (new_id 4 index) folder (message_props (new_id 4 index) class time store.0.props) in
-                rw t (adds (finished N) false p.0 index (ap (λ x. x % 32) (finished_id N) ∙ (new_message_id T t).0) (ap (λ x. find_place x T.places) (finished_folder N) ∙ p.1) plain)
+                (adds (finished N) false p.0 index (ap (λ x. x % 32) (finished_id N) ∙ (new_message_id T t).0) (ap (λ x. find_place x T.places) (finished_folder N) ∙ p.1) plain)
           ]))
     ])
   ]
@@ -307,7 +311,9 @@ module _ (T : Tree) (w : Before T) (h : IsFound T) where
           elim (cases_Bool (is_deep T.places parent)) [
             | inl b ↦ rw b tt
             | inr b ↦ rw b (if_then (λ v. Unit {0}) After (unless_full T (hierarchy parent)) _ (if_any (unless_full T (hierarchy parent))) (λ v v'. elim (cases_Bool (is_spent (next_index T 2 folder_kinds))) [
-              | inl t ↦ rw t tt
+              | inl t ↦
+                  let index = next_index T 2 folder_kinds in let f = new_id 2 index in let places = put_key place_id (place f parent) T.places in
+                  never_made T places 2 index After (add_shown T (hierarchy parent) f (folder_props name) (with_folder f parent name nothing) >>= settled T places parent) t
               | inr t ↦
                   let index = next_index T 2 folder_kinds in
                   let f = new_id 2 index in
@@ -320,7 +326,7 @@ module _ (T : Tree) (w : Before T) (h : IsFound T) where
                   let still = plain_still T.places f parent parent p.0 p.1 plain in
                   let D = with_folder f parent name nothing in
                   let a = add_shown T (hierarchy parent) f (folder_props name) D in
-                  rw t (then_making places (made_reached T.places f parent p.0 h.reached none no_root p.1 b) (a >>= settled T places parent) 2 index
+                  (then_making places (made_reached T.places f parent p.0 h.reached none no_root p.1 b) (a >>= settled T places parent) 2 index
                   (then_finds T places places_ids a parent still.0 still.1 still.2
                   (finds_add T places places_ids D parent f (folder_props name) two_parent (new_finds f parent name new.0 none)
                   (named_place T places f parent (place f parent) (find-put_same place_id (place f parent) T.places) refl refl new.0 no_root))))

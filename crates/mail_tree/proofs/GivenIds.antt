@@ -10,7 +10,7 @@ use Rattle.mapi_values.specs.Values.{Val}
 use Rattle.mapi_values.specs.declared.value.Tag.{Tag}
 use Rattle.command_text.specs.declared.command.Command.{Command}
 use Rattle.command_text.specs.declared.command.Command.TheVariants.{MakeFolder, RenameFolder, MoveFolder, RemoveFolder, ListFolder, NewMessage, SetProperty, UnsetProperty, GetProperty, ListProperties, MoveMessage, CopyMessage, RemoveMessage, Save, Quit}
-use Rattle.command_text.specs.declared.reply.CommandRefusal.TheVariants.{Property, NotEmpty, Cycle, Protected, Limit}
+use Rattle.command_text.specs.declared.reply.CommandRefusal.TheVariants.{Property, NotEmpty, Cycle, Protected, Limit, Ids}
 use Rattle.command_text.specs.declared.reply.Limit.TheVariants.{Depth, Rows}
 use Rattle.command_text.specs.declared.reply.LastLine.TheVariants.{Done}
 use Rattle.mail_objects.specs.declared.object.Object.TheVariants.{Message}
@@ -25,7 +25,7 @@ use Rattle.mail_tree.specs.Folders.{Outcome, associated_in, changing, folder_in,
 use Rattle.mail_tree.specs.Messages.{added_message, changed_message, copied_message, copy_of, copying, details, in_folder, is_crowded_message, is_overfull, making_message, message_in, moved_message, new_message, plain_message, removed_message, set_value, unset_value, value_in, value_of, with_message}
 use Rattle.mail_tree.specs.Stays.{Counted}
 use Rattle.mail_tree.specs.Step.{outcome}
-use Rattle.mail_tree.proofs.Keeping.{if_any, if_then}
+use Rattle.mail_tree.proofs.Keeping.{if_any, if_test, if_then, never_made}
 use Rattle.mail_tree.proofs.NewIds.{new_id_is, next_is_free}
 
 above_counter : (T : Tree) (kind : ℕ) (kinds : List ℕ) → get_or T.last kind 0 < next_index T kind kinds
@@ -61,7 +61,7 @@ module _ (T : Tree) where
       let id = new_id_is kind index (next_is_free T kind kinds left).1 in
       let is_kind : kind ≡ new_id kind index % 32 = sym (ap (λ x. x % 32) id ∙ kind_is kind index small) in
       let is_index : index ≡ index_of (new_id kind index) = sym (ap index_of id ∙ index_is kind index small) in
-      then_any a (making T places kind index) (λ D. then_any (within_limits D) _ (λ u. (
+      then_any a (making T places kind index) (λ D. then_any (within_limits D) _ (λ u. if_test Right (is_spent index) Ids _ (
         subst (λ k. get_or T.last k 0 < index_of (new_id kind index)) is_kind (subst (λ i. get_or T.last kind 0 < i) is_index (above_counter T kind kinds)),
         λ i. set T.last (is_kind i) (is_index i),
       )))
@@ -71,11 +71,13 @@ module _ (T : Tree) where
   makes_folder parent name =
       then_any (folder_in T parent) _ (λ p. then_any (unless_plain p) _ (λ u. then_any (unless_named T (folded false name) (children parent T.places)) _ (λ v.
       then_any (refused_if (is_deep T.places parent) (Limit Depth)) _ (λ w. then_any (unless_full T (hierarchy parent)) _ (λ x. elim (cases_Bool (is_spent (next_index T 2 folder_kinds))) [
-        | inl t ↦ rw t tt
+        | inl t ↦
+            let f = new_id 2 (next_index T 2 folder_kinds) in let places = put_key place_id (place f parent) T.places in
+            never_made T places 2 (next_index T 2 folder_kinds) Right (add_shown T (hierarchy parent) f (folder_props name) (with_folder f parent name nothing) >>= settled T places parent) t
         | inr t ↦
             let f = new_id 2 (next_index T 2 folder_kinds) in
             let places = put_key place_id (place f parent) T.places in
-            rw t (then_making places 2 folder_kinds (add_shown T (hierarchy parent) f (folder_props name) (with_folder f parent name nothing) >>= settled T places parent) (omega arith) t)
+            (then_making places 2 folder_kinds (add_shown T (hierarchy parent) f (folder_props name) (with_folder f parent name nothing) >>= settled T places parent) (omega arith) t)
       ])))))
 
   renames : (f : ℕ) (name : List ℕ) → IfOk (renamed_folder T f name) Right
@@ -114,10 +116,12 @@ module _ (T : Tree) where
   unfolding new_message making_message
   makes folder class time =
       then_any (folder_in T folder) _ (λ p. then_any (unless_plain p) _ (λ u. then_any (context_at T nothing 0x21) _ (λ store. then_any (unless_full T (contents folder)) _ (λ v. elim (cases_Bool (is_spent (next_index T 4 message_kinds))) [
-        | inl t ↦ rw t tt
+        | inl t ↦
+            let m = new_id 4 (next_index T 4 message_kinds) in
+            never_made T T.places 4 (next_index T 4 message_kinds) Right (added_message T (finished (plain_message m folder (message_props m class time store.props))) nothing) t
         | inr t ↦
             let m = new_id 4 (next_index T 4 message_kinds) in
-            rw t (then_making T.places 4 message_kinds (added_message T (finished (plain_message m folder (message_props m class time store.props))) nothing) (omega arith) t)
+            (then_making T.places 4 message_kinds (added_message T (finished (plain_message m folder (message_props m class time store.props))) nothing) (omega arith) t)
       ]))))
 
   copies : (m folder : ℕ) → IfOk (copied_message T m folder) Right
@@ -125,10 +129,12 @@ module _ (T : Tree) where
   copies m folder =
       then_any (message_in T m) _ (λ M. then_any (folder_in T folder) _ (λ p. then_any (unless_plain p) _ (λ u. then_any (refused_if (is_overfull M.recipients || is_overfull M.attachments) (Limit Rows)) _ (λ v.
       then_any (unless_full T (contents folder)) _ (λ w. elim (cases_Bool (is_spent (next_index T 4 message_kinds))) [
-        | inl t ↦ rw t tt
+        | inl t ↦
+            let n = new_id 4 (next_index T 4 message_kinds) in
+            never_made T T.places 4 (next_index T 4 message_kinds) Right (added_message T (copy_of n folder M) (record nothing { crowded = is_crowded_message M })) t
         | inr t ↦
             let n = new_id 4 (next_index T 4 message_kinds) in
-            rw t (then_making T.places 4 message_kinds (added_message T (copy_of n folder M) (record nothing { crowded = is_crowded_message M })) (omega arith) t)
+            (then_making T.places 4 message_kinds (added_message T (copy_of n folder M) (record nothing { crowded = is_crowded_message M })) (omega arith) t)
       ])))))
 
   changes : (M : Mes) (props : List Val) → IfOk (changed_message T M props) Right

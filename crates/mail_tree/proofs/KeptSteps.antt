@@ -18,7 +18,7 @@ use Rattle.mail_tree.specs.Settling.{counted, message_ids, mirrored, settled, un
 use Rattle.mail_tree.specs.Stays.{StaysFolder}
 use Rattle.mail_tree.proofs.KeyedFinds.{find-drop_other, find-put_other}
 use Rattle.mail_tree.proofs.Keeping.{if_any, if_then}
-use Rattle.mail_tree.proofs.KeptObjects.{Changes, KeepsObjects, Untouched, fits_context, fits_rows, keeps_more}
+use Rattle.mail_tree.proofs.KeptObjects.{Changes, KeepsObjects, Scope, Untouched, fits_context, fits_rows, keeps_more}
 use Rattle.mail_tree.proofs.KindsOfPuts.{beside_kind}
 use Rattle.mail_tree.proofs.MirrorSteps.{if_context, if_table}
 
@@ -44,34 +44,34 @@ table_elsewhere f kind small large e = omega (arith, beside_kind f kind small)
 pub stood : (T : Tree) (m : Changes) (q : ℕ) (x : Object) → object_at T q ≡ Some x → Untouched T m q → ⊥
 stood T m q x is u = none-some x (sym u.0 ∙ is)
 
-module _ (T : Tree) (named : ℕ → Bool) where
+module _ (T : Tree) (scope : Scope) where
   abbrev pub Good : Changed → Type 0
-  Good D = KeepsObjects T named D.objects
+  Good D = KeepsObjects T scope D.objects
 
   pub put_good : (q id : ℕ) (props : List Val) (D : Changed) → (q ≡ 0x21 → ⊥) → (Untouched T D.objects id → ⊥) → Good D → IfOk (put_shown T q id props D) Good
   unfolding put_shown
   put_good q id props D other touched k = if_then (λ t. now_at T D q ≡ Some (Table t)) Good (table_at T D q) _ (if_table T D q) (λ t is.
-      keeps_more T named D.objects q (Some (with_rows (shown_row id props t.table) t)) k
-      (fits_rows T named D.objects q id t (shown_row id props t.table) k is other touched (λ r apart. find-put_other (λ r. r.0) r (id, mirror t.table.columns props) t.table.rows apart)))
+      keeps_more T scope D.objects q (Some (with_rows (shown_row id props t.table) t)) k
+      (fits_rows T scope D.objects q id t (shown_row id props t.table) k is other touched (λ r apart. find-put_other (λ r. r.0) r (id, mirror t.table.columns props) t.table.rows apart)))
 
   pub add_good : (q id : ℕ) (props : List Val) (D : Changed) → (q ≡ 0x21 → ⊥) → (Untouched T D.objects id → ⊥) → Good D → IfOk (add_shown T q id props D) Good
   unfolding add_shown
   add_good q id props D other touched k = if_then (λ t. now_at T D q ≡ Some (Table t)) Good (table_at T D q) _ (if_table T D q) (λ t is.
       elim (cases_Bool (overfills t.table.rows (shown_row id props t.table))) [
         | inl b ↦ rw b tt
-        | inr b ↦ rw b (keeps_more T named D.objects q (Some (with_rows (shown_row id props t.table) t)) k
-            (fits_rows T named D.objects q id t (shown_row id props t.table) k is other touched (λ r apart. find-put_other (λ r. r.0) r (id, mirror t.table.columns props) t.table.rows apart)))
+        | inr b ↦ rw b (keeps_more T scope D.objects q (Some (with_rows (shown_row id props t.table) t)) k
+            (fits_rows T scope D.objects q id t (shown_row id props t.table) k is other touched (λ r apart. find-put_other (λ r. r.0) r (id, mirror t.table.columns props) t.table.rows apart)))
       ])
 
   pub drop_good : (q id : ℕ) (D : Changed) → (q ≡ 0x21 → ⊥) → (Untouched T D.objects id → ⊥) → Good D → IfOk (drop_shown T q id D) Good
   unfolding drop_shown
   drop_good q id D other touched k = if_then (λ t. now_at T D q ≡ Some (Table t)) Good (table_at T D q) _ (if_table T D q) (λ t is.
-      keeps_more T named D.objects q (Some (with_rows (drop_row id t.table.rows) t)) k
-      (fits_rows T named D.objects q id t (drop_row id t.table.rows) k is other touched (λ r apart. find-drop_other (λ r. r.0) r id t.table.rows apart)))
+      keeps_more T scope D.objects q (Some (with_rows (drop_row id t.table.rows) t)) k
+      (fits_rows T scope D.objects q id t (drop_row id t.table.rows) k is other touched (λ r apart. find-drop_other (λ r. r.0) r id t.table.rows apart)))
 
   -- a folder gets other values
-  pub context_good : (f : ℕ) (c : Ctx) (props : List Val) (D : Changed) → (f ≡ 0x21 → ⊥) → now_at T D f ≡ Some (Context c) → StaysFolder (named f) c (record c { props = props }) → Good D → Good (with_context f c props D)
-  context_good f c props D other is stays k = keeps_more T named D.objects f (Some (Context (record c { props = props }))) k (fits_context T named D.objects f c (record c { props = props }) k is other stays)
+  pub context_good : (f : ℕ) (c : Ctx) (props : List Val) (D : Changed) → (f ≡ 0x21 → ⊥) → now_at T D f ≡ Some (Context c) → StaysFolder (scope.names f) c (record c { props = props }) → Good D → Good (with_context f c props D)
+  context_good f c props D other is stays k = keeps_more T scope D.objects f (Some (Context (record c { props = props }))) k (fits_context T scope D.objects f c (record c { props = props }) k is other stays)
 
   counted_good : (places : List Place) (f : ℕ) (D : Changed) → (f ≡ 0x21 → ⊥) → Good D → IfOk (counted T places f D) Good
   unfolding counted
@@ -79,7 +79,7 @@ module _ (T : Tree) (named : ℕ → Bool) where
       if_then (λ c. now_at T D f ≡ Some (Context c)) Good (context_at T D f) _ (if_context T D f) (λ c is.
       if_then (λ t. Unit {0}) Good (table_at T D (contents f)) _ (if_any (table_at T D (contents f))) (λ t u.
       if_then (λ n. Unit {0}) Good (unread_among T D (message_ids t.table)) _ (if_any (unread_among T D (message_ids t.table))) (λ n u.
-      context_good f c _ D other is (counts_stay (named f) c (length (message_ids t.table)) n (list_any (is_child f) places)) k)))
+      context_good f c _ D other is (counts_stay (scope.names f) c (length (message_ids t.table)) n (list_any (is_child f) places)) k)))
 
   pub mirrored_good : (f : ℕ) (D : Changed) → (Untouched T D.objects f → ⊥) → Good D → IfOk (mirrored T f D) Good
   unfolding mirrored

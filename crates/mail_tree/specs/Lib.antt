@@ -13,3 +13,4 @@ pub mod Start
 pub mod Laws
 pub mod Found
 pub mod Stays
+pub mod ComesAndGoes

@@ -1,6 +1,7 @@
 //! What follows of every command.
 ghost use Rattle.std.specs.Prelude.{ℕ, List};
 ghost use Rattle.command_text.specs.declared.command.Command.{Command};
+ghost use Rattle.mail_tree.specs.ComesAndGoes.{ComesAndGoes};
 ghost use Rattle.mail_tree.specs.Laws.{Copies, Counts, CountsAnew, CountsStay, GetsWhatWasSet, MakesFolder, MakesMessage, Mirrors, MirrorsStay, Moves, MovesFolder, Reads, Removes, RemovesFolder, RenamesFolder, Sets, Unsets};
 ghost use Rattle.mail_tree.specs.Start.{IsStart};
 ghost use Rattle.mail_tree.specs.Stays.{GivesNewIds, KeepsNodes, KeepsTables, KeepsValues, StaysFound};
@@ -121,4 +122,9 @@ pub fn keeps_tables()
 /// The folders of a new store are those that its tables of folders list from the root down, each at most 64 folders below it; where a store's folders are so, they are so after every command.
 pub fn stays_found()
     ensures { StaysFound }
+{}
+
+/// Objects come only with the folder or the message that a command makes, and go only with the one that it removes.
+pub fn comes_and_goes()
+    ensures { ComesAndGoes }
 {}

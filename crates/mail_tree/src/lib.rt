@@ -9,8 +9,9 @@ mod law;
 mod places;
 
 pub use law::{
-    copies, counts_anew, counts_stay, gets_what_was_set, gives_new_ids, keeps_nodes, keeps_tables,
-    keeps_values, makes_folder, makes_message, mirrors_stay, moves, moves_folder, reads, removes,
-    removes_folder, renames_folder, sets, some_is_whole, starts_whole, stays_found, stays_whole, unsets,
+    comes_and_goes, copies, counts_anew, counts_stay, gets_what_was_set, gives_new_ids,
+    keeps_nodes, keeps_tables, keeps_values, makes_folder, makes_message, mirrors_stay, moves,
+    moves_folder, reads, removes, removes_folder, renames_folder, sets, some_is_whole,
+    starts_whole, stays_found, stays_whole, unsets,
 };
 pub use places::{Place, Places, ROOT_FOLDER, Sort};
