@@ -15,6 +15,7 @@ use Rattle.mail_session.specs.Turn.{State, IsAllowed, Hears, AnswersNext, TurnsO
 use Rattle.mail_session.specs.Scratch.{SoFar, ScratchEnds, Starts, LINES}
 use Rattle.mail_session.specs.Worlds.{KeepsDisk}
 use Rattle.mail_session.proofs.Disks.{keeps_started, keeps_along}
+use Rattle.mail_session.proofs.Orders.{session_in_order}
 use Rattle.mail_session.proofs.Pieces.{nothing_cuts, broken_cuts}
 use Rattle.mail_session.proofs.RunLaws.{run_on, last_tree_on, no_quit_on, quit_on, up_to_quit-past, concat_on, length_on}
 
@@ -159,7 +160,7 @@ ends_by_quit first mid now old new count few so_far turn =
       left = left_of g.piece rest;
       cuts = lines_are g;
       replies = g.replies ++ turn.reply ∷ [];
-      run = inr (g.start, g.trees ++ g.next_tree ∷ [], g.is_start, g.run);
+      run = inr (g.start, g.trees ++ g.next_tree ∷ [], g.is_start, g.run, session_in_order g.start _ _ _ g.is_start g.run);
       front = λ t. (length (concat (g.replies ++ turn.reply ∷ [])), all_said t ∙ ap (λ x. first.here.said ++ x) (sym (take_all _ (concat (g.replies ++ turn.reply ∷ [])) (omega arith))));
       whole = λ no t. all_said t;
       statuses = inl refl;
@@ -201,7 +202,7 @@ ends_by_end first mid now old count few so_far turn =
       left = [];
       cuts = rests first mid now old count [] true so_far turn.hears (nothing_cuts true old.long);
       replies = so_far.replies;
-      run = inr (so_far.start, so_far.trees, so_far.is_start, so_far.run);
+      run = inr (so_far.start, so_far.trees, so_far.is_start, so_far.run, session_in_order so_far.start _ _ _ so_far.is_start so_far.run);
       front = λ t. (length (concat so_far.replies), said t ∙ ap (λ x. first.here.said ++ x) (sym (take_all _ (concat so_far.replies) (omega arith))));
       whole = λ no t. said t;
       statuses = inl refl;
@@ -227,7 +228,7 @@ ends_by_input first mid now old count few so_far turn =
       left = [];
       cuts = rests first mid now old count turn.taken false so_far turn.hears (broken_cuts old.long turn.taken turn.stands.0 turn.stands.1);
       replies = so_far.replies;
-      run = inr (so_far.start, so_far.trees, so_far.is_start, so_far.run);
+      run = inr (so_far.start, so_far.trees, so_far.is_start, so_far.run, session_in_order so_far.start _ _ _ so_far.is_start so_far.run);
       front = λ t. (length (concat so_far.replies), said t ∙ ap (λ x. first.here.said ++ x) (sym (take_all _ (concat so_far.replies) (omega arith))));
       whole = λ no t. said t;
       statuses = inr (inl refl);
@@ -254,7 +255,7 @@ ends_by_output first mid now old new count few so_far turn =
       left = left_of g.piece rest;
       cuts = lines_are g;
       replies = g.replies ++ turn.reply ∷ [];
-      run = inr (g.start, g.trees ++ g.next_tree ∷ [], g.is_start, g.run);
+      run = inr (g.start, g.trees ++ g.next_tree ∷ [], g.is_start, g.run, session_in_order g.start _ _ _ g.is_start g.run);
       front = λ t.
           let k = (turn.said t).0 in (
             length (concat g.replies) + k,
@@ -283,7 +284,7 @@ ends_by_lines first now state so_far = record {
   left = up_to_quit (cut state.ended state.long [] (state.held ++ []));
   cuts = ap (λ x. up_to_quit (cut state.ended false [] x)) (sym (append-nil so_far.taken)) ∙ ap up_to_quit (so_far.cuts state.ended [] (here_allowed state.ended)) ∙ up_to_quit-past so_far.done _ so_far.no_quit;
   replies = so_far.replies;
-  run = inr (so_far.start, so_far.trees, so_far.is_start, so_far.run);
+  run = inr (so_far.start, so_far.trees, so_far.is_start, so_far.run, session_in_order so_far.start _ _ _ so_far.is_start so_far.run);
   front = λ t. (length (concat so_far.replies), so_far.said t ∙ ap (λ x. first.here.said ++ x) (sym (take_all _ (concat so_far.replies) (omega arith))));
   whole = λ no t. so_far.said t;
   statuses = inr (inr (inr (inr refl)));

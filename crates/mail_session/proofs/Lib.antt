@@ -3,6 +3,7 @@ pub mod Answered
 pub mod Cuts
 pub mod Boxed
 pub mod EndLaws
+pub mod Orders
 pub mod Feeds
 pub mod InfoLaws
 pub mod Inputs

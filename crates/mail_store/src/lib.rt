@@ -8,6 +8,8 @@
 mod commands;
 mod planned;
 mod store;
+#[cfg(test)]
+mod tests;
 
 pub use planned::Planned;
 pub use store::{Store, commit, plan};
