@@ -2,7 +2,9 @@
 use crate::{Store, commit, plan};
 use command_text::{CommandRefusal, LastLine, Reply, read_line, reply_text};
 use mail_draft::{Stop, put_text};
-use mail_objects::{Context, Object, TableNode, object_fits, read_context, read_table, write_object};
+use mail_objects::{
+    Context, Object, TableNode, object_fits, read_context, read_table, write_object,
+};
 use mail_tree::{Place, Sort};
 use mapi_values::{Column, Props, Table, Tag, Units, Value, fits, is_layout, put_row};
 use new_store::new_store;
@@ -270,7 +272,8 @@ fn begun(rt: &(impl Abort + AllocGlobal)) -> Result<Lab, Fail> {
 }
 
 /// What `props` says of the message: the values of `BEGINNING`, and what was laid by hand.
-const DETAILS: &str = "- 0x001a001f 16\n- 0x0037001f 10\n- 0x0e070003 4\n- 0x0e080003 4\n- 0x30070040 8\n- 0x30080040 8\n- 0x300b0102 16\n- rcpt 0 0 \"\" \"\u{4141}\u{4141}\u{4141}\"\n- rcpt 1 0 \"\" \"\u{4141}\u{4141}\u{4141}\"\n- attach 0x8025 3 \"\u{4141}\"\n- attach 0x8045 3581 \"\u{4141}\"\nok 11\n";
+const DETAILS: &str =
+    "- 0x001a001f 16\n- 0x0037001f 10\n- 0x0e070003 4\n- 0x0e080003 4\n- 0x30070040 8\n- 0x30080040 8\n- 0x300b0102 16\n- rcpt 0 0 \"\" \"\u{4141}\u{4141}\u{4141}\"\n- rcpt 1 0 \"\" \"\u{4141}\u{4141}\u{4141}\"\n- attach 0x8025 3 \"\u{4141}\"\n- attach 0x8045 3581 \"\u{4141}\"\nok 11\n";
 
 #[test]
 fn a_copy_has_all_that_the_message_has(rt: HostRuntime) -> Result<(), Fail> {
@@ -294,7 +297,14 @@ fn a_copy_has_all_that_the_message_has(rt: HostRuntime) -> Result<(), Fail> {
     assert_eq!(rt; looks(rt.alloc(), &copied)?.as_str(), wanted.as_str());
     assert_eq!(rt; looks(rt.alloc(), &moved)?.as_str(), wanted.as_str());
     let ids = [0x21, 0x671, 0x692, 0x700, 0x8025, 0x8045, 0x9001];
-    assert!(rt; copied.subs.as_slice().iter().map(|sub| sub.nid.bits).eq(ids));
+    assert!(rt;
+        copied
+            .subs
+            .as_slice()
+            .iter()
+            .map(|sub| sub.nid.bits)
+            .eq(ids)
+    );
     assert!(rt; moved.parent.bits == 0x8062 && copied.parent.bits == 0x8062);
     Ok(())
 }
@@ -455,7 +465,12 @@ fn add_search(alloc: Global, lab: &mut Lab) -> Result<(), Fail> {
     let table = table.with_row(alloc, SEARCH, &name)?;
     put_node(alloc, lab, 0x804D, written(alloc, &Object::Table(table))?)?;
     let search = Context::new(nid(0x8042), name, Subs::new(alloc));
-    put_node(alloc, lab, SEARCH, written(alloc, &Object::Context(search))?)?;
+    put_node(
+        alloc,
+        lab,
+        SEARCH,
+        written(alloc, &Object::Context(search))?,
+    )?;
     lab.store.places.put(Place {
         nid: nid(SEARCH),
         parent: nid(0x8042),
@@ -521,9 +536,14 @@ fn spend_ids(alloc: Global, lab: &mut Lab) -> Result<(), Fail> {
     )
 }
 
-/// A message with so many values.
+/// A message with so many values, and three more.
 fn put_crowded(alloc: Global, lab: &mut Lab, id: u32, count: u16) -> Result<(), Fail> {
-    let mut values = props(alloc, &[(0x001A, 0x001F, 2), (0x0E07, 0x0003, 4)])?;
+    let own = [
+        (0x001A, 0x001F, 2),
+        (0x0E07, 0x0003, 4),
+        (0x0E08, 0x0003, 4),
+    ];
+    let mut values = props(alloc, &own)?;
     for at in 0..count {
         values.put(value(alloc, 0x4000u16.saturating_add(at), 0x0003, 4)?)?;
     }
