@@ -1,24 +1,28 @@
 -- What a store plans and commits.
-use Rattle.std.proofs.Common.{◌≡◌, ℕ, Bool, true, false, List, [], Option, None, Some, Result, Ok, Err, refl, sym, subst, ◌∙◌, ap}
+use Rattle.std.proofs.Common.{◌≡◌, ℕ, Bool, true, false, List, Option, None, Some, Result, Ok, Err, sym, subst, ◌∙◌}
 use Rattle.std.specs.Bool.{OnTrue}
 use Rattle.std.specs.Result.{OnOk}
 use Rattle.std.specs.FinMap as map
-use Rattle.command_text.specs.declared.reply.CommandRefusal.{CommandRefusal}
+use Rattle.command_text.specs.declared.reply.Reply.{Reply}
 use Rattle.node_port.specs.Nodes.{Nodes, changed}
 use Rattle.node_port.specs.Stops.{Room}
 use Rattle.node_port.specs.declared.node.NodeRec.{NodeRec}
 use Rattle.pst_base.specs.declared.ids.Nid.{Nid}
+use Rattle.pst_outside.specs.World.{World}
+use Rattle.mail_tree.specs.declared.places.Place.{Place}
 use Rattle.mail_tree.specs.Changing.{Answer}
 use Rattle.mail_tree.specs.Folders.{Outcome}
 use Rattle.mail_tree.specs.Step.{after, with_changes, without_changed}
 use Rattle.mail_tree.specs.Tree.{Shown, Tree}
-use Rattle.mail_draft.specs.Answers.{Says}
+use Rattle.mail_draft.specs.Answers.{Looks, Says}
 use Rattle.mail_draft.specs.Drafts.{changed_of}
 use Rattle.mail_draft.specs.Outcomes.{last_after, outcome_of, places_after}
 use Rattle.mail_draft.specs.declared.outcome.Outcome.{Outcome as Coming}
 use Rattle.mail_draft.specs.declared.stop.Stop.{Stop}
+use Rattle.mail_draft.specs.declared.stop.Stop.TheVariants.{Refused, Fault, Changed, Memory}
 use Rattle.mail_draft.proofs.FitLaws.{no-entries}
-use Rattle.mail_store.specs.Planning.{Carries, IsHindered, Plans}
+use Rattle.mail_draft.proofs.Looking.{shown_still}
+use Rattle.mail_store.specs.Planning.{Carries, IsHindered, Plans, Stores, UnlessFault}
 
 -- changes that were applied make the nodes show the tree after them
 pub applied : {R A E : Type 0} (r : Result A E) (holds holds' : Nodes → Type 0) (last last' : List ℕ) (fits : R → List ℕ → List (Nid × Option NodeRec) → Type 0) (ready : R) (told : Type 0)
@@ -59,3 +63,22 @@ pub plans_hindered : {A P : Type 0} (view : A → Outcome) (room : Room) (plans 
 plans_hindered view room plans (Ok o) oc stop says hindered = hindered
 plans_hindered view room plans (Err None) oc stop says hindered = tt
 plans_hindered view room plans (Err (Some refusal)) oc stop says hindered = absurd says
+
+-- what was planned was done
+pub does_planned : {P : Type 0} (room : Room) (plans : Outcome → P → Type 0) (does : Outcome → Reply → Type 0) (answer : Answer Outcome) (planned : P) (reply : Reply)
+    → Plans room plans answer (Ok planned) → ((o : Outcome) → plans o planned → does o reply) → Plans room does answer (Ok reply)
+does_planned room plans does (Ok o) planned reply said then = then o said
+does_planned room plans does (Err None) planned reply said then = tt
+does_planned room plans does (Err (Some refusal)) planned reply said then = said
+
+-- it is so after each stop
+pub unless_fault : {P : Type 0} (stop : Stop) → P → UnlessFault P stop
+unless_fault (Refused refusal) p = p
+unless_fault Fault p = tt
+unless_fault (Changed ib stored computed) p = p
+unless_fault Memory p = p
+
+-- a store that was only looked at has its tree still
+pub stores_still : {holds holds' : Nodes → Type 0} {last last' : List ℕ} {room room' : Room} {v w : World} (places places' : List Place) (T : Tree)
+    → Looks holds holds' last last' room room' v w → places' ≡ places → Stores holds last places T → Stores holds' last' places' T
+stores_still places places' T looks e s = record { shown = shown_still T looks s.shown; where_is = s.where_is ∙ sym e }

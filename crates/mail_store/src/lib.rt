@@ -1,15 +1,17 @@
-//! A store: the tree of folders and messages that the nodes of a keeper show, changed by commands.
+//! A store: the tree of folders and messages that the nodes of a keeper show, opened, and changed by commands.
 //!
-//! Promises: `plan` answers what the step of a command says of every tree that the nodes show, and changes nothing; `commit` makes the nodes show the tree after it.
+//! Promises: `open` finds the folders of the tree that the nodes show, if it is whole and found from the root down, and changes nothing. `plan` answers what the step of a command says of every tree that the nodes show, and changes nothing; `commit` makes the nodes show the tree after it; `do_command` does both.
 //!
 //! Leaves to others: what nodes are kept in, and lines and replies as text.
 #![tactic(auto)]
 
 mod commands;
+mod opening;
 mod planned;
 mod store;
 #[cfg(test)]
 mod tests;
 
+pub use opening::open;
 pub use planned::Planned;
-pub use store::{Store, commit, plan};
+pub use store::{Store, commit, do_command, plan};

@@ -4,14 +4,14 @@ ghost use Rattle.std.specs.Bool.{OnTrue};
 ghost use Rattle.std.specs.Option.{ForSome};
 ghost use Rattle.pst_base.specs.declared.ids.Nid.{Nid as Id};
 ghost use Rattle.node_port.specs.declared.node.NodeRec.{NodeRec as Rec};
-ghost use Rattle.pst_outside.specs.Calls.{NeverFall, Rose};
+ghost use Rattle.pst_outside.specs.Calls.{NeverFall, Rose, Untouched};
 ghost use Rattle.mail_tree.specs.Step.{after, outcome};
 ghost use Rattle.mail_tree.specs.Tree.{Shown, Tree};
 ghost use Rattle.mail_tree.specs.Folders.{Outcome as Coming};
 ghost use Rattle.mail_draft.specs.Answers.{IsCaused, Looks};
 ghost use Rattle.mail_draft.specs.Drafts.{all_fit, changed_of};
 ghost use Rattle.mail_draft.specs.Outcomes.{last_after, outcome_of, places_after};
-ghost use Rattle.mail_store.specs.Planning.{Carries, IsHindered, Plans, PlansTo, Stores};
+ghost use Rattle.mail_store.specs.Planning.{Carries, Does, IsHindered, Plans, PlansTo, Stores, UnlessFault};
 
 use crate::commands::outcome;
 use crate::planned::Planned;
@@ -173,4 +173,26 @@ pub fn commit<W: Outside, K: Keeper<W>>(
     apply_change(&mut store.keeper, w, change)?;
     settle_places(&mut store.places, places);
     Ok(reply)
+}
+
+/// Carries out a command: plans it, makes its changes, and gives its reply. Refused as the command is refused, and where the file has no room (`Full`) or no numbers (`Ids`) left. `Fault` comes where the disk failed, `Memory` where there was no memory, and `Changed` where something isn't as it was found before. An `Err` changes nothing, but for a `Fault`, after which the nodes may be those before or after the command, or neither.
+pub fn do_command<W: Outside, K: Keeper<W>>(
+    alloc: Global,
+    store: &mut Store<K>,
+    w: &mut W,
+    command: &Command,
+) -> Result<Reply, Stop>
+    ensures answer { (T : Tree) → Stores (K.holds store.old.keeper (W.view w.old)) (K.last store.old.keeper) store.old.places T
+        → Plans (K.room store.old.keeper) (Does (Stores (K.holds store.new.keeper (W.view w.new)) (K.last store.new.keeper) store.new.places) (K.has_disk ≡ true → (W.view w.new).tells) T) (outcome T command.now) result }
+    ensures stays { IfErr result (UnlessFault ((T : Tree) → Stores (K.holds store.old.keeper (W.view w.old)) (K.last store.old.keeper) store.old.places T
+        → Stores (K.holds store.new.keeper (W.view w.new)) (K.last store.new.keeper) store.new.places T)) }
+    ensures untouched { IfErr result (UnlessFault (Untouched (W.view w.old) (W.view w.new))) }
+    ensures cause { IfErr result (IsCaused K.has_disk (W.view w.old).disk_faults (W.view w.new).disk_faults) }
+    ensures counts { NeverFall (W.view w.old) (W.view w.new) }
+{
+    let planned = plan(alloc, store, w, command)?;
+    match commit(store, w, planned) {
+        Ok(reply) => Ok(reply),
+        Err(_) => Err(Stop::Fault),
+    }
 }

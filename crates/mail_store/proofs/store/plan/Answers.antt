@@ -1,4 +1,4 @@
-use Rattle.std.proofs.Common.{refl, sym, subst}
+use Rattle.std.proofs.Common.{refl, subst}
 use Rattle.mail_draft.proofs.Looking.{shown_still}
 use Rattle.mail_draft.specs.Outcomes.{outcome_of}
 use Rattle.mail_tree.specs.Step.{outcome}
