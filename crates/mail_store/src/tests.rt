@@ -1,5 +1,5 @@
 //! Commands over nodes of which some were laid by hand: what the store doesn't know, and what no command makes yet.
-use crate::{Store, commit, plan};
+use crate::{Store, do_command, open, plan};
 use command_text::{CommandRefusal, LastLine, Reply, read_line, reply_text};
 use mail_draft::{Stop, put_text};
 use mail_objects::{
@@ -102,11 +102,8 @@ fn answer(alloc: Global, lab: &mut Lab, line: &str) -> Result<Bytes, Fail> {
     let Ok(command) = read_line(alloc, line.as_bytes()) else {
         return Err(Fail::from("no command"));
     };
-    match plan(alloc, &mut lab.store, &mut lab.world, &command) {
-        Ok(planned) => {
-            let reply = commit(&mut lab.store, &mut lab.world, planned)?;
-            Ok(reply_text(alloc, &reply)?)
-        }
+    match do_command(alloc, &mut lab.store, &mut lab.world, &command) {
+        Ok(reply) => Ok(reply_text(alloc, &reply)?),
         Err(Stop::Refused(refusal)) => {
             let reply = Reply::without_data(alloc, LastLine::Refused(refusal));
             Ok(reply_text(alloc, &reply)?)
@@ -605,4 +602,66 @@ fn a_table_of_100_000_rows_takes_no_more(rt: HostRuntime) -> Result<(), Fail> {
     assert_answers(&rt, &mut lab, &table)?;
     spend_ids(rt.alloc(), &mut lab)?;
     assert_answers(&rt, &mut lab, &[("cp 0x200024 0x8062", "no limit rows\n")])
+}
+
+#[test]
+fn a_store_opens_with_the_folders_that_its_tables_list(rt: HostRuntime) -> Result<(), Fail> {
+    let mut lab = begun(&rt)?;
+    add_search(rt.alloc(), &mut lab)?;
+    assert_answers(&rt, &mut lab, &[("mkdir 0x8082 Sent", "ok 0x80a2\n")])?;
+    // a search folder without a node, and a row that is no folder's
+    add_row(rt.alloc(), &mut lab, 0x804D, 0x8023)?;
+    add_row(rt.alloc(), &mut lab, 0x808D, 0x8084)?;
+    let Lab { store, mut world } = lab;
+    let store = open(rt.alloc(), store.keeper, &mut world)?;
+    let wanted = [
+        (0x122, 0x122, Sort::Plain),
+        (SEARCH, 0x8042, Sort::Foreign),
+        (0x8022, 0x122, Sort::Plain),
+        (0x8042, 0x122, Sort::Plain),
+        (0x8062, 0x122, Sort::Plain),
+        (0x8082, 0x8022, Sort::Plain),
+        (0x80A2, 0x8082, Sort::Plain),
+    ];
+    let found = store.places.as_slice().iter();
+    assert!(rt;
+        found
+            .map(|place| (place.nid.bits, place.parent.bits, place.sort))
+            .eq(wanted)
+    );
+    Ok(())
+}
+
+#[test]
+fn nodes_without_a_root_open_as_no_store(rt: HostRuntime) -> Result<(), Fail> {
+    let Lab {
+        store: _,
+        mut world,
+    } = new_lab(rt.alloc())?;
+    let stop = match open(rt.alloc(), MapKeeper::new(rt.alloc()), &mut world) {
+        Ok(_) => None,
+        Err(stop) => Some(stop),
+    };
+    let wanted = Stop::Changed {
+        ib: 0,
+        stored: 13,
+        computed: 0,
+    };
+    assert!(rt; stop == Some(wanted));
+    Ok(())
+}
+
+#[test]
+fn a_plan_that_is_given_up_changes_nothing(rt: HostRuntime) -> Result<(), Fail> {
+    let mut lab = begun(&rt)?;
+    let Ok(command) = read_line(rt.alloc(), b"rm 0x200024") else {
+        return Err(Fail::from("no command"));
+    };
+    let planned = plan(rt.alloc(), &mut lab.store, &mut lab.world, &command)?;
+    assert_eq!(rt;
+        reply_text(rt.alloc(), &planned.reply)?.as_slice(),
+        "ok\n".as_bytes()
+    );
+    let wanted = "- 0x200024 message 62 \"Hello\"\nok 1\n";
+    assert_answers(&rt, &mut lab, &[("ls 0x8082", wanted)])
 }
