@@ -1,11 +1,10 @@
 -- Where no index is left a command is planned with the last one, whatever stands there, and then it is refused.
-use Rattle.std.proofs.Common.{◌≡◌, ◌≤◌, ◌<◌, ℕ, ◌%◌, ◌==◌, Bool, true, List, [], length, Option, Some, IsSome, arith, refl, sym, subst, ap, ◌∙◌, inl, inr}
+use Rattle.std.proofs.Common.{◌≡◌, ◌<◌, ℕ, ◌%◌, ◌==◌, Bool, true, List, [], length, Option, Some, IsSome, arith, sym, subst, ap, ◌∙◌, inl, inr}
 use Rattle.std.specs.List.{list_any}
 use Rattle.std.proofs.lemmas.Bool.{cases_Bool, cases_eq, eqb-false}
 use Rattle.mapi_values.specs.Messages.{Mes}
-use Rattle.mapi_values.specs.Tables.{find_row, mirror}
+use Rattle.mapi_values.specs.Tables.{mirror}
 use Rattle.mapi_values.specs.Values.{Val}
-use Rattle.command_text.specs.declared.reply.CommandRefusal.TheVariants.{Ids}
 use Rattle.mail_objects.specs.Forms.{Ctx, Tbl}
 use Rattle.mail_objects.specs.declared.object.Object.{Object}
 use Rattle.mail_objects.specs.declared.object.Object.TheVariants.{Context, Table, Message}
@@ -13,9 +12,9 @@ use Rattle.mail_tree.specs.declared.places.Place.{Place}
 use Rattle.mail_tree.specs.Places.{ROOT, find_place, is_child, is_plain}
 use Rattle.mail_tree.specs.Tree.{Tree}
 use Rattle.mail_tree.specs.Values.{folder_props, with_counts}
-use Rattle.mail_tree.specs.Changing.{Answer, Changed, ◌>>=◌, add_shown, associated, beside, contents, hierarchy, nothing, now_at, overfills, put_shown, shown_row, with_object, with_rows}
+use Rattle.mail_tree.specs.Changing.{Answer, Changed, ◌>>=◌, add_shown, associated, contents, hierarchy, nothing, now_at, overfills, put_shown, shown_row, with_object, with_rows}
 use Rattle.mail_tree.specs.Columns.{contents_table, hierarchy_table}
-use Rattle.mail_tree.specs.Settling.{counted, message_ids, mirrored, settled, unread_among, with_context}
+use Rattle.mail_tree.specs.Settling.{counted, message_ids, mirrored, settled, unread_among}
 use Rattle.mail_tree.specs.Ids.{is_spent, new_id}
 use Rattle.mail_tree.specs.Folders.{Outcome, making, with_folder}
 use Rattle.mail_tree.specs.Messages.{added_message}

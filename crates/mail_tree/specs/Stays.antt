@@ -1,5 +1,5 @@
 -- What each command leaves as it was, and which ids it gives.
-use Rattle.std.specs.Prelude.{◌≡◌, ◌<◌, ℕ, ◌%◌, ◌==◌, ◌&&◌, ◌||◌, Bool, true, false, IfOk, IsSome, List, length, set, get_or, Option, None, Some}
+use Rattle.std.specs.Prelude.{◌≡◌, ◌<◌, ℕ, ◌%◌, ◌==◌, ◌&&◌, ◌||◌, Bool, false, IfOk, IsSome, List, set, get_or, None, Some}
 use Rattle.pst_base.specs.Ids.{index_of}
 use Rattle.mapi_values.specs.Properties.{find}
 use Rattle.mapi_values.specs.Tables.{find_row}
