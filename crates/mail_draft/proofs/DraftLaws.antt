@@ -1,10 +1,11 @@
 -- A draft's entries are its changes.
-use Rattle.std.proofs.Common.{◌≡◌, ◌&&◌, ℕ, true, List, [], ◌∷◌, Option, Some, refl, sym, ◌∙◌, ap, cond, subst}
+use Rattle.std.proofs.Common.{◌≡◌, ◌&&◌, ℕ, Bool, true, false, List, [], ◌∷◌, Option, None, Some, refl, sym, ◌∙◌, ap, cond, subst, length, IsTrue}
 use Rattle.std.proofs.lemmas.Bool.{and_parts, and_from}
 use Rattle.std.specs.declared.cmp.Ordering.TheVariants.{Less, Equal, Greater}
 use Rattle.std.specs.Ordering.{nat_cmp, eq_by_cmp, match_ordering}
 use Rattle.std.specs.Cmp.{nat_cmp_total, eq_by_cmp_equiv}
 use Rattle.std.specs.FinMap as map
+use Rattle.std.specs.Bool.{OnFalse}
 use Rattle.std.specs.Map.{lookup}
 use Rattle.std.specs.BTreeMap.{insert_entry, is_at}
 use Rattle.mail_objects.specs.declared.object.Object.{Object}
@@ -28,6 +29,20 @@ entry_put k x old new updates =
     ∙ ap (λ b. cond b (Some x) (lookup (is_at (nat_cmp q)) old)) ((eq_by_cmp_equiv nat_cmp_total).symm k q)
     ∙ ap (cond (eq_by_cmp nat_cmp q k) (Some x)) (sym (entry_is q old))
     ∙ sym (map.get-insert nat_cmp_total (map.from_entries old) k x q))
+
+-- entries that make no changes are none
+no_changes : {X : Type 0} (es : List (ℕ × X)) → map.from_entries {R = nat_cmp} es ≡ map.empty → es ≡ []
+no_changes [] is = refl
+no_changes (e ∷ es) is =
+    let here : map.get (map.from_entries {R = nat_cmp} (e ∷ es)) e.0 ≡ Some e.1 = map.get-insert nat_cmp_total (map.from_entries es) e.0 e.1 e.0
+    ∙ ap (λ b. cond b (Some e.1) (map.get (map.from_entries {R = nat_cmp} es) e.0)) ((eq_by_cmp_equiv nat_cmp_total).refl e.0) in
+    let there : map.get (map.from_entries {R = nat_cmp} (e ∷ es)) e.0 ≡ None = ap (λ m. map.get m e.0) is ∙ map.get-empty nat_cmp e.0 in
+    absurd (let clash : Some e.1 ≡ None = sym here ∙ there in cc)
+
+-- a test that holds where there are no entries tells that there are changes
+pub some_changes : {X : Type 0} (b : Bool) (es : List (ℕ × X)) → (length es ≡ 0 → IsTrue b) → OnFalse b (map.from_entries {R = nat_cmp} es ≡ map.empty → ⊥)
+some_changes true es none = tt
+some_changes false es none = λ is. let clash : false ≡ true = none (ap length (no_changes es is)) in cc
 
 -- entries stay at their own ids where one is put at its own
 pub put_placed : (k : ℕ) (object : Option Object) (es : List (ℕ × Option Object))

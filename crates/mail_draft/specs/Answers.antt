@@ -23,6 +23,13 @@ IsRefusal refusal Fault = Unit {0}
 IsRefusal refusal (Changed ib stored computed) = ⊥
 IsRefusal refusal Memory = Unit {0}
 
+-- the command is refused: neither did the disk fail, nor did memory run out
+abbrev pub IsRefused : Stop → Type 0
+IsRefused (Refused refusal) = Unit {0}
+IsRefused Fault = ⊥
+IsRefused (Changed ib stored computed) = ⊥
+IsRefused Memory = ⊥
+
 -- The result, seen by view, is the answer, unless the disk failed or memory ran out. Where something isn't of its form, nothing is said.
 abbrev pub Says : {A B : Type 0} → (B → A) → Answer A → Result B Stop → Type 0
 Says view (Ok x) (Ok y) = view y ≡ x

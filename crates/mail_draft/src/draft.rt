@@ -16,7 +16,7 @@ pub struct Draft {
 }
 
 impl Draft {
-    ghost use Rattle.std.specs.Bool.{OnTrue};
+    ghost use Rattle.std.specs.Bool.{OnFalse, OnTrue};
     ghost use Rattle.std.specs.Option.{option_copied};
     ghost use Rattle.std.specs.FinMap as map;
     ghost use Rattle.mail_draft.specs.Placed.{is_placed};
@@ -44,7 +44,8 @@ impl Draft {
 
     /// Whether nothing was put or removed.
     pub fn is_empty(&self) -> bool
-        ensures { OnTrue result ((changed_of self.now).objects ≡ map.empty) }
+        ensures empty { OnTrue result ((changed_of self.now).objects ≡ map.empty) }
+        ensures some { OnFalse result ((changed_of self.now).objects ≡ map.empty → ⊥) }
     {
         self.objects.is_empty()
     }

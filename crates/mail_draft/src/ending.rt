@@ -1,11 +1,11 @@
 //! A draft as changes of nodes.
-ghost use Rattle.std.specs.Prelude.{◌≡◌, ℕ, true, IsTrue, IfOk, OnOk};
+ghost use Rattle.std.specs.Prelude.{◌≡◌, ℕ, true, IsTrue, IfErr, IfOk, OnOk};
 ghost use Rattle.node_port.specs.Nodes.{Nodes, ascend, changed, node_at};
 ghost use Rattle.mail_tree.specs.Tree.{StandsAt, Tree, object_at};
 ghost use Rattle.mail_tree.specs.Changing.{entry_fits, within_limits};
 ghost use Rattle.mail_tree.specs.Folders.{Outcome};
 ghost use Rattle.mail_tree.specs.Step.{after};
-ghost use Rattle.mail_draft.specs.Answers.{Says};
+ghost use Rattle.mail_draft.specs.Answers.{IsRefused, Says};
 ghost use Rattle.mail_draft.specs.Drafts.{all_fit, changed_of};
 ghost use Rattle.mail_draft.specs.Written.{IsWritten};
 
@@ -45,6 +45,7 @@ fn do_all_fit(draft: &Draft) -> bool
 pub fn within_limits(draft: &Draft) -> Result<(), Stop>
     ensures answer { Says (λ u. u) (within_limits (changed_of draft.now)) result }
     ensures fits { OnOk result (all_fit (changed_of draft.now) ≡ true) }
+    ensures refused { IfErr result IsRefused }
 {
     if !do_all_fit(draft) {
         return Err(Stop::Refused(CommandRefusal::Limit(Limit::Rows)));
