@@ -1,5 +1,5 @@
 -- Nodes of a new store's entries show its tree.
-use Rattle.std.proofs.Common.{◌≡◌, ◌∙◌, ◌⊎◌, inl, inr, ℕ, ◌+◌, Bool, true, false, cond, List, [], ◌∷◌, ◌++◌, map, refl, sym, ap, subst, arith, eq-eqb, Option, None, Some, is_some}
+use Rattle.std.proofs.Common.{◌≡◌, ◌∙◌, ◌⊎◌, inl, inr, ℕ, ◌+◌, Bool, true, false, cond, List, [], ◌∷◌, ◌++◌, length, map, suc, refl, sym, ap, subst, arith, eq-eqb, Option, None, Some, is_some}
 use Rattle.std.proofs.lemmas.Bool.{and_from, and_parts, both_ways, cases_Bool, cases_eq, eqb-true, le-ltb, ne_eqb, not-true}
 use Rattle.std.specs.Prelude.{◌==◌, ◌||◌, ◌&&◌, not, nat_le, nat_lt, if◌then◌else◌, IsTrue}
 use Rattle.std.specs.List.{list_all, list_any}
@@ -263,3 +263,15 @@ start-shows name ns a =
       λ q. subst (λ (x : Option Object). StandsAt q (node_at N q) x (node_at (without os N) q)) (sym (finite.get-from_entries nat_cmp_total os q))
           (in-tree start_ids os start_others S N (start-stands name ns a) q),
     )
+
+-- ---- how many there are
+
+nodes-many : (es : List (Nid × Option Object)) (ns : List (Nid × Option NodeRec)) → AreNodesOf es ns → length ns ≡ length es
+nodes-many [] [] are = refl
+nodes-many [] (n ∷ ns) are = absurd are
+nodes-many (e ∷ es) [] are = absurd are
+nodes-many (e ∷ es) (n ∷ ns) are = ap (λ k. suc k) (nodes-many es ns are.2)
+
+pub start-many : (name : List ℕ) (ns : List (Nid × Option NodeRec)) → AreNodesOf (start_entries name) ns → length ns ≡ 26
+unfolding start_entries
+start-many name ns are = nodes-many (start_entries name) ns are

@@ -1,5 +1,5 @@
 //! A new store.
-ghost use Rattle.std.specs.Prelude.{◌≡◌, ℕ, IsTrue, IfOk};
+ghost use Rattle.std.specs.Prelude.{◌≡◌, ℕ, length, IsTrue, IfOk};
 ghost use Rattle.node_port.specs.Nodes.{ascend, changed, no_nodes, node_at};
 ghost use Rattle.mail_tree.specs.Folders.{place};
 ghost use Rattle.mail_tree.specs.Places.{ROOT as ROOT_ID};
@@ -61,6 +61,7 @@ fn start_places(alloc: Global) -> Result<Places, AllocError>
 /// A new store of this name: 26 nodes, among them the folders *Top of Personal Folders*, *Search Root* and *Deleted Items* below the root. The error: memory ran out.
 pub fn new_store(alloc: Global, name: &Units) -> Result<NewStore, AllocError>
     ensures ascend { IfOk result (λ s. IsTrue (ascend 0 s.nodes.items)) }
+    ensures many { IfOk result (λ s. length s.nodes.items ≡ 26) }
     ensures counts { IfOk result (λ s. s.counts.last ≡ start_last) }
     ensures places { IfOk result (λ s. s.places ≡ start_places) }
     // Where there were no nodes, the new ones show the tree of a new store.
