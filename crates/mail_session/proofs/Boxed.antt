@@ -19,8 +19,8 @@ use Rattle.mail_draft.specs.declared.stop.Stop.{Stop}
 use Rattle.mail_draft.specs.declared.stop.Stop.TheVariants.{Refused}
 use Rattle.mail_store.specs.Planning.{IsHindered, Plans, PlansTo, Stores}
 use Rattle.mail_store.specs.declared.store.Store.{Store}
-use Rattle.mail_tree.proofs.Starting.{starts_whole}
-use Rattle.mail_tree.proofs.Strays.{whole_after}
+use Rattle.mail_laws.proofs.Starting.{starts_whole}
+use Rattle.mail_laws.proofs.Strays.{whole_after}
 use Rattle.mail_tree.specs.declared.places.Place.{Place}
 use Rattle.mail_tree.specs.Changing.{Answer}
 use Rattle.mail_tree.specs.Folders.{Outcome, replied}

@@ -9,21 +9,21 @@ use Rattle.command_text.specs.Lines.{command}
 use Rattle.mail_tree.specs.Changing.{Answer, nothing, now_at}
 use Rattle.mail_tree.specs.Folders.{Outcome}
 use Rattle.mail_tree.specs.Found.{IsFound}
-use Rattle.mail_tree.specs.Laws.{AreCountedBut, AreShown, Counts, Mirrors}
+use Rattle.mail_laws.specs.Laws.{AreCountedBut, AreShown, Counts, Mirrors}
 use Rattle.mail_tree.specs.Start.{IsStart}
 use Rattle.mail_tree.specs.Step.{after, outcome, stepped}
 use Rattle.mail_tree.specs.Tree.{Tree}
 use Rattle.mail_tree.specs.Whole.{Fine, IsWhole}
 use Rattle.mail_tree.proofs.AfterTree.{after_now, now_nothing}
-use Rattle.mail_tree.proofs.CountCommands.{counted_after}
-use Rattle.mail_tree.proofs.FoundCommands.{stays_found}
-use Rattle.mail_tree.proofs.FoundStart.{starts_found}
-use Rattle.mail_tree.proofs.Keeping.{if_weaker}
-use Rattle.mail_tree.proofs.LawSteps.{before}
-use Rattle.mail_tree.proofs.MirrorCommands.{mirrored_after}
-use Rattle.mail_tree.proofs.MirrorPuts.{AreShownBut, all_shown, shown_but}
-use Rattle.mail_tree.proofs.Starting.{starts_whole}
-use Rattle.mail_tree.proofs.Strays.{whole_after}
+use Rattle.mail_laws.proofs.CountCommands.{counted_after}
+use Rattle.mail_laws.proofs.FoundCommands.{stays_found}
+use Rattle.mail_laws.proofs.FoundStart.{starts_found}
+use Rattle.mail_laws.proofs.Keeping.{if_weaker}
+use Rattle.mail_laws.proofs.LawSteps.{before}
+use Rattle.mail_laws.proofs.MirrorCommands.{mirrored_after}
+use Rattle.mail_laws.proofs.MirrorPuts.{AreShownBut, all_shown, shown_but}
+use Rattle.mail_laws.proofs.Starting.{starts_whole}
+use Rattle.mail_laws.proofs.Strays.{whole_after}
 use Rattle.mail_session.specs.Boxes.{AllInOrder, InOrder, NAME}
 use Rattle.mail_session.specs.Lines.{Piece, further, line, too_long}
 use Rattle.mail_session.specs.Run.{Answers, Carries, Run, Steps}

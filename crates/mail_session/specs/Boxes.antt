@@ -8,7 +8,7 @@ use Rattle.node_port.specs.declared.map_keeper.MapKeeper.{MapKeeper}
 use Rattle.mail_store.specs.Planning.{Stores}
 use Rattle.mail_store.specs.declared.store.Store.{Store}
 use Rattle.mail_tree.specs.Found.{IsFound}
-use Rattle.mail_tree.specs.Laws.{Counts, Mirrors}
+use Rattle.mail_laws.specs.Laws.{Counts, Mirrors}
 use Rattle.mail_tree.specs.Start.{IsStart}
 use Rattle.mail_tree.specs.Tree.{Tree}
 use Rattle.mail_tree.specs.Whole.{IsWhole}

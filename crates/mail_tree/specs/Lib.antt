@@ -10,7 +10,4 @@ pub mod Messages
 pub mod Step
 pub mod Whole
 pub mod Start
-pub mod Laws
 pub mod Found
-pub mod Stays
-pub mod ComesAndGoes

@@ -1,0 +1,252 @@
+-- What each command on messages makes of them.
+use Rattle.std.proofs.Common.{◌≡◌, ℕ, ◌%◌, ◌==◌, ◌||◌, Bool, true, false, nat_le, List, Option, None, Some, IfOk, is_some, Ok, arith, refl, sym, subst, ap, ◌∙◌, inl, inr}
+use Rattle.std.proofs.lemmas.Bool.{cases_Bool, cases_eq, eq-eqb, eqb-true, eqb-false, or_parts}
+use Rattle.mapi_values.specs.Messages.{Mes, size}
+use Rattle.mapi_values.specs.Properties.{find, put, remove_id}
+use Rattle.mapi_values.specs.Values.{Val}
+use Rattle.mapi_values.specs.declared.value.Tag.{Tag}
+use Rattle.command_text.specs.declared.reply.LastLine.TheVariants.{Done, Made}
+use Rattle.mail_objects.specs.declared.object.Object.{Object}
+use Rattle.mail_objects.specs.declared.object.Object.TheVariants.{Context, Table, Message}
+use Rattle.mail_tree.specs.declared.places.Place.{Place}
+use Rattle.mail_tree.specs.Places.{find_place, is_plain}
+use Rattle.mail_tree.specs.Tree.{Tree, object_at}
+use Rattle.mail_tree.specs.Values.{bytes_of, finished, has_object, has_parts, is_own_id, is_set_protected, is_unset_protected, message_props, number, number_of, text, time_value, with_attachment_flag, with_flag, with_props}
+use Rattle.mail_tree.specs.Changing.{◌>>=◌, add_shown, as_message, contents, drop_shown, nothing, now_at, put_shown, with_object}
+use Rattle.mail_tree.specs.Settling.{settled}
+use Rattle.mail_tree.specs.Ids.{is_spent, message_kinds, new_id, next_index}
+use Rattle.mail_tree.specs.Folders.{Outcome, changing, making, nid, replied, unless_full}
+use Rattle.mail_tree.specs.Messages.{added_message, changed_message, copied_message, copy_of, copying, in_folder, is_crowded_message, is_overfull, making_message, message_in, moved_message, new_message, plain_message, removed_message, set_value, unset_value, with_message}
+use Rattle.mail_tree.specs.Step.{after}
+use Rattle.mail_tree.specs.Whole.{fits_id}
+use Rattle.mail_laws.specs.Laws.{OnlyMessage}
+use Rattle.mail_tree.proofs.KeyedFinds.{find-put_other}
+use Rattle.mail_tree.proofs.AfterTree.{after_now, now_nothing, puts_object, puts_values}
+use Rattle.mail_tree.proofs.FineLaws.{cases_Option}
+use Rattle.mail_tree.proofs.Nearly.{folder_kind, message_id}
+use Rattle.mail_tree.proofs.KindsOfPuts.{low}
+use Rattle.mail_laws.proofs.MessageSteps.{Before, Keeps, fine_message_in, finished_folder, finished_id, home_of, new_message_id}
+use Rattle.mail_laws.proofs.Keeping.{Comes, Four, no_table, KeepsAt, PutsMessage, add_keeps, drop_keeps, from_fine, if_any, if_then, if_weaker, kept_after, never_made, put_keeps, table_apart, then_changing, then_making, then_settled}
+use Rattle.mail_tree.proofs.Settles.{store_of}
+
+-- a folder is no message
+pub place_apart : (T : Tree) → Before T → (f : ℕ) (p : Place) → find_place f T.places ≡ Some p → f % 32 ≡ 4 → ⊥
+place_apart T w f p e four = let (above, below) = low f (folder_kind p.sort f (w.kinds f p e)) in omega arith
+
+-- one message changed, and no place
+pub record Changes (T : Tree) (m : ℕ) (now : Option Mes) (o : Outcome) : Type 0 where
+  pub here : as_message (now_at T o.changed m) ≡ now
+  pub others : (k : ℕ) → k % 32 ≡ 4 → (k ≡ m → ⊥) → now_at T o.changed k ≡ now_at T nothing k
+  pub places_are : o.places ≡ T.places
+
+changes : (T : Tree) (m : ℕ) (x : Option Object) (o : Outcome) → PutsMessage (now_at T nothing) (now_at T o.changed) m x → o.places ≡ T.places → Changes T m (as_message x) o
+changes T m x o puts same = record { here = ap as_message puts.here; others = puts.others; places_are = same }
+
+-- where no message may stand none does
+pub no_message : (q : ℕ) (o : Option Object) → ((x : Object) → o ≡ Some x → fits_id q x ≡ true) → (q % 32 ≡ 4 → ⊥) → as_message o ≡ None
+no_message q None fits other = refl
+no_message q (Some (Context c)) fits other = refl
+no_message q (Some (Table t)) fits other = refl
+no_message q (Some (Message m)) fits other = absurd (other (message_id q m (fits (Message m) refl)).0)
+
+-- the same in the words of mail
+pub only_message : (T : Tree) (m : ℕ) (now : Option Mes) (o : Outcome) → Before T → Keeps T o → Changes T m now o → OnlyMessage T (after T o) m now
+only_message T m now o w w' c = record {
+  here = ap (λ g. as_message (g m)) (sym (after_now T o)) ∙ c.here;
+  others = λ k other. ap (λ g. as_message (g k)) (sym (after_now T o)) ∙ elim (cases_eq (k % 32) 4) [
+    | inl four ↦ ap as_message (c.others k four other)
+    | inr four ↦ no_message k (now_at T o.changed k) (w'.typed k) four ∙ sym (no_message k (now_at T nothing k) (w.typed k) four)
+  ] ∙ ap (λ g. as_message (g k)) (now_nothing T false);
+  places = c.places_are;
+}
+
+-- `rm`
+pub removes : (T : Tree) (m : ℕ) → Before T → IfOk (removed_message T m) (Changes T m None)
+unfolding removed_message
+removes T m w = if_then _ (Changes T m None) (message_in T m) _ (from_fine _ (message_in T m) (fine_message_in T m w)) (λ M h.
+    let D = with_object m None nothing in let v = home_of T w m M h.0 in let a = drop_shown T (contents M.folder) m D in
+    if_weaker (Comes Four no_table T D T.places (replied Done)) (Changes T m None) (a >>= settled T T.places M.folder >>= changing T (replied Done))
+    (then_changing Four no_table T D (a >>= settled T T.places M.folder) (replied Done) (then_settled Four no_table T T.places M.folder D a (place_apart T w M.folder v.1 v.2)
+    (drop_keeps Four no_table T (contents M.folder) m D (table_apart M.folder 14 (omega arith) (omega arith)))))
+    (λ o c. changes T m None o (kept_after _ _ _ m None h.1 (puts_object T nothing m None) c.keeps) c.places_are))
+
+-- `mv`
+abbrev pub Moved : Tree → ℕ → ℕ → Outcome → Type 0
+Moved T m folder o = (M : Mes) × (now_at T nothing m ≡ Some (Message M)) × Changes T m (Some (in_folder folder M)) o
+
+pub moves : (T : Tree) (m folder : ℕ) → Before T → IfOk (moved_message T m folder) (Moved T m folder)
+unfolding moved_message
+moves T m folder w = if_then _ (Moved T m folder) (message_in T m) _ (from_fine _ (message_in T m) (fine_message_in T m w)) (λ M h. elim (cases_Option (find_place folder T.places)) [
+  | inl e ↦ rw e tt
+  | inr p ↦ rw p.1 (elim (cases_Bool (is_plain p.0)) [
+    | inr plain ↦ rw plain tt
+    | inl plain ↦ rw plain (elim (cases_Bool (M.folder == folder)) [
+      | inl b ↦ rw b (M, h.0, record { here = ap as_message h.0 ∙ ap (λ x. Some (in_folder x M)) (eqb-true M.folder folder b); others = λ k four other. refl; places_are = refl })
+      | inr b ↦
+          let N = in_folder folder M in let D = with_object m (Some (Message N)) nothing in let v = home_of T w m M h.0 in
+          rw b (if_then (KeepsAt Four T D) (Moved T m folder) (drop_shown T (contents M.folder) m D) _ (drop_keeps Four no_table T (contents M.folder) m D (table_apart M.folder 14 (omega arith) (omega arith))) (λ D' k.
+          let a = add_shown T (contents folder) m M.props D' in
+          if_weaker (Comes Four no_table T D' T.places (replied Done)) (Moved T m folder) (a >>= settled T T.places M.folder >>= settled T T.places folder >>= changing T (replied Done))
+          (then_changing Four no_table T D' (a >>= settled T T.places M.folder >>= settled T T.places folder) (replied Done)
+          (then_settled Four no_table T T.places folder D' (a >>= settled T T.places M.folder) (place_apart T w folder p.0 p.1)
+          (then_settled Four no_table T T.places M.folder D' a (place_apart T w M.folder v.1 v.2) (add_keeps Four no_table T (contents folder) m M.props D' (table_apart folder 14 (omega arith) (omega arith))))))
+          (λ o c. (M, h.0, changes T m (Some (Message N)) o (kept_after _ _ _ m (Some (Message N)) h.1 (puts_object T nothing m (Some (Message N))) (λ q four. c.keeps q four ∙ k q four)) c.places_are))))
+    ])
+  ])
+])
+
+-- a new message
+pub record Adds (T : Tree) (M : Mes) (index : ℕ) (o : Outcome) : Type 0 where
+  pub changes_it : Changes T M.nid (Some M) o
+  pub reply_is : o.reply ≡ replied (Made (nid (new_id 4 index)))
+
+adds : (T : Tree) (M : Mes) (crowded : Bool) (p : Place) (index : ℕ) → Before T → M.nid % 32 ≡ 4 → find_place M.folder T.places ≡ Some p → IfOk (added_message T M (record nothing { crowded = crowded }) >>= making T T.places 4 index) (Adds T M index)
+adds T M crowded p index w four found =
+    let D0 = record nothing { crowded = crowded } in
+    let D = with_object M.nid (Some (Message M)) D0 in
+    let a = add_shown T (contents M.folder) M.nid M.props D in
+    if_weaker (Comes Four no_table T D T.places (replied (Made (nid (new_id 4 index))))) (Adds T M index) (a >>= settled T T.places M.folder >>= making T T.places 4 index)
+    (then_making Four no_table T D (a >>= settled T T.places M.folder) T.places 4 index
+    (then_settled Four no_table T T.places M.folder D a (place_apart T w M.folder p found) (add_keeps Four no_table T (contents M.folder) M.nid M.props D (table_apart M.folder 14 (omega arith) (omega arith)))))
+    (λ o c. record { changes_it = changes T M.nid (Some (Message M)) o (kept_after _ _ _ M.nid (Some (Message M)) four (puts_object T D0 M.nid (Some (Message M))) c.keeps) c.places_are; reply_is = c.reply_is })
+
+-- `cp`
+abbrev pub Copied : Tree → ℕ → ℕ → Outcome → Type 0
+Copied T m folder o = (M : Mes) × (index : ℕ) × (now_at T nothing m ≡ Some (Message M)) × (now_at T nothing (new_id 4 index) ≡ None) × Adds T (copy_of (new_id 4 index) folder M) index o
+
+pub copies : (T : Tree) (m folder : ℕ) → Before T → IfOk (copied_message T m folder) (Copied T m folder)
+unfolding copied_message copying
+copies T m folder w = if_then _ (Copied T m folder) (message_in T m) _ (from_fine _ (message_in T m) (fine_message_in T m w)) (λ M h. elim (cases_Option (find_place folder T.places)) [
+  | inl e ↦ rw e tt
+  | inr p ↦ rw p.1 (elim (cases_Bool (is_plain p.0)) [
+    | inr plain ↦ rw plain tt
+    | inl plain ↦ rw plain (elim (cases_Bool (is_overfull M.recipients || is_overfull M.attachments)) [
+      | inl b ↦ rw b tt
+      | inr b ↦ rw b (if_then (λ u. Unit {0}) (Copied T m folder) (unless_full T (contents folder)) _ (if_any (unless_full T (contents folder))) (λ u v. elim (cases_Bool (is_spent (next_index T 4 message_kinds))) [
+        | inl t ↦ never_made T T.places 4 (next_index T 4 message_kinds) (Copied T m folder) (added_message T (copy_of (new_id 4 (next_index T 4 message_kinds)) folder M) (record nothing { crowded = is_crowded_message M })) t
+        | inr t ↦
+            let index = next_index T 4 message_kinds in let id = new_message_id T t in
+            let N = copy_of (new_id 4 index) folder M in
+            (if_weaker (Adds T N index) (Copied T m folder) (added_message T N (record nothing { crowded = is_crowded_message M }) >>= making T T.places 4 index)
+            (adds T N (is_crowded_message M) p.0 index w id.0 p.1) (λ o a. (M, index, h.0, id.1, a)))
+      ]))
+    ])
+  ])
+])
+
+-- values but for the flags and the size stay as a message is made right
+pub finished_find : (m : Mes) (id : ℕ) → (id ≡ 0x0E07 → ⊥) → (id ≡ 0x0E08 → ⊥) → find id (finished m).props ≡ find id m.props
+unfolding finished with_attachment_flag
+finished_find m id no_flags no_size =
+    find-put_other (λ v. v.id) id (number 0x0E08 (size (with_props (with_attachment_flag (has_parts m.parts) m.props) m))) (with_attachment_flag (has_parts m.parts) m.props) no_size
+    ∙ flagged (has_parts m.parts) m.props
+  where
+    flagged : (on : Bool) (props : List Val) → find id (with_attachment_flag on props) ≡ find id props
+    flagged on props = elim (cases_Bool (is_some (bytes_of 0x0E07 0x0003 props))) [
+      | inl b ↦ rw b (find-put_other (λ v. v.id) id (number 0x0E07 (with_flag on (number_of 0x0E07 props))) props no_flags)
+      | inr b ↦ rw b (elim (cases_Bool on) [
+        | inl c ↦ rw c (find-put_other (λ v. v.id) id (number 0x0E07 16) props no_flags)
+        | inr c ↦ rw c refl
+      ])
+    ]
+
+-- `new`
+pub record IsNew (folder : ℕ) (class : List ℕ) (time : ℕ) (M : Mes) : Type 0 where
+  pub folder_is : M.folder ≡ folder
+  pub class_is : find 0x001A M.props ≡ Some (text 0x001A class)
+  pub time_is : find 0x3007 M.props ≡ Some (time_value 0x3007 time)
+
+new_is : (m folder : ℕ) (class : List ℕ) (time : ℕ) (store : List Val) → IsNew folder class time (finished (plain_message m folder (message_props m class time store)))
+new_is m folder class time store = record {
+  folder_is = finished_folder (plain_message m folder (message_props m class time store));
+  class_is = finished_find (plain_message m folder (message_props m class time store)) 0x001A (λ e. omega arith) (λ e. omega arith);
+  time_is = finished_find (plain_message m folder (message_props m class time store)) 0x3007 (λ e. omega arith) (λ e. omega arith);
+}
+
+abbrev pub MadeNew : Tree → ℕ → List ℕ → ℕ → Outcome → Type 0
+MadeNew T folder class time o = (index : ℕ) × (M : Mes) × (M.nid ≡ new_id 4 index) × (now_at T nothing (new_id 4 index) ≡ None) × IsNew folder class time M × Adds T M index o
+
+pub makes : (T : Tree) (folder : ℕ) (class : List ℕ) (time : ℕ) → Before T → IfOk (new_message T folder class time) (MadeNew T folder class time)
+unfolding new_message making_message
+makes T folder class time w = elim (cases_Option (find_place folder T.places)) [
+  | inl e ↦ rw e tt
+  | inr p ↦ rw p.1 (elim (cases_Bool (is_plain p.0)) [
+    | inr plain ↦ rw plain tt
+    | inl plain ↦
+        let store = store_of w in
+        rw (plain, store.1) (if_then (λ u. Unit {0}) (MadeNew T folder class time) (unless_full T (contents folder)) _ (if_any (unless_full T (contents folder))) (λ u v. elim (cases_Bool (is_spent (next_index T 4 message_kinds))) [
+          | inl t ↦
+              let index = next_index T 4 message_kinds in
+              let N = plain_message (new_id 4 index) folder (message_props (new_id 4 index) class time store.0.props) in
+              never_made T T.places 4 index (MadeNew T folder class time) (added_message T (finished N) nothing) t
+          | inr t ↦
+              let index = next_index T 4 message_kinds in let id = new_message_id T t in
+              let N = plain_message (new_id 4 index) folder (message_props (new_id 4 index) class time store.0.props) in
+              (if_weaker (Adds T (finished N) index) (MadeNew T folder class time) (added_message T (finished N) nothing >>= making T T.places 4 index)
+              (adds T (finished N) false p.0 index w (ap (λ x. x % 32) (finished_id N) ∙ id.0) (ap (λ x. find_place x T.places) (finished_folder N) ∙ p.1))
+              (λ o a. (index, finished N, finished_id N, id.1, new_is (new_id 4 index) folder class time store.0.props, a)))
+        ]))
+  ])
+]
+
+-- `set` and `unset`
+finished_is : (M : Mes) (props : List Val) → finished (with_props props M) ≡ with_props (finished (with_props props M)).props M
+unfolding finished
+finished_is M props = refl
+
+abbrev pub ChangedValues : Tree → ℕ → (Mes → List Val) → Outcome → Type 0
+ChangedValues T m values o = (M : Mes) × (props : List Val) × (now_at T nothing m ≡ Some (Message M)) × Changes T m (Some (with_props props M)) o × ((id : ℕ) → (id ≡ 0x0E07 → ⊥) → (id ≡ 0x0E08 → ⊥) → find id props ≡ find id (values M))
+
+changed : (T : Tree) (m : ℕ) (M : Mes) (values : Mes → List Val) → Before T → now_at T nothing m ≡ Some (Message M) → m % 32 ≡ 4 → IfOk (changed_message T M (values M)) (ChangedValues T m values)
+unfolding changed_message
+changed T m M values w is four =
+    let N = finished (with_props (values M) M) in
+    let D = with_message M N nothing in let v = home_of T w m M is in
+    let nid : N.nid ≡ m = finished_id (with_props (values M) M) ∙ v.0 in
+    let folder : N.folder ≡ M.folder = finished_folder (with_props (values M) M) in
+    let a = put_shown T (contents N.folder) N.nid N.props D in
+    if_weaker (Comes Four no_table T D T.places (replied Done)) (ChangedValues T m values) (a >>= settled T T.places N.folder >>= changing T (replied Done))
+    (then_changing Four no_table T D (a >>= settled T T.places N.folder) (replied Done) (then_settled Four no_table T T.places N.folder D a (place_apart T w N.folder v.1 (ap (λ x. find_place x T.places) folder ∙ v.2))
+    (put_keeps Four no_table T (contents N.folder) N.nid N.props D (table_apart N.folder 14 (omega arith) (omega arith)))))
+    (λ o c. (
+      M,
+      N.props,
+      is,
+      subst (λ x. Changes T m (Some x) o) (finished_is M (values M))
+          (subst (λ x. Changes T x (Some N) o) nid (changes T N.nid (Some (Message N)) o (kept_after _ _ _ N.nid (Some (Message N)) (ap (λ x. x % 32) nid ∙ four) (puts_values T nothing N.nid (Message N) M.props N.props) c.keeps) c.places_are)),
+      λ id no_flags no_size. finished_find (with_props (values M) M) id no_flags no_size,
+    ))
+
+pub sets : (T : Tree) (m : ℕ) (v : Val) → Before T → IfOk (set_value T m v) (λ o. ChangedValues T m (λ M. put v M.props) o × (v.id ≡ 0x0E08 → ⊥))
+unfolding set_value
+sets T m v w = if_then _ _ (message_in T m) _ (from_fine _ (message_in T m) (fine_message_in T m w)) (λ M h. elim (cases_Bool (is_set_protected v.id M.props)) [
+  | inl t ↦ rw t tt
+  | inr t ↦ rw t (elim (cases_Bool (nat_le 0x8000 v.id)) [
+    | inl u ↦ rw u tt
+    | inr u ↦ rw u (if_weaker (ChangedValues T m (λ M. put v M.props)) _ (changed_message T M (put v M.props)) (changed T m M (λ M. put v M.props) w h.0 h.1)
+        (λ o c. (c, eqb-false v.id 0x0E08 (or_parts (v.id == 0x0E08) _ (or_parts (is_own_id v.id) (has_object v.id M.props) t).0).0)))
+  ])
+])
+
+pub unsets : (T : Tree) (m : ℕ) (tag : Tag) → Before T → IfOk (unset_value T m tag) (λ o. ChangedValues T m (λ M. remove_id tag.id M.props) o × (tag.id ≡ 0x0E07 → ⊥) × (tag.id ≡ 0x0E08 → ⊥))
+unfolding unset_value
+unsets T m tag w = if_then _ _ (message_in T m) _ (from_fine _ (message_in T m) (fine_message_in T m w)) (λ M h. elim (cases_Bool (is_unset_protected tag.id tag.kind M.props)) [
+  | inl t ↦ rw t tt
+  | inr t ↦ rw t (elim (cases_Bool (is_some (bytes_of tag.id tag.kind M.props))) [
+    | inr u ↦ rw u tt
+    | inl u ↦
+        let own = or_parts (is_own_id tag.id) _ t in
+        rw u (if_weaker (ChangedValues T m (λ M. remove_id tag.id M.props)) _ (changed_message T M (remove_id tag.id M.props)) (changed T m M (λ M. remove_id tag.id M.props) w h.0 h.1)
+        (λ o c. (c, eqb-false tag.id 0x0E07 (or_parts (tag.id == 0x0E07) _ own.1).0, eqb-false tag.id 0x0E08 (or_parts (tag.id == 0x0E08) _ own.0).0)))
+  ])
+])
+
+-- a message of a whole tree is found
+pub message_found : (T : Tree) (m : ℕ) (M : Mes) → Before T → now_at T nothing m ≡ Some (Message M) → message_in T m ≡ Ok M
+unfolding message_in
+message_found T m M w is =
+    let four = (message_id m M (w.typed m (Message M) is)).0 in
+    let v = w.held m M is in
+    let is' : object_at T m ≡ Some (Message M) = sym (ap (λ g. g m) (now_nothing T false)) ∙ is in
+    let now = rw is' at is in
+    rw (eq-eqb (m % 32) 4 four) (rw is' (rw (v.1, v.2, v.3.1, v.3.2, now) refl))

@@ -1,0 +1,496 @@
+-- After each command an opening finds the tree.
+use Rattle.std.proofs.Common.{◌≡◌, ℕ, ◌%◌, ◌==◌, ◌||◌, Bool, true, false, nat_le, List, Option, None, Some, IsSome, IfOk, is_some, arith, refl, sym, subst, ap, ◌∙◌, inl, inr}
+use Rattle.std.specs.FinMap as map
+use Rattle.std.specs.Ordering.{nat_cmp}
+use Rattle.std.proofs.lemmas.Bool.{cases_Bool, cases_eq, false≢true, or_parts}
+use Rattle.std.proofs.lemmas.Option.{none-some, same_Some}
+use Rattle.mapi_values.specs.Characters.{folded}
+use Rattle.mapi_values.specs.Keyed.{drop_key, put_key}
+use Rattle.mapi_values.specs.Messages.{Mes}
+use Rattle.mapi_values.specs.Properties.{put, remove_id}
+use Rattle.mapi_values.specs.Tables.{drop_row, find_row}
+use Rattle.mapi_values.specs.Values.{Val}
+use Rattle.mapi_values.specs.declared.value.Tag.{Tag}
+use Rattle.command_text.specs.declared.command.Command.{Command}
+use Rattle.command_text.specs.declared.command.Command.TheVariants.{MakeFolder, RenameFolder, MoveFolder, RemoveFolder, ListFolder, NewMessage, SetProperty, UnsetProperty, GetProperty, ListProperties, MoveMessage, CopyMessage, RemoveMessage, Save, Quit}
+use Rattle.command_text.specs.declared.reply.LastLine.TheVariants.{Done}
+use Rattle.command_text.specs.declared.reply.Reply.{Reply}
+use Rattle.mail_objects.specs.Forms.{Ctx, Tbl}
+use Rattle.mail_objects.specs.declared.object.Object.{Object}
+use Rattle.mail_objects.specs.declared.object.Object.TheVariants.{Context, Message, Table}
+use Rattle.mail_tree.specs.declared.places.Place.{Place}
+use Rattle.mail_tree.specs.Places.{ROOT, children, find_place, is_deep, is_plain, is_within, moves_deep, place_id}
+use Rattle.mail_tree.specs.Tree.{Tree, object_at}
+use Rattle.mail_tree.specs.Values.{bytes_of, finished, folder_props, is_set_protected, is_unset_protected, message_props, name_of, text, with_props}
+use Rattle.command_text.specs.declared.reply.CommandRefusal.TheVariants.{Ids}
+use Rattle.mail_tree.specs.Changing.{Answer, Changed, ◌>>=◌, add_shown, associated, contents, context_at, drop_shown, hierarchy, newest, nothing, now_at, put_shown, table_at, with_object, with_rows, within_limits}
+use Rattle.mail_tree.specs.Columns.{hierarchy_table}
+use Rattle.mail_tree.specs.Settling.{mirrored, settled, with_context}
+use Rattle.mail_tree.specs.Ids.{folder_kinds, is_spent, is_taken, message_kinds, new_id, next_index}
+use Rattle.mail_tree.specs.Folders.{Outcome, associated_in, changing, has_associated, has_rows, made_folder, making, making_folder, moved_between, moved_folder, moving, nid, place, removed_folder, renamed_folder, replied, siblings, unchanged, unless_full, unless_named, unless_protected, with_folder, without_folder, without_node}
+use Rattle.mail_tree.specs.Messages.{added_message, changed_message, copied_message, copy_of, copying, in_folder, is_crowded_message, is_overfull, making_message, message_in, moved_message, new_message, plain_message, removed_message, set_value, unset_value, with_message}
+use Rattle.mail_tree.specs.Step.{after, outcome}
+use Rattle.mail_tree.specs.Whole.{IsWhole}
+use Rattle.mail_tree.specs.Found.{IsFound}
+use Rattle.mail_tree.proofs.AfterTree.{now_nothing, puts_object, puts_values}
+use Rattle.mail_laws.proofs.Closing.{plain_still}
+use Rattle.mail_laws.proofs.Depths.{AreReached, SameBut, made_reached, moved_reached, removed_reached}
+use Rattle.mail_tree.proofs.FineLaws.{cases_Option}
+use Rattle.mail_laws.proofs.FolderSteps.{fine_protected, no_rows, not_placed, with_new_folder}
+use Rattle.mail_laws.proofs.FoundSteps.{Finds, PlainIds, finds_add, finds_add_message, finds_drop_message, finds_elsewhere, finds_mirrored, finds_put_message, finds_values, found_after, get_other, kind_apart, named_place, then_finds}
+use Rattle.mail_laws.proofs.Keeping.{from_fine, if_any, if_test, if_then, if_weaker, never_made}
+use Rattle.mail_tree.proofs.KeyedFinds.{find-drop_other, find-drop_same, find-put_other, find-put_same}
+use Rattle.mail_tree.proofs.KindsOfPuts.{beside_kind, same_folder, same_table}
+use Rattle.mail_laws.proofs.LawSteps.{before, reads_only}
+use Rattle.mail_laws.proofs.MessageSteps.{Before, fine_message_in, finished_folder, finished_id, home_of, new_message_id}
+use Rattle.mail_laws.proofs.MirrorSteps.{if_context, if_table}
+use Rattle.mail_tree.proofs.Nearly.{Puts, nearly, plain_id}
+use Rattle.mail_laws.proofs.NewIds.{new_folder_id}
+use Rattle.mail_tree.proofs.Settles.{store_of}
+
+-- the id is none of a folder's nodes
+abbrev Elsewhere : ℕ → ℕ → Type 0
+Elsewhere f x = (x ≡ f → ⊥) × (x ≡ hierarchy f → ⊥) × (x ≡ contents f → ⊥) × (x ≡ associated f → ⊥)
+
+folder_elsewhere : (f g : ℕ) → g % 32 ≡ 2 → (g ≡ f → ⊥) → Elsewhere f g
+folder_elsewhere f g two other = (other, kind_apart g f 13 (omega arith) (λ e. omega arith), kind_apart g f 14 (omega arith) (λ e. omega arith), kind_apart g f 15 (omega arith) (λ e. omega arith))
+
+table_elsewhere : (f g : ℕ) → f % 32 ≡ 2 → g % 32 ≡ 2 → (g ≡ f → ⊥) → Elsewhere f (hierarchy g)
+table_elsewhere f g two_f two_g other =
+    let kind = beside_kind g 13 (omega arith) in (
+      λ e. omega arith,
+      λ e. other (same_folder g f 13 two_g two_f e),
+      kind_apart (hierarchy g) f 14 (omega arith) (λ e. omega arith),
+      kind_apart (hierarchy g) f 15 (omega arith) (λ e. omega arith),
+    )
+
+search_elsewhere : (f k : ℕ) → f % 32 ≡ 2 → k % 32 ≡ 3 → Elsewhere f k
+search_elsewhere f k two three = (λ e. omega arith, kind_apart k f 13 (omega arith) (λ e. omega arith), kind_apart k f 14 (omega arith) (λ e. omega arith), kind_apart k f 15 (omega arith) (λ e. omega arith))
+
+-- elsewhere nothing changed where a folder's nodes are put or go
+three_puts : (f x : ℕ) (a b c : Option Object) → Elsewhere f x → map.get (with_object (contents f) c (with_object (hierarchy f) b (with_object f a nothing))).objects x ≡ None
+three_puts f x a b c e =
+    let D1 = with_object f a nothing in
+    get_other (with_object (hierarchy f) b D1) (contents f) x c e.2 ∙ get_other D1 (hierarchy f) x b e.1 ∙ get_other nothing f x a e.0 ∙ map.get-empty nat_cmp x
+
+four_puts : (f x : ℕ) (a b c d : Option Object) → Elsewhere f x → map.get (with_object (associated f) d (with_object (contents f) c (with_object (hierarchy f) b (with_object f a nothing)))).objects x ≡ None
+four_puts f x a b c d e = get_other (with_object (contents f) c (with_object (hierarchy f) b (with_object f a nothing))) (associated f) x d e.3 ∙ three_puts f x a b c e
+
+with_untouched : (f parent x : ℕ) (name : List ℕ) → Elsewhere f x → map.get (with_folder f parent name nothing).objects x ≡ None
+with_untouched f parent x name e = four_puts f x _ _ _ _ e
+
+node_untouched : (f x : ℕ) (D : Changed) (b : Bool) → Elsewhere f x → map.get D.objects x ≡ None → map.get (without_node (associated f) b D).objects x ≡ None
+node_untouched f x D false e none = none
+node_untouched f x D true e none = get_other D (associated f) x None e.3 ∙ none
+
+without_untouched : (T : Tree) (f x : ℕ) → Elsewhere f x → map.get (without_folder T f nothing).objects x ≡ None
+without_untouched T f x e = node_untouched f x _ (is_taken T (associated f)) e (three_puts f x None None None e)
+
+-- where nothing changed stands what stood there
+now_still : (T : Tree) (D : Changed) (x : ℕ) → map.get D.objects x ≡ None → now_at T D x ≡ now_at T nothing x
+now_still T D x none = ap (λ r. newest r (object_at T x)) (none ∙ sym (map.get-empty nat_cmp x))
+
+module _ (T : Tree) (w : Before T) (h : IsFound T) where
+  abbrev After : Outcome → Type 0
+  After o = Finds T o.places o.changed × AreReached o.places
+
+  two_of : (f : ℕ) (p : Place) → find_place f T.places ≡ Some p → is_plain p ≡ true → f % 32 ≡ 2
+  two_of f p e plain = plain_id (nearly (λ x. ⊥) T.places (now_at T nothing) w) f p e plain
+
+  ids : PlainIds T.places
+  ids f p e plain = (
+    two_of f p e plain,
+    elim (cases_eq f ROOT) [
+      | inl root ↦
+          let same = same_Some w.root.0 p (sym w.root.1 ∙ ap (λ x. find_place x T.places) (sym root) ∙ e) in
+          ap (λ (x : Place). x.parent.bits % 32) (sym same) ∙ ap (λ x. x % 32) w.root.3
+      | inr other ↦ let q = w.parents f p e other in two_of p.parent.bits q.0 q.1 q.2
+    ],
+  )
+
+  -- before the command
+  start : Finds T T.places nothing
+  start = record {
+    listed = λ f p t r e plain is row s named. h.listed f p t r s e plain (sym (ap (λ g. g (hierarchy f)) (now_nothing T false)) ∙ is) row named;
+    told = λ f p c e plain is. let d = w.contexts f p e in let same : d.0 ≡ c = cc in ap (λ (x : Ctx). x.parent) (sym same) ∙ d.2;
+    apart = λ k three. map.get-empty nat_cmp k;
+  }
+
+  limited : {B : Type 0} (Q : B → Type 0) (D : Changed) (f : Unit {0} → Answer B) → IfOk (f tt) Q → IfOk (within_limits D >>= f) Q
+  limited Q D f k = if_then (λ u. Unit {0}) Q (within_limits D) f (if_any (within_limits D)) (λ u v. k)
+
+  then_changing : (a : Answer Changed) (reply : Reply) → IfOk a (Finds T T.places) → IfOk (a >>= changing T reply) After
+  then_changing a reply k = if_then (Finds T T.places) After a (changing T reply) k (λ D s. limited After D _ (s, h.reached))
+
+  then_moving : (places : List Place) → AreReached places → (a : Answer Changed) (reply : Reply) → IfOk a (Finds T places) → IfOk (a >>= moving T places reply) After
+  then_moving places reached a reply k = if_then (Finds T places) After a (moving T places reply) k (λ D s. limited After D _ (s, reached))
+
+  then_making : (places : List Place) → AreReached places → (a : Answer Changed) (kind index : ℕ) → IfOk a (Finds T places) → IfOk (a >>= making T places kind index) After
+  then_making places reached a kind index k = if_then (Finds T places) After a (making T places kind index) k (λ D s. limited After D _ (if_test After (is_spent index) Ids _ (s, reached)))
+
+  -- a message is put, or goes
+  message_changes : (D D' : Changed) (m : ℕ) (o : Option Object) → m % 32 ≡ 4 → Finds T T.places D → Puts (now_at T D) (now_at T D') m o → ((k : ℕ) → (k ≡ m → ⊥) → map.get D'.objects k ≡ map.get D.objects k) → Finds T T.places D'
+  message_changes D D' m o four s puts gets = finds_elsewhere T T.places ids D D' m o s puts gets (λ e. omega arith) (λ e. omega arith) (λ e. omega arith)
+
+  -- `rm`
+  removes : (m : ℕ) → IfOk (removed_message T m) After
+  unfolding removed_message
+  removes m = if_then _ After (message_in T m) _ (from_fine _ (message_in T m) (fine_message_in T m w)) (λ M k.
+      let D = with_object m None nothing in let v = home_of T w m M k.0 in
+      let a = drop_shown T (contents M.folder) m D in
+      then_changing (a >>= settled T T.places M.folder) (replied Done) (then_finds T T.places ids a M.folder v.1 v.2 v.3
+      (finds_drop_message T T.places ids D M.folder m (message_changes nothing D m None k.1 start (puts_object T nothing m None) (λ x other. get_other nothing m x None other)))))
+
+  -- `mv`
+  moves : (m folder : ℕ) → IfOk (moved_message T m folder) After
+  unfolding moved_message
+  moves m folder = if_then _ After (message_in T m) _ (from_fine _ (message_in T m) (fine_message_in T m w)) (λ M k. elim (cases_Option (find_place folder T.places)) [
+    | inl e ↦ rw e tt
+    | inr p ↦ rw p.1 (elim (cases_Bool (is_plain p.0)) [
+      | inr plain ↦ rw plain tt
+      | inl plain ↦ rw plain (elim (cases_Bool (M.folder == folder)) [
+        | inl b ↦ rw b (start, h.reached)
+        | inr b ↦
+            let o = Some (Message (in_folder folder M)) in let D = with_object m o nothing in let v = home_of T w m M k.0 in
+            let s = message_changes nothing D m o k.1 start (puts_object T nothing m o) (λ x other. get_other nothing m x o other) in
+            rw b (if_then (Finds T T.places) After (drop_shown T (contents M.folder) m D) _ (finds_drop_message T T.places ids D M.folder m s) (λ D' s'.
+            let a = add_shown T (contents folder) m M.props D' in
+            then_changing (a >>= settled T T.places M.folder >>= settled T T.places folder) (replied Done)
+            (then_finds T T.places ids (a >>= settled T T.places M.folder) folder p.0 p.1 plain (then_finds T T.places ids a M.folder v.1 v.2 v.3
+            (finds_add_message T T.places ids D' folder m M.props s')))))
+      ])
+    ])
+  ])
+
+  -- a new message is listed
+  adds : (M : Mes) (crowded : Bool) (p : Place) (index : ℕ) → M.nid % 32 ≡ 4 → find_place M.folder T.places ≡ Some p → is_plain p ≡ true → IfOk (added_message T M (record nothing { crowded = crowded }) >>= making T T.places 4 index) After
+  adds M crowded p index four found plain =
+      let D0 = record nothing { crowded = crowded } in
+      let o = Some (Message M) in
+      let D = with_object M.nid o D0 in
+      let a = add_shown T (contents M.folder) M.nid M.props D in
+      let s0 : Finds T T.places D0 = record { listed = start.listed; told = start.told; apart = start.apart } in
+      then_making T.places h.reached (a >>= settled T T.places M.folder) 4 index (then_finds T T.places ids a M.folder p found plain
+      (finds_add_message T T.places ids D M.folder M.nid M.props (message_changes D0 D M.nid o four s0 (puts_object T D0 M.nid o) (λ x other. get_other D0 M.nid x o other))))
+
+  -- `cp`
+  copies : (m folder : ℕ) → IfOk (copied_message T m folder) After
+  unfolding copied_message copying
+  copies m folder = if_then _ After (message_in T m) _ (from_fine _ (message_in T m) (fine_message_in T m w)) (λ M k. elim (cases_Option (find_place folder T.places)) [
+    | inl e ↦ rw e tt
+    | inr p ↦ rw p.1 (elim (cases_Bool (is_plain p.0)) [
+      | inr plain ↦ rw plain tt
+      | inl plain ↦ rw plain (elim (cases_Bool (is_overfull M.recipients || is_overfull M.attachments)) [
+        | inl b ↦ rw b tt
+        | inr b ↦ rw b (if_then (λ u. Unit {0}) After (unless_full T (contents folder)) _ (if_any (unless_full T (contents folder))) (λ u v. elim (cases_Bool (is_spent (next_index T 4 message_kinds))) [
+          | inl t ↦ never_made T T.places 4 (next_index T 4 message_kinds) After (added_message T (copy_of (new_id 4 (next_index T 4 message_kinds)) folder M) (record nothing { crowded = is_crowded_message M })) t
+          | inr t ↦ (adds (copy_of (new_id 4 (next_index T 4 message_kinds)) folder M) (is_crowded_message M) p.0 (next_index T 4 message_kinds) (new_message_id T t).0 p.1 plain)
+        ]))
+      ])
+    ])
+  ])
+
+  -- `new`
+  makes : (folder : ℕ) (class : List ℕ) (time : ℕ) → IfOk (new_message T folder class time) After
+  unfolding new_message making_message
+  makes folder class time = elim (cases_Option (find_place folder T.places)) [
+    | inl e ↦ rw e tt
+    | inr p ↦ rw p.1 (elim (cases_Bool (is_plain p.0)) [
+      | inr plain ↦ rw plain tt
+      | inl plain ↦
+          let store = store_of w in
+          rw (plain, store.1) (if_then (λ u. Unit {0}) After (unless_full T (contents folder)) _ (if_any (unless_full T (contents folder))) (λ u v. elim (cases_Bool (is_spent (next_index T 4 message_kinds))) [
+            | inl t ↦
+                let index = next_index T 4 message_kinds in
+                let N = plain_message (new_id 4 index) folder (message_props (new_id 4 index) class time store.0.props) in
+                never_made T T.places 4 index After (added_message T (finished N) nothing) t
+            | inr t ↦
+                let index = next_index T 4 message_kinds in
+                let N = plain_message (new_id 4 index) folder (message_props (new_id 4 index) class time store.0.props) in
+                (adds (finished N) false p.0 index (ap (λ x. x % 32) (finished_id N) ∙ (new_message_id T t).0) (ap (λ x. find_place x T.places) (finished_folder N) ∙ p.1) plain)
+          ]))
+    ])
+  ]
+
+  -- a message gets other values
+  changes : (m : ℕ) (M : Mes) (props : List Val) → now_at T nothing m ≡ Some (Message M) → m % 32 ≡ 4 → IfOk (changed_message T M props) After
+  unfolding changed_message
+  changes m M props is four =
+      let N = finished (with_props props M) in
+      let D = with_message M N nothing in let v = home_of T w m M is in
+      let four' : N.nid % 32 ≡ 4 = ap (λ x. x % 32) (finished_id (with_props props M) ∙ v.0) ∙ four in
+      let folder : N.folder ≡ M.folder = finished_folder (with_props props M) in
+      let s = message_changes nothing D N.nid (Some (Message N)) four' start (puts_values T nothing N.nid (Message N) M.props N.props) (λ x other. get_other nothing N.nid x (Some (Message N)) other) in
+      let a = put_shown T (contents N.folder) N.nid N.props D in
+      then_changing (a >>= settled T T.places N.folder) (replied Done) (then_finds T T.places ids a N.folder v.1 (ap (λ x. find_place x T.places) folder ∙ v.2) v.3
+      (finds_put_message T T.places ids D N.folder N.nid N.props s))
+
+  -- `set`
+  sets : (m : ℕ) (v : Val) → IfOk (set_value T m v) After
+  unfolding set_value
+  sets m v = if_then _ After (message_in T m) _ (from_fine _ (message_in T m) (fine_message_in T m w)) (λ M k. elim (cases_Bool (is_set_protected v.id M.props)) [
+    | inl t ↦ rw t tt
+    | inr t ↦ rw t (elim (cases_Bool (nat_le 0x8000 v.id)) [ inl u ↦ rw u tt | inr u ↦ rw u (changes m M (put v M.props) k.0 k.1) ])
+  ])
+
+  -- `unset`
+  unsets : (m : ℕ) (tag : Tag) → IfOk (unset_value T m tag) After
+  unfolding unset_value
+  unsets m tag = if_then _ After (message_in T m) _ (from_fine _ (message_in T m) (fine_message_in T m w)) (λ M k. elim (cases_Bool (is_unset_protected tag.id tag.kind M.props)) [
+    | inl t ↦ rw t tt
+    | inr t ↦ rw t (elim (cases_Bool (is_some (bytes_of tag.id tag.kind M.props))) [ inr u ↦ rw u tt | inl u ↦ rw u (changes m M (remove_id tag.id M.props) k.0 k.1) ])
+  ])
+
+  -- `rename`
+  renames : (f : ℕ) (name : List ℕ) → IfOk (renamed_folder T f name) After
+  unfolding renamed_folder
+  renames f name = elim (cases_Option (find_place f T.places)) [
+    | inl e ↦ rw e tt
+    | inr p ↦ rw p.1 (elim (cases_Bool (is_plain p.0)) [
+      | inr plain ↦ rw plain tt
+      | inl plain ↦ rw plain (
+          if_then (λ u. Unit {0}) After (unless_protected T f) _ (if_any (unless_protected T f)) (λ u v.
+          if_then (λ u. Unit {0}) After (unless_named T (folded false name) (siblings T p.0.parent.bits f)) _ (if_any (unless_named T (folded false name) (siblings T p.0.parent.bits f))) (λ u v.
+          if_then (λ c. now_at T nothing f ≡ Some (Context c)) After (context_at T nothing f) _ (if_context T nothing f) (λ c is.
+          let D = with_context f c (put (text 0x3001 name) c.props) nothing in
+          then_changing (mirrored T f D) (replied Done) (finds_mirrored T T.places ids D f p.0 p.1 plain (finds_values T T.places ids nothing f c (put (text 0x3001 name) c.props) (two_of f p.0 p.1 plain) start is))))))
+    ])
+  ]
+
+  -- a place is put
+  put_is : (f parent g : ℕ) (p : Place) → g ≡ f → find_place g (put_key place_id (place f parent) T.places) ≡ Some p → place f parent ≡ p
+  put_is f parent g p same e = same_Some (place f parent) p (sym (find-put_same place_id (place f parent) T.places) ∙ ap (λ x. find_place x (put_key place_id (place f parent) T.places)) (sym same) ∙ e)
+
+  put_was : (f parent g : ℕ) (p : Place) → (g ≡ f → ⊥) → find_place g (put_key place_id (place f parent) T.places) ≡ Some p → find_place g T.places ≡ Some p
+  put_was f parent g p other e = sym (find-put_other place_id g (place f parent) T.places other) ∙ e
+
+  put_ids : (f parent : ℕ) → f % 32 ≡ 2 → parent % 32 ≡ 2 → PlainIds (put_key place_id (place f parent) T.places)
+  put_ids f parent two two_parent g p e plain = elim (cases_eq g f) [
+    | inl same ↦
+        let one = put_is f parent g p same e in
+        (ap (λ x. x % 32) same ∙ two, ap (λ (x : Place). x.parent.bits % 32) (sym one) ∙ two_parent)
+    | inr other ↦ ids g p (put_was f parent g p other e) plain
+  ]
+
+  same_context : (a b : Ctx) → ◌≡◌ {A = Option Object} (Some (Context a)) (Some (Context b)) → a ≡ b
+  same_context a b e = cc
+
+  -- the nodes of a new folder
+  new_finds : (f parent : ℕ) (name : List ℕ) → f % 32 ≡ 2 → find_place f T.places ≡ None → Finds T (put_key place_id (place f parent) T.places) (with_folder f parent name nothing)
+  new_finds f parent name two none =
+      let D = with_folder f parent name nothing in
+      let new = with_new_folder T f parent name w two none in record {
+        listed = λ g p t r e plain is row s named. elim (cases_eq g f) [
+          | inl same ↦
+              let empty : hierarchy_table ≡ t = same_table hierarchy_table t (sym (ap (λ x. now_at T D (hierarchy x)) same ∙ new.2) ∙ is) in
+              absurd (no_rows hierarchy_table.table.rows r refl (subst (λ (x : Tbl). IsSome (find_row r x.table.rows)) (sym empty) row))
+          | inr other ↦
+              let was = put_was f parent g p other e in
+              let v = start.listed g p t r was plain (sym (now_still T D (hierarchy g) (with_untouched f parent (hierarchy g) name (table_elsewhere f g two (two_of g p was plain) other))) ∙ is) row s named in
+              (v.0, find-put_other place_id r (place f parent) T.places (λ same. none-some (record { nid = nid r; parent = nid g; sort = s }) (sym none ∙ ap (λ x. find_place x T.places) (sym same) ∙ v.1)) ∙ v.1)
+        ];
+        told = λ g p c e plain is. elim (cases_eq g f) [
+          | inl same ↦
+              let values : new.1.0 ≡ c = same_context new.1.0 c (sym (ap (now_at T D) same ∙ new.1.1) ∙ is) in
+              ap (λ (x : Ctx). x.parent) (sym values) ∙ new.1.2 ∙ ap (λ (x : Place). x.parent.bits) (put_is f parent g p same e)
+          | inr other ↦
+              let was = put_was f parent g p other e in
+              start.told g p c was plain (sym (now_still T D g (with_untouched f parent g name (folder_elsewhere f g (two_of g p was plain) other))) ∙ is)
+        ];
+        apart = λ k three. with_untouched f parent k name (search_elsewhere f k two three);
+      }
+
+  -- `mkdir`
+  makes_folder : (parent : ℕ) (name : List ℕ) → IfOk (made_folder T parent name) After
+  unfolding made_folder making_folder
+  makes_folder parent name = elim (cases_Option (find_place parent T.places)) [
+    | inl e ↦ rw e tt
+    | inr p ↦ rw p.1 (elim (cases_Bool (is_plain p.0)) [
+      | inr plain ↦ rw plain tt
+      | inl plain ↦ rw plain (if_then (λ u. Unit {0}) After (unless_named T (folded false name) (children parent T.places)) _ (if_any (unless_named T (folded false name) (children parent T.places))) (λ u u'.
+          elim (cases_Bool (is_deep T.places parent)) [
+            | inl b ↦ rw b tt
+            | inr b ↦ rw b (if_then (λ v. Unit {0}) After (unless_full T (hierarchy parent)) _ (if_any (unless_full T (hierarchy parent))) (λ v v'. elim (cases_Bool (is_spent (next_index T 2 folder_kinds))) [
+              | inl t ↦
+                  let index = next_index T 2 folder_kinds in let f = new_id 2 index in let places = put_key place_id (place f parent) T.places in
+                  never_made T places 2 index After (add_shown T (hierarchy parent) f (folder_props name) (with_folder f parent name nothing) >>= settled T places parent) t
+              | inr t ↦
+                  let index = next_index T 2 folder_kinds in
+                  let f = new_id 2 index in
+                  let places = put_key place_id (place f parent) T.places in
+                  let new = new_folder_id T t in
+                  let none = not_placed T f w new.1 in
+                  let no_root : f ≡ ROOT → ⊥ = λ e. none-some w.root.0 (sym none ∙ ap (λ x. find_place x T.places) e ∙ w.root.1) in
+                  let two_parent = two_of parent p.0 p.1 plain in
+                  let places_ids = put_ids f parent new.0 two_parent in
+                  let still = plain_still T.places f parent parent p.0 p.1 plain in
+                  let D = with_folder f parent name nothing in
+                  let a = add_shown T (hierarchy parent) f (folder_props name) D in
+                  (then_making places (made_reached T.places f parent p.0 h.reached none no_root p.1 b) (a >>= settled T places parent) 2 index
+                  (then_finds T places places_ids a parent still.0 still.1 still.2
+                  (finds_add T places places_ids D parent f (folder_props name) two_parent (new_finds f parent name new.0 none)
+                  (named_place T places f parent (place f parent) (find-put_same place_id (place f parent) T.places) refl refl new.0 no_root))))
+            ]))
+          ]))
+    ])
+  ]
+
+  -- the row of a folder goes from its parent's table, the only one that lists it
+  dropped : (places : List Place) (places_ids : PlainIds places) (f : ℕ) (p : Place) (D : Changed) → find_place f T.places ≡ Some p → SameBut f T.places places
+      → ((g : ℕ) (q : Place) → find_place g places ≡ Some q → is_plain q ≡ true → ((r : Place) × (find_place g T.places ≡ Some r) × (is_plain r ≡ true)) × (now_at T D (hierarchy g) ≡ now_at T nothing (hierarchy g)))
+      → ((g : ℕ) (q : Place) (c : Ctx) → find_place g places ≡ Some q → is_plain q ≡ true → now_at T D g ≡ Some (Context c) → c.parent ≡ q.parent.bits)
+      → ((k : ℕ) → k % 32 ≡ 3 → map.get D.objects k ≡ None) → IfOk (drop_shown T (hierarchy p.parent.bits) f D) (Finds T places)
+  unfolding drop_shown
+  dropped places places_ids f p D found same_but was told apart =
+      let from = p.parent.bits in
+      if_then (λ t. now_at T D (hierarchy from) ≡ Some (Table t)) (Finds T places) (table_at T D (hierarchy from)) _ (if_table T D (hierarchy from)) (λ t is_t.
+      let t' : Tbl = record { parent = t.parent; table = record t.table { rows = drop_row f t.table.rows } } in
+      let o = Some (with_rows (drop_row f t.table.rows) t) in
+      let D' = with_object (hierarchy from) o D in
+      let puts = puts_object T D (hierarchy from) o in
+      record {
+        listed = λ g q u r e plain is row s named.
+            let v = was g q e plain in
+            elim (cases_eq (hierarchy g) (hierarchy from)) [
+              | inl same ↦
+                  let is_old : now_at T nothing (hierarchy g) ≡ Some (Table t) = sym v.1 ∙ ap (now_at T D) same ∙ is_t in
+                  let new : t' ≡ u = same_table t' u (sym (ap (now_at T D') same ∙ puts.here) ∙ is) in
+                  let left : IsSome (find_row r (drop_row f t.table.rows)) = subst (λ (x : Tbl). IsSome (find_row r x.table.rows)) (sym new) row in
+                  let other : r ≡ f → ⊥ = λ one. false≢true (sym (ap is_some (find-drop_same (λ x. x.0) 0 f t.table.rows (w.rows_ascend (hierarchy g) t is_old))) ∙ ap (λ x. is_some (find_row x (drop_row f t.table.rows))) (sym one) ∙ left) in
+                  let k = start.listed g v.0.0 t r v.0.1 v.0.2 is_old (subst IsSome (find-drop_other (λ x. x.0) r f t.table.rows other) left) s named in
+                  (k.0, same_but r other ∙ k.1)
+              | inr away ↦
+                  let k = start.listed g v.0.0 u r v.0.1 v.0.2 (sym v.1 ∙ sym (puts.others (hierarchy g) away) ∙ is) row s named in
+                  let other : r ≡ f → ⊥ = λ one.
+                  let here = same_Some p (record { nid = nid r; parent = nid g; sort = s }) (sym found ∙ ap (λ x. find_place x T.places) (sym one) ∙ k.1) in
+                  away (ap (λ (x : Place). hierarchy x.parent.bits) (sym here)) in
+                  (k.0, same_but r other ∙ k.1)
+            ];
+        told = λ g q c e plain is. told g q c e plain (sym (puts.others g (kind_apart g from 13 (omega arith) (λ k. let two = (places_ids g q e plain).0 in omega arith))) ∙ is);
+        apart = λ k three. get_other D (hierarchy from) k o (kind_apart k from 13 (omega arith) (λ e. omega arith)) ∙ apart k three;
+      })
+
+  -- `mvdir`
+  moves_folder : (f parent : ℕ) → IfOk (moved_folder T f parent) After
+  unfolding moved_folder moved_between
+  moves_folder f parent = elim (cases_Option (find_place f T.places)) [
+    | inl e ↦ rw e tt
+    | inr p ↦ rw p.1 (elim (cases_Option (find_place parent T.places)) [
+      | inl e ↦ rw e tt
+      | inr q ↦ rw q.1 (elim (cases_Bool (is_plain p.0)) [
+        | inr plain ↦ rw plain tt
+        | inl plain_p ↦ rw plain_p (elim (cases_Bool (is_plain q.0)) [
+          | inr plain ↦ rw plain tt
+          | inl plain_q ↦ rw plain_q (if_then (λ u. f ≡ ROOT → ⊥) After (unless_protected T f) _ (from_fine (λ u. f ≡ ROOT → ⊥) (unless_protected T f) (fine_protected T f w)) (λ u no_root. elim (cases_Bool (is_within T.places f parent)) [
+            | inl b ↦ rw b tt
+            | inr out ↦ rw out (elim (cases_Bool (p.0.parent.bits == parent)) [
+              | inl b ↦ rw b (start, h.reached)
+              | inr b ↦
+                  let c = w.contexts f p.0 p.1 in
+                  let from = p.0.parent.bits in let v = w.parents f p.0 p.1 no_root in
+                  let places = put_key place_id (place f parent) T.places in
+                  let two = two_of f p.0 p.1 plain_p in let two_parent = two_of parent q.0 q.1 plain_q in
+                  let places_ids = put_ids f parent two two_parent in
+                  let from_still = plain_still T.places f parent from v.0 v.1 v.2 in
+                  let to_still = plain_still T.places f parent parent q.0 q.1 plain_q in
+                  let D = with_object f (Some (Context (record c.0 { parent = parent }))) nothing in
+                  let a = drop_shown T (hierarchy from) f D in
+                  rw (b, c.1) (if_then (λ u. Unit {0}) After (unless_named T (folded false (name_of c.0.props)) (children parent T.places)) _ (if_any (unless_named T (folded false (name_of c.0.props)) (children parent T.places))) (λ u u'.
+                  elim (cases_Bool (moves_deep T.places f parent)) [
+                    | inl b ↦ rw b tt
+                    | inr deep ↦ rw deep (then_moving places (moved_reached T.places f parent p.0 q.0 h.reached p.1 no_root q.1 out deep) _ (replied Done)
+                        (if_then (Finds T places) (Finds T places) a _ (move_drops f parent p.0 c.0 p.1 plain_p two places_ids) (λ D1 s.
+                        let a' = add_shown T (hierarchy parent) f c.0.props D1 in
+                        then_finds T places places_ids (a' >>= settled T places from) parent to_still.0 to_still.1 to_still.2
+                        (then_finds T places places_ids a' from from_still.0 from_still.1 from_still.2
+                        (finds_add T places places_ids D1 parent f c.0.props two_parent s (named_place T places f parent (place f parent) (find-put_same place_id (place f parent) T.places) refl refl two no_root))))))
+                  ]))
+            ])
+          ]))
+        ])
+      ])
+    ])
+  ]
+    where
+      -- the folder leaves its parent's table, and its values tell the new one
+      move_drops : (f parent : ℕ) (p : Place) (c : Ctx) → find_place f T.places ≡ Some p → is_plain p ≡ true → f % 32 ≡ 2 → PlainIds (put_key place_id (place f parent) T.places)
+          → IfOk (drop_shown T (hierarchy p.parent.bits) f (with_object f (Some (Context (record c { parent = parent }))) nothing)) (Finds T (put_key place_id (place f parent) T.places))
+      move_drops f parent p c e plain two places_ids =
+          let o = Some (Context (record c { parent = parent })) in
+          let D = with_object f o nothing in
+          let puts = puts_object T nothing f o in
+          dropped (put_key place_id (place f parent) T.places) places_ids f p D e (λ x other. find-put_other place_id x (place f parent) T.places other)
+          (λ g q is plain_q. (
+            elim (cases_eq g f) [ inl same ↦ (p, ap (λ x. find_place x T.places) same ∙ e, plain) | inr other ↦ (q, put_was f parent g q other is, plain_q) ],
+            puts.others (hierarchy g) (λ same. kind_apart f g 13 (omega arith) (λ k. omega arith) (sym same)),
+          ))
+          (λ g q d is plain_q at_g. elim (cases_eq g f) [
+            | inl same ↦
+                let values = same_context (record c { parent = parent }) d (sym (ap (now_at T D) same ∙ puts.here) ∙ at_g) in
+                ap (λ (x : Ctx). x.parent) (sym values) ∙ ap (λ (x : Place). x.parent.bits) (put_is f parent g q same is)
+            | inr other ↦ start.told g q d (put_was f parent g q other is) plain_q (sym (puts.others g other) ∙ at_g)
+          ])
+          (λ k three. get_other nothing f k o (λ same. omega arith) ∙ map.get-empty nat_cmp k)
+
+  -- `rmdir`
+  removes_folder : (f : ℕ) → IfOk (removed_folder T f) After
+  unfolding removed_folder
+  removes_folder f = elim (cases_Option (find_place f T.places)) [
+    | inl e ↦ rw e tt
+    | inr p ↦ rw p.1 (elim (cases_Bool (is_plain p.0)) [
+      | inr plain ↦ rw plain tt
+      | inl plain ↦ rw plain (
+          if_then (λ u. f ≡ ROOT → ⊥) After (unless_protected T f) _ (from_fine (λ u. f ≡ ROOT → ⊥) (unless_protected T f) (fine_protected T f w)) (λ u no_root.
+          if_then (λ a. now_at T nothing (hierarchy f) ≡ Some (Table a)) After (table_at T nothing (hierarchy f)) _ (if_table T nothing (hierarchy f)) (λ a is_a.
+          if_then (λ b. Unit {0}) After (table_at T nothing (contents f)) _ (if_any (table_at T nothing (contents f))) (λ b u.
+          if_then (λ c. Unit {0}) After (associated_in T f) _ (if_any (associated_in T f)) (λ c u.
+          elim (cases_Bool (has_rows a || (has_rows b || has_associated c))) [
+            | inl some ↦ rw some tt
+            | inr none ↦
+                let from = p.0.parent.bits in let v = w.parents f p.0 p.1 no_root in
+                let no_row = (or_parts (has_rows a) (has_rows b || has_associated c) none).0 in
+                let childless : (g : ℕ) (q : Place) → find_place g T.places ≡ Some q → (g ≡ ROOT → ⊥) → q.parent.bits ≡ f → ⊥ = λ g q e other up.
+                let row = (w.parents g q e other).3 in
+                no_rows a.table.rows g no_row (subst (λ (x : Tbl). IsSome (find_row g x.table.rows)) (same_table row.0 a (sym row.1 ∙ ap (λ x. now_at T nothing (hierarchy x)) up ∙ is_a)) row.2) in
+                let places = drop_key place_id f T.places in
+                let two = two_of f p.0 p.1 plain in
+                let gone = find-drop_same place_id 0 f T.places w.ascend in
+                let apart : (g : ℕ) (q : Place) → find_place g places ≡ Some q → g ≡ f → ⊥ = λ g q e same. none-some q (sym gone ∙ ap (λ x. find_place x places) (sym same) ∙ e) in
+                let was : (g : ℕ) (q : Place) → find_place g places ≡ Some q → find_place g T.places ≡ Some q = λ g q e. sym (find-drop_other place_id g f T.places (apart g q e)) ∙ e in
+                let places_ids : PlainIds places = λ g q e plain. ids g q (was g q e) plain in
+                let from_still : find_place from places ≡ Some v.0 = find-drop_other place_id from f T.places (childless f p.0 p.1 no_root) ∙ v.1 in
+                let D = without_folder T f nothing in
+                let a' = drop_shown T (hierarchy from) f D in
+                rw none (then_moving places (removed_reached T.places f h.reached w.ascend childless) (a' >>= settled T places from) (replied Done) (then_finds T places places_ids a' from v.0 from_still v.2
+                (dropped places places_ids f p.0 D p.1 (λ x other. find-drop_other place_id x f T.places other)
+                (λ g q e plain. ((q, was g q e, plain), now_still T D (hierarchy g) (without_untouched T f (hierarchy g) (table_elsewhere f g two (places_ids g q e plain).0 (apart g q e)))))
+                (λ g q d e plain is. start.told g q d (was g q e) plain (sym (now_still T D g (without_untouched T f g (folder_elsewhere f g (places_ids g q e plain).0 (apart g q e)))) ∙ is))
+                (λ k three. without_untouched T f k (search_elsewhere f k two three)))))
+          ])))))
+    ])
+  ]
+
+  -- a command that only looks
+  looks : (o : Outcome) → o ≡ unchanged T o.reply → After o
+  looks o same = subst After (sym same) (start, h.reached)
+
+  finds_after : (c : Command) → IfOk (outcome T c) After
+  unfolding outcome
+  finds_after (MakeFolder parent name) = makes_folder parent.bits name
+  finds_after (RenameFolder folder name) = renames folder.bits name
+  finds_after (MoveFolder folder parent) = moves_folder folder.bits parent.bits
+  finds_after (RemoveFolder folder) = removes_folder folder.bits
+  finds_after (NewMessage folder class time) = makes folder.bits class time
+  finds_after (SetProperty message value) = sets message.bits value
+  finds_after (UnsetProperty message tag) = unsets message.bits tag
+  finds_after (MoveMessage message folder) = moves message.bits folder.bits
+  finds_after (CopyMessage message folder) = copies message.bits folder.bits
+  finds_after (RemoveMessage message) = removes message.bits
+  finds_after (ListFolder folder) = if_weaker (λ o. o ≡ unchanged T o.reply) After (outcome T (ListFolder folder)) (reads_only T (ListFolder folder) refl) looks
+  finds_after (GetProperty message tag) = if_weaker (λ o. o ≡ unchanged T o.reply) After (outcome T (GetProperty message tag)) (reads_only T (GetProperty message tag) refl) looks
+  finds_after (ListProperties message) = if_weaker (λ o. o ≡ unchanged T o.reply) After (outcome T (ListProperties message)) (reads_only T (ListProperties message) refl) looks
+  finds_after Save = (start, h.reached)
+  finds_after Quit = (start, h.reached)
+
+pub stays_found : (T : Tree) (c : Command) → IsWhole T → IsFound T → IfOk (outcome T c) (λ o. IsFound (after T o))
+stays_found T c w h = if_weaker (λ o. Finds T o.places o.changed × AreReached o.places) (λ o. IsFound (after T o)) (outcome T c) (finds_after T (before T w) h c) (λ o k. found_after T o k.0 k.1)

@@ -1,0 +1,191 @@
+-- Each id that a command gives lies behind the counter of its kind, which has its index then.
+use Rattle.std.proofs.Common.{◌≡◌, ℕ, suc, ◌%◌, ◌/◌, ◌<◌, ◌==◌, ◌||◌, false, max, nat_le, not, filter, set, get_or, List, None, Some, is_some, IfOk, arith, refl, sym, subst, ap, ◌∙◌, inl, inr}
+use Rattle.std.proofs.lemmas.Bool.{cases_Bool}
+use Rattle.pst_base.specs.Ids.{index_of, nid_of}
+use Rattle.mapi_values.specs.Characters.{folded}
+use Rattle.mapi_values.specs.Keyed.{drop_key, put_key}
+use Rattle.mapi_values.specs.Messages.{Mes}
+use Rattle.mapi_values.specs.Properties.{put, remove_id}
+use Rattle.mapi_values.specs.Values.{Val}
+use Rattle.mapi_values.specs.declared.value.Tag.{Tag}
+use Rattle.command_text.specs.declared.command.Command.{Command}
+use Rattle.command_text.specs.declared.command.Command.TheVariants.{MakeFolder, RenameFolder, MoveFolder, RemoveFolder, ListFolder, NewMessage, SetProperty, UnsetProperty, GetProperty, ListProperties, MoveMessage, CopyMessage, RemoveMessage, Save, Quit}
+use Rattle.command_text.specs.declared.reply.CommandRefusal.TheVariants.{Property, NotEmpty, Cycle, Protected, Limit, Ids}
+use Rattle.command_text.specs.declared.reply.Limit.TheVariants.{Depth, Rows}
+use Rattle.command_text.specs.declared.reply.LastLine.TheVariants.{Done}
+use Rattle.mail_objects.specs.declared.object.Object.TheVariants.{Message}
+use Rattle.mail_tree.specs.declared.places.Place.{Place}
+use Rattle.mail_tree.specs.Places.{children, is_child, is_deep, is_plain, is_within, moves_deep, place_id}
+use Rattle.mail_tree.specs.Tree.{Tree}
+use Rattle.mail_tree.specs.Values.{bytes_of, finished, folder_props, is_set_protected, is_unset_protected, message_props, name_of, text, with_props}
+use Rattle.mail_tree.specs.Changing.{Answer, Changed, ◌>>=◌, add_shown, contents, context_at, drop_shown, found, hierarchy, nothing, put_shown, refused_if, table_at, with_object, within_limits}
+use Rattle.mail_tree.specs.Settling.{message_ids, mirrored, settled, with_context}
+use Rattle.mail_tree.specs.Ids.{LAST_INDEX, folder_kinds, greatest, is_spent, is_used, message_kinds, new_id, next_index}
+use Rattle.mail_tree.specs.Folders.{Outcome, associated_in, changing, folder_in, folder_lines, has_associated, has_rows, listing, made_folder, making, making_folder, message_lines, moved_between, moved_folder, moving, place, removed_folder, renamed_folder, replied, siblings, unless_full, unless_named, unless_plain, unless_protected, with_folder, without_folder}
+use Rattle.mail_tree.specs.Messages.{added_message, changed_message, copied_message, copy_of, copying, details, in_folder, is_crowded_message, is_overfull, making_message, message_in, moved_message, new_message, plain_message, removed_message, set_value, unset_value, value_in, value_of, with_message}
+use Rattle.mail_laws.specs.Stays.{Counted}
+use Rattle.mail_tree.specs.Step.{outcome}
+use Rattle.mail_laws.proofs.Keeping.{if_any, if_test, if_then, never_made}
+use Rattle.mail_laws.proofs.NewIds.{new_id_is, next_is_free}
+
+above_counter : (T : Tree) (kind : ℕ) (kinds : List ℕ) → get_or T.last kind 0 < next_index T kind kinds
+unfolding next_index
+above_counter T kind kinds = above (get_or T.last kind 0) (greatest (is_used T kinds) LAST_INDEX)
+  where
+    above : (a b : ℕ) → a < suc (max a b)
+    above a b = omega arith
+
+kind_is : (kind index : ℕ) → kind < 32 → nid_of kind index % 32 ≡ kind
+kind_is kind index small = omega arith
+
+index_is : (kind index : ℕ) → kind < 32 → nid_of kind index / 32 ≡ index
+index_is kind index small = omega arith
+
+module _ (T : Tree) where
+  abbrev Right : Outcome → Type 0
+  Right o = Counted T.last o.last o.reply.last
+
+  -- whatever a step answers
+  then_any : {A : Type 0} (a : Answer A) (f : A → Answer Outcome) → ((x : A) → IfOk (f x) Right) → IfOk (a >>= f) Right
+  then_any a f next = if_then (λ x. Unit {0}) Right a f (if_any a) (λ x u. next x)
+
+  then_changing : (a : Answer Changed) → IfOk (a >>= changing T (replied Done)) Right
+  then_changing a = then_any a (changing T (replied Done)) (λ D. then_any (within_limits D) _ (λ u. refl))
+
+  then_moving : (places : List Place) (a : Answer Changed) → IfOk (a >>= moving T places (replied Done)) Right
+  then_moving places a = then_any a (moving T places (replied Done)) (λ D. then_any (within_limits D) _ (λ u. refl))
+
+  then_making : (places : List Place) (kind : ℕ) (kinds : List ℕ) (a : Answer Changed) → kind < 32 → is_spent (next_index T kind kinds) ≡ false → IfOk (a >>= making T places kind (next_index T kind kinds)) Right
+  then_making places kind kinds a small left =
+      let index = next_index T kind kinds in
+      let id = new_id_is kind index (next_is_free T kind kinds left).1 in
+      let is_kind : kind ≡ new_id kind index % 32 = sym (ap (λ x. x % 32) id ∙ kind_is kind index small) in
+      let is_index : index ≡ index_of (new_id kind index) = sym (ap index_of id ∙ index_is kind index small) in
+      then_any a (making T places kind index) (λ D. then_any (within_limits D) _ (λ u. if_test Right (is_spent index) Ids _ (
+        subst (λ k. get_or T.last k 0 < index_of (new_id kind index)) is_kind (subst (λ i. get_or T.last kind 0 < i) is_index (above_counter T kind kinds)),
+        λ i. set T.last (is_kind i) (is_index i),
+      )))
+
+  makes_folder : (parent : ℕ) (name : List ℕ) → IfOk (made_folder T parent name) Right
+  unfolding made_folder making_folder
+  makes_folder parent name =
+      then_any (folder_in T parent) _ (λ p. then_any (unless_plain p) _ (λ u. then_any (unless_named T (folded false name) (children parent T.places)) _ (λ v.
+      then_any (refused_if (is_deep T.places parent) (Limit Depth)) _ (λ w. then_any (unless_full T (hierarchy parent)) _ (λ x. elim (cases_Bool (is_spent (next_index T 2 folder_kinds))) [
+        | inl t ↦
+            let f = new_id 2 (next_index T 2 folder_kinds) in let places = put_key place_id (place f parent) T.places in
+            never_made T places 2 (next_index T 2 folder_kinds) Right (add_shown T (hierarchy parent) f (folder_props name) (with_folder f parent name nothing) >>= settled T places parent) t
+        | inr t ↦
+            let f = new_id 2 (next_index T 2 folder_kinds) in
+            let places = put_key place_id (place f parent) T.places in
+            (then_making places 2 folder_kinds (add_shown T (hierarchy parent) f (folder_props name) (with_folder f parent name nothing) >>= settled T places parent) (omega arith) t)
+      ])))))
+
+  renames : (f : ℕ) (name : List ℕ) → IfOk (renamed_folder T f name) Right
+  unfolding renamed_folder
+  renames f name =
+      then_any (folder_in T f) _ (λ p. then_any (unless_plain p) _ (λ u. then_any (unless_protected T f) _ (λ v. then_any (unless_named T (folded false name) (siblings T p.parent.bits f)) _ (λ w.
+      then_any (context_at T nothing f) _ (λ c. then_changing (mirrored T f (with_context f c (put (text 0x3001 name) c.props) nothing)))))))
+
+  moves_folder : (f parent : ℕ) → IfOk (moved_folder T f parent) Right
+  unfolding moved_folder
+  moves_folder f parent =
+      then_any (folder_in T f) _ (λ p. then_any (folder_in T parent) _ (λ q. then_any (unless_plain p) _ (λ u. then_any (unless_plain q) _ (λ v. then_any (unless_protected T f) _ (λ w.
+      then_any (refused_if (is_within T.places f parent) Cycle) _ (λ x. elim (cases_Bool (p.parent.bits == parent)) [
+        | inl t ↦ rw t refl
+        | inr t ↦ rw t (then_any (context_at T nothing f) _ (λ c. then_any (unless_named T (folded false (name_of c.props)) (children parent T.places)) _ (λ y. then_any (refused_if (moves_deep T.places f parent) (Limit Depth)) _ (λ z.
+            let places = put_key place_id (place f parent) T.places in
+            then_moving places (moved_between T f p.parent.bits parent places)))))
+      ]))))))
+
+  removes_folder : (f : ℕ) → IfOk (removed_folder T f) Right
+  unfolding removed_folder
+  removes_folder f =
+      then_any (folder_in T f) _ (λ p. then_any (unless_plain p) _ (λ u. then_any (unless_protected T f) _ (λ v. then_any (table_at T nothing (hierarchy f)) _ (λ a. then_any (table_at T nothing (contents f)) _ (λ b.
+      then_any (associated_in T f) _ (λ c. then_any (refused_if (has_rows a || (has_rows b || has_associated c)) NotEmpty) _ (λ w.
+      let places = drop_key place_id f T.places in
+      then_moving places (drop_shown T (hierarchy p.parent.bits) f (without_folder T f nothing) >>= settled T places p.parent.bits))))))))
+
+  lists_folder : (f : ℕ) → IfOk (listing T f) Right
+  unfolding listing
+  lists_folder f = then_any (folder_in T f) _ (λ p. elim (cases_Bool (is_plain p)) [
+    | inr t ↦ rw t refl
+    | inl t ↦ rw t (then_any (folder_lines T (filter (is_child f) T.places)) _ (λ folders. then_any (table_at T nothing (contents f)) _ (λ t. then_any (message_lines T (message_ids t.table)) _ (λ messages. refl))))
+  ])
+
+  makes : (folder : ℕ) (class : List ℕ) (time : ℕ) → IfOk (new_message T folder class time) Right
+  unfolding new_message making_message
+  makes folder class time =
+      then_any (folder_in T folder) _ (λ p. then_any (unless_plain p) _ (λ u. then_any (context_at T nothing 0x21) _ (λ store. then_any (unless_full T (contents folder)) _ (λ v. elim (cases_Bool (is_spent (next_index T 4 message_kinds))) [
+        | inl t ↦
+            let m = new_id 4 (next_index T 4 message_kinds) in
+            never_made T T.places 4 (next_index T 4 message_kinds) Right (added_message T (finished (plain_message m folder (message_props m class time store.props))) nothing) t
+        | inr t ↦
+            let m = new_id 4 (next_index T 4 message_kinds) in
+            (then_making T.places 4 message_kinds (added_message T (finished (plain_message m folder (message_props m class time store.props))) nothing) (omega arith) t)
+      ]))))
+
+  copies : (m folder : ℕ) → IfOk (copied_message T m folder) Right
+  unfolding copied_message copying
+  copies m folder =
+      then_any (message_in T m) _ (λ M. then_any (folder_in T folder) _ (λ p. then_any (unless_plain p) _ (λ u. then_any (refused_if (is_overfull M.recipients || is_overfull M.attachments) (Limit Rows)) _ (λ v.
+      then_any (unless_full T (contents folder)) _ (λ w. elim (cases_Bool (is_spent (next_index T 4 message_kinds))) [
+        | inl t ↦
+            let n = new_id 4 (next_index T 4 message_kinds) in
+            never_made T T.places 4 (next_index T 4 message_kinds) Right (added_message T (copy_of n folder M) (record nothing { crowded = is_crowded_message M })) t
+        | inr t ↦
+            let n = new_id 4 (next_index T 4 message_kinds) in
+            (then_making T.places 4 message_kinds (added_message T (copy_of n folder M) (record nothing { crowded = is_crowded_message M })) (omega arith) t)
+      ])))))
+
+  changes : (M : Mes) (props : List Val) → IfOk (changed_message T M props) Right
+  unfolding changed_message
+  changes M props =
+      let N = finished (with_props props M) in
+      then_changing (put_shown T (contents N.folder) N.nid N.props (with_message M N nothing) >>= settled T T.places N.folder)
+
+  sets : (m : ℕ) (v : Val) → IfOk (set_value T m v) Right
+  unfolding set_value
+  sets m v = then_any (message_in T m) _ (λ M. then_any (refused_if (is_set_protected v.id M.props) Protected) _ (λ u. then_any (refused_if (nat_le 0x8000 v.id) Property) _ (λ w. changes M (put v M.props))))
+
+  unsets : (m : ℕ) (tag : Tag) → IfOk (unset_value T m tag) Right
+  unfolding unset_value
+  unsets m tag = then_any (message_in T m) _ (λ M. then_any (refused_if (is_unset_protected tag.id tag.kind M.props) Protected) _ (λ u.
+      then_any (refused_if (not (is_some (bytes_of tag.id tag.kind M.props))) Property) _ (λ w. changes M (remove_id tag.id M.props))))
+
+  gets : (m : ℕ) (tag : Tag) → IfOk (value_in T m tag) Right
+  unfolding value_in
+  gets m tag = then_any (message_in T m) _ (λ M. then_any (found Property (value_of tag M.props)) _ (λ v. refl))
+
+  lists : (m : ℕ) → IfOk (details T m) Right
+  unfolding details
+  lists m = then_any (message_in T m) _ (λ M. refl)
+
+  moves : (m folder : ℕ) → IfOk (moved_message T m folder) Right
+  unfolding moved_message
+  moves m folder = then_any (message_in T m) _ (λ M. then_any (folder_in T folder) _ (λ p. then_any (unless_plain p) _ (λ u. elim (cases_Bool (M.folder == folder)) [
+    | inl t ↦ rw t refl
+    | inr t ↦ rw t (then_any (drop_shown T (contents M.folder) m (with_object m (Some (Message (in_folder folder M))) nothing)) _ (λ D.
+        then_changing (add_shown T (contents folder) m M.props D >>= settled T T.places M.folder >>= settled T T.places folder)))
+  ])))
+
+  removes : (m : ℕ) → IfOk (removed_message T m) Right
+  unfolding removed_message
+  removes m = then_any (message_in T m) _ (λ M. then_changing (drop_shown T (contents M.folder) m (with_object m None nothing) >>= settled T T.places M.folder))
+
+  pub gives_new : (c : Command) → IfOk (outcome T c) (λ o. Counted T.last o.last o.reply.last)
+  unfolding outcome
+  gives_new (MakeFolder parent name) = makes_folder parent.bits name
+  gives_new (RenameFolder folder name) = renames folder.bits name
+  gives_new (MoveFolder folder parent) = moves_folder folder.bits parent.bits
+  gives_new (RemoveFolder folder) = removes_folder folder.bits
+  gives_new (ListFolder folder) = lists_folder folder.bits
+  gives_new (NewMessage folder class time) = makes folder.bits class time
+  gives_new (SetProperty message value) = sets message.bits value
+  gives_new (UnsetProperty message tag) = unsets message.bits tag
+  gives_new (GetProperty message tag) = gets message.bits tag
+  gives_new (ListProperties message) = lists message.bits
+  gives_new (MoveMessage message folder) = moves message.bits folder.bits
+  gives_new (CopyMessage message folder) = copies message.bits folder.bits
+  gives_new (RemoveMessage message) = removes message.bits
+  gives_new Save = refl
+  gives_new Quit = refl

@@ -1,0 +1,313 @@
+-- The commands on messages leave a tree whole.
+use Rattle.std.proofs.Common.{◌≡◌, ℕ, ◌%◌, ◌==◌, true, false, nat_le, length, ◌||◌, List, Option, None, Some, IsSome, is_some, Ok, arith, refl, sym, ap, ◌∙◌, inl, inr}
+use Rattle.std.proofs.lemmas.Bool.{cases_Bool, eqb-true}
+use Rattle.std.proofs.lemmas.Option.{none-some}
+use Rattle.pst_base.specs.Ids.{nid_of}
+use Rattle.mapi_values.specs.Messages.{Mes}
+use Rattle.mapi_values.specs.Properties.{put, remove_id}
+use Rattle.mapi_values.specs.declared.value.Tag.{Tag}
+use Rattle.mapi_values.specs.Tables.{find_row, drop_row}
+use Rattle.mapi_values.specs.Values.{Val}
+use Rattle.command_text.specs.declared.reply.LastLine.TheVariants.{Done}
+use Rattle.mail_objects.specs.Forms.{Tbl}
+use Rattle.mail_objects.specs.declared.object.Object.{Object}
+use Rattle.mail_objects.specs.declared.object.Object.TheVariants.{Table, Message}
+use Rattle.mail_tree.specs.declared.places.Place.{Place}
+use Rattle.mail_tree.specs.Places.{find_place, is_plain}
+use Rattle.mail_tree.specs.Tree.{Tree}
+use Rattle.mail_tree.specs.Values.{bytes_of, finished, is_set_protected, is_unset_protected, message_props, with_props}
+use Rattle.command_text.specs.declared.reply.CommandRefusal.TheVariants.{Ids}
+use Rattle.mail_tree.specs.Changing.{Answer, Changed, ◌>>=◌, add_shown, contents, drop_shown, nothing, now_at, overfills, put_shown, shown_row, with_object, with_rows}
+use Rattle.mail_tree.specs.Settling.{settled}
+use Rattle.mail_tree.specs.Folders.{Outcome, changing, making, replied, unless_full}
+use Rattle.mail_tree.specs.Messages.{added_message, changed_message, copied_message, copy_of, copying, details, in_folder, is_crowded_message, is_overfull, making_message, message_in, moved_message, new_message, parent_at, plain_message, removed_message, set_value, unset_value, value_in, value_of, with_message}
+use Rattle.mail_tree.specs.Ids.{is_spent, message_kinds, new_id, next_index}
+use Rattle.mail_tree.specs.Whole.{AreWhole, Fine}
+use Rattle.mail_tree.proofs.AfterTree.{now_nothing, puts_object, puts_values}
+use Rattle.mail_laws.proofs.NewIds.{free_message, new_id_is, next_is_free}
+use Rattle.mail_tree.proofs.FineLaws.{after_limits, after_test, cases_Option, fine_then}
+use Rattle.mail_tree.proofs.Nearly.{AreNearly, Puts, message_id, table_of}
+use Rattle.mail_tree.proofs.KindsOfPuts.{beside_kind}
+use Rattle.mail_laws.proofs.Closing.{whole_message}
+use Rattle.mail_laws.proofs.MessagePuts.{apart, drops_message, lists_message, puts_at, removes_at}
+use Rattle.mail_tree.proofs.Settles.{fine_settled, messages_of, store_of}
+use Rattle.mail_laws.proofs.Spent.{fine_planned, new_id_kind, refused_later}
+
+-- the tree is whole before the command
+abbrev pub Before : Tree → Type 0
+Before T = AreWhole T.places (now_at T nothing)
+
+-- and after it
+abbrev pub Keeps : Tree → Outcome → Type 0
+Keeps T o = AreWhole o.places (now_at T o.changed)
+
+-- changes leave the tree whole
+abbrev pub Leaves : Tree → Changed → Type 0
+Leaves T D = AreWhole T.places (now_at T D)
+
+-- a message that is found stands in a plain folder
+pub fine_message_in : (T : Tree) (m : ℕ) → Before T → Fine (message_in T m) (λ M. (now_at T nothing m ≡ Some (Message M)) × (m % 32 ≡ 4))
+unfolding message_in
+fine_message_in T m w = elim (cases_Bool (m % 32 == 4)) [
+  | inr t ↦ rw t tt
+  | inl t ↦ rw t (elim (cases_Option (parent_at T m)) [
+    | inl e ↦ rw e tt
+    | inr f ↦ rw f.1 (elim (cases_Option (find_place f.0 T.places)) [
+      | inl e ↦ rw e tt
+      | inr p ↦ rw p.1 (elim (cases_Bool (is_plain p.0)) [
+        | inr plain ↦ rw plain tt
+        | inl plain ↦ let four = eqb-true (m % 32) 4 t in let table = messages_of w f.0 p.0 p.1 plain in
+            rw (plain, table.1) (elim (cases_Bool (is_some (find_row m table.0.table.rows))) [
+              | inr row ↦ rw row tt
+              | inl row ↦ let M = w.listed f.0 p.0 table.0 m p.1 plain table.1 row four in rw (row, M.1) (refl, four)
+            ])
+      ])
+    ])
+  ])
+]
+
+-- the table of a plain folder's messages, after a message was put
+table_now : {E : ℕ → Type 0} {places : List Place} {at : ℕ → Option Object} → AreNearly E places at → (f : ℕ) (p : Place) → find_place f places ≡ Some p → is_plain p ≡ true → (t : Tbl) × (at (contents f) ≡ Some (Table t))
+table_now {at = at} n f p e plain = table_of (contents f) (at (contents f)) (n.typed (contents f)) (inr (inl (beside_kind f 14 (omega arith)))) (n.tables f p e plain).1
+
+-- before, only the folder of a message lists it
+only_home : (T : Tree) (w : Before T) (D : Changed) (m : ℕ) (o : Option Object) (four : m % 32 ≡ 4) (puts : Puts (now_at T nothing) (now_at T D) m o) (M : Mes) → now_at T nothing m ≡ Some (Message M)
+    → (f : ℕ) (q : Place) (u : Tbl) → find_place f T.places ≡ Some q → is_plain q ≡ true → now_at T D (contents f) ≡ Some (Table u) → IsSome (find_row m u.table.rows) → f ≡ M.folder
+only_home T w D m o four puts M is f q u e plain at_u row =
+    let v = w.listed f q u m e plain (sym (puts.others (contents f) (λ e. apart m f four (sym e))) ∙ at_u) row four in
+    let same : v.0 ≡ M = cc in
+    sym v.2 ∙ ap (λ x. x.folder) same
+
+pub finished_id : (m : Mes) → (finished m).nid ≡ m.nid
+unfolding finished
+finished_id m = refl
+
+pub finished_folder : (m : Mes) → (finished m).folder ≡ m.folder
+unfolding finished
+finished_folder m = refl
+
+-- what is settled and keeps to the limits is done
+pub fine_changing : (T : Tree) (D : Changed) → Leaves T D → Fine (changing T (replied Done) D) (Keeps T)
+fine_changing T D w = after_limits (Keeps T) D (λ u. Ok (record { changed = D; places = T.places; last = T.last; reply = replied Done })) w
+
+-- a message gets other values
+shown_message : (T : Tree) (old new : Mes) (p : Place) → Before T → now_at T nothing new.nid ≡ Some (Message old) → new.nid % 32 ≡ 4 → new.folder ≡ old.folder → old.nid ≡ new.nid → find_place new.folder T.places ≡ Some p → is_plain p ≡ true
+    → Fine (put_shown T (contents new.folder) new.nid new.props (with_message old new nothing)) (Leaves T)
+unfolding put_shown
+shown_message T old new p w is four folder nid found plain =
+    let D = with_message old new nothing in
+    let puts = puts_values T nothing new.nid (Message new) old.props new.props in
+    let n = puts_at T.places new.nid four (now_at T nothing) (now_at T D) new w refl puts in
+    let t = table_now n new.folder p found plain in
+    rw t.1 (lists_message T.places new.nid four (now_at T D) _ n new.folder p found plain t.0 t.1 new new.props puts.here refl
+    (λ f q u e plain_q at_u row. only_home T w D new.nid (Some (Message new)) four puts old is f q u e plain_q at_u row ∙ sym folder)
+    (puts_object T D (contents new.folder) (Some (with_rows (shown_row new.nid new.props t.0.table) t.0))))
+
+-- what a message of a whole tree has
+pub home_of : (T : Tree) → Before T → (m : ℕ) (M : Mes) → now_at T nothing m ≡ Some (Message M) → (M.nid ≡ m) × (p : Place) × (find_place M.folder T.places ≡ Some p) × (is_plain p ≡ true)
+home_of T w m M is = let v = w.held m M is in ((message_id m M (w.typed m (Message M) is)).1, v.0, v.1, v.2)
+
+-- settled, and within the limits
+settled_changing : (T : Tree) (a : Answer Changed) (f : ℕ) (p : Place) → find_place f T.places ≡ Some p → is_plain p ≡ true → Fine a (Leaves T) → Fine (a >>= settled T T.places f >>= changing T (replied Done)) (Keeps T)
+settled_changing T a f p found plain fine =
+    fine_then (Leaves T) (Keeps T) (a >>= settled T T.places f) (changing T (replied Done))
+    (fine_then (Leaves T) (Leaves T) a (settled T T.places f) fine (λ D w. fine_settled T T.places f p D w found plain))
+    (λ D w. fine_changing T D w)
+
+fine_changed : (T : Tree) (m : ℕ) (M : Mes) (props : List Val) → Before T → now_at T nothing m ≡ Some (Message M) → m % 32 ≡ 4 → Fine (changed_message T M props) (Keeps T)
+unfolding changed_message
+fine_changed T m M props w is four =
+    let new = finished (with_props props M) in
+    let v = home_of T w m M is in
+    let nid : new.nid ≡ m = finished_id (with_props props M) ∙ v.0 in
+    let folder : new.folder ≡ M.folder = finished_folder (with_props props M) in
+    let found : find_place new.folder T.places ≡ Some v.1 = ap (λ x. find_place x T.places) folder ∙ v.2 in
+    settled_changing T (put_shown T (contents new.folder) new.nid new.props (with_message M new nothing)) new.folder v.1 found v.3
+    (shown_message T M new v.1 w (ap (now_at T nothing) nid ∙ is) (ap (λ x. x % 32) nid ∙ four) folder (v.0 ∙ sym nid) found v.3)
+
+-- `set`
+pub fine_set : (T : Tree) (m : ℕ) (v : Val) → Before T → Fine (set_value T m v) (Keeps T)
+unfolding set_value
+fine_set T m v w = fine_then _ (Keeps T) (message_in T m) _ (fine_message_in T m w) (λ M h. elim (cases_Bool (is_set_protected v.id M.props)) [
+  | inl t ↦ rw t tt
+  | inr t ↦ rw t (elim (cases_Bool (nat_le 0x8000 v.id)) [ inl u ↦ rw u tt | inr u ↦ rw u (fine_changed T m M (put v M.props) w h.0 h.1) ])
+])
+
+-- `unset`
+pub fine_unset : (T : Tree) (m : ℕ) (tag : Tag) → Before T → Fine (unset_value T m tag) (Keeps T)
+unfolding unset_value
+fine_unset T m tag w = fine_then _ (Keeps T) (message_in T m) _ (fine_message_in T m w) (λ M h. elim (cases_Bool (is_unset_protected tag.id tag.kind M.props)) [
+  | inl t ↦ rw t tt
+  | inr t ↦ rw t (elim (cases_Bool (is_some (bytes_of tag.id tag.kind M.props))) [ inr u ↦ rw u tt | inl u ↦ rw u (fine_changed T m M (remove_id tag.id M.props) w h.0 h.1) ])
+])
+
+-- `get`
+pub fine_get : (T : Tree) (m : ℕ) (tag : Tag) → Before T → Fine (value_in T m tag) (Keeps T)
+unfolding value_in
+fine_get T m tag w = fine_then _ (Keeps T) (message_in T m) _ (fine_message_in T m w) (λ M h. elim (cases_Option (value_of tag M.props)) [ inl e ↦ rw e tt | inr v ↦ rw v.1 w ])
+
+-- `props`
+pub fine_details : (T : Tree) (m : ℕ) → Before T → Fine (details T m) (Keeps T)
+unfolding details
+fine_details T m w = fine_then _ (Keeps T) (message_in T m) _ (fine_message_in T m w) (λ M h. w)
+
+-- `rm`
+dropped_message : (T : Tree) (m : ℕ) (M : Mes) (p : Place) → Before T → now_at T nothing m ≡ Some (Message M) → m % 32 ≡ 4 → find_place M.folder T.places ≡ Some p → is_plain p ≡ true
+    → Fine (drop_shown T (contents M.folder) m (with_object m None nothing)) (Leaves T)
+unfolding drop_shown
+dropped_message T m M p w is four found plain =
+    let D = with_object m None nothing in
+    let puts = puts_object T nothing m None in
+    let n = removes_at T.places m four (now_at T nothing) (now_at T D) w puts in
+    let t = table_now n M.folder p found plain in
+    let puts' = puts_object T D (contents M.folder) (Some (with_rows (drop_row m t.0.table.rows) t.0)) in
+    let d = drops_message T.places m four (now_at T D) _ n M.folder p found plain t.0 t.1 (only_home T w D m None four puts M is) puts' in
+    rw t.1 (whole_message T.places _ m d.0 four (λ f q u e plain_q at_u row. absurd (d.1 f q u e plain_q at_u row))
+    (λ N at_N. absurd (none-some (Message N) (sym (puts'.others m (apart m M.folder four) ∙ puts.here) ∙ at_N))))
+
+pub fine_removed : (T : Tree) (m : ℕ) → Before T → Fine (removed_message T m) (Keeps T)
+unfolding removed_message
+fine_removed T m w = fine_then _ (Keeps T) (message_in T m) _ (fine_message_in T m w) (λ M h.
+    let v = home_of T w m M h.0 in
+    settled_changing T (drop_shown T (contents M.folder) m (with_object m None nothing)) M.folder v.1 v.2 v.3 (dropped_message T m M v.1 w h.0 h.1 v.2 v.3))
+
+-- a row that shows a message that stands there is added
+listed_message : (T : Tree) (D : Changed) (m : ℕ) (M : Mes) (props : List Val) (p : Place) → AreNearly (λ x. x ≡ m) T.places (now_at T D) → m % 32 ≡ 4 → now_at T D m ≡ Some (Message M) → find_place M.folder T.places ≡ Some p → is_plain p ≡ true
+    → ((f : ℕ) (q : Place) (u : Tbl) → find_place f T.places ≡ Some q → is_plain q ≡ true → now_at T D (contents f) ≡ Some (Table u) → IsSome (find_row m u.table.rows) → f ≡ M.folder)
+    → Fine (add_shown T (contents M.folder) m props D) (Leaves T)
+unfolding add_shown
+listed_message T D m M props p n four is found plain only =
+    let t = table_now n M.folder p found plain in
+    rw t.1 (elim (cases_Bool (overfills t.0.table.rows (shown_row m props t.0.table))) [
+      | inl b ↦ rw b tt
+      | inr b ↦ rw b (lists_message T.places m four (now_at T D) _ n M.folder p found plain t.0 t.1 M props is refl only
+          (puts_object T D (contents M.folder) (Some (with_rows (shown_row m props t.0.table) t.0))))
+    ])
+
+-- a new message
+fine_added : (T : Tree) (D : Changed) (M : Mes) (p : Place) → AreWhole T.places (now_at T D) → M.nid % 32 ≡ 4 → now_at T D M.nid ≡ None → find_place M.folder T.places ≡ Some p → is_plain p ≡ true
+    → Fine (added_message T M D) (Leaves T)
+fine_added T D M p w four none found plain =
+    let puts = puts_object T D M.nid (Some (Message M)) in
+    let D' = with_object M.nid (Some (Message M)) D in
+    fine_then (Leaves T) (Leaves T) (add_shown T (contents M.folder) M.nid M.props D') (settled T T.places M.folder)
+    (listed_message T D' M.nid M M.props p (puts_at T.places M.nid four (now_at T D) (now_at T D') M w refl puts) four puts.here found plain
+    (λ f q u e plain_q at_u row.
+    let v = w.listed f q u M.nid e plain_q (sym (puts.others (contents f) (λ e. apart M.nid f four (sym e))) ∙ at_u) row four in
+    absurd (none-some (Message v.0) (sym none ∙ v.1))))
+    (λ D'' w'. fine_settled T T.places M.folder p D'' w' found plain)
+
+-- a folder's table has room
+pub fine_unless_full : (T : Tree) (q : ℕ) (t : Tbl) → now_at T nothing q ≡ Some (Table t) → Fine (unless_full T q) (λ u. Unit {0})
+unfolding unless_full
+fine_unless_full T q t is = rw is (elim (cases_Bool (nat_le 100000 (length t.table.rows))) [ inl b ↦ rw b tt | inr b ↦ rw b tt ])
+
+-- nothing stands at a new message's id
+pub new_message_id : (T : Tree) → is_spent (next_index T 4 message_kinds) ≡ false → (new_id 4 (next_index T 4 message_kinds) % 32 ≡ 4) × (now_at T nothing (new_id 4 (next_index T 4 message_kinds)) ≡ None)
+new_message_id T left =
+    let free = next_is_free T 4 message_kinds left in
+    let id = new_id_is 4 (next_index T 4 message_kinds) free.1 in
+    (ap (λ x. x % 32) id ∙ kind_four (next_index T 4 message_kinds), ap (now_at T nothing) id ∙ ap (λ g. g (nid_of 4 (next_index T 4 message_kinds))) (now_nothing T false) ∙ free_message T (next_index T 4 message_kinds) free.0)
+  where
+    kind_four : (index : ℕ) → nid_of 4 index % 32 ≡ 4
+    kind_four index = omega arith
+
+fine_making : (T : Tree) (a : Answer Changed) (kind index : ℕ) → Fine a (Leaves T) → Fine (a >>= making T T.places kind index) (Keeps T)
+fine_making T a kind index fine = fine_then (Leaves T) (Keeps T) a (making T T.places kind index) fine (λ D w. after_limits (Keeps T) D _ (after_test (Keeps T) (is_spent index) Ids _ (λ left. w)))
+
+-- `new`
+fine_made : (T : Tree) (folder : ℕ) (p : Place) (class : List ℕ) (time : ℕ) (store : List Val) → Before T → find_place folder T.places ≡ Some p → is_plain p ≡ true
+    → Fine (making_message T folder class time store (next_index T 4 message_kinds)) (Keeps T)
+unfolding making_message
+fine_made T folder p class time store w found plain = elim (cases_Bool (is_spent (next_index T 4 message_kinds))) [
+  | inl t ↦
+      let m = new_id 4 (next_index T 4 message_kinds) in
+      let M = plain_message m folder (message_props m class time store) in
+      refused_later T T.places 4 (next_index T 4 message_kinds) (Keeps T) (added_message T (finished M) nothing) t
+      (fine_planned T (finished M) false p w (ap (λ x. x % 32) (finished_id M) ∙ new_id_kind 4 (next_index T 4 message_kinds) (omega arith)) (ap (λ x. find_place x T.places) (finished_folder M) ∙ found) plain)
+  | inr t ↦
+      let m = new_id 4 (next_index T 4 message_kinds) in
+      let id = new_message_id T t in
+      let M = plain_message m folder (message_props m class time store) in
+      (fine_making T (added_message T (finished M) nothing) 4 (next_index T 4 message_kinds)
+      (fine_added T nothing (finished M) p w (ap (λ x. x % 32) (finished_id M) ∙ id.0) (ap (now_at T nothing) (finished_id M) ∙ id.1) (ap (λ x. find_place x T.places) (finished_folder M) ∙ found) plain))
+]
+
+pub fine_new : (T : Tree) (folder : ℕ) (class : List ℕ) (time : ℕ) → Before T → Fine (new_message T folder class time) (Keeps T)
+unfolding new_message
+fine_new T folder class time w = elim (cases_Option (find_place folder T.places)) [
+  | inl e ↦ rw e tt
+  | inr p ↦ rw p.1 (elim (cases_Bool (is_plain p.0)) [
+    | inr plain ↦ rw plain tt
+    | inl plain ↦
+        let store = store_of w in let t = messages_of w folder p.0 p.1 plain in
+        rw (plain, store.1) (fine_then (λ u. Unit {0}) (Keeps T) (unless_full T (contents folder)) _ (fine_unless_full T (contents folder) t.0 t.1) (λ u v. fine_made T folder p.0 class time store.0.props w p.1 plain))
+  ])
+]
+
+-- `cp`
+fine_copying : (T : Tree) (M : Mes) (folder : ℕ) (p : Place) → Before T → find_place folder T.places ≡ Some p → is_plain p ≡ true → Fine (copying T M folder (next_index T 4 message_kinds)) (Keeps T)
+unfolding copying
+fine_copying T M folder p w found plain = elim (cases_Bool (is_spent (next_index T 4 message_kinds))) [
+  | inl t ↦
+      let N = copy_of (new_id 4 (next_index T 4 message_kinds)) folder M in
+      refused_later T T.places 4 (next_index T 4 message_kinds) (Keeps T) (added_message T N (record nothing { crowded = is_crowded_message M })) t
+      (fine_planned T N (is_crowded_message M) p w (new_id_kind 4 (next_index T 4 message_kinds) (omega arith)) found plain)
+  | inr t ↦
+      let id = new_message_id T t in
+      let D = record nothing { crowded = is_crowded_message M } in
+      let N = copy_of (new_id 4 (next_index T 4 message_kinds)) folder M in
+      (fine_making T (added_message T N D) 4 (next_index T 4 message_kinds) (fine_added T D N p w id.0 id.1 found plain))
+]
+
+pub fine_copied : (T : Tree) (m folder : ℕ) → Before T → Fine (copied_message T m folder) (Keeps T)
+unfolding copied_message
+fine_copied T m folder w = fine_then _ (Keeps T) (message_in T m) _ (fine_message_in T m w) (λ M h. elim (cases_Option (find_place folder T.places)) [
+  | inl e ↦ rw e tt
+  | inr p ↦ rw p.1 (elim (cases_Bool (is_plain p.0)) [
+    | inr plain ↦ rw plain tt
+    | inl plain ↦
+        let t = messages_of w folder p.0 p.1 plain in
+        rw plain (elim (cases_Bool (is_overfull M.recipients || is_overfull M.attachments)) [
+          | inl b ↦ rw b tt
+          | inr b ↦ rw b (fine_then (λ u. Unit {0}) (Keeps T) (unless_full T (contents folder)) _ (fine_unless_full T (contents folder) t.0 t.1) (λ u v. fine_copying T M folder p.0 w p.1 plain))
+        ])
+  ])
+])
+
+-- `mv`
+abbrev MovedFrom : Tree → ℕ → Mes → Changed → Type 0
+MovedFrom T m M D = AreNearly (λ x. x ≡ m) T.places (now_at T D) × (now_at T D m ≡ Some (Message M))
+    × ((f : ℕ) (q : Place) (u : Tbl) → find_place f T.places ≡ Some q → is_plain q ≡ true → now_at T D (contents f) ≡ Some (Table u) → IsSome (find_row m u.table.rows) → ⊥)
+
+moved_from : (T : Tree) (m folder : ℕ) (M : Mes) (p : Place) → Before T → now_at T nothing m ≡ Some (Message M) → m % 32 ≡ 4 → M.nid ≡ m → find_place M.folder T.places ≡ Some p → is_plain p ≡ true
+    → Fine (drop_shown T (contents M.folder) m (with_object m (Some (Message (in_folder folder M))) nothing)) (MovedFrom T m (in_folder folder M))
+unfolding drop_shown
+moved_from T m folder M p w is four nid found plain =
+    let D = with_object m (Some (Message (in_folder folder M))) nothing in
+    let puts = puts_object T nothing m (Some (Message (in_folder folder M))) in
+    let n = puts_at T.places m four (now_at T nothing) (now_at T D) (in_folder folder M) w nid puts in
+    let t = table_now n M.folder p found plain in
+    let puts' = puts_object T D (contents M.folder) (Some (with_rows (drop_row m t.0.table.rows) t.0)) in
+    let d = drops_message T.places m four (now_at T D) _ n M.folder p found plain t.0 t.1 (only_home T w D m (Some (Message (in_folder folder M))) four puts M is) puts' in
+    rw t.1 (d.0, puts'.others m (apart m M.folder four) ∙ puts.here, d.1)
+
+pub fine_moved : (T : Tree) (m folder : ℕ) → Before T → Fine (moved_message T m folder) (Keeps T)
+unfolding moved_message
+fine_moved T m folder w = fine_then _ (Keeps T) (message_in T m) _ (fine_message_in T m w) (λ M h. elim (cases_Option (find_place folder T.places)) [
+  | inl e ↦ rw e tt
+  | inr p ↦ rw p.1 (elim (cases_Bool (is_plain p.0)) [
+    | inr plain ↦ rw plain tt
+    | inl plain ↦ rw plain (elim (cases_Bool (M.folder == folder)) [
+      | inl b ↦ rw b w
+      | inr b ↦
+          let v = home_of T w m M h.0 in
+          rw b (fine_then (MovedFrom T m (in_folder folder M)) (Keeps T) (drop_shown T (contents M.folder) m (with_object m (Some (Message (in_folder folder M))) nothing)) _
+          (moved_from T m folder M v.1 w h.0 h.1 v.0 v.2 v.3)
+          (λ D d. settled_changing T (add_shown T (contents folder) m M.props D >>= settled T T.places M.folder) folder p.0 p.1 plain
+          (fine_then (Leaves T) (Leaves T) (add_shown T (contents folder) m M.props D) (settled T T.places M.folder)
+          (listed_message T D m (in_folder folder M) M.props p.0 d.0 h.1 d.1 p.1 plain (λ f q u e plain_q at_u row. absurd (d.2 f q u e plain_q at_u row)))
+          (λ D' w'. fine_settled T T.places M.folder v.1 D' w' v.2 v.3))))
+    ])
+  ])
+])

@@ -1,0 +1,36 @@
+use Rattle.std.proofs.Common.{◌≡◌, ℕ, Some, subst}
+use Rattle.mapi_values.specs.Messages.{Mes}
+use Rattle.mail_tree.specs.Changing.{nothing, now_at}
+use Rattle.mail_tree.specs.Folders.{Outcome}
+use Rattle.mail_laws.specs.Laws.{AreCountedBut, CountsOf, message_with}
+use Rattle.mail_tree.specs.Messages.{copied_message, new_message, removed_message, set_value, unset_value}
+use Rattle.mail_tree.specs.Step.{after, outcome}
+use Rattle.mail_tree.specs.Tree.{Tree}
+use Rattle.mail_tree.proofs.AfterTree.{after_now}
+use Rattle.mail_laws.proofs.CountCommands.{Ends, Home, copies, makes, removes, sets, unsets}
+use Rattle.mail_laws.proofs.Keeping.{if_weaker}
+use Rattle.mail_laws.proofs.LawSteps.{before, was_message}
+use Rattle.mail_laws.proofs.MessageSteps.{Before}
+use Rattle.mail_tree.proofs.law.counts_anew.Goals as goal
+
+-- whatever the counts were
+any : (T : Tree) → AreCountedBut (λ x. Unit {0}) T.places (now_at T nothing)
+any T f p c t e plain free = absurd (free tt)
+
+right : (T : Tree) (w : Before T) (F : ℕ) (o : Outcome) → Ends T w (λ x. Unit {0}) (any T) F o → CountsOf (after T o) F
+unfolding Ends
+right T w F o k = subst (AreCountedBut (λ g. g ≡ F → ⊥) o.places) (after_now T o) (λ f p c t e plain free is_c is_t. k f p c t e plain (λ h. free h.1) is_c is_t)
+
+home : (T : Tree) (w : Before T) (m : ℕ) (o : Outcome) → Home T w (λ x. Unit {0}) (any T) m o → (M : Mes) × (message_with T m ≡ Some M) × CountsOf (after T o) M.folder
+unfolding Home
+home T w m o k = (k.0, was_message T m k.0 k.1, right T w k.0.folder o k.2)
+
+pub returns : goal.returns
+unfolding outcome
+returns c = record {
+  makes = λ T folder class time w. let b = before T w in if_weaker (Ends T b (λ x. Unit {0}) (any T) folder.bits) _ (new_message T folder.bits class time) (makes T b (λ x. Unit {0}) (any T) folder.bits class time) (λ o k. right T b folder.bits o k);
+  copies = λ T m folder w. let b = before T w in if_weaker (Ends T b (λ x. Unit {0}) (any T) folder.bits) _ (copied_message T m.bits folder.bits) (copies T b (λ x. Unit {0}) (any T) m.bits folder.bits) (λ o k. right T b folder.bits o k);
+  sets = λ T m v w. let b = before T w in if_weaker (Home T b (λ x. Unit {0}) (any T) m.bits) _ (set_value T m.bits v) (sets T b (λ x. Unit {0}) (any T) m.bits v) (λ o k. home T b m.bits o k);
+  unsets = λ T m tag w. let b = before T w in if_weaker (Home T b (λ x. Unit {0}) (any T) m.bits) _ (unset_value T m.bits tag) (unsets T b (λ x. Unit {0}) (any T) m.bits tag) (λ o k. home T b m.bits o k);
+  removes = λ T m w. let b = before T w in if_weaker (Home T b (λ x. Unit {0}) (any T) m.bits) _ (removed_message T m.bits) (removes T b (λ x. Unit {0}) (any T) m.bits) (λ o k. home T b m.bits o k);
+}

@@ -1,0 +1,15 @@
+//! What follows of every command on the tree of a store: laws, each the contract of a function that does nothing.
+//!
+//! Each command on a whole tree is answered or refused and leaves a whole tree that an opening finds, whose rows mirror what they show and whose counts are right; what comes, goes and moves is what the command names, and all else stays.
+//!
+//! Leaves to others: the tree and the steps themselves (`mail_tree`), and the code that carries them out.
+#![tactic(auto)]
+
+mod law;
+
+pub use law::{
+    comes_and_goes, copies, counts_anew, counts_stay, gets_what_was_set, gives_new_ids,
+    keeps_nodes, keeps_tables, keeps_values, makes_folder, makes_message, mirrors_stay, moves,
+    moves_folder, reads, removes, removes_folder, renames_folder, sets, some_is_whole,
+    starts_whole, stays_found, stays_whole, unsets,
+};

@@ -1,5 +1,0 @@
-use Rattle.mail_tree.proofs.KeptLaws.{comes_and_goes}
-use Rattle.mail_tree.proofs.law.comes_and_goes.Goals as goal
-
-pub returns : goal.returns
-returns c = comes_and_goes

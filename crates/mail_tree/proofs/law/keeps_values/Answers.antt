@@ -1,5 +1,0 @@
-use Rattle.mail_tree.proofs.KeptLaws.{keeps_values}
-use Rattle.mail_tree.proofs.law.keeps_values.Goals as goal
-
-pub returns : goal.returns
-returns c = keeps_values

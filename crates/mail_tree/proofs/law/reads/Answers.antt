@@ -1,5 +1,0 @@
-use Rattle.mail_tree.proofs.LawSteps.{reads_only}
-use Rattle.mail_tree.proofs.law.reads.Goals as goal
-
-pub returns : goal.returns
-returns c T command reads = reads_only T command reads
