@@ -30,6 +30,13 @@ IsRefused Fault = ⊥
 IsRefused (Changed ib stored computed) = ⊥
 IsRefused Memory = ⊥
 
+-- the disk didn't fail
+abbrev pub IsCalm : Stop → Type 0
+IsCalm (Refused refusal) = Unit {0}
+IsCalm Fault = ⊥
+IsCalm (Changed ib stored computed) = Unit {0}
+IsCalm Memory = Unit {0}
+
 -- The result, seen by view, is the answer, unless the disk failed or memory ran out. Where something isn't of its form, nothing is said.
 abbrev pub Says : {A B : Type 0} → (B → A) → Answer A → Result B Stop → Type 0
 Says view (Ok x) (Ok y) = view y ≡ x

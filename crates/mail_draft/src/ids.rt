@@ -13,7 +13,7 @@ use pst_outside::Outside;
 use std::alloc::Global;
 
 /// The last index that a node can have.
-const LAST_INDEX: u64 = 134_217_727;
+pub(crate) const LAST_INDEX: u64 = 134_217_727;
 
 /// The node that follows an id.
 fn node_after<W: Outside, K: NodeReader<W>>(

@@ -3,8 +3,7 @@ ghost use Rattle.std.specs.Prelude.{◌≡◌, IfErr};
 ghost use Rattle.mail_tree.specs.Tree.{Tree};
 ghost use Rattle.mail_tree.specs.Folders.{folder_in, unless_plain};
 ghost use Rattle.mail_folders.specs.Pieces.{both_plain_in, plain_in};
-ghost use Rattle.mail_draft.specs.Answers.{Says};
-ghost use Rattle.mail_folders.specs.Calm.{IsCalm};
+ghost use Rattle.mail_draft.specs.Answers.{IsCalm, Says};
 
 use command_text::CommandRefusal;
 use mail_draft::Stop;

@@ -5,7 +5,6 @@
 //! Leaves to others: carrying the changes out.
 #![tactic(auto)]
 
-mod ending;
 mod finding;
 mod list;
 mod making;

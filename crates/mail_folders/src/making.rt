@@ -5,15 +5,13 @@ ghost use Rattle.mail_tree.specs.Folders.{made_folder, making_folder, unless_ful
 ghost use Rattle.mail_tree.specs.Changing.{add_shown, associated, contents, hierarchy, nothing, refused_if, with_object};
 ghost use Rattle.mail_tree.specs.Ids.{is_spent};
 ghost use Rattle.command_text.specs.declared.reply.CommandRefusal.TheVariants.{Ids};
-ghost use Rattle.mail_folders.specs.Calm.{IsCalm};
 ghost use Rattle.mail_tree.specs.Columns.{contents_table, hierarchy_table};
 ghost use Rattle.mail_tree.specs.Values.{folder_props};
 ghost use Rattle.mail_objects.specs.declared.object.Object.TheVariants.{Table};
 ghost use Rattle.mail_draft.specs.Drafts.{changed_of};
-ghost use Rattle.mail_draft.specs.Answers.{IsCaused, Looks, Says};
+ghost use Rattle.mail_draft.specs.Answers.{IsCalm, IsCaused, Looks, Says};
 ghost use Rattle.mail_draft.specs.Outcomes.{outcome_of};
 
-use crate::ending::making;
 use crate::finding::plain_in;
 use crate::names::unless_child_named;
 use crate::reading::table_in;
@@ -21,8 +19,8 @@ use crate::standing::{unless_deep, with_place};
 use crate::tables::{contents_table, hierarchy_table};
 use command_text::{CommandRefusal, Limit};
 use mail_draft::{
-    Draft, Outcome, Stop, add_shown, associated, contents, hierarchy, new_id, next_index, put_text,
-    settled, with_counts,
+    Draft, Outcome, Stop, add_shown, associated, contents, hierarchy, making, new_id, next_index,
+    put_text, settled, with_counts,
 };
 use mail_objects::{Context, Object};
 use mail_tree::Places;
@@ -147,5 +145,5 @@ fn making_folder<W: Outside, K: Keeper<W>>(
     let after = with_place(alloc, places, folder, parent)?;
     let with_row = added(alloc, keeper, w, folder, parent, name)?;
     let draft = settled(alloc, keeper, w, with_row, &after, parent)?;
-    making(alloc, keeper.counts(), draft, after, index)
+    making(alloc, keeper.counts(), draft, Some(after), 2, index)
 }

@@ -9,14 +9,15 @@ ghost use Rattle.mail_draft.specs.Drafts.{changed_of};
 ghost use Rattle.mail_draft.specs.Answers.{IsCaused, Looks, Says};
 ghost use Rattle.mail_draft.specs.Outcomes.{outcome_of};
 
-use crate::ending::moving;
 use crate::finding::both_plain_in;
 use crate::names::unless_child_named;
 use crate::protecting::unless_protected;
 use crate::reading::context_in;
 use crate::standing::{unless_moves_deep, unless_within, with_place};
 use command_text::{LastLine, Reply};
-use mail_draft::{Draft, Outcome, Stop, add_shown, drop_shown, hierarchy, name_of, settled};
+use mail_draft::{
+    Draft, Outcome, Stop, add_shown, drop_shown, hierarchy, moving, name_of, settled,
+};
 use mail_objects::{Context, Object};
 use mail_tree::Places;
 use mapi_values::Props;

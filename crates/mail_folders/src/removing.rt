@@ -4,19 +4,19 @@ ghost use Rattle.mail_tree.specs.Tree.{Shown, Tree};
 ghost use Rattle.mail_tree.specs.Folders.{associated_in, has_associated, has_rows, removed_folder, without_folder};
 ghost use Rattle.mail_folders.specs.Pieces.{removing_folder, unless_filled};
 ghost use Rattle.mail_tree.specs.Changing.{contents, hierarchy, nothing, refused_if, with_object};
-ghost use Rattle.mail_folders.specs.Calm.{IsCalm};
 ghost use Rattle.command_text.specs.declared.reply.CommandRefusal.TheVariants.{NotEmpty};
 ghost use Rattle.mail_draft.specs.Drafts.{changed_of};
-ghost use Rattle.mail_draft.specs.Answers.{IsCaused, Looks, Says};
+ghost use Rattle.mail_draft.specs.Answers.{IsCalm, IsCaused, Looks, Says};
 ghost use Rattle.mail_draft.specs.Outcomes.{outcome_of};
 
-use crate::ending::moving;
 use crate::finding::plain_in;
 use crate::protecting::unless_protected;
 use crate::reading::{is_taken, table_in};
 use crate::standing::without_place;
 use command_text::CommandRefusal;
-use mail_draft::{Draft, Outcome, Stop, associated, contents, drop_shown, hierarchy, settled};
+use mail_draft::{
+    Draft, Outcome, Stop, associated, contents, drop_shown, hierarchy, moving, settled,
+};
 use mail_objects::TableNode;
 use mail_tree::Places;
 use node_port::NodeReader;

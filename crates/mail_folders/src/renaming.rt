@@ -10,12 +10,11 @@ ghost use Rattle.mail_draft.specs.Answers.{IsCaused, Looks, Says};
 ghost use Rattle.mail_draft.specs.Drafts.{changed_of};
 ghost use Rattle.mail_draft.specs.Outcomes.{outcome_of};
 
-use crate::ending::changing;
 use crate::finding::plain_in;
 use crate::names::{siblings, unless_named};
 use crate::protecting::unless_protected;
 use crate::reading::context_in;
-use mail_draft::{Draft, Outcome, Stop, mirrored, put_text, with_context};
+use mail_draft::{Draft, Outcome, Stop, changing, mirrored, put_text, with_context};
 use mail_tree::Places;
 use mapi_values::{Props, Units};
 use node_port::NodeReader;

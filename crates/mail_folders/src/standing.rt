@@ -4,8 +4,7 @@ ghost use Rattle.mapi_values.specs.Keyed.{drop_key, put_key};
 ghost use Rattle.mail_tree.specs.Changing.{refused_if};
 ghost use Rattle.mail_tree.specs.Folders.{place};
 ghost use Rattle.mail_tree.specs.Places.{is_deep, is_within, moves_deep, place_id};
-ghost use Rattle.mail_draft.specs.Answers.{Says};
-ghost use Rattle.mail_folders.specs.Calm.{IsCalm};
+ghost use Rattle.mail_draft.specs.Answers.{IsCalm, Says};
 ghost use Rattle.command_text.specs.declared.reply.CommandRefusal.TheVariants.{Cycle, Limit as Passes};
 ghost use Rattle.command_text.specs.declared.reply.Limit.TheVariants.{Depth};
 

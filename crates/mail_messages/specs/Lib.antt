@@ -1,4 +1,3 @@
-pub mod Faults
 pub mod Finding
 pub mod Parts
 pub mod Pieces

@@ -2,19 +2,17 @@
 ghost use Rattle.std.specs.Prelude.{◌≡◌, IfErr, Ok};
 ghost use Rattle.mail_tree.specs.Tree.{Shown, Tree};
 ghost use Rattle.mail_tree.specs.Messages.{added_message};
-ghost use Rattle.mail_draft.specs.Answers.{IsCaused, Looks, Says};
 ghost use Rattle.mail_draft.specs.Drafts.{changed_of};
 ghost use Rattle.mail_draft.specs.Outcomes.{outcome_of};
 ghost use Rattle.mail_tree.specs.Changing.{contents};
 ghost use Rattle.mail_tree.specs.Folders.{unless_full};
 ghost use Rattle.mail_tree.specs.Ids.{message_kinds, next_index};
-ghost use Rattle.mail_messages.specs.Faults.{IsFaultless};
+ghost use Rattle.mail_draft.specs.Answers.{IsCalm, IsCaused, Looks, Says};
 ghost use Rattle.mail_messages.specs.Parts.{adding, adding_row, may_grow};
 
 use crate::find::contents;
-use crate::outcomes::making;
 use command_text::{CommandRefusal, Limit};
-use mail_draft::{Draft, Outcome, Stop, add_shown, next_index, settled, table_at};
+use mail_draft::{Draft, Outcome, Stop, add_shown, making, next_index, settled, table_at};
 use mail_objects::{Mail, Object, TableNode};
 use mail_tree::Places;
 use mapi_values::Props;
@@ -29,7 +27,7 @@ const MOST_ROWS: usize = 100_000;
 /// Checks that a table may get another row.
 fn check_growth(table: &TableNode) -> Result<(), Stop>
     ensures answer { Says (λ u. u) (may_grow table.now) result }
-    ensures cause { IfErr result IsFaultless }
+    ensures cause { IfErr result IsCalm }
 {
     if table.table().rows().len() >= MOST_ROWS {
         return Err(Stop::Refused(CommandRefusal::Limit(Limit::Rows)));
@@ -120,5 +118,5 @@ pub(crate) fn adding<W: Outside, K: Keeper<W>>(
 {
     let draft = add_message(alloc, keeper, w, places, draft, mail)?;
     let counts = keeper.counts();
-    making(alloc, counts, draft, index)
+    making(alloc, counts, draft, None, 4, index)
 }

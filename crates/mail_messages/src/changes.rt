@@ -11,8 +11,7 @@ ghost use Rattle.mail_messages.specs.Pieces.{showing_message};
 
 use crate::find::contents;
 use crate::mails::{finished, message_draft, with_props};
-use crate::outcomes::changing;
-use mail_draft::{Draft, Outcome, Stop, put_shown, settled};
+use mail_draft::{Draft, Outcome, Stop, changing, put_shown, settled};
 use mail_objects::Mail;
 use mail_tree::Places;
 use mapi_values::Props;

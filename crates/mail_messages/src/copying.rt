@@ -2,9 +2,8 @@
 ghost use Rattle.std.specs.Prelude.{◌≡◌, IfErr};
 ghost use Rattle.mail_tree.specs.Tree.{Shown, Tree};
 ghost use Rattle.mail_tree.specs.Messages.{copied_message, is_overfull};
-ghost use Rattle.mail_draft.specs.Answers.{IsCaused, Looks, Says};
 ghost use Rattle.mail_draft.specs.Outcomes.{outcome_of};
-ghost use Rattle.mail_messages.specs.Faults.{IsFaultless};
+ghost use Rattle.mail_draft.specs.Answers.{IsCalm, IsCaused, Looks, Says};
 ghost use Rattle.mail_messages.specs.Parts.{copying_in, copying_into, may_copy};
 
 use crate::adding::{adding, next_message, unless_full};
@@ -36,7 +35,7 @@ fn is_overfull(table: &Option<Table>) -> bool
 /// Checks that the tables of a message may be copied.
 fn check_rows(mail: &Mail) -> Result<(), Stop>
     ensures answer { Says (λ u. u) (may_copy mail.now) result }
-    ensures cause { IfErr result IsFaultless }
+    ensures cause { IfErr result IsCalm }
 {
     let message = mail.message();
     if is_overfull(&message.recipients) || is_overfull(&message.attachments) {

@@ -3,8 +3,7 @@ ghost use Rattle.std.specs.Prelude.{◌≡◌, IfErr};
 ghost use Rattle.mail_tree.specs.Tree.{Shown, Tree};
 ghost use Rattle.mail_tree.specs.Changing.{contents, found};
 ghost use Rattle.mail_tree.specs.Messages.{message_in, parent_at};
-ghost use Rattle.mail_draft.specs.Answers.{IsCaused, Looks, Says};
-ghost use Rattle.mail_messages.specs.Faults.{IsFaultless};
+ghost use Rattle.mail_draft.specs.Answers.{IsCalm, IsCaused, Looks, Says};
 ghost use Rattle.mail_messages.specs.Finding.{message_among, plain_at};
 ghost use Rattle.mail_messages.specs.Pieces.{listed_message, message_below};
 ghost use Rattle.command_text.specs.declared.reply.CommandRefusal.TheVariants as refusal;
@@ -32,7 +31,7 @@ pub(crate) fn check_plain(
     reserved: CommandRefusal,
 ) -> Result<(), Stop>
     ensures answer { Says (λ u. u) (plain_at folder.bits reserved places.now) result }
-    ensures cause { IfErr result IsFaultless }
+    ensures cause { IfErr result IsCalm }
 {
     match places.find(folder) {
         Some(place) => match place.sort {

@@ -13,7 +13,6 @@ mod find;
 mod mails;
 mod making;
 mod moving;
-mod outcomes;
 mod reading;
 mod removing;
 mod values;

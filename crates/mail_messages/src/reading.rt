@@ -3,9 +3,8 @@ ghost use Rattle.std.specs.Prelude.{◌≡◌, IfErr, IfOk, option_copied};
 ghost use Rattle.mail_tree.specs.Tree.{Shown, Tree};
 ghost use Rattle.mail_tree.specs.Folders.{listed, unchanged};
 ghost use Rattle.mail_tree.specs.Messages.{details, value_in, value_of};
-ghost use Rattle.mail_draft.specs.Answers.{IsCaused, Looks, Says};
 ghost use Rattle.mail_draft.specs.Outcomes.{outcome_of};
-ghost use Rattle.mail_messages.specs.Faults.{IsFaultless};
+ghost use Rattle.mail_draft.specs.Answers.{IsCalm, IsCaused, Looks, Says};
 ghost use Rattle.mail_messages.specs.Parts.{detail_lines, telling_value};
 
 use crate::details::{detail_lines, listed};
@@ -35,7 +34,7 @@ fn find_value(props: &Props, tag: Tag) -> Option<&Value>
 /// The value of this id and kind as the reply. Refused where there is none.
 fn tell_value(alloc: Global, mail: &Mail, tag: Tag) -> Result<Outcome, Stop>
     ensures answer { (T : Tree) → Says (outcome_of T) (telling_value T tag mail.now.props) result }
-    ensures cause { IfErr result IsFaultless }
+    ensures cause { IfErr result IsCalm }
 {
     match find_value(&mail.message().props, tag) {
         Some(value) => {

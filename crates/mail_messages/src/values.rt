@@ -2,10 +2,9 @@
 ghost use Rattle.std.specs.Prelude.{◌≡◌, IfErr};
 ghost use Rattle.mail_tree.specs.Tree.{Shown, Tree};
 ghost use Rattle.mail_tree.specs.Messages.{set_value, unset_value};
-ghost use Rattle.mail_draft.specs.Answers.{IsCaused, Looks, Says};
 ghost use Rattle.mail_draft.specs.Outcomes.{outcome_of};
 ghost use Rattle.mail_tree.specs.Values.{is_own_id, is_set_protected, is_unset_protected};
-ghost use Rattle.mail_messages.specs.Faults.{IsFaultless};
+ghost use Rattle.mail_draft.specs.Answers.{IsCalm, IsCaused, Looks, Says};
 ghost use Rattle.mail_messages.specs.Parts.{may_set, may_unset, putting_value, removing_value};
 
 use crate::changes::change_message;
@@ -54,7 +53,7 @@ fn is_unset_protected(tag: Tag, props: &Props) -> bool
 /// Checks that a value of this id may be set.
 fn check_set(id: u16, mail: &Mail) -> Result<(), Stop>
     ensures answer { Says (λ u. u) (may_set id mail.now.props) result }
-    ensures cause { IfErr result IsFaultless }
+    ensures cause { IfErr result IsCalm }
 {
     if is_set_protected(id, &mail.message().props) {
         return Err(Stop::Refused(CommandRefusal::Protected));
@@ -68,7 +67,7 @@ fn check_set(id: u16, mail: &Mail) -> Result<(), Stop>
 /// Checks that the value of this tag may be removed.
 fn check_unset(tag: Tag, mail: &Mail) -> Result<(), Stop>
     ensures answer { Says (λ u. u) (may_unset tag mail.now.props) result }
-    ensures cause { IfErr result IsFaultless }
+    ensures cause { IfErr result IsCalm }
 {
     let props = &mail.message().props;
     if is_unset_protected(tag, props) {

@@ -1,0 +1,86 @@
+//! What commands come to, once their changes keep to the limits.
+ghost use Rattle.std.specs.Prelude.{◌≡◌, ◌<◌, ◌≤◌, IfErr, OnOk};
+ghost use Rattle.command_text.specs.declared.reply.CommandRefusal.TheVariants.{Ids};
+ghost use Rattle.command_text.specs.declared.reply.LastLine.TheVariants.{Done};
+ghost use Rattle.mail_tree.specs.Changing.{refused_if};
+ghost use Rattle.mail_tree.specs.Folders.{changing, making, moving, replied};
+ghost use Rattle.mail_tree.specs.Ids.{is_spent};
+ghost use Rattle.mail_tree.specs.Tree.{Tree};
+ghost use Rattle.mail_draft.specs.Answers.{IsRefused, Says};
+ghost use Rattle.mail_draft.specs.Drafts.{changed_of};
+ghost use Rattle.mail_draft.specs.Outcomes.{outcome_of, places_after};
+
+use crate::draft::Draft;
+use crate::ending::within_limits;
+use crate::ids::{LAST_INDEX, new_id};
+use crate::outcome::Outcome;
+use crate::stop::Stop;
+use command_text::{CommandRefusal, LastLine, Reply};
+use mail_tree::Places;
+use node_port::Counts;
+use std::alloc::Global;
+
+/// The outcome of changes that leave the folders where they are. Refused where they pass a limit.
+pub fn changing(alloc: Global, draft: Draft) -> Result<Outcome, Stop>
+    ensures answer { (T : Tree) → Says (outcome_of T) (changing T (replied Done) (changed_of draft)) result }
+    ensures refused { IfErr result IsRefused }
+{
+    within_limits(&draft)?;
+    Ok(Outcome {
+        draft,
+        places: None,
+        last: None,
+        reply: Reply::without_data(alloc, LastLine::Done),
+    })
+}
+
+/// The outcome of changes with which folders come, go or move. Refused where they pass a limit.
+pub fn moving(alloc: Global, draft: Draft, places: Places) -> Result<Outcome, Stop>
+    ensures answer { (T : Tree) → Says (outcome_of T) (moving T places (replied Done) (changed_of draft)) result }
+    ensures refused { IfErr result IsRefused }
+{
+    within_limits(&draft)?;
+    Ok(Outcome {
+        draft,
+        places: Some(places),
+        last: None,
+        reply: Reply::without_data(alloc, LastLine::Done),
+    })
+}
+
+/// Refused where an index is past the last one.
+fn unless_spent(index: u64) -> Result<(), Stop>
+    ensures answer { Says (λ u. u) (refused_if (is_spent index) Ids) result }
+    ensures few { OnOk result (index ≤ 134217727) }
+    ensures refused { IfErr result IsRefused }
+{
+    if index > LAST_INDEX {
+        return Err(Stop::Refused(CommandRefusal::Ids));
+    }
+    Ok(())
+}
+
+/// The outcome of changes with which an object of a kind and an index comes, where the counters were these; `places` where a folder comes. Refused where the changes pass a limit, and then where the index is past the last one.
+pub fn making(
+    alloc: Global,
+    counts: Counts,
+    draft: Draft,
+    places: Option<Places>,
+    kind: u8,
+    index: u64,
+) -> Result<Outcome, Stop>
+    requires { kind < 32 }
+    ensures answer { (T : Tree) → T.last ≡ counts.last → Says (outcome_of T) (making T (places_after T.places places) kind index (changed_of draft)) result }
+    ensures refused { IfErr result IsRefused }
+{
+    within_limits(&draft)?;
+    unless_spent(index)?;
+    let mut last = counts.last;
+    last[usize::from(kind)] = index as u32;
+    Ok(Outcome {
+        draft,
+        places,
+        last: Some(Counts { last }),
+        reply: Reply::without_data(alloc, LastLine::Made(new_id(kind, index))),
+    })
+}
