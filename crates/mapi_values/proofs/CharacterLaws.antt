@@ -1,11 +1,11 @@
 -- The characters of units, one at a time.
-use Rattle.std.proofs.Common.{◌≡◌, ℕ, ◌+◌, ◌-◌, ◌<◌, Bool, true, false, cond, List, [], ◌∷◌, ◌++◌, get_or, length, drop, take, refl, ap, sym, ◌∙◌, inl, inr, arith, Option, Some, None, append_assoc}
+use Rattle.std.proofs.Common.{◌≡◌, ℕ, ◌-◌, ◌<◌, Bool, List, [], ◌∷◌, ◌++◌, get_or, length, drop, take, refl, inl, inr, arith, Some, None, append_assoc}
 use Rattle.std.proofs.lemmas.Bool.{cases_Bool}
 use Rattle.std.proofs.lemmas.List.{take_rest}
 use Rattle.std.specs.Prelude.{◌&&◌}
 use Rattle.std.specs.Char.Utf16.{is_high_surrogate, is_low_surrogate}
 use Rattle.mapi_values.specs.declared.characters.Character.{Character}
-use Rattle.mapi_values.specs.declared.characters.Character.TheVariants.{Scalar, Unpaired}
+use Rattle.mapi_values.specs.declared.characters.Character.TheVariants.{Scalar}
 use Rattle.mapi_values.specs.Characters.{pair_of, leading_pair, lone, characters, folded_character, folded}
 
 -- a pair at the front is the first character

@@ -1,12 +1,12 @@
 -- What is printed of units reads as the same units.
-use Rattle.std.proofs.Common.{◌≡◌, ℕ, ◌+◌, ◌-◌, ◌*◌, ◌/◌, ◌%◌, ◌<◌, ◌≤◌, Bool, true, false, cond, List, [], ◌∷◌, ◌++◌, length, refl, ap, sym, ◌∙◌, subst, inl, inr, arith, Option, Some, None, append_assoc, append-nil, IsUtf8, chars}
-use Rattle.std.specs.Prelude.{◌&&◌, ◌||◌, ◌==◌, ◌⊎◌, not, nat_le, nat_lt, IsTrue}
+use Rattle.std.proofs.Common.{◌≡◌, ℕ, ◌+◌, ◌-◌, ◌/◌, ◌%◌, ◌<◌, ◌≤◌, true, false, List, [], ◌∷◌, ◌++◌, refl, ap, sym, ◌∙◌, subst, inl, inr, arith, Some, append_assoc, append-nil, chars}
+use Rattle.std.specs.Prelude.{◌&&◌, ◌||◌, ◌==◌, nat_lt, IsTrue}
 use Rattle.std.specs.Char.{IsScalar, encode_utf8, digit_char, digit_value, is_digit}
 use Rattle.std.specs.Char.Escape.{encode_utf16, hex_digit_at}
 use Rattle.std.specs.Char.Utf16.{is_high_surrogate, is_low_surrogate, surrogate_pair_char}
 use Rattle.std.specs.Str.{IsAscii}
-use Rattle.std.proofs.lemmas.Bool.{cases_Bool, cases_lt, ne_eqb, eq-eqb, eqb-true, ltb-true, leb-true, ltb-false, leb-false, lt-ltb, le-ltb, le-leb, lt-leb, and_parts, and_from, and_cases, or_cases, not-true, not-false, true≢false}
-use Rattle.std.proofs.lemmas.Str.{chars-nil, chars-encodes, chars-append, chars-IsAscii, encodes-append, IsUtf8-encode, IsUtf8-from_ascii, IsUtf8-append, digit_value-digit_char}
+use Rattle.std.proofs.lemmas.Bool.{cases_Bool, cases_lt, eqb-true, ltb-true, leb-true, lt-ltb, le-ltb, le-leb, lt-leb, and_parts, and_from, or_cases, not-false, true≢false}
+use Rattle.std.proofs.lemmas.Str.{chars-nil, chars-encodes, chars-append, chars-IsAscii, IsUtf8-encode, IsUtf8-from_ascii, digit_value-digit_char}
 use Rattle.std.proofs.lemmas.Str.Ascii.{IsAscii-nil, IsAscii-cons}
 use Rattle.mapi_values.specs.declared.characters.Character.{Character}
 use Rattle.mapi_values.specs.declared.characters.Character.TheVariants.{Scalar, Unpaired}

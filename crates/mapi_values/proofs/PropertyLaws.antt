@@ -1,7 +1,7 @@
 -- What edits leave of the rules on properties.
-use Rattle.std.proofs.Common.{◌≡◌, ℕ, Bool, true, List, Result, Ok, Err, OnOk, OnErr, IsTrue, arith, sym, subst}
+use Rattle.std.proofs.Common.{◌≡◌, ℕ, true, List, Result, Ok, Err, OnOk, OnErr, arith, sym, subst}
 use Rattle.mapi_values.specs.Values.{Val, value_fits}
-use Rattle.mapi_values.specs.Properties.{IsProps, find, put, remove_id}
+use Rattle.mapi_values.specs.Properties.{IsProps, put, remove_id}
 use Rattle.mapi_values.proofs.KeyedLaws.{put-ascends, put-all, drop-ascends, drop-all}
 
 -- a value that is put leaves properties

@@ -1,7 +1,7 @@
 -- Numbers that are UTF-16 units.
-use Rattle.std.proofs.Common.{◌≡◌, ℕ, ◌<◌, Bool, true, List, [], ◌∷◌, get_or, length, refl, arith}
+use Rattle.std.proofs.Common.{ℕ, ◌<◌, List, [], ◌∷◌, get_or, length, refl, arith}
 use Rattle.std.proofs.lemmas.Bool.{lt-ltb, and_from}
-use Rattle.std.specs.Prelude.{IsTrue, suc, zero}
+use Rattle.std.specs.Prelude.{IsTrue, suc}
 use Rattle.mapi_values.specs.Range.{all_units}
 
 -- a list whose numbers are each below 2^16

@@ -1,13 +1,13 @@
 -- Reading and printing text, a character at a time.
-use Rattle.std.proofs.Common.{◌≡◌, ℕ, ◌+◌, ◌*◌, ◌<◌, ◌≤◌, Bool, true, false, cond, List, [], ◌∷◌, ◌++◌, length, refl, ap, sym, ◌∙◌, inl, inr, arith, Option, Some, None, append_assoc, append-nil, length-append, IsUtf8, chars, MatchOption}
-use Rattle.std.specs.Prelude.{◌&&◌, ◌==◌, ◌≢◌, ◌⊎◌, option_and_then}
-use Rattle.std.specs.Char.{encode_utf8, digit_value, is_digit}
+use Rattle.std.proofs.Common.{◌≡◌, ℕ, List, [], ◌∷◌, ◌++◌, length, refl, ap, sym, ◌∙◌, inl, inr, arith, Option, Some, None, append_assoc, append-nil, length-append, IsUtf8, chars, MatchOption}
+use Rattle.std.specs.Prelude.{◌==◌, option_and_then}
+use Rattle.std.specs.Char.{encode_utf8, is_digit}
 use Rattle.std.specs.Char.Escape.{encode_utf16}
-use Rattle.std.proofs.lemmas.Bool.{cases_Bool, ne_eqb, eq-eqb}
+use Rattle.std.proofs.lemmas.Bool.{cases_Bool, ne_eqb}
 use Rattle.std.proofs.lemmas.List.{nil_from_length}
 use Rattle.std.proofs.lemmas.Str.{chars-nil, chars_past_char, IsUtf8-past_char, length-encode, len_utf8_bounds}
 use Rattle.mapi_values.specs.Texts.{TakesFirst, TakesFront}
-use Rattle.mapi_values.specs.Spelling.{before, is_escape, unit_of, units_of, leading_digit, leading_unit, leading_escape}
+use Rattle.mapi_values.specs.Spelling.{before, is_escape, units_of, leading_digit, leading_unit, leading_escape}
 
 -- what `next` takes off a text
 pub takes_first : (r : Option ℕ) (old new : List ℕ) → IsUtf8 old → MatchOption r (length old ≡ 0) (λ c. old ≡ encode_utf8 c ++ new)

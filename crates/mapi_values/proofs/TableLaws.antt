@@ -1,16 +1,16 @@
 -- What a filter keeps, and what the rows of a table keep.
-use Rattle.std.proofs.Common.{drop, ap, ◌++◌, ◌∙◌, append-nil, Result, Ok, Err, OnOk, OnErr, ◌≡◌, ℕ, ◌≤◌, ◌&&◌, Bool, true, false, not, List, [], ◌∷◌, IsTrue, length, suc, arith, refl, sym, subst, inl, inr, ◌==◌, if◌then◌else◌}
+use Rattle.std.proofs.Common.{drop, ap, ◌++◌, ◌∙◌, append-nil, Result, Ok, Err, OnOk, OnErr, ◌≡◌, ℕ, ◌≤◌, ◌&&◌, Bool, true, not, List, [], ◌∷◌, length, suc, arith, refl, sym, inl, inr, ◌==◌}
 use Rattle.std.specs.Prelude.{nat_le}
 use Rattle.std.proofs.lemmas.Bool.{and_parts, and_from, cases_Bool, leb-true}
 use Rattle.std.proofs.lemmas.List.{drop_all}
 use Rattle.std.specs.List.{list_all, filter}
 use Rattle.pst_base.specs.Flat.{Flat}
 use Rattle.mapi_values.specs.declared.column.Column.{Column}
-use Rattle.mapi_values.specs.Columns.{has_column, suits_cell, has_width, in_cell}
+use Rattle.mapi_values.specs.Columns.{has_column, suits_cell, in_cell}
 use Rattle.mapi_values.specs.Keyed.{keys_ascend}
-use Rattle.mapi_values.specs.Values.{Val, value_fits, fits, in_field, allows}
+use Rattle.mapi_values.specs.Values.{Val, value_fits, fits, in_field}
 use Rattle.mapi_values.specs.Properties.{IsProps, ascend_from, all_fit, put}
-use Rattle.mapi_values.specs.Tables.{Tab, IsTable, value_suits, cells_suit, row_suits, is_mirrored, version, mirror, put_row, drop_row}
+use Rattle.mapi_values.specs.Tables.{IsTable, value_suits, cells_suit, row_suits, is_mirrored, version, mirror, put_row, drop_row}
 use Rattle.mapi_values.proofs.KeyedLaws.{ascend-lower, put-ascends, put-all, drop-ascends, drop-all}
 use Rattle.mapi_values.proofs.PropertyLaws.{put-props}
 

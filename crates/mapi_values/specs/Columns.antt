@@ -1,14 +1,16 @@
 -- The columns of a table, and how their cells lie in a row.
-use Rattle.std.specs.Prelude.{ℕ, ◌+◌, ◌*◌, ◌/◌, ◌==◌, ◌&&◌, ◌||◌, Bool, true, not, List, [], ◌∷◌, length, get_or, nat_le, nat_lt, Option, None, Some, if◌then◌else◌}
+use Rattle.std.specs.Prelude.{ℕ, ◌+◌, ◌*◌, ◌/◌, ◌==◌, ◌&&◌, ◌||◌, Bool, true, not, List, [], ◌∷◌, get_or, nat_le, nat_lt, Option, None, Some, if◌then◌else◌}
 use Rattle.std.specs.Option.{unwrap_or}
 use Rattle.std.specs.List.{list_all, list_any}
 use Rattle.mapi_values.specs.declared.column.Column.{Column}
 use Rattle.mapi_values.specs.Keyed.{keys_ascend}
+use Rattle.mapi_values.specs.Kinds.{ptyp_currency, ptyp_floating_64, ptyp_floating_time, ptyp_integer_64, ptyp_time}
+use Rattle.mapi_values.specs.Tags.{pid_tag_ltp_row_id, pid_tag_ltp_row_ver}
 use Rattle.mapi_values.specs.Values.{in_field}
 
 -- the width of the values of a kind that stand in a cell themselves
 unfoldable pub in_cell : ℕ → Option ℕ
-in_cell kind = if (kind == 0x0005) || ((kind == 0x0006) || ((kind == 0x0007) || ((kind == 0x0014) || (kind == 0x0040)))) then Some 8 else in_field kind
+in_cell kind = if (kind == ptyp_floating_64) || ((kind == ptyp_currency) || ((kind == ptyp_floating_time) || ((kind == ptyp_integer_64) || (kind == ptyp_time)))) then Some 8 else in_field kind
 
 -- the width of the cell of a kind: a value that doesn't stand there itself has a reference of 4 bytes
 unfoldable pub cell_width : ℕ → ℕ
@@ -37,8 +39,8 @@ tag_number c = c.tag.id * 65536 + c.tag.kind
 
 -- the row id stands at the front of a row under bit 0, and the row version after it under bit 1
 unfoldable pub is_placed : Column → Bool
-is_placed c = if is_column 0x67F2 0x0003 c then (c.at == 0) && (c.bit == 0)
-    else if is_column 0x67F3 0x0003 c then (c.at == 4) && (c.bit == 1)
+is_placed c = if is_column pid_tag_ltp_row_id.id pid_tag_ltp_row_id.kind c then (c.at == 0) && (c.bit == 0)
+    else if is_column pid_tag_ltp_row_ver.id pid_tag_ltp_row_ver.kind c then (c.at == 4) && (c.bit == 1)
     else true
 
 -- the cell has the width of its kind and ends at or before the third end offset, and its existence bit lies from there to the fourth

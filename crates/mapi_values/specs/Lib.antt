@@ -1,10 +1,12 @@
 pub mod Characters
 pub mod Columns
 pub mod Keyed
+pub mod Kinds
 pub mod Messages
 pub mod Properties
 pub mod Range
 pub mod Spelling
 pub mod Tables
+pub mod Tags
 pub mod Texts
 pub mod Values

@@ -4,6 +4,7 @@ use Rattle.std.specs.List.{list_all, list_any}
 use Rattle.pst_base.specs.Flat.{Flat}
 use Rattle.mapi_values.specs.declared.part.Part.{Part}
 use Rattle.mapi_values.specs.Tables.{Tab}
+use Rattle.mapi_values.specs.Tags.{pid_tag_ltp_row_id, pid_tag_ltp_row_ver, pid_tag_message_size}
 use Rattle.mapi_values.specs.Values.{Val}
 
 -- a message's node and the node of its folder, its values, its tables, the attachments, and the subnodes that none of these uses
@@ -29,9 +30,17 @@ part_id part = part.nid.bits
 abbrev pub AreNamed : List Part → Option Tab → Type 0
 AreNamed parts attachments = map part_id parts ≡ row_ids attachments
 
+-- the subnode of a message that is the table of its attachments
+abbrev pub nid_attachment_table : ℕ
+nid_attachment_table = 0x671
+
+-- the subnode of a message that is the table of its recipients
+abbrev pub nid_recipient_table : ℕ
+nid_recipient_table = 0x692
+
 -- the id of a subnode that a message has for itself: the tables of recipients and of attachments, and each attachment
 abbrev pub is_own : List Part → ℕ → Bool
-is_own parts nid = (nid == 0x692) || ((nid == 0x671) || list_any (λ part. part.nid.bits == nid) parts)
+is_own parts nid = (nid == nid_recipient_table) || ((nid == nid_attachment_table) || list_any (λ part. part.nid.bits == nid) parts)
 
 -- the subnode stands deeper, or has another id than those
 unfoldable pub is_other : List Part → Flat → Bool
@@ -48,7 +57,7 @@ pub record IsMessage (attachments : Option Tab) (parts : List Part) (kept : List
 
 -- how many bytes a value counts in the size of its message: none as that size itself, the row id and the row version
 unfoldable pub value_size : Val → ℕ
-value_size v = if (v.id == 0x0E08) || ((v.id == 0x67F2) || (v.id == 0x67F3)) then 0 else length v.bytes
+value_size v = if (v.id == pid_tag_message_size.id) || ((v.id == pid_tag_ltp_row_id.id) || (v.id == pid_tag_ltp_row_ver.id)) then 0 else length v.bytes
 
 -- how many bytes these values count together
 abbrev pub values_size : List Val → ℕ

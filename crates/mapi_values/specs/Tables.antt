@@ -6,6 +6,7 @@ use Rattle.mapi_values.specs.declared.column.Column.{Column}
 use Rattle.mapi_values.specs.Columns.{has_column, is_layout, suits_cell}
 use Rattle.mapi_values.specs.Keyed.{keys_ascend, put_key, drop_key, find_key}
 use Rattle.mapi_values.specs.Properties.{ascend_from, all_fit, put}
+use Rattle.mapi_values.specs.Tags.{pid_tag_ltp_row_id, pid_tag_ltp_row_ver}
 use Rattle.mapi_values.specs.Values.{Val}
 
 -- a table's columns, the four end offsets of a row, its rows, an id and cells each, and the subnodes that none of its parts uses
@@ -17,7 +18,7 @@ pub record Tab : Type 0 where
 
 -- the value may stand in a cell: a column has its id and kind, it isn't the row id, and it has the cell's length where the cell is fixed
 unfoldable pub value_suits : List Column → Val → Bool
-value_suits columns v = has_column columns v.id v.kind && (not (v.id == 0x67F2) && suits_cell v.kind (length v.bytes))
+value_suits columns v = has_column columns v.id v.kind && (not (v.id == pid_tag_ltp_row_id.id) && suits_cell v.kind (length v.bytes))
 
 -- the values are properties that may all stand in cells
 unfoldable pub cells_suit : List Column → List Val → Bool
@@ -47,13 +48,13 @@ drop_row id rows = drop_key (λ r. r.0) id rows
 
 -- the value stands in the row that shows its object: it may stand in a cell, isn't the row version, and has at most 3580 bytes
 unfoldable pub is_mirrored : List Column → Val → Bool
-is_mirrored columns v = value_suits columns v && (not (v.id == 0x67F3) && nat_le (length v.bytes) 3580)
+is_mirrored columns v = value_suits columns v && (not (v.id == pid_tag_ltp_row_ver.id) && nat_le (length v.bytes) 3580)
 
 -- the row version of a row that is written
 abbrev pub version : Val
-version = record { id = 0x67F3; kind = 0x0003; bytes = 0 ∷ 0 ∷ 0 ∷ 0 ∷ [] }
+version = record { id = pid_tag_ltp_row_ver.id; kind = pid_tag_ltp_row_ver.kind; bytes = 0 ∷ 0 ∷ 0 ∷ 0 ∷ [] }
 
 -- the cells of the row that shows an object: its values that stand in cells, and 0 as the row version where that is a column
 unfoldable pub mirror : List Column → List Val → List Val
 mirror columns props =
-    if has_column columns 0x67F3 0x0003 then put version (filter (is_mirrored columns) props) else filter (is_mirrored columns) props
+    if has_column columns pid_tag_ltp_row_ver.id pid_tag_ltp_row_ver.kind then put version (filter (is_mirrored columns) props) else filter (is_mirrored columns) props

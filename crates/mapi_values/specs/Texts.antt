@@ -1,5 +1,5 @@
 -- A text that is read character by character.
-use Rattle.std.specs.Prelude.{◌≡◌, ℕ, ◌<◌, List, ◌∷◌, length, Option, None, Some, IsUtf8, chars}
+use Rattle.std.specs.Prelude.{◌≡◌, ℕ, ◌<◌, List, ◌∷◌, length, Option, Some, IsUtf8, chars}
 
 -- the character c stood at the front, and new is what follows it
 pub record TakesFirst (old : List ℕ) (c : ℕ) (new : List ℕ) : Type 0 where

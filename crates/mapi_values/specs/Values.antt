@@ -1,5 +1,6 @@
 -- The value of one property.
 use Rattle.std.specs.Prelude.{ℕ, ◌==◌, ◌||◌, Bool, List, length, nat_lt, Option, None, Some, if◌then◌else◌}
+use Rattle.mapi_values.specs.Kinds.{ptyp_boolean, ptyp_error_code, ptyp_floating_32, ptyp_integer_16, ptyp_integer_32, ptyp_null, ptyp_unspecified}
 
 -- a property's id and kind, and the bytes of its value
 pub record Val : Type 0 where
@@ -10,9 +11,9 @@ pub record Val : Type 0 where
 -- the width of the values of a kind that stand in the field of a property context themselves
 unfoldable pub in_field : ℕ → Option ℕ
 in_field kind =
-    if (kind == 0x0000) || ((kind == 0x0001) || ((kind == 0x0003) || ((kind == 0x0004) || (kind == 0x000A)))) then Some 4
-    else if kind == 0x0002 then Some 2
-    else if kind == 0x000B then Some 1
+    if (kind == ptyp_unspecified) || ((kind == ptyp_null) || ((kind == ptyp_integer_32) || ((kind == ptyp_floating_32) || (kind == ptyp_error_code)))) then Some 4
+    else if kind == ptyp_integer_16 then Some 2
+    else if kind == ptyp_boolean then Some 1
     else None
 
 -- a value of so many bytes has the width, or is shorter than 2^32 bytes where there is none

@@ -7,6 +7,15 @@ use std::alloc::AllocError;
 use unicode::case::simple_fold;
 use unicode::properties::GeneralCategory;
 
+/// The first unit that begins a pair.
+const FIRST_HIGH: u16 = 0xD800;
+/// The first unit that ends a pair.
+const FIRST_LOW: u16 = 0xDC00;
+/// The first unit after those that end a pair.
+const AFTER_LOW: u16 = 0xE000;
+/// The first character that a pair spells.
+const FIRST_PAIRED: u32 = 0x1_0000;
+
 /// What stands at the front of a list of units.
 #[derive(Clone, Copy, Debug, PartialEq, Eq)]
 pub enum Character {
@@ -20,11 +29,11 @@ pub enum Character {
 fn pair_of(high: u16, low: u16) -> Option<char>
     ensures { result ≡ pair_of high low }
 {
-    let is_high = 0xD800 <= high && high < 0xDC00;
-    let is_low = 0xDC00 <= low && low < 0xE000;
+    let is_high = FIRST_HIGH <= high && high < FIRST_LOW;
+    let is_low = FIRST_LOW <= low && low < AFTER_LOW;
     if is_high && is_low {
-        let over = (u32::from(high) - 0xD800) * 0x400 + (u32::from(low) - 0xDC00);
-        char::from_u32(0x1_0000 + over)
+        let over = u32::from(high - FIRST_HIGH) * 0x400 + u32::from(low - FIRST_LOW);
+        char::from_u32(FIRST_PAIRED + over)
     } else {
         None
     }

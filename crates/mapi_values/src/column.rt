@@ -5,6 +5,10 @@ ghost use Rattle.mapi_values.specs.Keyed.{keys_ascend};
 ghost use Rattle.mapi_values.specs.Columns.{all_apart, cell_width, ends_rise, has_column, in_cell, is_apart, is_column, is_layout, is_placed, lies, suits_cell, tag_number};
 
 use crate::keyed::Keyed;
+use crate::tags::{
+    PID_TAG_LTP_ROW_ID, PID_TAG_LTP_ROW_VER, PTYP_CURRENCY, PTYP_FLOATING_64, PTYP_FLOATING_TIME,
+    PTYP_INTEGER_64, PTYP_TIME,
+};
 use crate::value::{Tag, field_width};
 
 /// A column of a table ([MS-PST] 2.3.4.2): its cell has `width` bytes from `at` on in a row, and bit `bit` of the existence bits says whether a row has a value there.
@@ -34,7 +38,9 @@ pub fn fixed_width(kind: u16) -> Option<usize>
     ensures { result ≡ in_cell kind }
 {
     match kind {
-        0x0005 | 0x0006 | 0x0007 | 0x0014 | 0x0040 => Some(8),
+        PTYP_FLOATING_64 | PTYP_CURRENCY | PTYP_FLOATING_TIME | PTYP_INTEGER_64 | PTYP_TIME => Some(
+            8,
+        ),
         _ => field_width(kind),
     }
 }
@@ -71,10 +77,10 @@ impl Column {
     fn is_placed(&self) -> bool
         ensures { result ≡ is_placed self.now }
     {
-        if self.is_of(0x67F2, 0x0003) {
+        if self.is_of(PID_TAG_LTP_ROW_ID.id, PID_TAG_LTP_ROW_ID.kind) {
             return self.at == 0 && self.bit == 0;
         }
-        if self.is_of(0x67F3, 0x0003) {
+        if self.is_of(PID_TAG_LTP_ROW_VER.id, PID_TAG_LTP_ROW_VER.kind) {
             return self.at == 4 && self.bit == 1;
         }
         true

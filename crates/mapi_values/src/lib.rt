@@ -18,6 +18,7 @@ mod rows;
 mod sizes;
 mod spelling;
 mod table;
+pub mod tags;
 #[cfg(test)]
 mod tests;
 mod units;

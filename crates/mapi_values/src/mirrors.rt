@@ -6,7 +6,8 @@ ghost use Rattle.mapi_values.specs.Tables.{cells_suit, is_mirrored, mirror, valu
 
 use crate::column::{Column, has_column, suits_cell};
 use crate::props::Props;
-use crate::value::{Tag, Value};
+use crate::tags::{ID_LTP_ROW_ID, ID_LTP_ROW_VER, PID_TAG_LTP_ROW_VER};
+use crate::value::Value;
 use pst_base::Bytes;
 use std::alloc::{AllocError, Global};
 
@@ -16,7 +17,7 @@ fn value_suits(columns: &[Column], value: &Value) -> bool
     ensures { result ≡ value_suits columns.now value.now }
 {
     has_column(columns, value.id(), value.kind())
-        && value.id() != 0x67F2
+        && value.id() != ID_LTP_ROW_ID
         && suits_cell(value.kind(), value.len())
 }
 
@@ -40,7 +41,7 @@ pub fn cells_suit(columns: &[Column], cells: &Props) -> bool
 fn is_mirrored(columns: &[Column], value: &Value) -> bool
     ensures { result ≡ is_mirrored columns.now value.now }
 {
-    value_suits(columns, value) && value.id() != 0x67F3 && value.len() <= 3580
+    value_suits(columns, value) && value.id() != ID_LTP_ROW_VER && value.len() <= 3580
 }
 
 /// The values of an object that stand in the row that shows it.
@@ -61,11 +62,7 @@ fn mirrored(alloc: Global, columns: &[Column], props: &Props) -> Result<Props, A
 fn make_version(alloc: Global) -> Result<Value, AllocError>
     ensures { IfOk result (λ value. value ≡ version) }
 {
-    let tag = Tag {
-        id: 0x67F3,
-        kind: 0x0003,
-    };
-    Ok(Value::new(tag, Bytes::from_slice(alloc, &[0; 4])?))
+    Ok(Value::new(PID_TAG_LTP_ROW_VER, Bytes::from_slice(alloc, &[0; 4])?))
 }
 
 /// The cells of the row that shows an object in a table with these columns ([MS-PST] 2.3.4): its values of the columns' ids and kinds, of at most 3580 bytes and of the cell's length where the cell is fixed. The row id 67F2 is no cell, and the row version 67F3 is 0 where it is a column.
@@ -75,7 +72,7 @@ pub fn mirror(alloc: Global, columns: &[Column], props: &Props) -> Result<Props,
     ensures suit { IfOk result (λ cells. IsTrue (cells_suit columns.now cells)) }
 {
     let mut cells = mirrored(alloc, columns, props)?;
-    if !has_column(columns, 0x67F3, 0x0003) {
+    if !has_column(columns, PID_TAG_LTP_ROW_VER.id, PID_TAG_LTP_ROW_VER.kind) {
         return Ok(cells);
     }
     cells.put(make_version(alloc)?)?;

@@ -6,6 +6,7 @@ use crate::message::Message;
 use crate::part::Part;
 use crate::props::Props;
 use crate::table::Table;
+use crate::tags::{ID_LTP_ROW_ID, ID_LTP_ROW_VER, ID_MESSAGE_SIZE};
 use crate::value::Value;
 
 /// The greatest size that a message tells, the greatest number of kind 0003.
@@ -25,7 +26,7 @@ fn value_size(value: &Value) -> usize
     ensures { result ≡ value_size value.now }
 {
     match value.id() {
-        0x0E08 | 0x67F2 | 0x67F3 => 0,
+        ID_MESSAGE_SIZE | ID_LTP_ROW_ID | ID_LTP_ROW_VER => 0,
         _ => value.len(),
     }
 }

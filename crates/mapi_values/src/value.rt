@@ -3,6 +3,10 @@ ghost use Rattle.std.specs.Prelude.{◌≡◌, IfOk, IsTrue, length};
 ghost use Rattle.mapi_values.specs.Values.{fits, in_field};
 
 use crate::keyed::Keyed;
+use crate::tags::{
+    PTYP_BOOLEAN, PTYP_ERROR_CODE, PTYP_FLOATING_32, PTYP_INTEGER_16, PTYP_INTEGER_32, PTYP_NULL,
+    PTYP_UNSPECIFIED,
+};
 use pst_base::Bytes;
 use std::alloc::{AllocError, Global};
 use std::marker::Model;
@@ -20,9 +24,11 @@ pub fn field_width(kind: u16) -> Option<usize>
     ensures { result ≡ in_field kind }
 {
     match kind {
-        0x0000 | 0x0001 | 0x0003 | 0x0004 | 0x000A => Some(4),
-        0x0002 => Some(2),
-        0x000B => Some(1),
+        PTYP_UNSPECIFIED | PTYP_NULL | PTYP_INTEGER_32 | PTYP_FLOATING_32 | PTYP_ERROR_CODE => {
+            Some(4)
+        }
+        PTYP_INTEGER_16 => Some(2),
+        PTYP_BOOLEAN => Some(1),
         _ => None,
     }
 }

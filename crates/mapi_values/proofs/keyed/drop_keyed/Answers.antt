@@ -1,4 +1,4 @@
-use Rattle.std.proofs.Common.{rules, sym, ap, ◌∙◌, IsTrue, true, false}
+use Rattle.std.proofs.Common.{rules, sym, ap, ◌∙◌}
 use Rattle.std.specs.Option.{is_some}
 use Rattle.mapi_values.specs.Keyed.{IsHere, IsGap}
 use Rattle.mapi_values.proofs.KeyedLaws.{drop-here, find-here, drop-gap, find-gap}

@@ -1,4 +1,4 @@
-use Rattle.std.proofs.Common.{rules, sym, ap, ◌∙◌, Some}
+use Rattle.std.proofs.Common.{sym, ap, ◌∙◌, Some}
 use Rattle.mapi_values.proofs.KeyedLaws.{find-here, find-gap}
 use Rattle.mapi_values.proofs.keyed.find_keyed.Goals as goal
 

@@ -1,4 +1,4 @@
-use Rattle.std.proofs.Common.{rules, sym, ap, ◌∙◌}
+use Rattle.std.proofs.Common.{rules, sym, ◌∙◌}
 use Rattle.mapi_values.proofs.KeyedLaws.{put-here, put-gap}
 use Rattle.mapi_values.proofs.keyed.put_keyed.Goals as goal
 

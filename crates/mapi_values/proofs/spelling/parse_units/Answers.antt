@@ -1,4 +1,4 @@
-use Rattle.std.proofs.Common.{◌≡◌, ◌∙◌, rules, sym, ap, Some}
+use Rattle.std.proofs.Common.{◌∙◌, rules, sym, ap, Some}
 use Rattle.mapi_values.proofs.SpellingLaws.{underway_past_plain, underway_past_escape, underway_at_fault, underway_at_end}
 use Rattle.mapi_values.proofs.spelling.parse_units.Goals as goal
 

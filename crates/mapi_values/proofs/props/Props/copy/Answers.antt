@@ -1,4 +1,4 @@
-use Rattle.std.proofs.Common.{◌≡◌, ◌∙◌, arith}
+use Rattle.std.proofs.Common.{◌∙◌, arith}
 use Rattle.std.proofs.lemmas.List.{take_all}
 use Rattle.mapi_values.proofs.PropertyLaws.{same-props}
 use Rattle.mapi_values.proofs.props.Props.copy.Goals as goal

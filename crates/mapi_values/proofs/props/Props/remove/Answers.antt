@@ -1,4 +1,3 @@
-use Rattle.std.proofs.Common.{rules}
 use Rattle.mapi_values.proofs.PropertyLaws.{same-props, remove-props}
 use Rattle.mapi_values.proofs.props.Props.remove.Goals as goal
 

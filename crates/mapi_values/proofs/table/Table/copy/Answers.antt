@@ -1,4 +1,4 @@
-use Rattle.std.proofs.Common.{◌≡◌, ◌∙◌, arith}
+use Rattle.std.proofs.Common.{◌∙◌, arith}
 use Rattle.std.proofs.lemmas.List.{take_all}
 use Rattle.mapi_values.proofs.TableLaws.{same-table}
 use Rattle.mapi_values.proofs.table.Table.copy.Goals as goal
