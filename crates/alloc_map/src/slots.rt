@@ -3,11 +3,11 @@ ghost use Rattle.std.specs.Prelude.{◌≡◌, ◌<◌, ◌≤◌, ◌*◌, ◌/
 ghost use Rattle.alloc_map.specs.Slots.{AreAll, Becomes, BeginsLeast, IsLaid, IsPageRoom, IsRoom, Unites, regions_of, slot_of, slots_in};
 ghost use Rattle.alloc_map.specs.Cells.{free_cells_of};
 ghost use Rattle.alloc_map.specs.Maps.{IsMapPage};
-ghost use Rattle.alloc_map.specs.Standing.{IsCovered, IsMeeting, StopsAtOverlap, standing};
+ghost use Rattle.alloc_map.specs.Standing.{IsCovered, IsMeeting, StopsAtOverlap, occupied, standing};
 
 use crate::bits::Bits;
 use crate::bounds::Bounds;
-use crate::cover::{cover_all, slot_of, slots_in, start_of};
+use crate::cover::{cover_all, fill_fixed, slot_of, slots_in, start_of};
 use crate::overlap::Overlap;
 use crate::search::{REGION, find_block, find_page};
 use page_frame::seal;
@@ -37,13 +37,13 @@ impl Model for Slots {
 impl Slots {
     /// The used slots of a number of regions, from 1 to 8192, in which just the places given and the fixed pages stand. Each place is made of whole slots of these regions, and one without bytes is none.
     ///
-    /// `Refused` where two places meet, or one meets a fixed page: it names the least start of the later of such two.
+    /// `Refused` where two places meet, or one meets an AMap page: it names the least start of the later of such two. A place may stand on a fixed page of another kind, as in files that others wrote.
     pub fn rebuild(alloc: Global, places: &[Place], regions: u32) -> Result<Slots, MemOr<Overlap>>
         requires some { 1 ≤ regions }
         requires few { regions ≤ 8192 }
         requires laid { All (IsLaid regions) places.now }
         ensures size { IfOk result (λ slots. length slots ≡ 3968 * regions) }
-        ensures used { IfOk result (IsCovered (standing places.now regions)) }
+        ensures used { IfOk result (IsCovered (occupied places.now regions)) }
         ensures apart { IfOk result (λ _. (slot : ℕ) → IsMeeting (standing places.now regions) slot → ⊥) }
         ensures overlap { IfErr result (StopsAtOverlap (standing places.now regions)) }
     {
@@ -54,6 +54,7 @@ impl Slots {
         if let Some(slot) = cover_all(&mut used, places, regions) {
             return Err(MemOr::Refused(Overlap { ib: start_of(slot) }));
         }
+        fill_fixed(&mut used, regions);
         match Slots::over(alloc, used, regions) {
             Ok(slots) => Ok(slots),
             Err(_) => Err(MemOr::Memory),
