@@ -7,6 +7,7 @@ ghost use Rattle.alloc_map.specs.Standing.{IsCovered, IsMeeting, StopsAtOverlap,
 
 use crate::bits::Bits;
 use crate::bounds::Bounds;
+use crate::cells::Cells;
 use crate::cover::{cover_all, fill_fixed, slot_of, slots_in, start_of};
 use crate::overlap::Overlap;
 use crate::search::{REGION, find_block, find_page};
@@ -18,7 +19,7 @@ use std::marker::Model;
 /// The set of used slots of from 1 to 8192 regions. Contracts see a list with a Bool for each slot.
 #[derive(Debug, Drop)]
 pub struct Slots {
-    used: Bits,
+    used: Cells,
     bounds: Bounds,
     pages: Bounds,
 }
@@ -69,7 +70,7 @@ impl Slots {
         ensures { IfOk result (λ slots. slots ≡ used) }
     {
         Ok(Slots {
-            used,
+            used: Cells::new(used),
             bounds: Bounds::new(alloc, regions)?,
             pages: Bounds::new(alloc, regions)?,
         })
@@ -139,14 +140,7 @@ impl Slots {
     pub fn free_cells(&self) -> u64
         ensures { result ≡ free_cells_of self.now }
     {
-        let mut free = 0;
-        for cell in 0..30 * self.bounds.len() {
-            let byte = REGION / 8 * (cell / 30) + 4 + 16 * (cell % 30);
-            if self.used.are_clear(byte, 16) {
-                free += 1;
-            }
-        }
-        free
+        self.used.free()
     }
 
     /// Uses the least free place of a length, a multiple of 64 from 64 to 8192, that lies in one region outside of its first 2048 bytes. `None` where there is none.
@@ -160,7 +154,7 @@ impl Slots {
         ensures same { IfNone result (self.new ≡ self.old) }
     {
         let n = len / 64;
-        let Some(slot) = find_block(&self.used, &mut self.bounds, n as u8) else {
+        let Some(slot) = find_block(self.used.bits(), &mut self.bounds, n as u8) else {
             return None;
         };
         self.used.fill(slot, n, true);
@@ -174,7 +168,7 @@ impl Slots {
         ensures none { IfNone result ((slot : ℕ) → IsPageRoom self.old slot → ⊥) }
         ensures same { IfNone result (self.new ≡ self.old) }
     {
-        let Some(slot) = find_page(&self.used, &mut self.pages) else {
+        let Some(slot) = find_page(self.used.bits(), &mut self.pages) else {
             return None;
         };
         self.used.fill(slot, 8, true);
@@ -188,7 +182,7 @@ impl Slots {
         ensures only { (page : List ℕ) → IsMapPage self.now r page
             → ((i : ℕ) → slice_index page i < 256) → page ≡ result }
     {
-        let body = self.used.region(r as usize);
+        let body = self.used.bits().region(r as usize);
         let ib = start_of(REGION * r as usize);
         let bid = Bid { bits: ib };
         seal(&body, 0x84, Bref { bid, ib })
