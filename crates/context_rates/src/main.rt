@@ -4,11 +4,13 @@
 #![tactic(auto)]
 
 use mapi_values::{Column, Props, Table, Tag, Value, fits, is_layout, put_row};
-use property_context::{ids_ascend, read_pc, write_pc};
+use node_values::ids_ascend;
+use property_context::{read_pc, write_pc};
 use pst_base::{Blocks, Bytes, Subs};
 use std::alloc::{AllocError, Global};
 use std::{env, io};
-use table_context::{kept_ascend, read_tc, write_tc};
+use table_context::read_tc;
+use table_writer::write_tc;
 use write_limits::{props_fit, table_fits};
 
 /// The kind of text.
@@ -104,7 +106,7 @@ fn make_table(alloc: Global, rows: u32) -> Result<Option<Table>, AllocError> {
 
 /// What is written of a table, or nothing where it may not be written.
 fn written_table(alloc: Global, table: &Table) -> Result<(Blocks, Subs), AllocError> {
-    if table_fits(table) && kept_ascend(table) {
+    if table_fits(table) && ids_ascend(table.kept()) {
         write_tc(alloc, table)
     } else {
         Ok((Blocks::new(alloc), Subs::new(alloc)))

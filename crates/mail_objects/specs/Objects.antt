@@ -3,7 +3,7 @@ use Rattle.std.specs.Prelude.{◌≡◌, ◌==◌, ℕ, Bool, true}
 use Rattle.mapi_values.specs.Messages.{Mes}
 use Rattle.node_port.specs.declared.node.NodeRec.{NodeRec}
 use Rattle.property_context.specs.Context.{IsPropertyContext}
-use Rattle.property_context.specs.Subnodes.{ids_ascend}
+use Rattle.node_values.specs.Subnodes.{ids_ascend}
 use Rattle.table_context.specs.Context.{IsTableContext}
 use Rattle.message_obj.specs.Message.{ShowsMessage, is_formed}
 use Rattle.write_limits.specs.Limits.{props_fit, table_fits, message_fits}

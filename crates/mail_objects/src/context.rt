@@ -16,7 +16,7 @@ pub struct Context {
 
 impl Model for Context {
     ghost use Rattle.std.specs.Prelude.{◌≡◌, true};
-    ghost use Rattle.property_context.specs.Subnodes.{ids_ascend};
+    ghost use Rattle.node_values.specs.Subnodes.{ids_ascend};
     ghost use Rattle.mail_objects.specs.Forms.{Ctx};
 
     ghost Value = { Ctx };
@@ -27,7 +27,7 @@ impl Model for Context {
 }
 
 impl Context {
-    ghost use Rattle.property_context.specs.Subnodes.{ids_ascend};
+    ghost use Rattle.node_values.specs.Subnodes.{ids_ascend};
     ghost use Rattle.mail_objects.specs.Forms.{Ctx};
 
     /// A node with this parent, these properties and these other subnodes, which ascend by id.

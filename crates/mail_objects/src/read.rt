@@ -9,10 +9,11 @@ use crate::mail::Mail;
 use crate::table::TableNode;
 use message_obj::{is_formed, read_message};
 use node_port::NodeRec;
-use property_context::{ids_ascend, read_pc};
+use node_values::ids_ascend;
+use property_context::read_pc;
 use pst_base::{MemOr, Nid};
 use std::alloc::{AllocError, Global};
-use table_context::{kept_ascend, read_tc};
+use table_context::read_tc;
 
 /// The properties that a node holds, or `None` exactly where it is no property context whose other subnodes ascend by id. The error: memory ran out.
 pub fn read_context(alloc: Global, node: &NodeRec) -> Result<Option<Context>, AllocError>
@@ -37,7 +38,7 @@ pub fn read_table(alloc: Global, node: &NodeRec) -> Result<Option<TableNode>, Al
 {
     match read_tc(alloc, node.blocks.as_slice(), &node.subs) {
         Ok(table) => {
-            if kept_ascend(&table) {
+            if ids_ascend(table.kept()) {
                 Ok(Some(TableNode::new(node.parent, table)))
             } else {
                 Ok(None)

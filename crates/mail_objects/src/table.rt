@@ -15,7 +15,7 @@ pub struct TableNode {
 
 impl Model for TableNode {
     ghost use Rattle.std.specs.Prelude.{◌≡◌, true};
-    ghost use Rattle.property_context.specs.Subnodes.{ids_ascend};
+    ghost use Rattle.node_values.specs.Subnodes.{ids_ascend};
     ghost use Rattle.mail_objects.specs.Forms.{Tbl};
 
     ghost Value = { Tbl };
@@ -26,7 +26,7 @@ impl Model for TableNode {
 }
 
 impl TableNode {
-    ghost use Rattle.property_context.specs.Subnodes.{ids_ascend};
+    ghost use Rattle.node_values.specs.Subnodes.{ids_ascend};
     ghost use Rattle.mapi_values.specs.Tables.{drop_row, mirror, put_row};
 
     /// A node with this parent and this table, whose kept subnodes ascend by id.

@@ -10,7 +10,7 @@ use message_obj::write_message;
 use node_port::NodeRec;
 use property_context::write_pc;
 use std::alloc::{AllocError, Global};
-use table_context::write_tc;
+use table_writer::write_tc;
 use write_limits::{message_fits, props_fit, table_fits};
 
 /// Whether an object is small enough to be written: its tables and values keep to the limits on what a command writes.

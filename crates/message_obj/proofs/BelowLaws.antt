@@ -14,15 +14,14 @@ use Rattle.mapi_values.specs.Tables.{Tab}
 use Rattle.mapi_values.specs.Values.{Val}
 use Rattle.mapi_values.proofs.KeyedLaws.{ascend-lower}
 use Rattle.property_context.proofs.PlaceLaws.{ascend-first}
-use Rattle.property_context.proofs.SubLaws.{flattened-append, without-first}
-use Rattle.property_context.specs.Subnodes.{ids_ascend, without}
-use Rattle.table_context.specs.Subnodes.{sub_id}
-use Rattle.message_obj.specs.Answers.{ShowsBelow, contents}
+use Rattle.node_values.proofs.SubLaws.{flattened-append, without-first}
+use Rattle.node_values.specs.Subnodes.{contents, ids_ascend, sub_id, subnode, without}
+use Rattle.message_obj.specs.Answers.{ShowsBelow}
 use Rattle.message_obj.specs.Writing.{AddsParts, AddsTable, AreParts, AreTable, LaysBelow, rows_ascend}
 use Rattle.message_obj.specs.Message.{ShowsParts, ShowsTable, is_formed, part_is_formed, table_ascends}
 use Rattle.write_limits.proofs.DirectLaws.{direct-flattened}
 use Rattle.write_limits.specs.Limits.{direct, few_subnodes, long_values, message_fits, one_if_some, option_fits, own_subnodes, part_fits, props_fit}
-use Rattle.message_obj.specs.Subnodes.{is_table, subnode}
+use Rattle.message_obj.specs.Subnodes.{is_table}
 use Rattle.message_obj.proofs.FindLaws.{subnode-found, subnode-kept}
 use Rattle.message_obj.proofs.OrderLaws.{same-found}
 

@@ -6,8 +6,8 @@ use Rattle.pst_base.specs.Subs.{flattened}
 use Rattle.pst_base.specs.declared.subs.Sub.{Sub}
 use Rattle.mapi_values.specs.declared.part.Part.{Part}
 use Rattle.mapi_values.specs.Messages.{are_others, is_other, is_own}
-use Rattle.property_context.proofs.SubLaws.{flattened-append, without-first}
-use Rattle.property_context.specs.Subnodes.{without}
+use Rattle.node_values.proofs.SubLaws.{flattened-append, without-first}
+use Rattle.node_values.specs.Subnodes.{without}
 
 -- one more that stays
 pub one-stays : (test : ℕ → Bool) (out subs rest : List Sub) (s : Sub) (all : List Flat) → subs ≡ s ∷ rest → test s.nid.bits ≡ false

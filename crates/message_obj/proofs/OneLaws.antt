@@ -11,16 +11,16 @@ use Rattle.mapi_values.specs.Values.{Val}
 use Rattle.node_port.specs.declared.node.NodeRec.{NodeRec}
 use Rattle.property_context.proofs.UniqueLaws.{no-fault, same-rest, same-values}
 use Rattle.property_context.specs.Context.{IsPropertyContext}
-use Rattle.property_context.specs.Subnodes.{without}
+use Rattle.node_values.specs.Subnodes.{subnode, without}
 use Rattle.property_context.specs.declared.read.PcFault.TheVariants as pcs
 use Rattle.table_context.proofs.ContextLaws.{no-table, one-table}
 use Rattle.table_context.specs.declared.fault.TcFault.TheVariants as tcs
 use Rattle.message_obj.specs.Answers.{Refuses}
 use Rattle.message_obj.specs.Message.{ShowsMessage, ShowsPart, ShowsParts, ShowsTable}
 use Rattle.message_obj.specs.Reading.{LacksBelow, LacksContext, LacksMessage, LacksPart, LacksTable, ReadsMessage}
-use Rattle.message_obj.specs.Subnodes.{is_table, subnode}
-use Rattle.message_obj.specs.declared.fault.NodeFault.{NodeFault}
-use Rattle.message_obj.specs.declared.fault.NodeFault.TheVariants.{Heap, Bth, Pc, Tc, Attach}
+use Rattle.message_obj.specs.Subnodes.{is_table}
+use Rattle.message_obj.specs.declared.fault.MessageFault.{MessageFault}
+use Rattle.message_obj.specs.declared.fault.MessageFault.TheVariants.{Heap, Bth, Pc, Tc, Attach}
 
 -- ---- one at most
 
@@ -83,14 +83,14 @@ same-message nid node m n a b =
 
 -- ---- none where something is wrong
 
-no-context : (blocks : List (List ℕ)) (subs : List Flat) (values : List Val) (rest : List Flat) (fault : NodeFault) → LacksContext blocks subs fault → IsPropertyContext blocks subs values rest → ⊥
+no-context : (blocks : List (List ℕ)) (subs : List Flat) (values : List Val) (rest : List Flat) (fault : MessageFault) → LacksContext blocks subs fault → IsPropertyContext blocks subs values rest → ⊥
 no-context blocks subs values rest Heap lacks shows = no-fault blocks subs values rest pcs.Heap lacks shows
 no-context blocks subs values rest Bth lacks shows = no-fault blocks subs values rest pcs.Bth lacks shows
 no-context blocks subs values rest Pc lacks shows = no-fault blocks subs values rest pcs.Pc lacks shows
 no-context blocks subs values rest Tc lacks shows = lacks
 no-context blocks subs values rest Attach lacks shows = lacks
 
-no-table-at : (sub : Option (List (List ℕ) × List Flat)) (t : Option Tab) (fault : NodeFault) → LacksTable sub fault → ShowsTable sub t → ⊥
+no-table-at : (sub : Option (List (List ℕ) × List Flat)) (t : Option Tab) (fault : MessageFault) → LacksTable sub fault → ShowsTable sub t → ⊥
 no-table-at None t fault lacks shows = lacks
 no-table-at (Some sub) None fault lacks shows = shows
 no-table-at (Some sub) (Some t) Heap lacks shows = no-table sub.0 sub.1 t tcs.Heap lacks shows
@@ -99,7 +99,7 @@ no-table-at (Some sub) (Some t) Tc lacks shows = no-table sub.0 sub.1 t tcs.Tc l
 no-table-at (Some sub) (Some t) Pc lacks shows = lacks
 no-table-at (Some sub) (Some t) Attach lacks shows = lacks
 
-no-part : (sub : Option (List (List ℕ) × List Flat)) (id : ℕ) (part : Part) (fault : NodeFault) → LacksPart sub fault → ShowsPart sub id part → ⊥
+no-part : (sub : Option (List (List ℕ) × List Flat)) (id : ℕ) (part : Part) (fault : MessageFault) → LacksPart sub fault → ShowsPart sub id part → ⊥
 no-part None id part fault lacks shows = shows
 no-part (Some sub) id part fault lacks shows = no-context sub.0 sub.1 part.props part.kept fault lacks shows.1
 
@@ -110,7 +110,7 @@ part-at subs (x ∷ ids) [] k id lt is shows = absurd shows
 part-at subs (x ∷ ids) (p ∷ parts) zero id lt is shows = (p, subst (λ (n : ℕ). ShowsPart (subnode subs n) n p) is shows.0)
 part-at subs (x ∷ ids) (p ∷ parts) (suc k) id lt is shows = part-at subs ids parts k id (omega arith) is shows.1
 
-no-below : (rest : List Flat) (fault : NodeFault) (recipients attachments : Option Tab) (parts : List Part) → LacksBelow rest fault → ShowsTable (subnode rest 0x692) recipients → ShowsTable (subnode rest 0x671) attachments
+no-below : (rest : List Flat) (fault : MessageFault) (recipients attachments : Option Tab) (parts : List Part) → LacksBelow rest fault → ShowsTable (subnode rest 0x692) recipients → ShowsTable (subnode rest 0x671) attachments
     → ShowsParts (without is_table false rest) (row_ids attachments) parts → ⊥
 no-below rest fault recipients attachments parts lacks r a p = ⊎_elim
     (λ of_recipients. no-table-at (subnode rest 0x692) recipients fault of_recipients r)
@@ -124,7 +124,7 @@ no-below rest fault recipients attachments parts lacks r a p = ⊎_elim
     others)
     lacks
 
-pub no-message : (nid : ℕ) (node : NodeRec) (m : Mes) (fault : NodeFault) → LacksMessage node fault → ShowsMessage nid node m → ⊥
+pub no-message : (nid : ℕ) (node : NodeRec) (m : Mes) (fault : MessageFault) → LacksMessage node fault → ShowsMessage nid node m → ⊥
 no-message nid node m fault lacks shows = ⊎_elim
     (λ context. no-context node.blocks node.subs m.props shows.rest fault context shows.context)
     (λ others.
@@ -134,11 +134,11 @@ no-message nid node m fault lacks shows = ⊎_elim
 
 -- ---- what a reader gives up for
 
-pub context-stops : (nid : ℕ) (node : NodeRec) (e : MemOr NodeFault) → Refuses (LacksContext node.blocks node.subs) e → ReadsMessage nid node (Err e)
+pub context-stops : (nid : ℕ) (node : NodeRec) (e : MemOr MessageFault) → Refuses (LacksContext node.blocks node.subs) e → ReadsMessage nid node (Err e)
 context-stops nid node Memory lacks = tt
 context-stops nid node (Refused fault) lacks = (inl lacks, λ m. no-message nid node m fault (inl lacks))
 
-pub below-stops : (nid : ℕ) (node : NodeRec) (values : List Val) (rest : List Flat) (e : MemOr NodeFault) → IsPropertyContext node.blocks node.subs values rest
+pub below-stops : (nid : ℕ) (node : NodeRec) (values : List Val) (rest : List Flat) (e : MemOr MessageFault) → IsPropertyContext node.blocks node.subs values rest
     → Refuses (LacksBelow rest) e → ReadsMessage nid node (Err e)
 below-stops nid node values rest Memory context lacks = tt
 below-stops nid node values rest (Refused fault) context lacks =

@@ -11,7 +11,7 @@ use Rattle.std.specs.Ordering.{is_eq, nat_cmp}
 use Rattle.std.specs.declared.cmp.Ordering.TheVariants.{Less}
 use Rattle.pst_base.specs.declared.subs.Sub.{Sub}
 use Rattle.mapi_values.specs.Keyed.{find_key, keys_ascend}
-use Rattle.table_context.specs.Subnodes.{sub_id}
+use Rattle.node_values.specs.Subnodes.{sub_id}
 
 none-some : {B : Type 0} (y : B) → None ≡ Some y → ⊥
 none-some y e = cc

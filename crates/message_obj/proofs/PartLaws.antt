@@ -12,7 +12,7 @@ use Rattle.table_context.specs.declared.fault.TcFault.TheVariants.{Heap, Bth, Tc
 use Rattle.message_obj.specs.Answers.{table_fault}
 use Rattle.message_obj.specs.Message.{ShowsPart, ShowsParts}
 use Rattle.message_obj.specs.Reading.{LacksTable}
-use Rattle.message_obj.specs.Subnodes.{subnode}
+use Rattle.node_values.specs.Subnodes.{subnode}
 
 pub lacks-table : (sub : List (List ℕ) × List Flat) (fault : TcFault) → tc.Lacks sub.0 sub.1 fault → LacksTable (Some sub) (table_fault fault)
 lacks-table sub Heap lacks = lacks

@@ -4,13 +4,13 @@ use Rattle.std.specs.Prelude.{◌≡◌, ℕ, ◌&&◌, Bool, true, false, not, 
 use Rattle.std.specs.List.{list_all}
 use Rattle.pst_base.specs.Flat.{Flat}
 use Rattle.mapi_values.specs.declared.part.Part.{Part}
-use Rattle.mapi_values.specs.Messages.{Mes, is_own, part_id, row_ids}
+use Rattle.mapi_values.specs.Messages.{Mes, is_own, nid_attachment_table, nid_recipient_table, part_id, row_ids}
 use Rattle.mapi_values.specs.Tables.{Tab}
 use Rattle.node_port.specs.declared.node.NodeRec.{NodeRec}
 use Rattle.property_context.specs.Context.{IsPropertyContext}
-use Rattle.property_context.specs.Subnodes.{ids_ascend, without}
+use Rattle.node_values.specs.Subnodes.{ids_ascend, subnode, without}
 use Rattle.table_context.specs.Context.{IsTableContext}
-use Rattle.message_obj.specs.Subnodes.{is_table, subnode}
+use Rattle.message_obj.specs.Subnodes.{is_table}
 
 -- the table in a subnode, or none where there is no subnode
 abbrev pub ShowsTable : Option (List (List ℕ) × List Flat) → Option Tab → Type 0
@@ -37,8 +37,8 @@ pub record ShowsMessage (nid : ℕ) (node : NodeRec) (m : Mes) : Type 0 where
   pub folder : m.folder ≡ node.parent.bits
   pub rest : List Flat
   pub context : IsPropertyContext node.blocks node.subs m.props rest
-  pub recipients : ShowsTable (subnode rest 0x692) m.recipients
-  pub attachments : ShowsTable (subnode rest 0x671) m.attachments
+  pub recipients : ShowsTable (subnode rest nid_recipient_table) m.recipients
+  pub attachments : ShowsTable (subnode rest nid_attachment_table) m.attachments
   pub parts : ShowsParts (without is_table false rest) (row_ids m.attachments) m.parts
   pub kept : m.kept ≡ without (is_own m.parts) false rest
 

@@ -4,22 +4,22 @@ use Rattle.std.specs.List.{Contains}
 use Rattle.pst_base.specs.Flat.{Flat}
 use Rattle.pst_base.specs.declared.stops.MemOr.{MemOr}
 use Rattle.pst_base.specs.declared.stops.MemOr.TheVariants.{Memory, Refused}
-use Rattle.mapi_values.specs.Messages.{Mes, row_ids}
+use Rattle.mapi_values.specs.Messages.{Mes, nid_attachment_table, nid_recipient_table, row_ids}
 use Rattle.mapi_values.specs.Tables.{Tab}
 use Rattle.mapi_values.specs.Values.{Val}
 use Rattle.node_port.specs.declared.node.NodeRec.{NodeRec}
 use Rattle.property_context.specs.Context as pc
-use Rattle.property_context.specs.Subnodes.{without}
+use Rattle.node_values.specs.Subnodes.{subnode, without}
 use Rattle.property_context.specs.declared.read.PcFault.TheVariants as pcs
 use Rattle.table_context.specs.Context as tc
 use Rattle.table_context.specs.declared.fault.TcFault.TheVariants as tcs
 use Rattle.message_obj.specs.Message.{ShowsMessage, ShowsTable}
-use Rattle.message_obj.specs.Subnodes.{is_table, subnode}
-use Rattle.message_obj.specs.declared.fault.NodeFault.{NodeFault}
-use Rattle.message_obj.specs.declared.fault.NodeFault.TheVariants.{Heap, Bth, Pc, Tc, Attach}
+use Rattle.message_obj.specs.Subnodes.{is_table}
+use Rattle.message_obj.specs.declared.fault.MessageFault.{MessageFault}
+use Rattle.message_obj.specs.declared.fault.MessageFault.TheVariants.{Heap, Bth, Pc, Tc, Attach}
 
 -- blocks and subnodes are no property context, for this reason
-abbrev pub LacksContext : List (List ℕ) → List Flat → NodeFault → Type 0
+abbrev pub LacksContext : List (List ℕ) → List Flat → MessageFault → Type 0
 LacksContext blocks subs Heap = pc.Lacks blocks subs pcs.Heap
 LacksContext blocks subs Bth = pc.Lacks blocks subs pcs.Bth
 LacksContext blocks subs Pc = pc.Lacks blocks subs pcs.Pc
@@ -27,7 +27,7 @@ LacksContext blocks subs Tc = ⊥
 LacksContext blocks subs Attach = ⊥
 
 -- a subnode is there and is no table, for this reason
-abbrev pub LacksTable : Option (List (List ℕ) × List Flat) → NodeFault → Type 0
+abbrev pub LacksTable : Option (List (List ℕ) × List Flat) → MessageFault → Type 0
 LacksTable None fault = ⊥
 LacksTable (Some sub) Heap = tc.Lacks sub.0 sub.1 tcs.Heap
 LacksTable (Some sub) Bth = tc.Lacks sub.0 sub.1 tcs.Bth
@@ -36,22 +36,22 @@ LacksTable (Some sub) Pc = ⊥
 LacksTable (Some sub) Attach = ⊥
 
 -- the subnode of an attachment isn't there, or is no property context for this reason
-abbrev pub LacksPart : Option (List (List ℕ) × List Flat) → NodeFault → Type 0
+abbrev pub LacksPart : Option (List (List ℕ) × List Flat) → MessageFault → Type 0
 LacksPart None fault = fault ≡ Attach
 LacksPart (Some sub) fault = LacksContext sub.0 sub.1 fault
 
 -- what is wrong among the subnodes that no value uses: with the recipients, with the table of attachments, or with an attachment that the table names
-abbrev pub LacksBelow : List Flat → NodeFault → Type 0
-LacksBelow rest fault = LacksTable (subnode rest 0x692) fault ⊎ LacksTable (subnode rest 0x671) fault
-    ⊎ ((t : Tab) × (id : ℕ) × ShowsTable (subnode rest 0x671) (Some t) × Contains (row_ids (Some t)) id × LacksPart (subnode (without is_table false rest) id) fault)
+abbrev pub LacksBelow : List Flat → MessageFault → Type 0
+LacksBelow rest fault = LacksTable (subnode rest nid_recipient_table) fault ⊎ LacksTable (subnode rest nid_attachment_table) fault
+    ⊎ ((t : Tab) × (id : ℕ) × ShowsTable (subnode rest nid_attachment_table) (Some t) × Contains (row_ids (Some t)) id × LacksPart (subnode (without is_table false rest) id) fault)
 
 -- what is wrong with a node that is no message
-abbrev pub LacksMessage : NodeRec → NodeFault → Type 0
+abbrev pub LacksMessage : NodeRec → MessageFault → Type 0
 LacksMessage node fault = LacksContext node.blocks node.subs fault
     ⊎ ((values : List Val) × (rest : List Flat) × pc.IsPropertyContext node.blocks node.subs values rest × LacksBelow rest fault)
 
 -- unless memory ran out, a node is read as the message that it is, or refused where it is none, for what is wrong with it
-abbrev pub ReadsMessage : ℕ → NodeRec → Result Mes (MemOr NodeFault) → Type 0
+abbrev pub ReadsMessage : ℕ → NodeRec → Result Mes (MemOr MessageFault) → Type 0
 ReadsMessage nid node (Ok m) = ShowsMessage nid node m
 ReadsMessage nid node (Err Memory) = Unit {0}
 ReadsMessage nid node (Err (Refused fault)) = LacksMessage node fault × ((m : Mes) → ShowsMessage nid node m → ⊥)

@@ -8,7 +8,7 @@ use Rattle.mapi_values.specs.Messages.{Mes, is_own, part_id}
 use Rattle.mapi_values.specs.Tables.{Tab}
 use Rattle.write_limits.specs.Limits.{props_fit}
 use Rattle.property_context.specs.Context.{IsPropertyContext}
-use Rattle.property_context.specs.Subnodes.{ids_ascend, without}
+use Rattle.node_values.specs.Subnodes.{ids_ascend, without}
 use Rattle.table_context.specs.Context.{IsTableContext}
 use Rattle.message_obj.specs.Answers.{ShowsBelow}
 

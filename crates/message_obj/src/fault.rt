@@ -2,7 +2,7 @@
 
 /// Why a node isn't a message.
 #[derive(Clone, Copy, Debug, PartialEq, Eq)]
-pub enum NodeFault {
+pub enum MessageFault {
     /// Blocks that should be a heap are none.
     Heap,
     /// A BTree in a heap isn't in order.

@@ -3,9 +3,9 @@ ghost use Rattle.std.specs.Prelude.{◌≡◌, ℕ, false, IfOk};
 ghost use Rattle.std.specs.Ordering.{nat_cmp};
 ghost use Rattle.std.specs.BTreeSet.{contains};
 ghost use Rattle.mapi_values.specs.Messages.{is_own};
-ghost use Rattle.property_context.specs.Subnodes.{without};
+ghost use Rattle.node_values.specs.Subnodes.{without};
 
-use crate::ids::{ATTACHMENTS, RECIPIENTS};
+use crate::ids::{NID_ATTACHMENT_TABLE, NID_RECIPIENT_TABLE};
 use mapi_values::Part;
 use pst_base::Subs;
 use std::alloc::{AllocError, Global};
@@ -16,8 +16,8 @@ fn own_ids(alloc: Global, parts: &[Part]) -> Result<BTreeSet<u32>, AllocError>
     ensures { IfOk result (λ ids. (nid : ℕ) → contains nat_cmp ids nid ≡ is_own parts.now nid) }
 {
     let mut ids = BTreeSet::new(alloc);
-    ids.insert(ATTACHMENTS)?;
-    ids.insert(RECIPIENTS)?;
+    ids.insert(NID_ATTACHMENT_TABLE)?;
+    ids.insert(NID_RECIPIENT_TABLE)?;
     for part in parts {
         ids.insert(part.nid.bits)?;
     }

@@ -6,7 +6,6 @@
 #![tactic(auto)]
 
 mod fault;
-mod finder;
 mod ids;
 mod kept;
 mod law;
@@ -16,7 +15,7 @@ mod read;
 mod tests;
 mod write;
 
-pub use fault::NodeFault;
+pub use fault::MessageFault;
 pub use law::one_message;
 pub use read::read_message;
 pub use write::{is_formed, write_message};

@@ -3,7 +3,7 @@ ghost use Rattle.std.specs.Prelude.{◌≡◌, ◌≤◌, ℕ, true, length, IfO
 ghost use Rattle.std.specs.Ordering.{nat_cmp};
 ghost use Rattle.std.specs.BTreeMap.{get, btree_map_len};
 ghost use Rattle.mapi_values.specs.Keyed.{find_key, keys_ascend};
-ghost use Rattle.table_context.specs.Subnodes.{sub_id};
+ghost use Rattle.node_values.specs.Subnodes.{sub_id};
 
 use pst_base::Sub;
 use std::alloc::{AllocError, Global};

@@ -2,43 +2,43 @@
 ghost use Rattle.std.specs.Prelude.{◌≡◌, false, map, option_copied, IfOk};
 ghost use Rattle.std.specs.Option.{option_map};
 ghost use Rattle.mapi_values.specs.Messages.{is_own, row_ids};
-ghost use Rattle.property_context.specs.Subnodes.{without};
+ghost use Rattle.node_values.specs.Subnodes.{contents, subnode, without};
 ghost use Rattle.property_context.specs.Context.{IsPropertyContext};
-ghost use Rattle.message_obj.specs.Answers.{LacksOne, Reads, ShowsBelow, contents, context_fault, table_fault};
+ghost use Rattle.message_obj.specs.Answers.{LacksOne, Reads, ShowsBelow, context_fault, table_fault};
 ghost use Rattle.message_obj.specs.Message.{ShowsPart, ShowsParts, ShowsTable};
 ghost use Rattle.message_obj.specs.Reading.{LacksBelow, LacksContext, LacksPart, LacksTable, ReadsMessage};
-ghost use Rattle.message_obj.specs.Subnodes.{is_table, subnode};
+ghost use Rattle.message_obj.specs.Subnodes.{is_table};
 
-use crate::fault::NodeFault;
-use crate::finder::Finder;
-use crate::ids::{ATTACHMENTS, RECIPIENTS, is_table};
+use crate::fault::MessageFault;
+use crate::ids::{NID_ATTACHMENT_TABLE, NID_RECIPIENT_TABLE, is_table};
 use crate::kept::without_own;
 use mapi_values::{Message, Part, Props, Table};
 use node_port::NodeRec;
+use node_values::Finder;
 use property_context::{PcFault, read_pc};
 use pst_base::{Bytes, MemOr, Nid, Sub, Subs};
 use std::alloc::Global;
 use table_context::{TcFault, read_tc};
 
 /// The fault of a message, for one of a property context.
-fn context_fault(fault: PcFault) -> NodeFault
+fn context_fault(fault: PcFault) -> MessageFault
     ensures { result ≡ context_fault fault }
 {
     match fault {
-        PcFault::Heap => NodeFault::Heap,
-        PcFault::Bth => NodeFault::Bth,
-        PcFault::Pc => NodeFault::Pc,
+        PcFault::Heap => MessageFault::Heap,
+        PcFault::Bth => MessageFault::Bth,
+        PcFault::Pc => MessageFault::Pc,
     }
 }
 
 /// The fault of a message, for one of a table.
-fn table_fault(fault: TcFault) -> NodeFault
+fn table_fault(fault: TcFault) -> MessageFault
     ensures { result ≡ table_fault fault }
 {
     match fault {
-        TcFault::Heap => NodeFault::Heap,
-        TcFault::Bth => NodeFault::Bth,
-        TcFault::Tc => NodeFault::Tc,
+        TcFault::Heap => MessageFault::Heap,
+        TcFault::Bth => MessageFault::Bth,
+        TcFault::Tc => MessageFault::Tc,
     }
 }
 
@@ -47,7 +47,7 @@ fn read_context(
     alloc: Global,
     blocks: &[Bytes],
     subs: &Subs,
-) -> Result<(Props, Subs), MemOr<NodeFault>>
+) -> Result<(Props, Subs), MemOr<MessageFault>>
     ensures { Reads (λ found. IsPropertyContext blocks.now subs.now found.0 found.1) (LacksContext blocks.now subs.now) result }
 {
     match read_pc(alloc, blocks, subs) {
@@ -58,7 +58,7 @@ fn read_context(
 }
 
 /// The table in the subnode with this id, if that is there.
-fn read_table(alloc: Global, finder: &Finder, id: u32) -> Result<Option<Table>, MemOr<NodeFault>>
+fn read_table(alloc: Global, finder: &Finder, id: u32) -> Result<Option<Table>, MemOr<MessageFault>>
     ensures { Reads (ShowsTable (subnode finder.now id)) (LacksTable (subnode finder.now id)) result }
 {
     let Some(sub) = finder.find(id) else {
@@ -82,11 +82,11 @@ fn part_sub<'a>(finder: &Finder<'a>, id: u32) -> Option<&'a Sub>
 }
 
 /// The attachment with this id.
-fn read_part(alloc: Global, finder: &Finder, id: u32) -> Result<Part, MemOr<NodeFault>>
+fn read_part(alloc: Global, finder: &Finder, id: u32) -> Result<Part, MemOr<MessageFault>>
     ensures { Reads (ShowsPart (subnode (without is_table false finder.now) id) id) (LacksPart (subnode (without is_table false finder.now) id)) result }
 {
     let Some(sub) = part_sub(finder, id) else {
-        return Err(MemOr::Refused(NodeFault::Attach));
+        return Err(MemOr::Refused(MessageFault::Attach));
     };
     let (props, kept) = read_context(alloc, sub.blocks.as_slice(), &sub.subs)?;
     Ok(Part {
@@ -101,7 +101,7 @@ fn read_parts(
     alloc: Global,
     finder: &Finder,
     rows: &[(u32, Props)],
-) -> Result<Vec<Part>, MemOr<NodeFault>>
+) -> Result<Vec<Part>, MemOr<MessageFault>>
     ensures { Reads (λ parts. ShowsParts (without is_table false finder.now) (map (λ r. r.0) rows.now) parts.items) (LacksOne (without is_table false finder.now) (map (λ r. r.0) rows.now)) result }
 {
     let mut parts = Vec::with_capacity(alloc, rows.len())?;
@@ -116,7 +116,7 @@ fn read_named(
     alloc: Global,
     finder: &Finder,
     attachments: &Option<Table>,
-) -> Result<Vec<Part>, MemOr<NodeFault>>
+) -> Result<Vec<Part>, MemOr<MessageFault>>
     ensures { Reads (λ parts. ShowsParts (without is_table false finder.now) (row_ids attachments.now) parts.items) (LacksOne (without is_table false finder.now) (row_ids attachments.now)) result }
 {
     match attachments {
@@ -129,18 +129,18 @@ fn read_named(
 fn read_below(
     alloc: Global,
     rest: &Subs,
-) -> Result<(Option<Table>, Option<Table>, Vec<Part>), MemOr<NodeFault>>
+) -> Result<(Option<Table>, Option<Table>, Vec<Part>), MemOr<MessageFault>>
     ensures { Reads (λ below. ShowsBelow rest.now below.0 below.1 below.2.items) (LacksBelow rest.now) result }
 {
     let finder = Finder::new(alloc, rest)?;
-    let recipients = read_table(alloc, &finder, RECIPIENTS)?;
-    let attachments = read_table(alloc, &finder, ATTACHMENTS)?;
+    let recipients = read_table(alloc, &finder, NID_RECIPIENT_TABLE)?;
+    let attachments = read_table(alloc, &finder, NID_ATTACHMENT_TABLE)?;
     let parts = read_named(alloc, &finder, &attachments)?;
     Ok((recipients, attachments, parts))
 }
 
 /// The message that the node with this id is. The folder is the node's parent. A refusal comes exactly where the node is no message, and names what is wrong with the first part that is: the message's own values, the table of recipients, the table of attachments, and each attachment in the order of the rows.
-pub fn read_message(alloc: Global, nid: Nid, node: &NodeRec) -> Result<Message, MemOr<NodeFault>>
+pub fn read_message(alloc: Global, nid: Nid, node: &NodeRec) -> Result<Message, MemOr<MessageFault>>
     ensures { ReadsMessage nid.bits node.now result }
 {
     let (props, rest) = read_context(alloc, node.blocks.as_slice(), &node.subs)?;

@@ -1,12 +1,13 @@
 //! A message laid out by hand, as another writer may do it, and one mistake after the other in it.
-use crate::{NodeFault, is_formed, read_message, write_message};
+use crate::{MessageFault, is_formed, read_message, write_message};
 use mapi_values::{Column, Message, Part, Props, Table, Tag, Value, fits, is_layout, put_row};
 use node_port::NodeRec;
-use property_context::{ids_ascend, write_pc};
+use node_values::ids_ascend;
+use property_context::write_pc;
 use pst_base::{Blocks, Bytes, MemOr, Nid, Sub, Subs};
 use std::alloc::Global;
 use std::test::Fail;
-use table_context::{kept_ascend, write_tc};
+use table_writer::write_tc;
 use write_limits::{message_fits, props_fit, table_fits};
 
 /// A change of a node that was laid out: a subnode is gone, has bytes that are nothing, or has another id.
@@ -101,7 +102,7 @@ fn table(alloc: Global, bits: u32, rows: &[u32]) -> Result<Sub, Fail> {
     for id in rows {
         put_row(alloc, &mut table, *id, &name)?;
     }
-    if !table_fits(&table) || !kept_ascend(&table) {
+    if !table_fits(&table) || !ids_ascend(table.kept()) {
         return Err(Fail::from("no table to write"));
     }
     let (blocks, subs) = write_tc(alloc, &table)?;
@@ -262,7 +263,7 @@ fn tables_may_be_absent(rt: HostRuntime) -> Result<(), Fail> {
 }
 
 /// What is wrong with a node, if anything is.
-fn fault(alloc: Global, node: &NodeRec) -> Option<NodeFault> {
+fn fault(alloc: Global, node: &NodeRec) -> Option<MessageFault> {
     match read_message(alloc, Nid { bits: 0x20_0024 }, node) {
         Err(MemOr::Refused(fault)) => Some(fault),
         _ => None,
@@ -271,15 +272,15 @@ fn fault(alloc: Global, node: &NodeRec) -> Option<NodeFault> {
 
 #[test]
 fn what_is_wrong_is_named(rt: HostRuntime) -> Result<(), Fail> {
-    let cases: [(u32, Change, Option<NodeFault>); 8] = [
+    let cases: [(u32, Change, Option<MessageFault>); 8] = [
         (0x21, Change::Noise, None),
-        (0x3F, Change::Gone, Some(NodeFault::Pc)),
-        (0x692, Change::Noise, Some(NodeFault::Heap)),
-        (0x671, Change::Noise, Some(NodeFault::Heap)),
-        (0x8025, Change::Noise, Some(NodeFault::Heap)),
-        (0x8045, Change::Gone, Some(NodeFault::Attach)),
-        (0x8045, Change::Moved(0x8065), Some(NodeFault::Attach)),
-        (0x8045, Change::Moved(0x671), Some(NodeFault::Attach)),
+        (0x3F, Change::Gone, Some(MessageFault::Pc)),
+        (0x692, Change::Noise, Some(MessageFault::Heap)),
+        (0x671, Change::Noise, Some(MessageFault::Heap)),
+        (0x8025, Change::Noise, Some(MessageFault::Heap)),
+        (0x8045, Change::Gone, Some(MessageFault::Attach)),
+        (0x8045, Change::Moved(0x8065), Some(MessageFault::Attach)),
+        (0x8045, Change::Moved(0x671), Some(MessageFault::Attach)),
     ];
     for (id, change, wrong) in cases {
         let node = changed(rt.alloc(), id, change)?;
@@ -290,9 +291,9 @@ fn what_is_wrong_is_named(rt: HostRuntime) -> Result<(), Fail> {
         blocks: Blocks::new(rt.alloc()),
         subs: Subs::new(rt.alloc()),
     };
-    assert!(rt; fault(rt.alloc(), &bare) == Some(NodeFault::Heap));
+    assert!(rt; fault(rt.alloc(), &bare) == Some(MessageFault::Heap));
     let named_table = laid(rt.alloc(), &[0x692])?;
-    assert!(rt; fault(rt.alloc(), &named_table) == Some(NodeFault::Attach));
+    assert!(rt; fault(rt.alloc(), &named_table) == Some(MessageFault::Attach));
     Ok(())
 }
 

@@ -5,14 +5,15 @@ ghost use Rattle.write_limits.specs.Limits.{message_fits, option_fits, part_fits
 ghost use Rattle.message_obj.specs.Writing.{AddsParts, AddsTable, IsPart, LaysBelow, rows_ascend};
 ghost use Rattle.message_obj.specs.Message.{ShowsMessage, is_formed, part_is_formed, table_ascends};
 
-use crate::ids::{ATTACHMENTS, RECIPIENTS, is_table};
+use crate::ids::{NID_ATTACHMENT_TABLE, NID_RECIPIENT_TABLE, is_table};
 use crate::order::in_order;
 use mapi_values::{Message, Part, Table};
 use node_port::NodeRec;
-use property_context::{ids_ascend, write_pc};
+use node_values::ids_ascend;
+use property_context::write_pc;
 use pst_base::{Nid, Sub, Subs};
 use std::alloc::{AllocError, Global};
-use table_context::write_tc;
+use table_writer::write_tc;
 
 /// Whether the ids of the subnodes that a table keeps ascend, if there is a table.
 fn table_ascends(table: &Option<Table>) -> bool
@@ -108,8 +109,8 @@ fn write_below(alloc: Global, message: &Message) -> Result<Subs, AllocError>
     ensures { IfOk result (LaysBelow message.now) }
 {
     let mut subs = message.kept.copy(alloc)?.into_vec();
-    push_table(alloc, &mut subs, RECIPIENTS, &message.recipients)?;
-    push_table(alloc, &mut subs, ATTACHMENTS, &message.attachments)?;
+    push_table(alloc, &mut subs, NID_RECIPIENT_TABLE, &message.recipients)?;
+    push_table(alloc, &mut subs, NID_ATTACHMENT_TABLE, &message.attachments)?;
     push_parts(alloc, &mut subs, message.parts.as_slice())?;
     Ok(Subs::from_vec(in_order(alloc, subs)?))
 }

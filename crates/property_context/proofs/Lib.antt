@@ -1,4 +1,3 @@
-pub mod SubLaws
 pub mod ValueLaws
 pub mod UniqueLaws
 pub mod PlaceLaws

@@ -8,61 +8,16 @@ use Rattle.pst_base.specs.Flat.{Flat}
 use Rattle.pst_base.specs.Subs.{flattened, one_deeper}
 use Rattle.pst_base.specs.declared.subs.Sub.{Sub}
 use Rattle.property_context.specs.declared.placing.Placer.{Placer}
-use Rattle.property_context.specs.Subnodes.{data_of, ids_ascend, without}
-use Rattle.property_context.specs.Placing.{IsAhead, KeepsData, Placing, are_long, ids_below, is_id, pieces, pieces_of, placed_data, subnode}
-use Rattle.property_context.proofs.SubLaws.{flattened-append, without-first}
-
--- ---- blocks
-
-pub pieces-none : pieces [] ≡ []
-unfolding pieces
-pieces-none = refl
-
-pub pieces-more : (b : List ℕ) → 0 < length b → pieces b ≡ take 8176 b ∷ pieces (drop 8176 b)
-unfolding pieces
-pieces-more b h =
-    let len : length (drop 8176 b) ≡ length b - 8176 = length-drop 8176 b in
-    let count : (length b + 8175) / 8176 ≡ suc ((length (drop 8176 b) + 8175) / 8176) = omega (arith, len) in
-    rw count refl
-
--- one block more, of 8176 bytes or of all that are left
-pub pieces-step : (out : List (List ℕ)) (b : List ℕ) (n : ℕ) → 0 < length b → n ≡ min (length b) 8176 → (out ++ take n b ∷ []) ++ pieces (drop n b) ≡ out ++ pieces b
-pieces-step out b n h is =
-    append_assoc out (take n b ∷ []) (pieces (drop n b)) ∙ ap (λ (bs : List (List ℕ)). out ++ bs) (first b n h is)
-  where
-    first : (b : List ℕ) (n : ℕ) → 0 < length b → n ≡ min (length b) 8176 → take n b ∷ pieces (drop n b) ≡ pieces b
-    first b n h is = elim (cases_lt (length b) 8176) [
-      | inl low ↦
-          ap (λ (x : List ℕ). x ∷ pieces (drop n b)) (take_all n b (omega arith) ∙ sym (take_all 8176 b (omega arith)))
-          ∙ ap (λ (y : List ℕ). take 8176 b ∷ pieces y) (drop_all n b (omega arith) ∙ sym (drop_all 8176 b (omega arith))) ∙ sym (pieces-more b h)
-      | inr high ↦ let e : n ≡ 8176 = omega arith in rw e (sym (pieces-more b h))
-    ]
-
-concat-pieces_of : (n : ℕ) (b : List ℕ) → length b ≤ 8176 * n → concat (pieces_of n b) ≡ b
-concat-pieces_of zero [] h = refl
-concat-pieces_of zero (x ∷ b) h = absurd (omega arith)
-concat-pieces_of (suc n) b h =
-    let len : length (drop 8176 b) ≡ length b - 8176 = length-drop 8176 b in
-    ap (λ (c : List ℕ). take 8176 b ++ c) (concat-pieces_of n (drop 8176 b) (omega (arith, len))) ∙ take-append-drop 8176 b
-
--- the blocks joined are the bytes
-pub concat-pieces : (b : List ℕ) → concat (pieces b) ≡ b
-unfolding pieces
-concat-pieces b = concat-pieces_of ((length b + 8175) / 8176) b (omega arith)
+use Rattle.node_values.specs.Named.{KeepsData, pieces}
+use Rattle.node_values.specs.Subnodes.{data_of, ids_ascend, without}
+use Rattle.property_context.specs.Placing.{IsAhead, Placing, are_long, ids_below, is_id, placed_data, subnode}
+use Rattle.node_values.proofs.SubLaws.{ascend-first, flattened-append, without-first}
 
 -- ---- ids in order
-
-ascend-deeper : (low : ℕ) (fs gs : List Flat) → ids_ascend low (map one_deeper fs ++ gs) ≡ ids_ascend low gs
-ascend-deeper low [] gs = refl
-ascend-deeper low (f ∷ fs) gs = rw (ne_eqb (f.level + 1) 0 (λ e. omega arith)) (ascend-deeper low fs gs)
 
 below-deeper : (high : ℕ) (fs gs : List Flat) → ids_below high (map one_deeper fs ++ gs) ≡ ids_below high gs
 below-deeper high [] gs = refl
 below-deeper high (f ∷ fs) gs = rw (ne_eqb (f.level + 1) 0 (λ e. omega arith)) (below-deeper high fs gs)
-
--- the ids of a list that begins with a subnode
-pub ascend-first : (low : ℕ) (s : Sub) (subs : List Sub) → ids_ascend low (flattened (s ∷ subs)) ≡ (nat_le low s.nid.bits && ids_ascend (suc s.nid.bits) (flattened subs))
-ascend-first low s subs = ap (λ (b : Bool). nat_le low s.nid.bits && b) (ascend-deeper (suc s.nid.bits) s.subs (flattened subs))
 
 below-first : (high : ℕ) (s : Sub) (subs : List Sub) → ids_below high (flattened (s ∷ subs)) ≡ (nat_lt s.nid.bits high && ids_below high (flattened subs))
 below-first high s subs = ap (λ (b : Bool). nat_lt s.nid.bits high && b) (below-deeper high s.subs (flattened subs))
@@ -350,12 +305,3 @@ free-most old new n is = elim (cases_Bool (n == old)) [
   | inl t ↦ let f : new ≡ old + 32 = is ∙ rw t refl in omega arith
   | inr e ↦ let f : new ≡ old = is ∙ rw e refl in omega arith
 ]
-
--- past one more subnode, whose id isn't below the least
-pub ascend-next : (low i n : ℕ) (subs : List Sub) (s : Sub) → i < length subs → s ≡ get_or subs i s → n ≡ s.nid.bits → low ≤ n
-    → ids_ascend (n + 1) (flattened (drop (i + 1) subs)) ≡ ids_ascend low (flattened (drop i subs))
-ascend-next low i n subs s h is id le =
-    let next : n + 1 ≡ suc s.nid.bits = omega arith in
-    ap (λ (m : ℕ). ids_ascend m (flattened (drop (i + 1) subs))) next
-    ∙ ap (λ (b : Bool). b && ids_ascend (suc s.nid.bits) (flattened (drop (i + 1) subs))) (sym (le-leb low s.nid.bits (omega arith)))
-    ∙ sym (ap (λ (xs : List Sub). ids_ascend low (flattened xs)) (drop_more subs i s h ∙ ap (λ (x : Sub). x ∷ drop (i + 1) subs) (sym is)) ∙ ascend-first low s (drop (i + 1) subs))

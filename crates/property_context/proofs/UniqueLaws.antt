@@ -8,7 +8,7 @@ use Rattle.bth_tree.proofs.OptionLaws.{none-some, some-injective}
 use Rattle.property_context.specs.declared.read.PcFault.{PcFault}
 use Rattle.property_context.specs.declared.read.PcFault.TheVariants.{Heap, Bth, Pc}
 use Rattle.property_context.specs.Context.{IsPropertyContext, Lacks, is_named, values_of}
-use Rattle.property_context.specs.Subnodes.{data_of, without}
+use Rattle.node_values.specs.Subnodes.{data_of, without}
 
 same-root : (blocks : List (List ℕ)) (r s : ℕ) → IsHeap blocks 0xBC r → IsHeap blocks 0xBC s → r ≡ s
 same-root blocks r s a b = sym a.root_is ∙ b.root_is

@@ -27,27 +27,18 @@ use Rattle.heap_on_node.specs.Heap.{IsHeap, item}
 use Rattle.bth_tree.proofs.OptionLaws.{none-some, some-injective}
 use Rattle.bth_tree.proofs.MakeLaws.{AreRecords-push, item_in-zero}
 use Rattle.property_context.specs.declared.placing.Placer.{Placer}
-use Rattle.property_context.specs.Context.{IsPropertyContext, fitting, is_named, named, names, of_field, value_of, values_of}
-use Rattle.property_context.specs.Subnodes.{data_of, without}
-use Rattle.property_context.specs.Placing.{AddsLong, KeepsData, Places, Placing, is_id, long_bytes, pieces, placed_data, span}
+use Rattle.property_context.specs.Context.{IsPropertyContext, fitting, is_named, names, of_field, value_of, values_of}
+use Rattle.node_values.specs.Subnodes.{data_of, without}
+use Rattle.node_values.specs.Named.{KeepsData, named, pieces}
+use Rattle.property_context.specs.Placing.{AddsLong, Places, Placing, is_id, long_bytes, placed_data, span}
 use Rattle.property_context.specs.Writing.{ArePlain, Grows, Holds, IsPlainRecord, PutsBytes, PutsValue, PutsValues, WritesFields, hnid_is, slot_of}
 use Rattle.property_context.proofs.RoomLaws.{few-records, holds-none, two-a_block}
-use Rattle.property_context.proofs.SubLaws.{flattened-append, without-same}
-use Rattle.property_context.proofs.PlaceLaws.{concat-pieces, data-append, data-without, placed-all}
+use Rattle.node_values.proofs.SubLaws.{flattened-append, without-same}
+use Rattle.node_values.proofs.NamedLaws.{named-item, named-sub, named-zero}
+use Rattle.node_values.proofs.PieceLaws.{concat-pieces}
+use Rattle.property_context.proofs.PlaceLaws.{data-append, data-without, placed-all}
 
 -- ---- bytes under an id
-
-named-zero : (get : ℕ → Option (List ℕ)) (sub : ℕ → Option (List (List ℕ))) → named get sub 0 ≡ Some []
-unfolding named
-named-zero get sub = refl
-
-named-item : (get : ℕ → Option (List ℕ)) (sub : ℕ → Option (List (List ℕ))) (id : ℕ) → (id ≡ 0 → ⊥) → id % 32 ≡ 0 → named get sub id ≡ get id
-unfolding named
-named-item get sub id some low = rw (ne_eqb id 0 some, eq-eqb (id % 32) 0 low) refl
-
-named-sub : (get : ℕ → Option (List ℕ)) (sub : ℕ → Option (List (List ℕ))) (id : ℕ) → id % 32 ≡ 31 → named get sub id ≡ option_map concat (sub id)
-unfolding named
-named-sub get sub id kind = rw (ne_eqb id 0 (λ e. omega arith), ne_eqb (id % 32) 0 (λ e. omega arith)) refl
 
 no-more : (p : Placer) (long : List (ℕ × List ℕ)) (rest : List Flat) → Placing p long rest → Placing p (long ++ []) rest
 no-more p long rest h = subst (λ (l : List (ℕ × List ℕ)). Placing p l rest) (sym (append-nil long)) h

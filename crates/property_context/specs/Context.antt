@@ -11,11 +11,8 @@ use Rattle.heap_on_node.specs.Heap.{IsHeap, item}
 use Rattle.bth_tree.specs.Tree.{bth}
 use Rattle.property_context.specs.declared.read.PcFault.{PcFault}
 use Rattle.property_context.specs.declared.read.PcFault.TheVariants.{Heap, Bth, Pc}
-use Rattle.property_context.specs.Subnodes.{data_of, without}
-
--- the bytes that an id of an item or a subnode names; 0 names no bytes
-unfoldable pub named : (ℕ → Option (List ℕ)) → (ℕ → Option (List (List ℕ))) → ℕ → Option (List ℕ)
-named get sub id = if id == 0 then Some [] else (if id % 32 == 0 then get id else option_map concat (sub id))
+use Rattle.node_values.specs.Named.{named}
+use Rattle.node_values.specs.Subnodes.{data_of, without}
 
 -- the bytes of a field's value: its first, as many as the width, or where there is none those that it names
 abbrev pub of_field : (ℕ → Option (List ℕ)) → (ℕ → Option (List (List ℕ))) → Option ℕ → List ℕ → Option (List ℕ)

@@ -1,4 +1,3 @@
 pub mod Context
 pub mod Placing
-pub mod Subnodes
 pub mod Writing

@@ -6,16 +6,8 @@ use Rattle.pst_base.specs.declared.subs.Sub.{Sub}
 use Rattle.mapi_values.specs.Values.{Val}
 use Rattle.write_limits.specs.Limits.{is_long}
 use Rattle.property_context.specs.declared.placing.Placer.{Placer}
-use Rattle.property_context.specs.Subnodes.{data_of, ids_ascend, without}
-
--- the first n blocks of some bytes, of 8176 bytes each but the last
-abbrev pub pieces_of : ℕ → List ℕ → List (List ℕ)
-pieces_of zero b = []
-pieces_of (suc n) b = take 8176 b ∷ pieces_of n (drop 8176 b)
-
--- the blocks of some bytes
-unfoldable pub pieces : List ℕ → List (List ℕ)
-pieces b = pieces_of ((length b + 8175) / 8176) b
+use Rattle.node_values.specs.Named.{KeepsData, pieces}
+use Rattle.node_values.specs.Subnodes.{data_of, ids_ascend, without}
 
 -- the subnode of this id and these bytes
 abbrev pub subnode : ℕ × List ℕ → Flat
@@ -72,10 +64,6 @@ span p = p.free + 32 * length p.left.items
 abbrev pub IsAhead : ℕ → List Sub → Type 0
 IsAhead free [] = Unit {0}
 IsAhead free (s ∷ subs) = free < s.nid.bits
-
--- what was found is found still
-abbrev pub KeepsData : (ℕ → Option (List (List ℕ))) → (ℕ → Option (List (List ℕ))) → Type 0
-KeepsData old new = (nid : ℕ) (blocks : List (List ℕ)) → old nid ≡ Some blocks → new nid ≡ Some blocks
 
 -- the blocks of the subnode that was placed with an id
 abbrev pub placed_data : Placer → ℕ → Option (List (List ℕ))

@@ -8,9 +8,10 @@ use Rattle.heap_on_node.specs.Heap.{IsHeap, block_of, index_of, item}
 use Rattle.heap_on_node.specs.Packing.{item_in}
 use Rattle.bth_tree.specs.Tree.{bth}
 use Rattle.bth_tree.specs.Making.{AreRecords, Keeps}
+use Rattle.node_values.specs.Named.{KeepsData, named}
 use Rattle.property_context.specs.declared.placing.Placer.{Placer}
-use Rattle.property_context.specs.Context.{is_named, named, names, value_of, values_of}
-use Rattle.property_context.specs.Placing.{KeepsData, Placing, is_id, long_bytes, placed_data, span}
+use Rattle.property_context.specs.Context.{is_named, names, value_of, values_of}
+use Rattle.property_context.specs.Placing.{Placing, is_id, long_bytes, placed_data, span}
 
 -- the id by which bytes are named, as it is written: 0 for none, of an item for up to 3580, else of a subnode
 abbrev pub hnid_is : List ℕ → ℕ → Bool

@@ -3,12 +3,17 @@ ghost use Rattle.std.specs.Prelude.{◌≡◌, ◌+◌, ◌*◌, ◌≤◌, ◌<
 ghost use Rattle.pst_base.specs.Flat.{Flat};
 ghost use Rattle.pst_base.specs.Subs.{flattened};
 ghost use Rattle.write_limits.specs.Limits.{direct};
-ghost use Rattle.property_context.specs.Subnodes.{ids_ascend};
-ghost use Rattle.property_context.specs.Placing.{IsAhead, KeepsData, Places, Placing, pieces, placed_data, span};
+ghost use Rattle.node_values.specs.Subnodes.{ids_ascend};
+ghost use Rattle.node_values.specs.Named.{KeepsData};
+ghost use Rattle.property_context.specs.Placing.{IsAhead, Places, Placing, placed_data, span};
 
-use pst_base::{Blocks, Bytes, Nid, Sub, Subs};
+use node_values::cut;
+use pst_base::{Nid, Sub, Subs};
 use std::alloc::{AllocError, Global};
 use std::collections::VecDeque;
+
+/// The first id of a subnode of a long value, whose low five bits are 1Fh.
+const FIRST: u32 = 0x3F;
 
 /// The subnodes that were placed, what is left of those of the node, and the next id that a long value may get.
 #[derive(Debug, Drop)]
@@ -16,20 +21,6 @@ pub struct Placer {
     pub placed: Vec<Sub>,
     pub left: VecDeque<Sub>,
     pub free: u32,
-}
-
-/// The blocks of the data of a subnode: 8176 bytes in each but the last ([MS-PST] 2.2.2.8.3.1).
-fn cut(alloc: Global, bytes: &[u8]) -> Result<Blocks, AllocError>
-    ensures { IfOk result (λ blocks. blocks ≡ pieces bytes.now) }
-{
-    let mut pieces = Blocks::new(alloc);
-    let mut rest = bytes;
-    while rest.len() > 0 {
-        let (piece, others) = rest.split_at(rest.len().min(8176));
-        pieces.push(Bytes::from_slice(alloc, piece)?)?;
-        rest = others;
-    }
-    Ok(pieces)
 }
 
 /// Takes the first subnode that is left, unless its id is above the free one.
@@ -100,7 +91,7 @@ pub fn begin(alloc: Global, rest: Subs) -> Placer
     Placer {
         placed: Vec::new(alloc),
         left: VecDeque::from(rest.into_vec()),
-        free: 0x3F,
+        free: FIRST,
     }
 }
 

@@ -1,15 +1,18 @@
 //! Reading a property context.
 ghost use Rattle.std.specs.Prelude.{◌≡◌, true, IfOk};
 ghost use Rattle.property_context.specs.Context.{ReadsPc};
-ghost use Rattle.property_context.specs.Subnodes.{ids_ascend};
+ghost use Rattle.node_values.specs.Subnodes.{ids_ascend};
 
-use crate::subnodes::{Finder, others};
 use crate::value::{named_ids, values_at};
 use bth_tree::bth_read;
 use heap_on_node::HeapView;
 use mapi_values::Props;
+use node_values::Finder;
 use pst_base::{Bytes, MemOr, Subs};
 use std::alloc::Global;
+
+/// The client of a heap that is a property context ([MS-PST] 2.3.1.2).
+pub const PROPERTY_CONTEXT: u8 = 0xBC;
 
 /// Why blocks and subnodes aren't a property context: the first of these that holds.
 #[derive(Clone, Copy, Debug, PartialEq, Eq)]
@@ -34,7 +37,7 @@ pub fn read_pc(
     let Ok(view) = HeapView::read(blocks) else {
         return Err(MemOr::Refused(PcFault::Heap));
     };
-    let Some(root) = view.root_for(0xBC) else {
+    let Some(root) = view.root_for(PROPERTY_CONTEXT) else {
         return Err(MemOr::Refused(PcFault::Heap));
     };
     let records = match bth_read(alloc, &view, root, 2, 6) {
@@ -49,5 +52,5 @@ pub fn read_pc(
         Err(MemOr::Refused(_)) => return Err(MemOr::Refused(PcFault::Pc)),
     };
     let ids = named_ids(alloc, records.as_slice())?;
-    Ok((Props::from_vec(values), others(alloc, subs, &ids)?))
+    Ok((Props::from_vec(values), finder.without(alloc, &ids)?))
 }

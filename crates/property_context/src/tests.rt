@@ -1,8 +1,9 @@
 //! A context that another program wrote, with one change after the other, and long values among the subnodes of a node.
-use crate::{PcFault, ids_ascend, read_pc, write_pc};
+use crate::{PcFault, read_pc, write_pc};
 use bth_tree::bth_find;
 use heap_on_node::{HeapMaker, HeapView};
 use mapi_values::{Props, Tag, Value, fits};
+use node_values::ids_ascend;
 use pst_base::{Blocks, Bytes, MemOr, Nid, Sub, Subs};
 use std::alloc::{AllocGlobal, Global};
 use std::process::Abort;

@@ -6,11 +6,12 @@ ghost use Rattle.heap_on_node.specs.Packing.{IsPlain, PacksTight};
 ghost use Rattle.mapi_values.specs.Properties.{ascend_from};
 ghost use Rattle.write_limits.specs.Limits.{long_values, props_fit};
 ghost use Rattle.property_context.specs.Context.{IsPropertyContext};
-ghost use Rattle.property_context.specs.Subnodes.{ids_ascend};
+ghost use Rattle.node_values.specs.Subnodes.{ids_ascend};
 ghost use Rattle.property_context.specs.Placing.{AddsLong, Placing, span};
 ghost use Rattle.property_context.specs.Writing.{PutsBytes, PutsValue, PutsValues, WritesFields};
 
 use crate::placing::{Placer, all_placed, begin, place};
+use crate::read::PROPERTY_CONTEXT;
 use bth_tree::bth_make;
 use heap_on_node::HeapMaker;
 use mapi_values::{Props, Value, field_width};
@@ -106,6 +107,6 @@ pub fn write_pc(alloc: Global, p: &Props, rest: Subs) -> Result<(Blocks, Subs), 
     let mut placer = begin(alloc, rest);
     let (mut heap, records) = put_values(alloc, &mut placer, p.values())?;
     let root = bth_make(alloc, &mut heap, 2, 6, records.as_slice())?;
-    let blocks = heap.finish(0xBC, root)?;
+    let blocks = heap.finish(PROPERTY_CONTEXT, root)?;
     Ok((blocks, all_placed(placer)?))
 }

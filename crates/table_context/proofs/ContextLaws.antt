@@ -22,7 +22,8 @@ use Rattle.table_context.specs.declared.fault.TcFault.TheVariants.{Heap, Bth, Tc
 use Rattle.table_context.specs.Context.{IsTableContext, Lacks, table_in, table_of}
 use Rattle.table_context.specs.Header.{columns_of, ends_in, index_in, matrix_in, names_index, size_in}
 use Rattle.table_context.specs.Rows.{raw_rows, row_in, row_of, rows_of, used}
-use Rattle.table_context.specs.Subnodes.{data_of, others}
+use Rattle.node_values.specs.Subnodes.{data_of}
+use Rattle.table_context.specs.Rows.{others}
 use Rattle.table_context.proofs.LayoutLaws.{form-layout}
 use Rattle.table_context.proofs.CellLaws.{cells-suit, row-parts}
 use Rattle.table_context.proofs.RowLaws.{no_row}
@@ -104,7 +105,7 @@ header-lies x columns from size form f s =
 
 pub table-made : (get : ℕ → Option (List ℕ)) (subs : List Flat) (x : List ℕ) (columns : List Column) (recs : List (ℕ × List ℕ)) (from size hnid : ℕ)
     (raws : List (ℕ × List ℕ)) (rows : List (ℕ × List Val)) (kept : List Flat) (t : Tab) → from ≡ number_at 2 6 x → size ≡ size_in x → hnid ≡ matrix_in x
-    → raw_rows (row_in get (data_of subs) size hnid) recs ≡ Some raws → rows_of get (data_of subs) from columns raws ≡ Some rows → kept ≡ others (used from columns raws hnid) true subs
+    → raw_rows (row_in get (data_of subs) size hnid) recs ≡ Some raws → rows_of get (data_of subs) from columns raws ≡ Some rows → kept ≡ others (used from columns raws hnid) subs
     → t.columns ≡ columns → t.ends ≡ ends_in x → t.rows ≡ rows → t.kept ≡ kept → table_of get subs x columns recs ≡ Some t
 unfolding table_of
 table-made get subs x columns recs from size hnid raws rows kept t f s m found read left a b c d =
@@ -112,9 +113,9 @@ table-made get subs x columns recs from size hnid raws rows kept t f s m found r
     let found_there : raw_rows (row_in get sub (size_in x) (matrix_in x)) recs ≡ Some raws =
     ap (λ (n : ℕ). raw_rows (row_in get sub n (matrix_in x)) recs) (sym s) ∙ ap (λ (n : ℕ). raw_rows (row_in get sub size n) recs) (sym m) ∙ found in
     let read_there : rows_of get sub (number_at 2 6 x) columns raws ≡ Some rows = ap (λ (n : ℕ). rows_of get sub n columns raws) (sym f) ∙ read in
-    let left_there : t.kept ≡ others (used (number_at 2 6 x) columns raws (matrix_in x)) true subs =
-    d ∙ left ∙ ap (λ (n : ℕ). others (used n columns raws hnid) true subs) f ∙ ap (λ (n : ℕ). others (used (number_at 2 6 x) columns raws n) true subs) m in
-    rw (found_there, read_there) (ap Some (made-of t columns (ends_in x) rows (others (used (number_at 2 6 x) columns raws (matrix_in x)) true subs) a b c left_there))
+    let left_there : t.kept ≡ others (used (number_at 2 6 x) columns raws (matrix_in x)) subs =
+    d ∙ left ∙ ap (λ (n : ℕ). others (used n columns raws hnid) subs) f ∙ ap (λ (n : ℕ). others (used (number_at 2 6 x) columns raws n) subs) m in
+    rw (found_there, read_there) (ap Some (made-of t columns (ends_in x) rows (others (used (number_at 2 6 x) columns raws (matrix_in x)) subs) a b c left_there))
 
 heads-one : (blocks : List (List ℕ)) (p q : ℕ) (x y : List ℕ) → IsHeap blocks 0x7C p → IsHeap blocks 0x7C q → item blocks p ≡ Some x → item blocks q ≡ Some y → x ≡ y
 heads-one blocks p q x y a b i j =

@@ -14,7 +14,8 @@ use Rattle.table_context.specs.declared.fault.TcFault.{TcFault}
 use Rattle.table_context.specs.declared.fault.TcFault.TheVariants.{Heap, Bth, Tc}
 use Rattle.table_context.specs.Header.{columns_of, ends_in, index_in, matrix_in, names_index, size_in}
 use Rattle.table_context.specs.Rows.{raw_rows, row_in, rows_of, used}
-use Rattle.table_context.specs.Subnodes.{data_of, others}
+use Rattle.node_values.specs.Subnodes.{data_of}
+use Rattle.table_context.specs.Rows.{others}
 
 -- the table of a header with these columns, with the rows that records of the row index name
 unfoldable pub table_of : (ℕ → Option (List ℕ)) → List Flat → List ℕ → List Column → List (ℕ × List ℕ) → Option Tab
@@ -23,7 +24,7 @@ table_of get subs x columns recs =
       columns = columns;
       ends = ends_in x;
       rows = rows;
-      kept = others (used (number_at 2 6 x) columns raws (matrix_in x)) true subs;
+      kept = others (used (number_at 2 6 x) columns raws (matrix_in x)) subs;
     }))
     (rows_of get (data_of subs) (number_at 2 6 x) columns raws))
     (raw_rows (row_in get (data_of subs) (size_in x) (matrix_in x)) recs)

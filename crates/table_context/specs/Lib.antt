@@ -1,10 +1,4 @@
 pub mod Answers
-pub mod Bits
 pub mod Context
-pub mod Filling
 pub mod Header
-pub mod Making
 pub mod Rows
-pub mod Subnodes
-pub mod Woven
-pub mod Writing

@@ -1,13 +1,17 @@
 -- The rows of a table ([MS-PST] 2.3.4.4), as readings: get finds the items of its heap, and sub the data of the subnodes directly in its node.
-use Rattle.std.specs.Prelude.{ℕ, ◌+◌, ◌-◌, ◌*◌, ◌/◌, ◌%◌, ◌^◌, ◌==◌, ◌&&◌, Bool, true, not, List, [], ◌∷◌, ◌++◌, length, take, drop, get_or, nat_le, slice_get, Option, None, Some, if◌then◌else◌}
+use Rattle.std.specs.Prelude.{ℕ, ◌+◌, ◌-◌, ◌*◌, ◌/◌, ◌%◌, ◌^◌, ◌==◌, ◌&&◌, Bool, true, false, not, List, [], ◌∷◌, ◌++◌, length, take, drop, get_or, nat_le, slice_get, Option, None, Some, if◌then◌else◌}
 use Rattle.std.specs.Option.{option_and_then}
-use Rattle.std.specs.List.{concat, flat_map}
+use Rattle.std.specs.List.{flat_map, list_any}
 use Rattle.byteorder.specs.Endian.{little_number}
 use Rattle.pst_base.specs.Fields.{number_at}
 use Rattle.mapi_values.specs.declared.column.Column.{Column}
 use Rattle.mapi_values.specs.Columns.{has_column, in_cell}
 use Rattle.mapi_values.specs.Properties.{ascend_from}
+use Rattle.mapi_values.specs.Tags.{pid_tag_ltp_row_id}
 use Rattle.mapi_values.specs.Values.{Val, fits}
+use Rattle.node_values.specs.Named.{named}
+use Rattle.node_values.specs.Subnodes.{without}
+use Rattle.pst_base.specs.Flat.{Flat}
 
 -- piece n of bytes that are cut into pieces of a size, if it is whole
 unfoldable pub piece : ℕ → ℕ → List ℕ → Option (List ℕ)
@@ -31,14 +35,7 @@ is_set from row bit = get_or row (from + bit / 8) 0 / 2 ^ (7 - bit % 8) % 2 == 1
 
 -- the row has a value in the column's cell; the row id is none
 unfoldable pub has_cell : ℕ → List ℕ → Column → Bool
-has_cell from row c = not (c.tag.id == 0x67F2) && is_set from row c.bit
-
--- the bytes that an id names: none under 0, a heap item, or the data of a subnode
-unfoldable pub named : (ℕ → Option (List ℕ)) → (ℕ → Option (List (List ℕ))) → ℕ → Option (List ℕ)
-named get sub hnid =
-    if hnid == 0 then Some []
-    else if hnid % 32 == 0 then get hnid
-    else option_and_then (λ (blocks : List (List ℕ)). Some (concat blocks)) (sub hnid)
+has_cell from row c = not (c.tag.id == pid_tag_ltp_row_id.id) && is_set from row c.bit
 
 -- the bytes of the value in a cell at a place: those of the cell, where the kind has a width, or else those that it names
 abbrev pub content : (ℕ → Option (List ℕ)) → (ℕ → Option (List (List ℕ))) → List ℕ → ℕ → Option ℕ → Option (List ℕ)
@@ -63,7 +60,7 @@ cells_of get sub from row (c ∷ cs) =
 
 -- the row id, where it is a column, stands at the front of the row
 unfoldable pub shows_id : List Column → ℕ → List ℕ → Bool
-shows_id columns id row = if has_column columns 0x67F2 0x0003 then number_at 4 0 row == id else true
+shows_id columns id row = if has_column columns pid_tag_ltp_row_id.id pid_tag_ltp_row_id.kind then number_at 4 0 row == id else true
 
 -- the row of this id and these bytes; no two of its values have one id
 unfoldable pub row_of : (ℕ → Option (List ℕ)) → (ℕ → Option (List (List ℕ))) → ℕ → List Column → ℕ → List ℕ → Option (ℕ × List Val)
@@ -98,3 +95,11 @@ row_names from columns row = flat_map (cell_names from row) columns
 -- the subnodes that the cells of rows name, and the one that holds the rows
 unfoldable pub used : ℕ → List Column → List (ℕ × List ℕ) → ℕ → List ℕ
 used from columns raws hnid = flat_map (λ (r : ℕ × List ℕ). row_names from columns r.1) raws ++ subnode hnid
+
+-- the id is one of these
+abbrev pub is_among : List ℕ → ℕ → Bool
+is_among ids nid = list_any (λ id. id == nid) ids
+
+-- the subnodes that have none of these ids, each with what stands below it
+abbrev pub others : List ℕ → List Flat → List Flat
+others ids subs = without (is_among ids) false subs

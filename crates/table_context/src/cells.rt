@@ -1,18 +1,19 @@
 //! The values in the cells of a row.
-ghost use Rattle.std.specs.Prelude.{◌≡◌, ◌≤◌, ◌<◌, ◌+◌, ◌*◌, ◌/◌, ◌++◌, ℕ, length, take, drop, IfOk, OnOk, true, option_copied};
-ghost use Rattle.std.specs.List.{concat, list_all};
+ghost use Rattle.std.specs.Prelude.{◌≡◌, ◌≤◌, ◌<◌, ◌+◌, ◌*◌, ◌/◌, ◌++◌, ℕ, length, take, drop, IfOk, OnOk, true};
+ghost use Rattle.std.specs.List.{list_all};
 ghost use Rattle.pst_base.specs.Stops.{Finds};
 ghost use Rattle.heap_on_node.specs.Heap.{item};
 ghost use Rattle.mapi_values.specs.Columns.{cell_width, in_cell, lies};
 ghost use Rattle.mapi_values.specs.Properties.{ascend_from};
 ghost use Rattle.mapi_values.specs.Values.{Val, fits};
-ghost use Rattle.table_context.specs.Rows.{cell_of, cells_of, content, has_cell, is_set, named, value_in};
-ghost use Rattle.table_context.specs.Subnodes.{data_of};
+ghost use Rattle.node_values.specs.Named.{named};
+ghost use Rattle.table_context.specs.Rows.{cell_of, cells_of, content, has_cell, is_set, value_in};
+ghost use Rattle.node_values.specs.Subnodes.{data_of};
 
-use crate::fault::NoTable;
-use crate::found::Found;
 use heap_on_node::HeapView;
+use mapi_values::tags::ID_LTP_ROW_ID;
 use mapi_values::{Column, Tag, Value, fits, fixed_width};
+use node_values::{Absent, Finder, named_bytes};
 use pst_base::{Bytes, MemOr, part, u32_at};
 use std::alloc::{AllocError, Global};
 
@@ -31,68 +32,30 @@ pub fn has_cell(row: &[u8], from: usize, column: &Column) -> bool
     requires { from + column.now.bit / 8 < length row.now }
     ensures { result ≡ has_cell from row.now column.now }
 {
-    column.tag.id != 0x67F2 && is_set(row, from, column.bit)
-}
-
-/// The bytes of blocks, one behind the other.
-fn joined(alloc: Global, blocks: &[Bytes]) -> Result<Bytes, AllocError>
-    ensures { IfOk result (λ bytes. bytes ≡ concat blocks.now) }
-{
-    let mut bytes = Vec::new(alloc);
-    for block in blocks {
-        bytes.extend_from_slice(block.as_slice())?;
-    }
-    Ok(Bytes::from_vec(bytes))
-}
-
-/// A copy of an item's bytes, if there is one.
-fn copied(alloc: Global, found: Option<&[u8]>) -> Result<Bytes, MemOr<NoTable>>
-    ensures { Finds (λ x. x) result (option_copied found.entry) }
-{
-    match found {
-        Some(x) => Ok(Bytes::from_slice(alloc, x)?),
-        None => Err(MemOr::Refused(NoTable)),
-    }
-}
-
-/// The bytes that an id of a heap item or a subnode names.
-#[tactic(auto, unfolding(crate::specs::Rows::named))]
-fn named(alloc: Global, h: &HeapView, subs: &Found, hnid: u32) -> Result<Bytes, MemOr<NoTable>>
-    ensures { Finds (λ x. x) result (named (item h.now) (data_of subs.now) hnid) }
-{
-    if hnid == 0 {
-        return Ok(Bytes::new(alloc));
-    }
-    if hnid % 32 == 0 {
-        return copied(alloc, h.item(hnid));
-    }
-    match subs.data(hnid) {
-        Some(blocks) => Ok(joined(alloc, blocks)?),
-        None => Err(MemOr::Refused(NoTable)),
-    }
+    column.tag.id != ID_LTP_ROW_ID && is_set(row, from, column.bit)
 }
 
 /// The bytes of the value in a column's cell.
 fn content(
     alloc: Global,
     h: &HeapView,
-    subs: &Found,
+    subs: &Finder,
     row: &[u8],
     column: &Column,
-) -> Result<Bytes, MemOr<NoTable>>
+) -> Result<Bytes, MemOr<Absent>>
     requires { column.now.at + cell_width column.now.tag.kind ≤ length row.now }
     ensures { Finds (λ x. x) result (content (item h.now) (data_of subs.now) row.now column.now.at (in_cell column.now.tag.kind)) }
 {
     let at = usize::from(column.at);
     match fixed_width(column.tag.kind) {
         Some(width) => Ok(Bytes::from_slice(alloc, part(row, at, width))?),
-        None => named(alloc, h, subs, u32_at(row, at)),
+        None => named_bytes(alloc, h, subs, u32_at(row, at)),
     }
 }
 
 /// The value of these bytes in a column, if its kind may have so many.
 #[tactic(auto, unfolding(crate::specs::Rows::value_in))]
-fn value_in(column: &Column, bytes: Bytes) -> Result<Value, MemOr<NoTable>>
+fn value_in(column: &Column, bytes: Bytes) -> Result<Value, MemOr<Absent>>
     ensures { Finds (λ v. v) result (value_in column.now bytes) }
 {
     let tag = Tag {
@@ -100,7 +63,7 @@ fn value_in(column: &Column, bytes: Bytes) -> Result<Value, MemOr<NoTable>>
         kind: column.tag.kind,
     };
     if !fits(tag.kind, bytes.len()) {
-        return Err(MemOr::Refused(NoTable));
+        return Err(MemOr::Refused(Absent));
     }
     Ok(Value::new(tag, bytes))
 }
@@ -110,10 +73,10 @@ fn value_in(column: &Column, bytes: Bytes) -> Result<Value, MemOr<NoTable>>
 fn cell(
     alloc: Global,
     h: &HeapView,
-    subs: &Found,
+    subs: &Finder,
     row: &[u8],
     column: &Column,
-) -> Result<Value, MemOr<NoTable>>
+) -> Result<Value, MemOr<Absent>>
     requires { column.now.at + cell_width column.now.tag.kind ≤ length row.now }
     ensures { Finds (λ v. v) result (cell_of (item h.now) (data_of subs.now) row.now column.now) }
 {
@@ -125,11 +88,11 @@ fn cell(
 pub fn cells(
     alloc: Global,
     h: &HeapView,
-    subs: &Found,
+    subs: &Finder,
     columns: &[Column],
     from: usize,
     row: &[u8],
-) -> Result<Vec<Value>, MemOr<NoTable>>
+) -> Result<Vec<Value>, MemOr<Absent>>
     requires { list_all (lies from (length row.now)) columns.now ≡ true }
     ensures { Finds (λ v. v.items) result (cells_of (item h.now) (data_of subs.now) from row.now columns.now) }
 {
@@ -143,7 +106,7 @@ pub fn cells(
 }
 
 /// Whether the ids of values ascend strictly.
-pub fn ids_ascend(values: &[Value]) -> bool
+pub fn values_ascend(values: &[Value]) -> bool
     ensures { result ≡ ascend_from 0 values.now }
 {
     let mut low = 0u32;

@@ -10,7 +10,3 @@ pub enum TcFault {
     /// Anything else.
     Tc,
 }
-
-/// Something of a table isn't in order.
-#[derive(Clone, Copy, Debug, PartialEq, Eq)]
-pub struct NoTable;

@@ -4,8 +4,9 @@ ghost use Rattle.pst_base.specs.Stops.{Finds};
 ghost use Rattle.table_context.specs.Header.{column_at, columns_at, columns_of, ends_in, has_form, names_index, size_in};
 ghost use Rattle.mapi_values.specs.Columns.{is_layout};
 
-use crate::fault::NoTable;
+use crate::read::TABLE_CONTEXT;
 use mapi_values::{Column, Tag, is_layout};
+use node_values::Absent;
 use pst_base::{MemOr, u8_at, u16_at};
 use std::alloc::{AllocError, Global};
 
@@ -14,7 +15,7 @@ use std::alloc::{AllocError, Global};
 pub fn names_index(x: &[u8]) -> bool
     ensures { result ≡ names_index x.now }
 {
-    x.len() >= 22 && u8_at(x, 0) == 0x7C
+    x.len() >= 22 && u8_at(x, 0) == TABLE_CONTEXT
 }
 
 /// The column that 8 bytes from a place on describe ([MS-PST] 2.3.4.2).
@@ -69,17 +70,17 @@ fn fit(columns: &[Column], ends: &[u16; 4]) -> bool
 
 /// The columns of a table's header, if it is one.
 #[tactic(auto, unfolding(crate::specs::Header::has_form))]
-pub fn columns(alloc: Global, x: &[u8]) -> Result<Vec<Column>, MemOr<NoTable>>
+pub fn columns(alloc: Global, x: &[u8]) -> Result<Vec<Column>, MemOr<Absent>>
     requires { 22 ≤ length x.now }
     ensures { Finds (λ columns. columns.items) result (columns_of x.now) }
 {
     let count = u8_at(x, 1);
     if !ends_there(x, count) {
-        return Err(MemOr::Refused(NoTable));
+        return Err(MemOr::Refused(Absent));
     }
     let columns = columns_from(alloc, x, usize::from(count))?;
     if !fit(columns.as_slice(), &ends(x)) {
-        return Err(MemOr::Refused(NoTable));
+        return Err(MemOr::Refused(Absent));
     }
     Ok(columns)
 }

@@ -3,17 +3,16 @@ ghost use Rattle.std.specs.Prelude.{◌≡◌, ◌≤◌, ◌<◌, ◌+◌, ◌/
 ghost use Rattle.std.specs.List.{flat_map, list_all};
 ghost use Rattle.std.specs.Ordering.{nat_cmp};
 ghost use Rattle.std.specs.BTreeSet.{contains as has_key};
-ghost use Rattle.pst_base.specs.Subs.{flattened};
 ghost use Rattle.mapi_values.specs.Columns.{in_cell, lies};
 ghost use Rattle.table_context.specs.Answers.{raw_seen};
 ghost use Rattle.table_context.specs.Rows.{cell_names, names, row_names, subnode, used};
-ghost use Rattle.table_context.specs.Subnodes.{is_among, others};
+ghost use Rattle.table_context.specs.Rows.{is_among, others};
 
 use crate::cells::has_cell;
-use crate::found::Found;
 use crate::rows::RawRow;
 use mapi_values::{Column, fixed_width};
-use pst_base::{Sub, Subs, u32_at};
+use node_values::Finder;
+use pst_base::{Subs, u32_at};
 use std::alloc::{AllocError, Global};
 use std::collections::BTreeSet;
 
@@ -91,43 +90,18 @@ fn set_of(alloc: Global, ids: &[u32]) -> Result<BTreeSet<u32>, AllocError>
     ids.iter().copied().collect(alloc)
 }
 
-/// The same subnode again.
-pub fn copy_sub(alloc: Global, sub: &Sub) -> Result<Sub, AllocError>
-    ensures { IfOk result (λ copied. copied ≡ sub.now) }
-{
-    Ok(Sub {
-        nid: sub.nid,
-        blocks: sub.blocks.copy(alloc)?,
-        subs: sub.subs.copy(alloc)?,
-    })
-}
-
-/// The subnodes that have none of these ids, each with what stands below it.
-fn others(alloc: Global, subs: &[Sub], ids: &[u32]) -> Result<Subs, AllocError>
-    ensures { IfOk result (λ kept. kept ≡ others ids.now true (flattened subs.now)) }
-{
-    let used = set_of(alloc, ids)?;
-    let mut kept = Vec::new(alloc);
-    for sub in subs {
-        if !used.contains(&sub.nid.bits) {
-            kept.push(copy_sub(alloc, sub)?)?;
-        }
-    }
-    Ok(Subs::from_vec(kept))
-}
-
 /// The subnodes that a table with these rows doesn't use, each with what stands below it.
 pub fn kept(
     alloc: Global,
-    subs: &Found,
+    subs: &Finder,
     columns: &[Column],
     from: usize,
     raws: &[RawRow],
     hnid: u32,
 ) -> Result<Subs, AllocError>
     requires { All (λ r. list_all (lies from (length r.bytes.now)) columns.now ≡ true) raws.now }
-    ensures { IfOk result (λ kept. kept ≡ others (used from columns.now (map raw_seen raws.now) hnid) true subs.now) }
+    ensures { IfOk result (λ kept. kept ≡ others (used from columns.now (map raw_seen raws.now) hnid) subs.now) }
 {
     let ids = used(alloc, columns, from, raws, hnid)?;
-    others(alloc, subs.entries(), ids.as_slice())
+    subs.without(alloc, &set_of(alloc, ids.as_slice())?)
 }

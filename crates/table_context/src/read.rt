@@ -10,27 +10,30 @@ ghost use Rattle.table_context.specs.Context.{IsTableContext, Lacks, ReadsTc, ta
 ghost use Rattle.table_context.specs.Header.{columns_of};
 ghost use Rattle.table_context.specs.declared.fault.TcFault.{TcFault};
 
-use crate::fault::{NoTable, TcFault};
-use crate::found::Found;
+use crate::fault::TcFault;
 use crate::header::{columns, ends, names_index};
 use crate::kept::kept;
 use crate::rows::{raw_rows, rows};
 use bth_tree::{Record, bth_read};
 use heap_on_node::HeapView;
 use mapi_values::{Column, Table};
+use node_values::{Absent, Finder};
 use pst_base::{Bytes, MemOr, Subs, u32_at};
 use std::alloc::Global;
+
+/// The client of a heap that is a table ([MS-PST] 2.3.1.2), and the first byte of its header.
+pub const TABLE_CONTEXT: u8 = 0x7C;
 
 /// The table of a header with these columns, with the rows that records of the row index name.
 #[tactic(auto, unfolding(crate::specs::Context::table_of))]
 fn table_of(
     alloc: Global,
     h: &HeapView,
-    subs: &Found,
+    subs: &Finder,
     x: &[u8],
     columns: Vec<Column>,
     recs: &[Record],
-) -> Result<Table, MemOr<NoTable>>
+) -> Result<Table, MemOr<Absent>>
     requires size { 22 ≤ length x.now }
     requires form { columns_of x.now ≡ Some columns.items }
     requires each { All (IsRecord 4 4) recs.now }
@@ -51,10 +54,10 @@ fn table_of(
 fn table_in(
     alloc: Global,
     h: &HeapView,
-    subs: &Found,
+    subs: &Finder,
     x: &[u8],
     recs: &[Record],
-) -> Result<Table, MemOr<NoTable>>
+) -> Result<Table, MemOr<Absent>>
     requires size { 22 ≤ length x.now }
     requires each { All (IsRecord 4 4) recs.now }
     requires ascend { within 0 (2 ^ 32) (map seen recs.now) ≡ true }
@@ -71,7 +74,7 @@ pub fn read_tc(alloc: Global, blocks: &[Bytes], subs: &Subs) -> Result<Table, Me
     let Ok(heap) = HeapView::read(blocks) else {
         return Err(MemOr::Refused(TcFault::Heap));
     };
-    let Some(root) = heap.root_for(0x7C) else {
+    let Some(root) = heap.root_for(TABLE_CONTEXT) else {
         return Err(MemOr::Refused(TcFault::Heap));
     };
     let Some(x) = heap.item(root) else {
@@ -85,7 +88,8 @@ pub fn read_tc(alloc: Global, blocks: &[Bytes], subs: &Subs) -> Result<Table, Me
         Err(MemOr::Memory) => return Err(MemOr::Memory),
         Err(MemOr::Refused(_)) => return Err(MemOr::Refused(TcFault::Bth)),
     };
-    match table_in(alloc, &heap, &Found::new(subs), x, recs.as_slice()) {
+    let finder = Finder::new(alloc, subs)?;
+    match table_in(alloc, &heap, &finder, x, recs.as_slice()) {
         Ok(table) => Ok(table),
         Err(MemOr::Memory) => Err(MemOr::Memory),
         Err(MemOr::Refused(_)) => Err(MemOr::Refused(TcFault::Tc)),

@@ -6,16 +6,17 @@ ghost use Rattle.pst_base.specs.Stops.{Finds};
 ghost use Rattle.heap_on_node.specs.Heap.{item};
 ghost use Rattle.bth_tree.specs.Answers.{IsRecord, seen};
 ghost use Rattle.mapi_values.specs.Columns.{has_column, lies};
+ghost use Rattle.mapi_values.specs.Tags.{pid_tag_ltp_row_id};
 ghost use Rattle.table_context.specs.Rows.{piece, raw_rows, row_in, row_of, rows_of, shows_id};
 ghost use Rattle.table_context.specs.Answers.{HasSize, raw_seen};
-ghost use Rattle.table_context.specs.Subnodes.{data_of};
+ghost use Rattle.node_values.specs.Subnodes.{data_of};
 
-use crate::cells::{cells, ids_ascend};
-use crate::fault::NoTable;
-use crate::found::Found;
+use crate::cells::{cells, values_ascend};
 use bth_tree::Record;
 use heap_on_node::HeapView;
+use mapi_values::tags::PID_TAG_LTP_ROW_ID;
 use mapi_values::{Column, Props, has_column};
+use node_values::{Absent, Finder};
 use pst_base::{MemOr, part, u32_at};
 use std::alloc::{AllocError, Global};
 
@@ -44,7 +45,7 @@ fn piece(b: &[u8], size: usize, n: usize) -> Option<&[u8]>
 #[tactic(auto, unfolding(crate::specs::Rows::row_in))]
 fn row_in<'a>(
     h: &HeapView<'a>,
-    subs: &Found<'a>,
+    subs: &Finder<'a>,
     size: usize,
     hnid: u32,
     n: usize,
@@ -66,11 +67,11 @@ fn row_in<'a>(
 pub fn raw_rows<'a>(
     alloc: Global,
     h: &HeapView<'a>,
-    subs: &Found<'a>,
+    subs: &Finder<'a>,
     size: usize,
     hnid: u32,
     recs: &[Record],
-) -> Result<Vec<RawRow<'a>>, MemOr<NoTable>>
+) -> Result<Vec<RawRow<'a>>, MemOr<Absent>>
     requires low { 1 ≤ size }
     requires high { size ≤ 8176 }
     requires each { All (IsRecord 4 4) recs.now }
@@ -81,7 +82,7 @@ pub fn raw_rows<'a>(
     for record in recs {
         let n = u32_at(record.entry, 0);
         let Some(bytes) = row_in(h, subs, size, hnid, n as usize) else {
-            return Err(MemOr::Refused(NoTable));
+            return Err(MemOr::Refused(Absent));
         };
         raws.push(RawRow {
             id: record.key,
@@ -94,10 +95,10 @@ pub fn raw_rows<'a>(
 /// Whether a row shows its id, where the row id is a column.
 #[tactic(auto, unfolding(crate::specs::Rows::shows_id))]
 fn shows_id(columns: &[Column], id: u32, row: &[u8]) -> bool
-    requires { has_column columns.now 0x67F2 0x0003 ≡ true → 4 ≤ length row.now }
+    requires { has_column columns.now pid_tag_ltp_row_id.id pid_tag_ltp_row_id.kind ≡ true → 4 ≤ length row.now }
     ensures { result ≡ shows_id columns.now id row.now }
 {
-    if has_column(columns, 0x67F2, 0x0003) {
+    if has_column(columns, PID_TAG_LTP_ROW_ID.id, PID_TAG_LTP_ROW_ID.kind) {
         u32_at(row, 0) == id
     } else {
         true
@@ -108,21 +109,21 @@ fn shows_id(columns: &[Column], id: u32, row: &[u8]) -> bool
 fn row(
     alloc: Global,
     h: &HeapView,
-    subs: &Found,
+    subs: &Finder,
     columns: &[Column],
     from: usize,
     id: u32,
     bytes: &[u8],
-) -> Result<Props, MemOr<NoTable>>
+) -> Result<Props, MemOr<Absent>>
     requires { list_all (lies from (length bytes.now)) columns.now ≡ true }
     ensures { Finds (λ cells. (id, cells)) result (row_of (item h.now) (data_of subs.now) from columns.now id bytes.now) }
 {
     if !shows_id(columns, id, bytes) {
-        return Err(MemOr::Refused(NoTable));
+        return Err(MemOr::Refused(Absent));
     }
     let values = cells(alloc, h, subs, columns, from, bytes)?;
-    if !ids_ascend(values.as_slice()) {
-        return Err(MemOr::Refused(NoTable));
+    if !values_ascend(values.as_slice()) {
+        return Err(MemOr::Refused(Absent));
     }
     Ok(Props::from_vec(values))
 }
@@ -131,11 +132,11 @@ fn row(
 pub fn rows(
     alloc: Global,
     h: &HeapView,
-    subs: &Found,
+    subs: &Finder,
     columns: &[Column],
     from: usize,
     raws: &[RawRow],
-) -> Result<Vec<(u32, Props)>, MemOr<NoTable>>
+) -> Result<Vec<(u32, Props)>, MemOr<Absent>>
     requires { All (λ r. list_all (lies from (length r.bytes.now)) columns.now ≡ true) raws.now }
     ensures { Finds (λ v. v.items) result (rows_of (item h.now) (data_of subs.now) from columns.now (map raw_seen raws.now)) }
 {

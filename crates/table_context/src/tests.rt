@@ -1,13 +1,12 @@
 //! A table by hand, as another writer may lay it out, and one mistake after the other in it.
 ghost use Rattle.std.specs.Prelude.{◌≤◌, ◌<◌, ◌+◌, length, OnOk};
 
-use crate::{TcFault, kept_ascend, read_tc, write_tc};
+use crate::{TcFault, read_tc};
 use heap_on_node::HeapMaker;
-use mapi_values::{Column, Props, Table, Tag, Value, fits, is_layout, put_row};
+use mapi_values::Table;
 use pst_base::{Blocks, Bytes, MemOr, Nid, Sub, Subs};
 use std::alloc::{AllocError, Global};
 use std::test::Fail;
-use write_limits::table_fits;
 
 /// A byte of an item that is another: which item, the place in it, and the byte.
 type Edit = (usize, usize, u8);
@@ -169,108 +168,5 @@ fn what_nothing_asks_for_is_not_read(rt: HostRuntime) -> Result<(), Fail> {
         let table = read(rt.alloc(), 0x7C, edits)?.expect(&rt, "a table");
         assert!(rt; table.rows().len() == 2 && table.kept().as_slice().len() == 2);
     }
-    Ok(())
-}
-
-/// The columns of a table of messages.
-const CONTENTS: [(u16, u16, u16, u8, u8); 10] = [
-    (0x001A, 0x001F, 8, 4, 2),
-    (0x0037, 0x001F, 12, 4, 3),
-    (0x0039, 0x0040, 16, 8, 4),
-    (0x0E06, 0x0040, 24, 8, 5),
-    (0x0E07, 0x0003, 32, 4, 6),
-    (0x0E08, 0x0003, 36, 4, 7),
-    (0x3007, 0x0040, 40, 8, 8),
-    (0x3008, 0x0040, 48, 8, 9),
-    (0x67F2, 0x0003, 0, 4, 0),
-    (0x67F3, 0x0003, 4, 4, 1),
-];
-
-/// An empty table of messages.
-fn contents(alloc: Global) -> Result<Table, Fail> {
-    let mut columns = Vec::new(alloc);
-    for (id, kind, at, width, bit) in CONTENTS {
-        let tag = Tag { id, kind };
-        columns.push(Column {
-            tag,
-            at,
-            width,
-            bit,
-        })?;
-    }
-    if !is_layout(columns.as_slice(), &[56, 56, 56, 58]) {
-        return Err(Fail::from("no layout"));
-    }
-    Ok(Table::new(alloc, columns, [56, 56, 56, 58]))
-}
-
-/// The values of a new message.
-fn message(alloc: Global) -> Result<Props, Fail> {
-    let mut props = Props::new(alloc);
-    let values: [(u16, u16, usize); 6] = [
-        (0x001A, 0x001F, 16),
-        (0x0E07, 0x0003, 4),
-        (0x0E08, 0x0003, 4),
-        (0x300B, 0x0102, 16),
-        (0x3007, 0x0040, 8),
-        (0x3008, 0x0040, 8),
-    ];
-    for (id, kind, len) in values {
-        let mut bytes = Vec::new(alloc);
-        bytes.resize(len, 7)?;
-        if fits(kind, bytes.len()) {
-            props.put(Value::new(Tag { id, kind }, Bytes::from_vec(bytes)))?;
-        }
-    }
-    Ok(props)
-}
-
-/// A table of so many new messages, and what is written of it.
-fn written(alloc: Global, count: u16) -> Result<(Table, Blocks, Subs), Fail> {
-    let props = message(alloc)?;
-    let mut table = contents(alloc)?;
-    for id in 0..count {
-        put_row(alloc, &mut table, 0x20_0024 + 32 * u32::from(id), &props)?;
-    }
-    if !table_fits(&table) || !kept_ascend(&table) {
-        return Err(Fail::from("no table to write"));
-    }
-    let (blocks, subs) = write_tc(alloc, &table)?;
-    Ok((table, blocks, subs))
-}
-
-#[test]
-fn rows_come_back(rt: HostRuntime) -> Result<(), Fail> {
-    for count in [0u16, 1, 61, 62, 141] {
-        let (table, blocks, subs) = written(rt.alloc(), count)?;
-        let read = read_tc(rt.alloc(), blocks.as_slice(), &subs).expect(&rt, "a table");
-        assert!(rt; read.rows().len() == usize::from(count) && read.kept().as_slice().is_empty());
-        for row in read.rows() {
-            assert!(rt; row.1.len() == 6);
-            let had = table.row(row.0).expect(&rt, "a row");
-            for value in had.1.values() {
-                let other = row.1.get(value.id()).expect(&rt, "a value");
-                assert!(rt; other.bytes() == value.bytes());
-            }
-        }
-    }
-    Ok(())
-}
-
-#[test]
-fn matrix_stands_in_a_subnode_of_full_blocks(rt: HostRuntime) -> Result<(), Fail> {
-    let cases: [(u16, usize, usize); 3] = [(62, 1, 62 * 58), (140, 1, 140 * 58), (141, 2, 8176)];
-    for (count, blocks, size) in cases {
-        let (_, _, subs) = written(rt.alloc(), count)?;
-        assert!(rt; subs.as_slice().len() == 1);
-        let sub = subs.as_slice().first().expect(&rt, "a subnode");
-        assert!(rt; sub.nid.bits == 0x1F && sub.blocks.as_slice().len() == blocks);
-        let first = sub.blocks.as_slice().first().expect(&rt, "a block");
-        assert!(rt; first.len() == size);
-        let bits = first.as_slice().get(56..58).expect(&rt, "existence bits");
-        assert!(rt; bits == [0xE3, 0xC0].as_slice());
-    }
-    let (_, _, subs) = written(rt.alloc(), 61)?;
-    assert!(rt; subs.as_slice().is_empty());
     Ok(())
 }

@@ -1,7 +1,7 @@
 use Rattle.std.proofs.Common.{◌∙◌, false, sym}
 use Rattle.std.specs.Vec.Iter.{into_iter_items}
 use Rattle.mapi_values.specs.Messages.{is_own}
-use Rattle.property_context.specs.Subnodes.{without}
+use Rattle.node_values.specs.Subnodes.{without}
 use Rattle.message_obj.proofs.KeptLaws.{one-goes, one-stays}
 use Rattle.message_obj.proofs.kept.without_own.Goals as goal
 

@@ -2,7 +2,7 @@ use Rattle.std.proofs.Common.{◌≡◌, ◌++◌, false}
 use Rattle.std.specs.Vec.Iter.{into_iter_items}
 use Rattle.pst_base.specs.Subs.{flattened}
 use Rattle.mapi_values.specs.Messages.{is_own}
-use Rattle.property_context.specs.Subnodes.{without}
+use Rattle.node_values.specs.Subnodes.{without}
 use Rattle.message_obj.proofs.kept.without_own.Given as goal
 
 -- those that are kept so far, and those that are left to look at

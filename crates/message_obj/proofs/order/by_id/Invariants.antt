@@ -3,7 +3,7 @@ use Rattle.std.specs.Ordering.{nat_cmp}
 use Rattle.std.specs.BTreeMap.{get, btree_map_len}
 use Rattle.pst_base.specs.declared.subs.Sub.{Sub}
 use Rattle.mapi_values.specs.Keyed.{find_key}
-use Rattle.table_context.specs.Subnodes.{sub_id}
+use Rattle.node_values.specs.Subnodes.{sub_id}
 use Rattle.message_obj.proofs.order.by_id.Given as goal
 
 -- the subnodes that were taken off stand in the map

@@ -3,7 +3,7 @@ use Rattle.std.proofs.lemmas.List.{append-nil}
 use Rattle.std.specs.Map.{values_of}
 use Rattle.pst_base.specs.declared.subs.Sub.{Sub}
 use Rattle.mapi_values.specs.Keyed.{find_key}
-use Rattle.table_context.specs.Subnodes.{sub_id}
+use Rattle.node_values.specs.Subnodes.{sub_id}
 use Rattle.message_obj.proofs.OrderLaws.{all-above, are-at, found-at, sorted-ascends, values-ascend, values-found}
 use Rattle.message_obj.proofs.order.in_order.Goals as goal
 

@@ -1,7 +1,7 @@
 use Rattle.std.proofs.Common.{false}
 use Rattle.std.proofs.lemmas.Result.{err_from_is_err_and}
 use Rattle.mapi_values.specs.Messages.{row_ids}
-use Rattle.property_context.specs.Subnodes.{without}
+use Rattle.node_values.specs.Subnodes.{without}
 use Rattle.message_obj.specs.Subnodes.{is_table}
 use Rattle.message_obj.proofs.KeptLaws.{kept-others}
 use Rattle.message_obj.proofs.PartLaws.{parts-named}

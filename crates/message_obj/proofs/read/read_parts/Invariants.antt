@@ -1,5 +1,5 @@
 use Rattle.std.proofs.Common.{drop, false}
-use Rattle.property_context.specs.Subnodes.{without}
+use Rattle.node_values.specs.Subnodes.{without}
 use Rattle.message_obj.specs.Subnodes.{is_table}
 use Rattle.message_obj.proofs.PartLaws.{ShowsRest}
 use Rattle.message_obj.proofs.read.read_parts.Given as goal

@@ -1,6 +1,7 @@
 use Rattle.std.proofs.Common.{ℕ, List, ◌≤◌, length}
 use Rattle.pst_base.specs.Flat.{Flat}
-use Rattle.property_context.specs.Placing.{KeepsData, Placing, placed_data, span}
+use Rattle.node_values.specs.Named.{KeepsData}
+use Rattle.property_context.specs.Placing.{Placing, placed_data, span}
 use Rattle.property_context.proofs.placing.pass_all.Given as goal
 
 abbrev pub invariant-subs : goal.invariant-subs

@@ -3,8 +3,8 @@ use Rattle.std.specs.Ordering.{nat_cmp}
 use Rattle.std.specs.BTreeSet.{contains}
 use Rattle.heap_on_node.specs.Heap.{item}
 use Rattle.bth_tree.specs.Answers.{seen}
-use Rattle.property_context.specs.Subnodes.{data_of, ids_ascend}
-use Rattle.property_context.proofs.SubLaws.{without-ascends}
+use Rattle.node_values.specs.Subnodes.{data_of, ids_ascend, without}
+use Rattle.node_values.proofs.SubLaws.{without-ascends}
 use Rattle.property_context.proofs.ValueLaws.{are-props}
 use Rattle.property_context.proofs.read.read_pc.Goals as goal
 
@@ -14,4 +14,4 @@ from_vec-requires c =
 
 pub returns-clause-ascend : goal.returns-clause-ascend
 returns-clause-ascend c = λ h.
-    ap (ids_ascend 0) c.in_ok-others.ensures ∙ without-ascends (contains nat_cmp c.in_ok-ids.ids) false 0 c.args.subs.now h
+    ap (ids_ascend 0) (c.in_ok-without.ensures ∙ ap (without (contains nat_cmp c.in_ok-ids.ids) false) c.in_ok-finder.ensures) ∙ without-ascends (contains nat_cmp c.in_ok-ids.ids) false 0 c.args.subs.now h

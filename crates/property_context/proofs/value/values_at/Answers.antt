@@ -4,7 +4,7 @@ use Rattle.heap_on_node.specs.Heap.{item}
 use Rattle.bth_tree.specs.Answers.{seen}
 use Rattle.bth_tree.proofs.ReadLaws.{no_record, stops-along}
 use Rattle.property_context.specs.Context.{value_of, values_of}
-use Rattle.property_context.specs.Subnodes.{data_of}
+use Rattle.node_values.specs.Subnodes.{data_of}
 use Rattle.property_context.proofs.ValueLaws.{behind-none, values-none, values-step}
 use Rattle.property_context.proofs.value.values_at.Goals as goal
 

@@ -2,7 +2,7 @@ use Rattle.std.proofs.Common.{◌≡◌, [], map, drop}
 use Rattle.heap_on_node.specs.Heap.{item}
 use Rattle.bth_tree.specs.Answers.{seen}
 use Rattle.property_context.specs.Context.{values_of}
-use Rattle.property_context.specs.Subnodes.{data_of}
+use Rattle.node_values.specs.Subnodes.{data_of}
 use Rattle.property_context.proofs.ValueLaws.{behind}
 use Rattle.property_context.proofs.value.values_at.Given as goal
 

@@ -3,7 +3,7 @@ use Rattle.std.proofs.lemmas.Result.{err_from_is_err_and}
 use Rattle.bth_tree.proofs.ReadLaws.{stops-along}
 use Rattle.heap_on_node.specs.Heap.{item}
 use Rattle.table_context.specs.Rows.{cells_of}
-use Rattle.table_context.specs.Subnodes.{data_of}
+use Rattle.node_values.specs.Subnodes.{data_of}
 use Rattle.table_context.proofs.CellLaws.{cells-fault, cells-skip, cells-step}
 use Rattle.table_context.proofs.LayoutLaws.{lies-at}
 use Rattle.table_context.proofs.cells.cells.Goals as goal

@@ -1,7 +1,7 @@
 use Rattle.std.proofs.Common.{◌≡◌, drop}
 use Rattle.heap_on_node.specs.Heap.{item}
 use Rattle.table_context.specs.Rows.{cells_of}
-use Rattle.table_context.specs.Subnodes.{data_of}
+use Rattle.node_values.specs.Subnodes.{data_of}
 use Rattle.table_context.proofs.StepLaws.{before}
 use Rattle.table_context.proofs.cells.cells.Given as goal
 

@@ -5,7 +5,7 @@ use Rattle.bth_tree.specs.Answers.{seen}
 use Rattle.table_context.specs.Answers.{raw_seen}
 use Rattle.table_context.specs.Header.{size_in}
 use Rattle.table_context.specs.Rows.{rows_of, row_in}
-use Rattle.table_context.specs.Subnodes.{data_of}
+use Rattle.node_values.specs.Subnodes.{data_of}
 use Rattle.table_context.proofs.LayoutLaws.{form-layout}
 use Rattle.table_context.proofs.ContextLaws.{each-lies, header-lies, raws-ascend, rows-ascend, rows-suit, table-made}
 use Rattle.table_context.proofs.read.table_of.Goals as goal

@@ -8,7 +8,7 @@ use Rattle.bth_tree.proofs.ReadLaws.{no_record}
 use Rattle.table_context.specs.declared.rows.RawRow.{RawRow}
 use Rattle.table_context.specs.Answers.{HasSize, raw_seen}
 use Rattle.table_context.specs.Rows.{raw_rows, row_in}
-use Rattle.table_context.specs.Subnodes.{data_of}
+use Rattle.node_values.specs.Subnodes.{data_of}
 use Rattle.table_context.proofs.StepLaws.{before}
 use Rattle.table_context.proofs.RowLaws.{all-push, raws-fault, raws-step, row-size}
 use Rattle.table_context.proofs.rows.raw_rows.Goals as goal

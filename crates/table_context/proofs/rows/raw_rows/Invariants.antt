@@ -3,7 +3,7 @@ use Rattle.heap_on_node.specs.Heap.{item}
 use Rattle.bth_tree.specs.Answers.{seen}
 use Rattle.table_context.specs.Answers.{HasSize, raw_seen}
 use Rattle.table_context.specs.Rows.{raw_rows, row_in}
-use Rattle.table_context.specs.Subnodes.{data_of}
+use Rattle.node_values.specs.Subnodes.{data_of}
 use Rattle.table_context.proofs.StepLaws.{before}
 use Rattle.table_context.proofs.rows.raw_rows.Given as goal
 

@@ -4,7 +4,7 @@ use Rattle.bth_tree.proofs.ReadLaws.{stops-along}
 use Rattle.heap_on_node.specs.Heap.{item}
 use Rattle.table_context.specs.Answers.{raw_seen}
 use Rattle.table_context.specs.Rows.{rows_of}
-use Rattle.table_context.specs.Subnodes.{data_of}
+use Rattle.node_values.specs.Subnodes.{data_of}
 use Rattle.table_context.proofs.RowLaws.{no_row, rows-fault, rows-step}
 use Rattle.table_context.proofs.rows.rows.Goals as goal
 

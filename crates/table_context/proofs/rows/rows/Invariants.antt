@@ -2,7 +2,7 @@ use Rattle.std.proofs.Common.{◌≡◌, drop, map}
 use Rattle.heap_on_node.specs.Heap.{item}
 use Rattle.table_context.specs.Answers.{raw_seen}
 use Rattle.table_context.specs.Rows.{rows_of}
-use Rattle.table_context.specs.Subnodes.{data_of}
+use Rattle.node_values.specs.Subnodes.{data_of}
 use Rattle.table_context.proofs.StepLaws.{before}
 use Rattle.table_context.proofs.rows.rows.Given as goal
 

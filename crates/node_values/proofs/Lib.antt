@@ -1,0 +1,3 @@
+pub mod SubLaws
+pub mod PieceLaws
+pub mod NamedLaws

@@ -1,7 +1,0 @@
-use Rattle.std.proofs.Common.{◌≡◌, drop}
-use Rattle.pst_base.specs.Subs.{flattened}
-use Rattle.property_context.specs.Subnodes.{ids_ascend}
-use Rattle.property_context.proofs.subnodes.ids_ascend.Given as goal
-
-abbrev pub invariant-loop-sub : goal.invariant-loop-sub
-invariant-loop-sub l = ids_ascend l.low (flattened (drop l.sub-index l.sub-items)) ≡ ids_ascend 0 (flattened l.sub-items)

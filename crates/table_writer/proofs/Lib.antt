@@ -1,0 +1,13 @@
+pub mod FoundLaws
+pub mod WovenLaws
+pub mod PackLaws
+pub mod MakingLaws
+pub mod PutLaws
+pub mod FillLaws
+pub mod StepFillLaws
+pub mod ColumnFillLaws
+pub mod RowFillLaws
+pub mod FoundRowLaws
+pub mod MatrixLaws
+pub mod HeaderLaws
+pub mod TableLaws

@@ -1,0 +1,5 @@
+pub mod Bits
+pub mod Filling
+pub mod Making
+pub mod Woven
+pub mod Writing

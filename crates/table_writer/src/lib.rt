@@ -1,0 +1,15 @@
+//! Writing a table context ([MS-PST] 2.3.4).
+//!
+//! Promises: `write_tc` gives blocks and subnodes that are the table it is given (`IsTableContext`), in blocks that are filled as far as they go (`PacksTight`); the ids of the subnodes ascend.
+//!
+//! Leaves to others: reading, and how much may be written.
+#![tactic(auto)]
+
+mod row;
+#[cfg(test)]
+mod tests;
+mod value;
+mod woven;
+mod write;
+
+pub use write::write_tc;
