@@ -1,6 +1,7 @@
 pub mod Bounds
 pub mod Cells
 pub mod Covered
+pub mod Ends
 pub mod Maps
 pub mod Packed
 pub mod Rooms

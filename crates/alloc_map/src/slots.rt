@@ -2,6 +2,7 @@
 ghost use Rattle.std.specs.Prelude.{◌≡◌, ◌<◌, ◌≤◌, ◌*◌, ◌/◌, ◌%◌, ◌+◌, ℕ, List, true, false, length, slice_index, All, IfOk, IfErr, IfSome, IfNone};
 ghost use Rattle.alloc_map.specs.Slots.{AreAll, Becomes, BeginsLeast, IsLaid, IsPageRoom, IsRoom, Unites, regions_of, slot_of, slots_in};
 ghost use Rattle.alloc_map.specs.Cells.{free_cells_of};
+ghost use Rattle.alloc_map.specs.Ends.{free_slots_of};
 ghost use Rattle.alloc_map.specs.Maps.{IsMapPage};
 ghost use Rattle.alloc_map.specs.Standing.{IsCovered, IsMeeting, StopsAtOverlap, occupied, standing};
 
@@ -141,6 +142,15 @@ impl Slots {
         ensures { result ≡ free_cells_of self.now }
     {
         self.used.free()
+    }
+
+    /// How many free slots begin below a file's end, in bytes. 64 times as many is what a header counts as free ([MS-PST] 2.2.2.5, `cbAMapFree`).
+    pub fn free_slots_below(&self, eof: u64) -> u64
+        ensures { result ≡ free_slots_of self.now eof }
+    {
+        let below = (eof.saturating_sub(0x4400) + 63) / 64;
+        let slots = below.min((REGION * self.bounds.len()) as u64);
+        self.used.bits().clear_before(slots as usize)
     }
 
     /// Uses the least free place of a length, a multiple of 64 from 64 to 8192, that lies in one region outside of its first 2048 bytes. `None` where there is none.
