@@ -7,3 +7,5 @@ pub mod Packed
 pub mod Rooms
 pub mod Slots
 pub mod Standing
+pub mod Taken
+pub mod Tally

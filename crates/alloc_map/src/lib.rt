@@ -11,6 +11,7 @@ mod cells;
 mod cover;
 mod ends;
 mod overlap;
+mod placing;
 mod search;
 mod slots;
 #[cfg(test)]
