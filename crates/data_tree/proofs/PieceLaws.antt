@@ -109,6 +109,22 @@ pub cut-short : {X : Type 0} (size : ℕ) (xs : List X) → Each (λ (piece : Li
 unfolding cut
 cut-short size xs = pieces-short size ((length xs + (size - 1)) / size) xs
 
+pieces-some : {X : Type 0} (size n : ℕ) (xs : List X) → 0 < size → size * n < length xs + size → Each (λ (piece : List X). 0 < length piece) (pieces size n xs)
+pieces-some size zero xs low h = tt
+pieces-some size (suc n) xs low h =
+    let more = mul-suc size n in
+    let here = length-take size xs in
+    let left = length-drop size xs in
+    (omega arith, pieces-some size n (drop size xs) low (omega arith))
+
+-- no piece is empty
+pub cut-some : {X : Type 0} (size : ℕ) (xs : List X) → 0 < size → Each (λ (piece : List X). 0 < length piece) (cut size xs)
+unfolding cut
+cut-some size xs low =
+    let n = length xs + (size - 1) in
+    let whole : size * (n / size) + n % size ≡ n = div-add-mod n size in
+    pieces-some size (n / size) xs low (omega arith)
+
 pieces-each : {X : Type 0} (P : X → Type 0) (size n : ℕ) (xs : List X) → Each P xs → Each (Each P) (pieces size n xs)
 pieces-each P size zero xs all = tt
 pieces-each P size (suc n) xs all = (each-take P size xs all, pieces-each P size n (drop size xs) (each-drop P size xs all))
