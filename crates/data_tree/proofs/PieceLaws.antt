@@ -15,6 +15,11 @@ pub each-from_all : {X : Type 0} (P : X → Type 0) (xs : List X) → All P xs �
 each-from_all P [] all = tt
 each-from_all P (x ∷ xs) all = (all 0 x (omega arith), each-from_all P xs (λ k d h. all (suc k) d (omega arith)))
 
+pub all_from-each : {X : Type 0} (P : X → Type 0) (xs : List X) → Each P xs → All P xs
+all_from-each P [] each k d h = absurd (omega arith)
+all_from-each P (x ∷ xs) each zero d h = each.0
+all_from-each P (x ∷ xs) each (suc k) d h = all_from-each P xs each.1 k d (omega arith)
+
 pub each-append : {X : Type 0} (P : X → Type 0) (xs ys : List X) → Each P xs → Each P ys → Each P (xs ++ ys)
 each-append P [] ys first later = later
 each-append P (x ∷ xs) ys first later = (first.0, each-append P xs ys first.1 later)
