@@ -3,6 +3,7 @@ pub mod CountSteps
 pub mod KeepLaws
 pub mod KeepSteps
 pub mod KeyLaws
+pub mod KeySteps
 pub mod ListingLaws
 pub mod PieceLaws
 pub mod PlanLaws
