@@ -1,5 +1,6 @@
 pub mod BlockSteps
 pub mod CountSteps
+pub mod GrownLaws
 pub mod KeepLaws
 pub mod KeepSteps
 pub mod KeyLaws

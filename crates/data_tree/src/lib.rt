@@ -9,6 +9,7 @@
 
 mod data;
 mod keys;
+mod law;
 mod listing;
 mod measure;
 mod memory;
@@ -22,6 +23,7 @@ mod tree;
 
 pub use data::read_data;
 pub use keys::read_data_keys;
+pub use law::stays_read;
 pub use measure::measure_data;
 pub use memory::BlockList;
 pub use plan::{DataPlan, last_id, plan_data, plan_data_keep};
