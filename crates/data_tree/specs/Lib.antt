@@ -1,3 +1,5 @@
+pub mod Grown
+pub mod Keys
 pub mod Listed
 pub mod Measure
 pub mod Plan
