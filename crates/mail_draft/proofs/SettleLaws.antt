@@ -5,7 +5,7 @@ use Rattle.std.specs.List.{list_any}
 use Rattle.mapi_values.specs.Tables.{Tab}
 use Rattle.mapi_values.specs.Values.{Val}
 use Rattle.mail_objects.specs.Forms.{Ctx}
-use Rattle.mail_tree.specs.declared.places.Place.{Place}
+use Rattle.mail_tree.specs.declared.places.FolderPlace.{FolderPlace}
 use Rattle.mail_tree.specs.Places.{ROOT, is_child}
 use Rattle.mail_tree.specs.Tree.{Tree}
 use Rattle.mail_tree.specs.Values.{with_counts}
@@ -21,7 +21,7 @@ pub says_at : {X A B : Type 0} (view : B → A) (ask : X → Answer A) (x y : X)
 says_at view ask x y r e s = subst (λ z. Says view (ask z) r) e s
 
 -- a folder that was counted
-pub counted_put : (q : ℕ) (c : Ctx) (t : Tab) (places : List Place) (n unread : ℕ) (has : Bool) (ids : List ℕ) (old props : List Val) (D D' : Changed)
+pub counted_put : (q : ℕ) (c : Ctx) (t : Tab) (places : List FolderPlace) (n unread : ℕ) (has : Bool) (ids : List ℕ) (old props : List Val) (D D' : Changed)
     → ids ≡ message_ids t → n ≡ length ids → has ≡ list_any (is_child q) places → old ≡ c.props → props ≡ with_counts n unread has old
     → D' ≡ with_context q c props D → D' ≡ with_context q c (with_counts (length (message_ids t)) unread (list_any (is_child q) places) c.props) D
 counted_put q c t places n unread has ids old props D D' listed len child same counts put =

@@ -1,14 +1,14 @@
 -- What a command comes to, as contracts see it.
 use Rattle.std.specs.Prelude.{ℕ, List, Option, None, Some}
 use Rattle.node_port.specs.declared.node.Counts.{Counts}
-use Rattle.mail_tree.specs.declared.places.Place.{Place}
+use Rattle.mail_tree.specs.declared.places.FolderPlace.{FolderPlace}
 use Rattle.mail_tree.specs.Tree.{Tree}
 use Rattle.mail_tree.specs.Folders as tree
 use Rattle.mail_draft.specs.declared.outcome.Outcome.{Outcome}
 use Rattle.mail_draft.specs.Drafts.{changed_of}
 
 -- the places after a command, where they changed
-abbrev pub places_after : List Place → Option (List Place) → List Place
+abbrev pub places_after : List FolderPlace → Option (List FolderPlace) → List FolderPlace
 places_after old None = old
 places_after old (Some new) = new
 

@@ -14,7 +14,7 @@ use crate::rows::put_shown;
 use crate::stop::Stop;
 use crate::values::{crowds, is_read, with_counts};
 use mail_objects::{Context, Object};
-use mail_tree::{Place, Places, ROOT_FOLDER};
+use mail_tree::{FolderPlace, Places, ROOT_FOLDER};
 use mapi_values::{Props, Table};
 use node_port::NodeReader;
 use pst_base::Nid;
@@ -42,7 +42,7 @@ fn message_ids(alloc: Global, table: &Table) -> Result<Vec<u32>, AllocError>
 }
 
 /// Whether a folder stands directly in that one.
-fn is_child(parent: Nid, place: &Place) -> bool
+fn is_child(parent: Nid, place: &FolderPlace) -> bool
     ensures { result ≡ is_child parent.bits place.now }
 {
     place.parent.bits == parent.bits && place.nid.bits != ROOT_FOLDER

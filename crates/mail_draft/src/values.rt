@@ -4,19 +4,15 @@ ghost use Rattle.mapi_values.specs.Properties.{put};
 ghost use Rattle.mapi_values.specs.Values.{Val, fits};
 ghost use Rattle.mail_tree.specs.Values.{bytes_of, crowds, is_read, name_of, number, number_of, text, text_of, time_value, truth, with_counts};
 
+use mapi_values::tags::{
+    PID_TAG_CONTENT_COUNT, PID_TAG_CONTENT_UNREAD_COUNT, PID_TAG_DISPLAY_NAME,
+    PID_TAG_MESSAGE_FLAGS, PID_TAG_SUBFOLDERS, PTYP_BOOLEAN, PTYP_INTEGER_32, PTYP_STRING,
+    PTYP_TIME,
+};
 use mapi_values::{Props, Tag, Units, Value, fits};
 use pst_base::{Bytes, u32_at};
 use std::alloc::{AllocError, Global};
 use value_text::{bytes_of_units, units_of_bytes};
-
-/// The kind of a whole number of 4 bytes.
-const NUMBER: u16 = 0x0003;
-/// The kind of a truth value, of one byte.
-const TRUTH: u16 = 0x000B;
-/// The kind of a text, as UTF-16 units.
-const TEXT: u16 = 0x001F;
-/// The kind of a time, of 8 bytes.
-const TIME: u16 = 0x0040;
 
 /// The bytes of the value of this id, if it is of this kind.
 pub fn bytes_of(props: &Props, id: u16, kind: u16) -> Option<&[u8]>
@@ -35,7 +31,7 @@ pub fn bytes_of(props: &Props, id: u16, kind: u16) -> Option<&[u8]>
 pub fn text_of(alloc: Global, props: &Props, id: u16) -> Result<Units, AllocError>
     ensures { IfOk result (λ units. units ≡ text_of id props.now) }
 {
-    match bytes_of(props, id, TEXT) {
+    match bytes_of(props, id, PTYP_STRING) {
         Some(bytes) => units_of_bytes(alloc, bytes),
         None => Ok(Units::from_vec(Vec::new(alloc))),
     }
@@ -45,14 +41,14 @@ pub fn text_of(alloc: Global, props: &Props, id: u16) -> Result<Units, AllocErro
 pub fn name_of(alloc: Global, props: &Props) -> Result<Units, AllocError>
     ensures { IfOk result (λ units. units ≡ name_of props.now) }
 {
-    text_of(alloc, props, 0x3001)
+    text_of(alloc, props, PID_TAG_DISPLAY_NAME.id)
 }
 
 /// The number of this id, 0 where there is none.
 pub fn number_of(props: &Props, id: u16) -> u32
     ensures { result ≡ number_of id props.now }
 {
-    match bytes_of(props, id, NUMBER) {
+    match bytes_of(props, id, PTYP_INTEGER_32) {
         Some(bytes) => u32_at(bytes, 0),
         None => 0,
     }
@@ -62,7 +58,7 @@ pub fn number_of(props: &Props, id: u16) -> u32
 pub fn is_read(props: &Props) -> bool
     ensures { result ≡ is_read props.now }
 {
-    number_of(props, 0x0E07) % 2 == 1
+    number_of(props, PID_TAG_MESSAGE_FLAGS.id) % 2 == 1
 }
 
 /// Whether an object has more than 1,000 values, and more than it had.
@@ -78,10 +74,16 @@ pub fn put_text(alloc: Global, props: &mut Props, id: u16, units: &Units) -> Res
     ensures err { OnErr result (props.new ≡ props.old) }
 {
     let bytes = bytes_of_units(alloc, units)?;
-    if !fits(TEXT, bytes.len()) {
+    if !fits(PTYP_STRING, bytes.len()) {
         return Err(AllocError);
     }
-    props.put(Value::new(Tag { id, kind: TEXT }, bytes))
+    props.put(Value::new(
+        Tag {
+            id,
+            kind: PTYP_STRING,
+        },
+        bytes,
+    ))
 }
 
 /// Puts a number of 4 bytes, in place of the value of its id; a greater one loses its higher bytes. An `Err` changes nothing.
@@ -90,7 +92,13 @@ pub fn put_number(alloc: Global, props: &mut Props, id: u16, count: u64) -> Resu
     ensures err { OnErr result (props.new ≡ props.old) }
 {
     let bytes = Bytes::from_slice(alloc, &count.to_le_bytes()[..4])?;
-    props.put(Value::new(Tag { id, kind: NUMBER }, bytes))
+    props.put(Value::new(
+        Tag {
+            id,
+            kind: PTYP_INTEGER_32,
+        },
+        bytes,
+    ))
 }
 
 /// Puts a time, in place of the value of its id. An `Err` changes nothing.
@@ -99,7 +107,13 @@ pub fn put_time(alloc: Global, props: &mut Props, id: u16, time: u64) -> Result<
     ensures err { OnErr result (props.new ≡ props.old) }
 {
     let bytes = Bytes::from_slice(alloc, &time.to_le_bytes())?;
-    props.put(Value::new(Tag { id, kind: TIME }, bytes))
+    props.put(Value::new(
+        Tag {
+            id,
+            kind: PTYP_TIME,
+        },
+        bytes,
+    ))
 }
 
 /// Puts a truth value, in place of the value of its id. An `Err` changes nothing.
@@ -108,7 +122,13 @@ pub fn put_truth(alloc: Global, props: &mut Props, id: u16, is_so: bool) -> Resu
     ensures err { OnErr result (props.new ≡ props.old) }
 {
     let bytes = Bytes::from_slice(alloc, &[u8::from(is_so)])?;
-    props.put(Value::new(Tag { id, kind: TRUTH }, bytes))
+    props.put(Value::new(
+        Tag {
+            id,
+            kind: PTYP_BOOLEAN,
+        },
+        bytes,
+    ))
 }
 
 /// A folder's values with other counts: its messages, those that are unread, and whether it has folders. The values are lost with an `Err`.
@@ -122,8 +142,8 @@ pub fn with_counts(
     ensures { IfOk result (λ counted. counted ≡ with_counts messages unread has_folders props) }
 {
     let mut counted = props;
-    put_number(alloc, &mut counted, 0x3602, messages)?;
-    put_number(alloc, &mut counted, 0x3603, unread)?;
-    put_truth(alloc, &mut counted, 0x360A, has_folders)?;
+    put_number(alloc, &mut counted, PID_TAG_CONTENT_COUNT.id, messages)?;
+    put_number(alloc, &mut counted, PID_TAG_CONTENT_UNREAD_COUNT.id, unread)?;
+    put_truth(alloc, &mut counted, PID_TAG_SUBFOLDERS.id, has_folders)?;
     Ok(counted)
 }

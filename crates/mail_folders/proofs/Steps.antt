@@ -3,7 +3,7 @@ use Rattle.std.specs.Prelude.{filter}
 use Rattle.std.proofs.Common.{◌≡◌, ℕ, ◌+◌, ◌<◌, suc, List, [], ◌∷◌, ◌++◌, append_assoc, ap, ◌∙◌, length, get_or, drop, drop-cons, add-one, Option, None, Some, Result, Ok, Err, Bool, true, false, cond, ◌==◌, refl, subst}
 use Rattle.std.proofs.lemmas.Bool.{eq-eqb, eqb-true}
 use Rattle.std.specs.Result.{IsErrAnd}
-use Rattle.mail_tree.specs.declared.places.Place.{Place}
+use Rattle.mail_tree.specs.declared.places.FolderPlace.{FolderPlace}
 use Rattle.mail_tree.specs.Changing.{Answer, Changed, ◌>>=◌, associated, contents, context_at, message_at, nothing, table_at}
 use Rattle.mail_tree.specs.Settling.{message_ids}
 use Rattle.mail_tree.specs.Places.{is_child, is_plain}
@@ -44,27 +44,27 @@ regroup_four view (Ok x) (Err e) c d g result said = said
 regroup_four view (Ok x) (Ok y) c d g result said = regroup view c (d x y) g result said
 
 -- what follows a plain folder, after the two steps that find it
-pub from_plain : {C D : Type 0} (view : D → C) (T : Tree) (f : ℕ) (g : Place → Answer C) (result : Result D Stop)
+pub from_plain : {C D : Type 0} (view : D → C) (T : Tree) (f : ℕ) (g : FolderPlace → Answer C) (result : Result D Stop)
     → Says view (plain_in T f >>= g) result → Says view (folder_in T f >>= λ p. unless_plain p >>= λ u. g p) result
 unfolding plain_in
 from_plain {C} view T f g result = find (folder_in T f)
   where
-    find : (a : Answer Place) → Says view ((a >>= λ p. unless_plain p >>= λ u. Ok p) >>= g) result → Says view (a >>= λ p. unless_plain p >>= λ u. g p) result
+    find : (a : Answer FolderPlace) → Says view ((a >>= λ p. unless_plain p >>= λ u. Ok p) >>= g) result → Says view (a >>= λ p. unless_plain p >>= λ u. g p) result
     find (Ok p) said = regroup view (unless_plain p) (λ u. Ok p) g result said
     find (Err e) said = said
 
 -- what follows two plain folders, after the four steps that find them
-pub from_both : {C D : Type 0} (view : D → C) (T : Tree) (f h : ℕ) (g : Place → Answer C) (result : Result D Stop)
+pub from_both : {C D : Type 0} (view : D → C) (T : Tree) (f h : ℕ) (g : FolderPlace → Answer C) (result : Result D Stop)
     → Says view (both_plain_in T f h >>= g) result → Says view (folder_in T f >>= λ p. folder_in T h >>= λ q. unless_plain p >>= λ u. unless_plain q >>= λ v. g p) result
 unfolding both_plain_in
 from_both {C} view T f h g result = find (folder_in T f) (folder_in T h)
   where
-    test : (p : Place) (s t : Answer (Unit {0})) → Says view ((s >>= λ u. t >>= λ v. Ok p) >>= g) result → Says view (s >>= λ u. t >>= λ v. g p) result
+    test : (p : FolderPlace) (s t : Answer (Unit {0})) → Says view ((s >>= λ u. t >>= λ v. Ok p) >>= g) result → Says view (s >>= λ u. t >>= λ v. g p) result
     test p (Ok u) (Ok v) said = said
     test p (Ok u) (Err e) said = said
     test p (Err e) t said = said
 
-    find : (a b : Answer Place) → Says view ((a >>= λ p. b >>= λ q. unless_plain p >>= λ u. unless_plain q >>= λ v. Ok p) >>= g) result
+    find : (a b : Answer FolderPlace) → Says view ((a >>= λ p. b >>= λ q. unless_plain p >>= λ u. unless_plain q >>= λ v. Ok p) >>= g) result
         → Says view (a >>= λ p. b >>= λ q. unless_plain p >>= λ u. unless_plain q >>= λ v. g p) result
     find (Ok p) (Ok q) said = test p (unless_plain p) (unless_plain q) said
     find (Ok p) (Err e) said = said
@@ -148,7 +148,7 @@ pub this_way : {C D : Type 0} (view : D → C) (a b : ℕ) (first second : Answe
 this_way view a b first second result same says = rw (eq-eqb a b same) says
 
 -- the lines of folders, one by one
-pub each_folder : (T : Tree) (ps : List Place) → each (line_of_folder T) ps ≡ folder_lines T ps
+pub each_folder : (T : Tree) (ps : List FolderPlace) → each (line_of_folder T) ps ≡ folder_lines T ps
 unfolding line_of_folder
 each_folder T [] = refl
 each_folder T (p ∷ ps) = line (each (line_of_folder T) ps) (folder_lines T ps) (each_folder T ps) (context_at T nothing p.nid.bits)
@@ -187,7 +187,7 @@ lists_plain T f = rw (each_folder T (filter (is_child f) T.places)) (folders_fir
     folders_first (Err e) b = refl
 
 -- what is listed of a folder that is plain
-pub lists_at : {D : Type 0} (view : D → Outcome) (T : Tree) (f : ℕ) (p : Place) (other : Answer Outcome) (result : Result D Stop) → p.sort ≡ Plain → Says view (plain_listing T f) result
+pub lists_at : {D : Type 0} (view : D → Outcome) (T : Tree) (f : ℕ) (p : FolderPlace) (other : Answer Outcome) (result : Result D Stop) → p.sort ≡ Plain → Says view (plain_listing T f) result
     → Says view (cond (is_plain p) (folder_lines T (filter (is_child f) T.places) >>= λ folders. table_at T nothing (contents f) >>= λ t. message_lines T (message_ids t.table) >>= λ messages.
     Ok (unchanged T (listed (folders ++ messages)))) other) result
 lists_at view T f p other result plain said = rw plain (subst (λ a. Says view a result) (lists_plain T f) said)

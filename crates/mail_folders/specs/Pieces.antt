@@ -10,7 +10,7 @@ use Rattle.command_text.specs.declared.reply.Limit.TheVariants.{Depth}
 use Rattle.command_text.specs.declared.reply.DataLine.{DataLine}
 use Rattle.command_text.specs.declared.reply.DataLine.TheVariants as lines
 use Rattle.command_text.specs.declared.reply.LastLine.TheVariants.{Done}
-use Rattle.mail_tree.specs.declared.places.Place.{Place}
+use Rattle.mail_tree.specs.declared.places.FolderPlace.{FolderPlace}
 use Rattle.mail_tree.specs.Places.{children, is_child, moves_deep, place_id}
 use Rattle.mail_tree.specs.Tree.{Tree}
 use Rattle.mail_tree.specs.Values.{name_of, number_of, text, text_of}
@@ -19,11 +19,11 @@ use Rattle.mail_tree.specs.Settling.{message_ids, mirrored, settled, with_contex
 use Rattle.mail_tree.specs.Folders.{Outcome, associated_in, folder_in, folder_line, has_associated, has_rows, listed, moved_between, moving, nid, place, replied, unchanged, unless_named, unless_plain, without_folder}
 
 -- where a folder stands that holds folders and messages
-unfoldable pub plain_in : Tree → ℕ → Answer Place
+unfoldable pub plain_in : Tree → ℕ → Answer FolderPlace
 plain_in T f = folder_in T f >>= λ p. unless_plain p >>= λ u. Ok p
 
 -- where the first of two such folders stands; what isn't there comes before what is of another sort
-unfoldable pub both_plain_in : Tree → ℕ → ℕ → Answer Place
+unfoldable pub both_plain_in : Tree → ℕ → ℕ → Answer FolderPlace
 both_plain_in T f g = folder_in T f >>= λ p. folder_in T g >>= λ q. unless_plain p >>= λ u. unless_plain q >>= λ v. Ok p
 
 -- the folder has this name, whose case is folded
@@ -35,7 +35,7 @@ unfoldable pub named_anew : Tree → ℕ → List ℕ → Answer Changed
 named_anew T f name = context_at T nothing f >>= λ c. mirrored T f (with_context f c (put (text 0x3001 name) c.props) nothing)
 
 -- the folder's row is added to its new parent's table, and both parents are counted anew
-unfoldable pub added_between : Tree → ℕ → ℕ → ℕ → List Place → List Val → Changed → Answer Changed
+unfoldable pub added_between : Tree → ℕ → ℕ → ℕ → List FolderPlace → List Val → Changed → Answer Changed
 added_between T f from to places props D = add_shown T (hierarchy to) f props D >>= settled T places from >>= settled T places to
 
 -- a folder in that parent has the name that this one has
@@ -62,7 +62,7 @@ removing_folder T f parent =
     drop_shown T (hierarchy parent) f (without_folder T f nothing) >>= settled T places parent >>= moving T places (replied Done)
 
 -- the line of the folder at a place
-unfoldable pub line_of_folder : Tree → Place → Answer DataLine
+unfoldable pub line_of_folder : Tree → FolderPlace → Answer DataLine
 line_of_folder T p = context_at T nothing p.nid.bits >>= λ c. Ok (folder_line p c.props)
 
 -- the line of a message: what it tells of its size, and its subject

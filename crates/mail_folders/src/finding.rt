@@ -7,11 +7,11 @@ ghost use Rattle.mail_draft.specs.Answers.{IsCalm, Says};
 
 use command_text::CommandRefusal;
 use mail_draft::Stop;
-use mail_tree::{Place, Places, Sort};
+use mail_tree::{FolderPlace, Places, Sort};
 use pst_base::Nid;
 
 /// Where a folder stands. Refused where it isn't there.
-pub(crate) fn folder_in(places: &Places, folder: Nid) -> Result<Place, Stop>
+pub(crate) fn folder_in(places: &Places, folder: Nid) -> Result<FolderPlace, Stop>
     ensures answer { (T : Tree) → T.places ≡ places.now → Says (λ p. p) (folder_in T folder.bits) result }
     ensures calm { IfErr result IsCalm }
 {
@@ -22,7 +22,7 @@ pub(crate) fn folder_in(places: &Places, folder: Nid) -> Result<Place, Stop>
 }
 
 /// Refused where the folder isn't one that holds folders and messages.
-pub(crate) fn unless_plain(place: Place) -> Result<(), Stop>
+pub(crate) fn unless_plain(place: FolderPlace) -> Result<(), Stop>
     ensures answer { Says (λ u. u) (unless_plain place) result }
     ensures calm { IfErr result IsCalm }
 {
@@ -34,7 +34,7 @@ pub(crate) fn unless_plain(place: Place) -> Result<(), Stop>
 
 /// Where a plain folder stands.
 #[tactic(auto, unfolding(crate::specs::Pieces::plain_in))]
-pub(crate) fn plain_in(places: &Places, folder: Nid) -> Result<Place, Stop>
+pub(crate) fn plain_in(places: &Places, folder: Nid) -> Result<FolderPlace, Stop>
     ensures answer { (T : Tree) → T.places ≡ places.now → Says (λ p. p) (plain_in T folder.bits) result }
     ensures calm { IfErr result IsCalm }
 {
@@ -45,7 +45,7 @@ pub(crate) fn plain_in(places: &Places, folder: Nid) -> Result<Place, Stop>
 
 /// Where the first of two plain folders stands. What isn't there comes before what is of another sort.
 #[tactic(auto, unfolding(crate::specs::Pieces::both_plain_in))]
-pub(crate) fn both_plain_in(places: &Places, first: Nid, second: Nid) -> Result<Place, Stop>
+pub(crate) fn both_plain_in(places: &Places, first: Nid, second: Nid) -> Result<FolderPlace, Stop>
     ensures answer { (T : Tree) → T.places ≡ places.now → Says (λ p. p) (both_plain_in T first.bits second.bits) result }
     ensures calm { IfErr result IsCalm }
 {

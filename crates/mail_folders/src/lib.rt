@@ -15,7 +15,6 @@ mod reading;
 mod removing;
 mod renaming;
 mod standing;
-mod tables;
 
 pub use list::list_folder;
 pub use making::make_folder;

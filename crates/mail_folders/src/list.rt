@@ -13,8 +13,9 @@ use crate::names::is_child;
 use crate::reading::{context_in, message_in, table_in};
 use command_text::{DataLine, DataLines, LastLine, Reply};
 use mail_draft::{Outcome, Stop, contents, name_of, number_of, text_of};
-use mail_tree::{Place, Places, Sort};
+use mail_tree::{FolderPlace, Places, Sort};
 use mapi_values::Table;
+use mapi_values::tags::{PID_TAG_MESSAGE_SIZE, PID_TAG_SUBJECT};
 use node_port::NodeReader;
 use pst_base::Nid;
 use pst_outside::Outside;
@@ -91,7 +92,7 @@ fn lines_in<W: Outside, K: NodeReader<W>>(
 }
 
 /// The places of the folders directly in a folder.
-fn places_in(alloc: Global, places: &Places, folder: Nid) -> Result<Vec<Place>, AllocError>
+fn places_in(alloc: Global, places: &Places, folder: Nid) -> Result<Vec<FolderPlace>, AllocError>
     ensures { IfOk result (λ found. found.items ≡ filter (is_child folder.bits) places.now) }
 {
     places
@@ -121,7 +122,7 @@ fn line_of_folder<W: Outside, K: NodeReader<W>>(
     alloc: Global,
     keeper: &mut K,
     w: &mut W,
-    place: Place,
+    place: FolderPlace,
 ) -> Result<DataLine, Stop>
     ensures answer { (T : Tree) → Shown (K.holds keeper.old (W.view w.old)) (K.last keeper.old) T → Says (λ line. line) (line_of_folder T place) result }
     ensures looks { Looks (K.holds keeper.old (W.view w.old)) (K.holds keeper.new (W.view w.new)) (K.last keeper.old) (K.last keeper.new) (K.room keeper.old) (K.room keeper.new) (W.view w.old) (W.view w.new) }
@@ -151,8 +152,8 @@ fn line_of_message<W: Outside, K: NodeReader<W>>(
     let id = Nid { bits: message };
     let mail = message_in(alloc, keeper, w, id)?;
     let props = &mail.message().props;
-    let subject = text_of(alloc, props, 0x0037)?;
-    let size = number_of(props, 0x0E08);
+    let subject = text_of(alloc, props, PID_TAG_SUBJECT.id)?;
+    let size = number_of(props, PID_TAG_MESSAGE_SIZE.id);
     Ok(DataLine::Message { id, size, subject })
 }
 
@@ -161,7 +162,7 @@ fn folder_lines<W: Outside, K: NodeReader<W>>(
     alloc: Global,
     keeper: &mut K,
     w: &mut W,
-    places: &[Place],
+    places: &[FolderPlace],
 ) -> Result<Vec<DataLine>, Stop>
     ensures answer { (T : Tree) → Shown (K.holds keeper.old (W.view w.old)) (K.last keeper.old) T → Says (λ lines. lines.items) (each (line_of_folder T) places.now) result }
     ensures looks { Looks (K.holds keeper.old (W.view w.old)) (K.holds keeper.new (W.view w.new)) (K.last keeper.old) (K.last keeper.new) (K.room keeper.old) (K.room keeper.new) (W.view w.old) (W.view w.new) }

@@ -16,14 +16,14 @@ use crate::finding::plain_in;
 use crate::names::unless_child_named;
 use crate::reading::table_in;
 use crate::standing::{unless_deep, with_place};
-use crate::tables::{contents_table, hierarchy_table};
 use command_text::{CommandRefusal, Limit};
 use mail_draft::{
     Draft, Outcome, Stop, add_shown, associated, contents, hierarchy, making, new_id, next_index,
     put_text, settled, with_counts,
 };
 use mail_objects::{Context, Object};
-use mail_tree::Places;
+use mail_tree::{Places, contents_table, hierarchy_table};
+use mapi_values::tags::PID_TAG_DISPLAY_NAME;
 use mapi_values::{Props, Units};
 use node_port::{Keeper, NodeReader};
 use pst_base::{Nid, Subs};
@@ -81,7 +81,7 @@ fn folder_props(alloc: Global, name: &Units) -> Result<Props, AllocError>
     ensures { IfOk result (λ p. p ≡ folder_props name.now) }
 {
     let mut props = Props::new(alloc);
-    put_text(alloc, &mut props, 0x3001, name)?;
+    put_text(alloc, &mut props, PID_TAG_DISPLAY_NAME.id, name)?;
     with_counts(alloc, props, 0, 0, false)
 }
 

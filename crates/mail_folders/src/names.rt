@@ -12,7 +12,7 @@ ghost use Rattle.mail_draft.specs.Answers.{IsCaused, Looks, Says};
 use crate::reading::context_in;
 use command_text::CommandRefusal;
 use mail_draft::{Stop, name_of};
-use mail_tree::{Place, Places};
+use mail_tree::{FolderPlace, Places};
 use mapi_values::{Props, Units};
 use node_port::NodeReader;
 use pst_base::Nid;
@@ -23,7 +23,7 @@ use std::alloc::{AllocError, Global};
 pub(crate) const ROOT: u32 = 0x122;
 
 /// Whether a folder stands directly in that one.
-pub(crate) fn is_child(parent: Nid, place: &Place) -> bool
+pub(crate) fn is_child(parent: Nid, place: &FolderPlace) -> bool
     ensures { result ≡ is_child parent.bits place.now }
 {
     place.parent.bits == parent.bits && place.nid.bits != ROOT

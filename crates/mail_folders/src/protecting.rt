@@ -10,13 +10,15 @@ use crate::reading::context_in;
 use command_text::CommandRefusal;
 use mail_draft::{Stop, bytes_of};
 use mapi_values::Props;
+use mapi_values::tags::{
+    PID_TAG_FINDER_ENTRY_ID, PID_TAG_IPM_SUBTREE_ENTRY_ID, PID_TAG_IPM_WASTEBASKET_ENTRY_ID,
+    PTYP_BINARY,
+};
 use node_port::NodeReader;
 use pst_base::{Nid, u32_at};
 use pst_outside::Outside;
 use std::alloc::Global;
 
-/// The kind of bytes.
-const BINARY: u16 = 0x0102;
 /// The store's own values.
 const STORE: Nid = Nid { bits: 0x21 };
 
@@ -24,7 +26,7 @@ const STORE: Nid = Nid { bits: 0x21 };
 fn names_node(nid: Nid, store: &Props, id: u16) -> bool
     ensures { result ≡ names_node nid.bits (bytes_of id 0x0102 store.now) }
 {
-    match bytes_of(store, id, BINARY) {
+    match bytes_of(store, id, PTYP_BINARY) {
         Some(entry) => entry.len() == 24 && u32_at(entry, 20) == nid.bits,
         None => false,
     }
@@ -34,9 +36,9 @@ fn names_node(nid: Nid, store: &Props, id: u16) -> bool
 fn is_special(folder: Nid, store: &Props) -> bool
     ensures { result ≡ is_special folder.bits store.now }
 {
-    names_node(folder, store, 0x35E0)
-        || names_node(folder, store, 0x35E3)
-        || names_node(folder, store, 0x35E7)
+    names_node(folder, store, PID_TAG_IPM_SUBTREE_ENTRY_ID.id)
+        || names_node(folder, store, PID_TAG_IPM_WASTEBASKET_ENTRY_ID.id)
+        || names_node(folder, store, PID_TAG_FINDER_ENTRY_ID.id)
 }
 
 /// Refused where a folder is the root, or one that the store names.

@@ -16,6 +16,7 @@ use crate::protecting::unless_protected;
 use crate::reading::context_in;
 use mail_draft::{Draft, Outcome, Stop, changing, mirrored, put_text, with_context};
 use mail_tree::Places;
+use mapi_values::tags::PID_TAG_DISPLAY_NAME;
 use mapi_values::{Props, Units};
 use node_port::NodeReader;
 use pst_base::Nid;
@@ -67,7 +68,7 @@ fn with_name(alloc: Global, props: &Props, name: &Units) -> Result<Props, AllocE
     ensures { IfOk result (λ p. p ≡ put (text 0x3001 name.now) props.now) }
 {
     let mut named = props.copy(alloc)?;
-    put_text(alloc, &mut named, 0x3001, name)?;
+    put_text(alloc, &mut named, PID_TAG_DISPLAY_NAME.id, name)?;
     Ok(named)
 }
 

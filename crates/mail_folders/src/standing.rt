@@ -10,7 +10,7 @@ ghost use Rattle.command_text.specs.declared.reply.Limit.TheVariants.{Depth};
 
 use command_text::{CommandRefusal, Limit};
 use mail_draft::Stop;
-use mail_tree::{Place, Places, Sort};
+use mail_tree::{FolderPlace, Places, Sort};
 use pst_base::Nid;
 use std::alloc::{AllocError, Global};
 
@@ -24,7 +24,7 @@ pub(crate) fn with_place(
     ensures { IfOk result (λ p. p ≡ put_key place_id (place folder.bits parent.bits) places.now) }
 {
     let mut after = places.copy(alloc)?;
-    after.put(Place {
+    after.put(FolderPlace {
         nid: folder,
         parent,
         sort: Sort::Plain,

@@ -12,7 +12,7 @@ use Rattle.mapi_values.specs.Tables.{find_row}
 use Rattle.mail_objects.specs.Forms.{Ctx}
 use Rattle.mail_objects.specs.declared.object.Object.{Object}
 use Rattle.mail_objects.specs.declared.object.Object.TheVariants.{Context, Table, Message}
-use Rattle.mail_tree.specs.declared.places.Place.{Place}
+use Rattle.mail_tree.specs.declared.places.FolderPlace.{FolderPlace}
 use Rattle.mail_tree.specs.Changing.{associated, contents, hierarchy}
 use Rattle.mail_tree.specs.Places.{ROOT, find_place}
 use Rattle.mail_tree.specs.Columns.{contents_table, hierarchy_table}
@@ -25,7 +25,7 @@ use Rattle.mail_tree.proofs.AfterTree.{tied}
 use Rattle.mail_tree.proofs.KindsOfPuts.{same_table}
 
 -- the root, alone
-places : List Place
+places : List FolderPlace
 places = place ROOT ROOT ∷ []
 
 store : Object
@@ -69,7 +69,7 @@ stands q o e = elim (cases_Bool (q == 0x21)) [
   ]
 ]
 
-placed : (f : ℕ) (p : Place) → find_place f places ≡ Some p → (ROOT ≡ f) × (place ROOT ROOT ≡ p)
+placed : (f : ℕ) (p : FolderPlace) → find_place f places ≡ Some p → (ROOT ≡ f) × (place ROOT ROOT ≡ p)
 unfolding places
 placed f p e = elim (cases_Bool (ROOT == f)) [
   | inl t ↦ (eqb-true ROOT f t, same_Some (place ROOT ROOT) p (rw t at e))
@@ -105,7 +105,7 @@ is_whole = record {
     ]
   ];
   store = refl;
-  contexts = λ f p e. let w = placed f p e in (root_values, ap at (sym w.0), ap (λ (x : Place). x.parent.bits) w.1);
+  contexts = λ f p e. let w = placed f p e in (root_values, ap at (sym w.0), ap (λ (x : FolderPlace). x.parent.bits) w.1);
   tables = λ f p e plain. let w = placed f p e in subst (λ x. IsSome (at (hierarchy x)) × IsSome (at (contents x))) w.0 (refl, refl);
   listed = λ f p t m e plain is row four.
       let w = placed f p e in

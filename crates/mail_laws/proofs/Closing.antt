@@ -9,7 +9,7 @@ use Rattle.mapi_values.proofs.KeyedLaws.{put-ascends, drop-ascends}
 use Rattle.mail_objects.specs.Forms.{Ctx, Tbl}
 use Rattle.mail_objects.specs.declared.object.Object.{Object}
 use Rattle.mail_objects.specs.declared.object.Object.TheVariants.{Context, Table, Message}
-use Rattle.mail_tree.specs.declared.places.Place.{Place}
+use Rattle.mail_tree.specs.declared.places.FolderPlace.{FolderPlace}
 use Rattle.mail_tree.specs.Places.{ROOT, find_place, is_plain, place_id}
 use Rattle.mail_tree.specs.Changing.{contents, hierarchy}
 use Rattle.mail_tree.specs.Folders.{place}
@@ -19,13 +19,13 @@ use Rattle.mail_tree.proofs.Nearly.{AreNearly, folder_kind, message_id}
 use Rattle.mail_tree.proofs.KindsOfPuts.{low}
 
 -- a message's id is no folder's
-pub no_folder : {E : ℕ → Type 0} {places : List Place} {at : ℕ → Option Object} → AreNearly E places at → (m f : ℕ) (p : Place) → m % 32 ≡ 4 → find_place f places ≡ Some p → f ≡ m → ⊥
+pub no_folder : {E : ℕ → Type 0} {places : List FolderPlace} {at : ℕ → Option Object} → AreNearly E places at → (m f : ℕ) (p : FolderPlace) → m % 32 ≡ 4 → find_place f places ≡ Some p → f ≡ m → ⊥
 no_folder n m f p four e same = let (above, below) = low f (folder_kind p.sort f (n.kinds f p e)) in omega arith
 
 -- what holds of the message too
-pub whole_message : (places : List Place) (at : ℕ → Option Object) (m : ℕ) → AreNearly (λ x. x ≡ m) places at → m % 32 ≡ 4
-    → ((f : ℕ) (p : Place) (t : Tbl) → find_place f places ≡ Some p → is_plain p ≡ true → at (contents f) ≡ Some (Table t) → IsSome (find_row m t.table.rows) → (M : Mes) × (at m ≡ Some (Message M)) × (M.folder ≡ f))
-    → ((M : Mes) → at m ≡ Some (Message M) → (p : Place) × (find_place M.folder places ≡ Some p) × (is_plain p ≡ true) × HasRow (at (contents M.folder)) m)
+pub whole_message : (places : List FolderPlace) (at : ℕ → Option Object) (m : ℕ) → AreNearly (λ x. x ≡ m) places at → m % 32 ≡ 4
+    → ((f : ℕ) (p : FolderPlace) (t : Tbl) → find_place f places ≡ Some p → is_plain p ≡ true → at (contents f) ≡ Some (Table t) → IsSome (find_row m t.table.rows) → (M : Mes) × (at m ≡ Some (Message M)) × (M.folder ≡ f))
+    → ((M : Mes) → at m ≡ Some (Message M) → (p : FolderPlace) × (find_place M.folder places ≡ Some p) × (is_plain p ≡ true) × HasRow (at (contents M.folder)) m)
     → AreWhole places at
 whole_message places at m n four listed held = record {
   ascend = n.ascend;
@@ -48,14 +48,14 @@ whole_message places at m n four listed held = record {
 }
 
 -- a plain folder is one still
-pub plain_still : (places : List Place) (f parent g : ℕ) (p : Place) → find_place g places ≡ Some p → is_plain p ≡ true → (r : Place) × (find_place g (put_key place_id (place f parent) places) ≡ Some r) × (is_plain r ≡ true)
+pub plain_still : (places : List FolderPlace) (f parent g : ℕ) (p : FolderPlace) → find_place g places ≡ Some p → is_plain p ≡ true → (r : FolderPlace) × (find_place g (put_key place_id (place f parent) places) ≡ Some r) × (is_plain r ≡ true)
 plain_still places f parent g p e plain = elim (cases_eq g f) [
   | inl same ↦ (place f parent, ap (λ x. find_place x (put_key place_id (place f parent) places)) same ∙ find-put_same place_id (place f parent) places, refl)
   | inr other ↦ (p, find-put_other place_id g (place f parent) places other ∙ e, plain)
 ]
 
 -- a folder takes a place in a plain one that lists it
-pub whole_folder : (places : List Place) (at : ℕ → Option Object) (f parent : ℕ) (q : Place) → AreNearly (λ x. x ≡ f) places at → f % 32 ≡ 2 → (f ≡ ROOT → ⊥)
+pub whole_folder : (places : List FolderPlace) (at : ℕ → Option Object) (f parent : ℕ) (q : FolderPlace) → AreNearly (λ x. x ≡ f) places at → f % 32 ≡ 2 → (f ≡ ROOT → ⊥)
     → find_place parent places ≡ Some q → is_plain q ≡ true → HasRow (at (hierarchy parent)) f → ((c : Ctx) × (at f ≡ Some (Context c)) × (c.parent ≡ parent)) → IsSome (at (hierarchy f)) → IsSome (at (contents f))
     → ((t : Tbl) (m : ℕ) → at (contents f) ≡ Some (Table t) → IsSome (find_row m t.table.rows) → m % 32 ≡ 4 → (M : Mes) × (at m ≡ Some (Message M)) × (M.folder ≡ f))
     → AreWhole (put_key place_id (place f parent) places) at
@@ -67,7 +67,7 @@ whole_folder places at f parent q n kind other_root eq plain_q row values folder
     | inr other ↦ n.kinds g p (was g p other e)
   ];
   parents = λ g p e no_root. elim (cases_eq g f) [
-    | inl same ↦ subst (λ x. (q : Place) × (find_place x.parent.bits (put_key place_id (place f parent) places) ≡ Some q) × (is_plain q ≡ true) × HasRow (at (hierarchy x.parent.bits)) g) (is_here g p same e)
+    | inl same ↦ subst (λ x. (q : FolderPlace) × (find_place x.parent.bits (put_key place_id (place f parent) places) ≡ Some q) × (is_plain q ≡ true) × HasRow (at (hierarchy x.parent.bits)) g) (is_here g p same e)
         (let w = still parent q eq plain_q in (w.0, w.1, w.2, subst (λ x. HasRow (at (hierarchy parent)) x) (sym same) row))
     | inr other ↦ let v = n.parents g p (was g p other e) no_root other in let w = still p.parent.bits v.0 v.1 v.2 in (w.0, w.1, w.2, v.3)
   ];
@@ -94,17 +94,17 @@ whole_folder places at f parent q n kind other_root eq plain_q row values folder
     others : (g : ℕ) → (g ≡ f → ⊥) → find_place g (put_key place_id (place f parent) places) ≡ find_place g places
     others g other = find-put_other place_id g (place f parent) places other
 
-    was : (g : ℕ) (p : Place) → (g ≡ f → ⊥) → find_place g (put_key place_id (place f parent) places) ≡ Some p → find_place g places ≡ Some p
+    was : (g : ℕ) (p : FolderPlace) → (g ≡ f → ⊥) → find_place g (put_key place_id (place f parent) places) ≡ Some p → find_place g places ≡ Some p
     was g p other e = sym (others g other) ∙ e
 
-    is_here : (g : ℕ) (p : Place) → g ≡ f → find_place g (put_key place_id (place f parent) places) ≡ Some p → place f parent ≡ p
+    is_here : (g : ℕ) (p : FolderPlace) → g ≡ f → find_place g (put_key place_id (place f parent) places) ≡ Some p → place f parent ≡ p
     is_here g p same e = same_Some (place f parent) p (sym (ap (λ x. find_place x (put_key place_id (place f parent) places)) same ∙ find-put_same place_id (place f parent) places) ∙ e)
 
-    still : (g : ℕ) (p : Place) → find_place g places ≡ Some p → is_plain p ≡ true → (r : Place) × (find_place g (put_key place_id (place f parent) places) ≡ Some r) × (is_plain r ≡ true)
+    still : (g : ℕ) (p : FolderPlace) → find_place g places ≡ Some p → is_plain p ≡ true → (r : FolderPlace) × (find_place g (put_key place_id (place f parent) places) ≡ Some r) × (is_plain r ≡ true)
     still g p e plain = plain_still places f parent g p e plain
 
 -- an empty folder loses its place
-pub whole_without : (places : List Place) (at : ℕ → Option Object) (f : ℕ) → AreWhole places at → (f ≡ ROOT → ⊥) → ((g : ℕ) → HasRow (at (hierarchy f)) g → ⊥) → ((m : ℕ) → HasRow (at (contents f)) m → ⊥)
+pub whole_without : (places : List FolderPlace) (at : ℕ → Option Object) (f : ℕ) → AreWhole places at → (f ≡ ROOT → ⊥) → ((g : ℕ) → HasRow (at (hierarchy f)) g → ⊥) → ((m : ℕ) → HasRow (at (contents f)) m → ⊥)
     → AreWhole (drop_key place_id f places) at
 whole_without places at f w other_root no_folders no_messages = record {
   ascend = drop-ascends place_id 0 f places w.ascend;
@@ -127,7 +127,7 @@ whole_without places at f w other_root no_folders no_messages = record {
     others : (g : ℕ) → (g ≡ f → ⊥) → find_place g (drop_key place_id f places) ≡ find_place g places
     others g other = find-drop_other place_id g f places other
 
-    was : (g : ℕ) (p : Place) → find_place g (drop_key place_id f places) ≡ Some p → find_place g places ≡ Some p
+    was : (g : ℕ) (p : FolderPlace) → find_place g (drop_key place_id f places) ≡ Some p → find_place g places ≡ Some p
     was g p e = elim (cases_eq g f) [
       | inl same ↦ absurd (none-some p (sym (ap (λ x. find_place x (drop_key place_id f places)) same ∙ find-drop_same place_id 0 f places w.ascend) ∙ e))
       | inr other ↦ sym (others g other) ∙ e

@@ -16,7 +16,7 @@ use Rattle.command_text.specs.declared.reply.Reply.{Reply}
 use Rattle.mail_objects.specs.Forms.{Ctx, Tbl}
 use Rattle.mail_objects.specs.declared.object.Object.{Object}
 use Rattle.mail_objects.specs.declared.object.Object.TheVariants.{Context, Table, Message}
-use Rattle.mail_tree.specs.declared.places.Place.{Place}
+use Rattle.mail_tree.specs.declared.places.FolderPlace.{FolderPlace}
 use Rattle.mail_tree.specs.Places.{ROOT, children, find_place, is_child, is_deep, is_plain, is_within, moves_deep, place_id}
 use Rattle.mail_tree.specs.Tree.{Tree}
 use Rattle.mail_tree.specs.Values.{bytes_of, finished, folder_props, is_set_protected, is_unset_protected, message_props, name_of, text, truth, with_props}
@@ -59,11 +59,11 @@ module _ (T : Tree) (w : Before T) (E : ℕ → Type 0) (s : AreCountedBut E T.p
   limited Q D f h = if_then (λ u. Unit {0}) Q (within_limits D) f (if_any (within_limits D)) (λ u v. h)
 
   -- but for these counts are right after changes
-  abbrev In : List Place → (ℕ → Type 0) → Changed → Type 0
+  abbrev In : List FolderPlace → (ℕ → Type 0) → Changed → Type 0
   In places E' D = AreCountedBut E' places (now_at T D)
 
   -- a folder that was counted anew
-  ended : (E' : ℕ → Type 0) (F : ℕ) (places : List Place) (D : Changed) → In places (λ x. (E' x ⊎ (x ≡ F)) × (x ≡ F → ⊥)) D → In places (λ x. E' x × (x ≡ F → ⊥)) D
+  ended : (E' : ℕ → Type 0) (F : ℕ) (places : List FolderPlace) (D : Changed) → In places (λ x. (E' x ⊎ (x ≡ F)) × (x ≡ F → ⊥)) D → In places (λ x. E' x × (x ≡ F → ⊥)) D
   ended E' F places D k = counted_fewer (λ x. (E' x ⊎ (x ≡ F)) × (x ≡ F → ⊥)) (λ x. E' x × (x ≡ F → ⊥)) places (now_at T D) (λ x h. (elim h.0 [ inl e ↦ e | inr e ↦ absurd (h.1 e) ], h.1)) k
 
   changing_ends : (F : ℕ) (a : Answer Changed) (reply : Reply) → IfOk a (In T.places (λ x. (E x ⊎ (x ≡ F)) × (x ≡ F → ⊥))) → IfOk (a >>= changing T reply) (Ends F)
@@ -76,14 +76,14 @@ module _ (T : Tree) (w : Before T) (E : ℕ → Type 0) (s : AreCountedBut E T.p
 
   -- a message is put
   message_put : (D D' : Changed) (m F : ℕ) (o : Option Object) → m % 32 ≡ 4 → In T.places E D → Puts (now_at T D) (now_at T D') m o → ((c : Ctx) → o ≡ Some (Context c) → ⊥)
-      → ((f : ℕ) (q : Place) (u : Tbl) → find_place f T.places ≡ Some q → is_plain q ≡ true → now_at T D (contents f) ≡ Some (Table u) → IsSome (find_row m u.table.rows) → f ≡ F)
+      → ((f : ℕ) (q : FolderPlace) (u : Tbl) → find_place f T.places ≡ Some q → is_plain q ≡ true → now_at T D (contents f) ≡ Some (Table u) → IsSome (find_row m u.table.rows) → f ≡ F)
       → In T.places (λ x. E x ⊎ (x ≡ F)) D'
   message_put D D' m F o four k puts no_context only = counted_put (λ x. E x ⊎ (x ≡ F)) T.places (now_at T D) (now_at T D') m o (counted_fewer E (λ x. E x ⊎ (x ≡ F)) T.places (now_at T D) (λ x e. inl e) k) puts
       (λ f p c e plain free same is. absurd (no_context c is))
       (λ f p e plain free same. omega (arith, beside_kind f 14 (omega arith)))
       (λ f p t e plain free is row four. free (inr (only f p t e plain is row)))
 
-  only_home : (m : ℕ) (M : Mes) → now_at T nothing m ≡ Some (Message M) → m % 32 ≡ 4 → (f : ℕ) (q : Place) (u : Tbl) → find_place f T.places ≡ Some q → is_plain q ≡ true → now_at T nothing (contents f) ≡ Some (Table u) → IsSome (find_row m u.table.rows) → f ≡ M.folder
+  only_home : (m : ℕ) (M : Mes) → now_at T nothing m ≡ Some (Message M) → m % 32 ≡ 4 → (f : ℕ) (q : FolderPlace) (u : Tbl) → find_place f T.places ≡ Some q → is_plain q ≡ true → now_at T nothing (contents f) ≡ Some (Table u) → IsSome (find_row m u.table.rows) → f ≡ M.folder
   only_home m M is four f q u e plain at_u row =
       let v = w.listed f q u m e plain at_u row four in
       let same : v.0 ≡ M = cc in
@@ -147,7 +147,7 @@ module _ (T : Tree) (w : Before T) (E : ℕ → Type 0) (s : AreCountedBut E T.p
     ])
   ])
 
-  adds : (M : Mes) (crowded : Bool) (p : Place) (index : ℕ) → M.nid % 32 ≡ 4 → now_at T nothing M.nid ≡ None → find_place M.folder T.places ≡ Some p → is_plain p ≡ true
+  adds : (M : Mes) (crowded : Bool) (p : FolderPlace) (index : ℕ) → M.nid % 32 ≡ 4 → now_at T nothing M.nid ≡ None → find_place M.folder T.places ≡ Some p → is_plain p ≡ true
       → IfOk (added_message T M (record nothing { crowded = crowded }) >>= making T T.places 4 index) (Ends M.folder)
   adds M crowded p index four none found plain =
       let D0 = record nothing { crowded = crowded } in let F = M.folder in
@@ -200,7 +200,7 @@ module _ (T : Tree) (w : Before T) (E : ℕ → Type 0) (s : AreCountedBut E T.p
   ]
 
   -- two folders that were counted anew
-  both_ended : (from to : ℕ) (places : List Place) (D : Changed) → In places (λ x. (((E x ⊎ (x ≡ from)) ⊎ (x ≡ to)) × (x ≡ from → ⊥)) × (x ≡ to → ⊥)) D → In places E D
+  both_ended : (from to : ℕ) (places : List FolderPlace) (D : Changed) → In places (λ x. (((E x ⊎ (x ≡ from)) ⊎ (x ≡ to)) × (x ≡ from → ⊥)) × (x ≡ to → ⊥)) D → In places E D
   both_ended from to places D k = counted_fewer (λ x. (((E x ⊎ (x ≡ from)) ⊎ (x ≡ to)) × (x ≡ from → ⊥)) × (x ≡ to → ⊥)) E places (now_at T D)
       (λ x h. elim h.0.0 [ inl y ↦ elim y [ inl e ↦ e | inr e ↦ absurd (h.0.1 e) ] | inr e ↦ absurd (h.1 e) ]) k
 
@@ -268,12 +268,12 @@ module _ (T : Tree) (w : Before T) (E : ℕ → Type 0) (s : AreCountedBut E T.p
     ])
   ]
 
-  moving_keeps : (places : List Place) (a : Answer Changed) (reply : Reply) → IfOk a (In places E) → IfOk (a >>= moving T places reply) Keeps
+  moving_keeps : (places : List FolderPlace) (a : Answer Changed) (reply : Reply) → IfOk a (In places E) → IfOk (a >>= moving T places reply) Keeps
   unfolding Keeps
   moving_keeps places a reply h = if_then (In places E) Keeps a (moving T places reply) h (λ D k. limited Keeps D _ k)
 
   -- one folder that was counted anew
-  one_ended : (F : ℕ) (places : List Place) (a : Answer Changed) → IfOk a (In places (λ x. (E x ⊎ (x ≡ F)) × (x ≡ F → ⊥))) → IfOk a (In places E)
+  one_ended : (F : ℕ) (places : List FolderPlace) (a : Answer Changed) → IfOk a (In places (λ x. (E x ⊎ (x ≡ F)) × (x ≡ F → ⊥))) → IfOk a (In places E)
   one_ended F places a h = if_weaker (In places (λ x. (E x ⊎ (x ≡ F)) × (x ≡ F → ⊥))) (In places E) a h
       (λ D k. counted_fewer (λ x. (E x ⊎ (x ≡ F)) × (x ≡ F → ⊥)) E places (now_at T D) (λ x h. elim h.0 [ inl e ↦ e | inr e ↦ absurd (h.1 e) ]) k)
 
@@ -284,12 +284,12 @@ module _ (T : Tree) (w : Before T) (E : ℕ → Type 0) (s : AreCountedBut E T.p
   ]
 
   -- a folder that stands elsewhere is no child
-  no_child : (g : ℕ) (p : Place) → (p.parent.bits ≡ g → ⊥) → is_child g p ≡ false
+  no_child : (g : ℕ) (p : FolderPlace) → (p.parent.bits ≡ g → ⊥) → is_child g p ≡ false
   no_child g p other = and_left (p.parent.bits == g) (not (p.nid.bits == ROOT)) (ne_eqb p.parent.bits g other)
 
   -- where a folder takes a place, others than its parents have the children that they had
-  put_children : (E' : ℕ → Type 0) (f parent : ℕ) → f % 32 ≡ 2 → ((g : ℕ) → (E' g → ⊥) → parent ≡ g → ⊥) → ((g : ℕ) → (E' g → ⊥) → (x : Place) → find_place f T.places ≡ Some x → is_child g x ≡ false)
-      → ((g : ℕ) → (E' g → ⊥) → g ≡ f → (x : Place) × (find_place f T.places ≡ Some x) × (is_plain x ≡ true)) → AreCountedBut E' T.places (now_at T nothing) → AreCountedBut E' (put_key place_id (place f parent) T.places) (now_at T nothing)
+  put_children : (E' : ℕ → Type 0) (f parent : ℕ) → f % 32 ≡ 2 → ((g : ℕ) → (E' g → ⊥) → parent ≡ g → ⊥) → ((g : ℕ) → (E' g → ⊥) → (x : FolderPlace) → find_place f T.places ≡ Some x → is_child g x ≡ false)
+      → ((g : ℕ) → (E' g → ⊥) → g ≡ f → (x : FolderPlace) × (find_place f T.places ≡ Some x) × (is_plain x ≡ true)) → AreCountedBut E' T.places (now_at T nothing) → AreCountedBut E' (put_key place_id (place f parent) T.places) (now_at T nothing)
   put_children E' f parent two apart was old k = counted_places E' T.places (put_key place_id (place f parent) T.places) (now_at T nothing) k (λ g p e plain free.
       let same = any_put place_id (is_child g) (place f parent) T.places (no_child g (place f parent) (apart g free)) (was g free) in
       elim (cases_eq g f) [
@@ -323,7 +323,7 @@ module _ (T : Tree) (w : Before T) (E : ℕ → Type 0) (s : AreCountedBut E T.p
                   let E2 : ℕ → Type 0 = λ x. (E x ⊎ (x ≡ from)) ⊎ (x ≡ parent) in
                   let E3 : ℕ → Type 0 = λ x. E2 x × (x ≡ from → ⊥) in
                   let k0 = put_children E2 f parent two (λ g free e. free (inr (sym e)))
-                  (λ g free x e. no_child g x (λ e'. free (inl (inr (sym e' ∙ ap (λ (y : Place). y.parent.bits) (same_Some x p.0 (sym e ∙ p.1))))))) (λ g free e. (p.0, p.1, plain_p))
+                  (λ g free x e. no_child g x (λ e'. free (inl (inr (sym e' ∙ ap (λ (y : FolderPlace). y.parent.bits) (same_Some x p.0 (sym e ∙ p.1))))))) (λ g free e. (p.0, p.1, plain_p))
                   (counted_fewer E E2 T.places (now_at T nothing) (λ x e. inl (inl e)) s) in
                   let k1 = values_put T places places_ids E2 nothing D f c' two k0 puts (λ free. (c.0, c.1, record { messages = refl; unread = refl; folders = refl })) in
                   let a = drop_shown T (hierarchy from) f D in
@@ -346,7 +346,7 @@ module _ (T : Tree) (w : Before T) (E : ℕ → Type 0) (s : AreCountedBut E T.p
   ]
 
   -- a table of a folder that isn't there is put, or goes
-  free_put : (E' : ℕ → Type 0) (places : List Place) (places_ids : PlainIds places) (D : Changed) (f kind : ℕ) (o : Option Object) → f % 32 ≡ 2 → kind < 32 → 4 < kind → ((g : ℕ) (p : Place) → find_place g places ≡ Some p → (E' g → ⊥) → g ≡ f → ⊥)
+  free_put : (E' : ℕ → Type 0) (places : List FolderPlace) (places_ids : PlainIds places) (D : Changed) (f kind : ℕ) (o : Option Object) → f % 32 ≡ 2 → kind < 32 → 4 < kind → ((g : ℕ) (p : FolderPlace) → find_place g places ≡ Some p → (E' g → ⊥) → g ≡ f → ⊥)
       → ((c : Ctx) → o ≡ Some (Context c) → ⊥) → In places E' D → In places E' (with_object (beside f kind) o D)
   free_put E' places places_ids D f kind o two small large apart no_context k = counted_put E' places (now_at T D) _ (beside f kind) o k (puts_object T D (beside f kind) o)
       (λ g p c e plain free same is. absurd (no_context c is))
@@ -358,11 +358,11 @@ module _ (T : Tree) (w : Before T) (E : ℕ → Type 0) (s : AreCountedBut E T.p
       → IsCounted places at f (record { parent = parent; props = folder_props name; kept = [] }) contents_table
   new_counts f parent name unplaced other at =
       let places = put_key place_id (place f parent) T.places in
-      let no_parent : (g : ℕ) (p : Place) → find_place g T.places ≡ Some p → p.parent.bits ≡ f → ⊥ = λ g p e same. elim (cases_eq g ROOT) [
+      let no_parent : (g : ℕ) (p : FolderPlace) → find_place g T.places ≡ Some p → p.parent.bits ≡ f → ⊥ = λ g p e same. elim (cases_eq g ROOT) [
         | inl root ↦
             let r = w.root in
             let one = same_Some p r.0 (sym e ∙ ap (λ x. find_place x T.places) root ∙ r.1) in
-            none-some r.0 (sym unplaced ∙ ap (λ x. find_place x T.places) (sym same ∙ ap (λ (x : Place). x.parent.bits) one ∙ r.3) ∙ r.1)
+            none-some r.0 (sym unplaced ∙ ap (λ x. find_place x T.places) (sym same ∙ ap (λ (x : FolderPlace). x.parent.bits) one ∙ r.3) ∙ r.1)
         | inr no_root ↦ let v = w.parents g p e no_root in none-some v.0 (sym unplaced ∙ ap (λ x. find_place x T.places) (sym same) ∙ v.1)
       ] in
       let none : list_any (is_child f) places ≡ false = none_passes place_id (is_child f) 0 places (put-ascends place_id 0 (place f parent) T.places (omega arith) w.ascend) (λ g p e. elim (cases_eq g f) [
@@ -402,7 +402,7 @@ module _ (T : Tree) (w : Before T) (E : ℕ → Type 0) (s : AreCountedBut E T.p
                   let D4 = with_object (associated f) (Some (Table contents_table)) D3 in
                   let p1 = puts_object T nothing f (Some (Context c)) in let p2 = puts_object T D1 (hierarchy f) (Some (Table hierarchy_table)) in
                   let p3 = puts_object T D2 (contents f) (Some (Table contents_table)) in let p4 = puts_object T D3 (associated f) (Some (Table contents_table)) in
-                  let apart : (g : ℕ) (q : Place) → find_place g places ≡ Some q → (E2 g → ⊥) → g ≡ f → ⊥ = λ g q e free same. free (inr same) in
+                  let apart : (g : ℕ) (q : FolderPlace) → find_place g places ≡ Some q → (E2 g → ⊥) → g ≡ f → ⊥ = λ g q e free same. free (inr same) in
                   let k0 = put_children E2 f parent two (λ g free e. free (inl (inr (sym e)))) (λ g free x e. absurd (none-some x (sym unplaced ∙ e))) (λ g free e. absurd (free (inr e)))
                   (counted_fewer E E2 T.places (now_at T nothing) (λ x e. inl (inl e)) s) in
                   let k1 = values_put T places places_ids E2 nothing D1 f c two k0 p1 (λ free. absurd (free (inr refl))) in
@@ -428,7 +428,7 @@ module _ (T : Tree) (w : Before T) (E : ℕ → Type 0) (s : AreCountedBut E T.p
       own_id : (f kind : ℕ) → f % 32 ≡ 2 → kind < 32 → 4 < kind → f ≡ beside f kind → ⊥
       own_id f kind two small large e = omega (arith, beside_kind f kind small)
 
-  node_goes : (E' : ℕ → Type 0) (places : List Place) (places_ids : PlainIds places) (D : Changed) (f : ℕ) (b : Bool) → f % 32 ≡ 2 → ((g : ℕ) (p : Place) → find_place g places ≡ Some p → (E' g → ⊥) → g ≡ f → ⊥) → In places E' D → In places E' (without_node (associated f) b D)
+  node_goes : (E' : ℕ → Type 0) (places : List FolderPlace) (places_ids : PlainIds places) (D : Changed) (f : ℕ) (b : Bool) → f % 32 ≡ 2 → ((g : ℕ) (p : FolderPlace) → find_place g places ≡ Some p → (E' g → ⊥) → g ≡ f → ⊥) → In places E' D → In places E' (without_node (associated f) b D)
   node_goes E' places places_ids D f false two apart k = k
   node_goes E' places places_ids D f true two apart k = free_put E' places places_ids D f 15 None two (omega arith) (omega arith) apart (λ c e. none-some (Context c) e) k
 
@@ -450,18 +450,18 @@ module _ (T : Tree) (w : Before T) (E : ℕ → Type 0) (s : AreCountedBut E T.p
                 let places = drop_key place_id f T.places in
                 let two = ids f p.0 p.1 plain in
                 let gone = find-drop_same place_id 0 f T.places w.ascend in
-                let away : (g : ℕ) (r : Place) → find_place g places ≡ Some r → g ≡ f → ⊥ = λ g r e same. none-some r (sym gone ∙ ap (λ x. find_place x places) (sym same) ∙ e) in
-                let was : (g : ℕ) (r : Place) → find_place g places ≡ Some r → find_place g T.places ≡ Some r = λ g r e. sym (find-drop_other place_id g f T.places (away g r e)) ∙ e in
+                let away : (g : ℕ) (r : FolderPlace) → find_place g places ≡ Some r → g ≡ f → ⊥ = λ g r e same. none-some r (sym gone ∙ ap (λ x. find_place x places) (sym same) ∙ e) in
+                let was : (g : ℕ) (r : FolderPlace) → find_place g places ≡ Some r → find_place g T.places ≡ Some r = λ g r e. sym (find-drop_other place_id g f T.places (away g r e)) ∙ e in
                 let places_ids : PlainIds places = λ g r e plain. ids g r (was g r e) plain in
                 let E1 : ℕ → Type 0 = λ x. E x ⊎ (x ≡ from) in
-                let apart : (g : ℕ) (r : Place) → find_place g places ≡ Some r → (E1 g → ⊥) → g ≡ f → ⊥ = λ g r e free. away g r e in
+                let apart : (g : ℕ) (r : FolderPlace) → find_place g places ≡ Some r → (E1 g → ⊥) → g ≡ f → ⊥ = λ g r e free. away g r e in
                 let D1 = with_object f None nothing in let D2 = with_object (hierarchy f) None D1 in let D3 = with_object (contents f) None D2 in
                 let D = without_folder T f nothing in
                 let k0 = counted_places E1 T.places places (now_at T nothing) (counted_fewer E E1 T.places (now_at T nothing) (λ x e. inl e) s) (λ g r e plain free. (
                   r,
                   was g r e,
                   plain,
-                  any_drop place_id (is_child g) f T.places (λ x e'. no_child g x (λ e''. free (inr (sym e'' ∙ ap (λ (y : Place). y.parent.bits) (same_Some x p.0 (sym e' ∙ p.1)))))),
+                  any_drop place_id (is_child g) f T.places (λ x e'. no_child g x (λ e''. free (inr (sym e'' ∙ ap (λ (y : FolderPlace). y.parent.bits) (same_Some x p.0 (sym e' ∙ p.1)))))),
                 )) in
                 let k1 : In places E1 D1 = counted_put E1 places (now_at T nothing) (now_at T D1) f None k0 (puts_object T nothing f None) (λ g r c e plain free same is. absurd (none-some (Context c) is))
                 (λ g r e plain free same. omega (arith, beside_kind g 14 (omega arith))) (λ g r t e plain free is row four. omega arith) in

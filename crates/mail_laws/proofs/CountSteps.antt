@@ -11,7 +11,7 @@ use Rattle.mapi_values.specs.Values.{Val}
 use Rattle.mail_objects.specs.Forms.{Ctx, Tbl}
 use Rattle.mail_objects.specs.declared.object.Object.{Object}
 use Rattle.mail_objects.specs.declared.object.Object.TheVariants.{Context, Table, Message}
-use Rattle.mail_tree.specs.declared.places.Place.{Place}
+use Rattle.mail_tree.specs.declared.places.FolderPlace.{FolderPlace}
 use Rattle.mail_tree.specs.Places.{ROOT, find_place, is_child, is_plain}
 use Rattle.mail_tree.specs.Tree.{Tree}
 use Rattle.mail_tree.specs.Values.{is_read, number, truth}
@@ -32,8 +32,8 @@ pub record SameCounts (old new : List Val) : Type 0 where
   pub folders : find 0x360A new ≡ find 0x360A old
 
 -- ids of plain folders
-abbrev pub PlainIds : List Place → Type 0
-PlainIds places = (f : ℕ) (p : Place) → find_place f places ≡ Some p → is_plain p ≡ true → f % 32 ≡ 2
+abbrev pub PlainIds : List FolderPlace → Type 0
+PlainIds places = (f : ℕ) (p : FolderPlace) → find_place f places ≡ Some p → is_plain p ≡ true → f % 32 ≡ 2
 
 -- as many weren't read, where the messages that are listed stand as they stood
 same_unread : (at at' : ℕ → Option Object) (rows : List (ℕ × List Val)) → ((m : ℕ) → IsSome (find_row m rows) → m % 32 ≡ 4 → at' m ≡ at m)
@@ -50,10 +50,10 @@ same_unread at at' (r ∷ rs) same =
     later m row = elim (cases_Bool (r.0 == m)) [ inl t ↦ rw t refl | inr t ↦ rw t row ]
 
 -- an object is put that changes the counts of none but these
-pub counted_put : (E : ℕ → Type 0) (places : List Place) (at at' : ℕ → Option Object) (q : ℕ) (o : Option Object) → AreCountedBut E places at → Puts at at' q o
-    → ((f : ℕ) (p : Place) (c' : Ctx) → find_place f places ≡ Some p → is_plain p ≡ true → (E f → ⊥) → q ≡ f → o ≡ Some (Context c') → (c : Ctx) × (at f ≡ Some (Context c)) × SameCounts c.props c'.props)
-    → ((f : ℕ) (p : Place) → find_place f places ≡ Some p → is_plain p ≡ true → (E f → ⊥) → q ≡ contents f → ⊥)
-    → ((f : ℕ) (p : Place) (t : Tbl) → find_place f places ≡ Some p → is_plain p ≡ true → (E f → ⊥) → at (contents f) ≡ Some (Table t) → IsSome (find_row q t.table.rows) → q % 32 ≡ 4 → ⊥)
+pub counted_put : (E : ℕ → Type 0) (places : List FolderPlace) (at at' : ℕ → Option Object) (q : ℕ) (o : Option Object) → AreCountedBut E places at → Puts at at' q o
+    → ((f : ℕ) (p : FolderPlace) (c' : Ctx) → find_place f places ≡ Some p → is_plain p ≡ true → (E f → ⊥) → q ≡ f → o ≡ Some (Context c') → (c : Ctx) × (at f ≡ Some (Context c)) × SameCounts c.props c'.props)
+    → ((f : ℕ) (p : FolderPlace) → find_place f places ≡ Some p → is_plain p ≡ true → (E f → ⊥) → q ≡ contents f → ⊥)
+    → ((f : ℕ) (p : FolderPlace) (t : Tbl) → find_place f places ≡ Some p → is_plain p ≡ true → (E f → ⊥) → at (contents f) ≡ Some (Table t) → IsSome (find_row q t.table.rows) → q % 32 ≡ 4 → ⊥)
     → AreCountedBut E places at'
 counted_put E places at at' q o s puts values table message f p c' t e plain free is_c is_t =
     let was_t : at (contents f) ≡ Some (Table t) = sym (puts.others (contents f) (λ same. table f p e plain free (sym same))) ∙ is_t in
@@ -70,7 +70,7 @@ counted_put E places at at' q o s puts values table message f p c' t e plain fre
     }
 
 -- a folder's counts that are right too
-pub counted_too : (E : ℕ → Type 0) (places : List Place) (at : ℕ → Option Object) (f : ℕ) → AreCountedBut (λ x. E x ⊎ (x ≡ f)) places at
+pub counted_too : (E : ℕ → Type 0) (places : List FolderPlace) (at : ℕ → Option Object) (f : ℕ) → AreCountedBut (λ x. E x ⊎ (x ≡ f)) places at
     → ((c : Ctx) (t : Tbl) → at f ≡ Some (Context c) → at (contents f) ≡ Some (Table t) → IsCounted places at f c t) → AreCountedBut (λ x. E x × (x ≡ f → ⊥)) places at
 counted_too E places at f s here g p c t e plain free is_c is_t = elim (cases_eq g f) [
   | inl same ↦ subst (λ x. IsCounted places at x c t) (sym same) (here c t (ap at (sym same) ∙ is_c) (ap (λ x. at (contents x)) (sym same) ∙ is_t))
@@ -78,13 +78,13 @@ counted_too E places at f s here g p c t e plain free is_c is_t = elim (cases_eq
 ]
 
 -- fewer are right
-pub counted_fewer : (E E' : ℕ → Type 0) (places : List Place) (at : ℕ → Option Object) → ((x : ℕ) → E x → E' x) → AreCountedBut E places at → AreCountedBut E' places at
+pub counted_fewer : (E E' : ℕ → Type 0) (places : List FolderPlace) (at : ℕ → Option Object) → ((x : ℕ) → E x → E' x) → AreCountedBut E places at → AreCountedBut E' places at
 counted_fewer E E' places at more s f p c t e plain free is_c is_t = s f p c t e plain (λ x. free (more f x)) is_c is_t
 
 -- places change
-pub counted_places : (E : ℕ → Type 0) (places places' : List Place) (at : ℕ → Option Object) → AreCountedBut E places at
-    → ((f : ℕ) (p' : Place) → find_place f places' ≡ Some p' → is_plain p' ≡ true → (E f → ⊥)
-    → (p : Place) × (find_place f places ≡ Some p) × (is_plain p ≡ true) × (list_any (is_child f) places' ≡ list_any (is_child f) places)) → AreCountedBut E places' at
+pub counted_places : (E : ℕ → Type 0) (places places' : List FolderPlace) (at : ℕ → Option Object) → AreCountedBut E places at
+    → ((f : ℕ) (p' : FolderPlace) → find_place f places' ≡ Some p' → is_plain p' ≡ true → (E f → ⊥)
+    → (p : FolderPlace) × (find_place f places ≡ Some p) × (is_plain p ≡ true) × (list_any (is_child f) places' ≡ list_any (is_child f) places)) → AreCountedBut E places' at
 counted_places E places places' at s same f p' c t e plain free is_c is_t =
     let w = same f p' e plain free in let k = s f w.0 c t w.1 w.2 free is_c is_t in
     record { messages = k.messages; unread = k.unread; folders = k.folders ∙ ap (λ b. Some (truth 0x360A b)) (sym w.3) }
@@ -135,36 +135,36 @@ if_unread T D (m ∷ ms) = if_then (λ M. now_at T D m ≡ Some (Message M)) _ (
     if_then (λ n. n ≡ length (filter (λ m. is_unread (now_at T D m)) ms)) _ (unread_among T D ms) _ (if_unread T D ms) (λ n e.
     rw is (elim (cases_Bool (is_read M.props)) [ inl b ↦ rw b (omega arith) | inr b ↦ rw b (omega arith) ])))
 
-module _ (T : Tree) (places : List Place) (ids : PlainIds places) where
+module _ (T : Tree) (places : List FolderPlace) (ids : PlainIds places) where
   abbrev pub CountedBut : (ℕ → Type 0) → Changed → Type 0
   CountedBut E D = AreCountedBut E places (now_at T D)
 
   -- a table that none but these have for their messages gets other rows
-  pub rows_keep : (E : ℕ → Type 0) (D : Changed) (q : ℕ) (t : Tbl) → 4 < q % 32 → ((f : ℕ) (p : Place) → find_place f places ≡ Some p → is_plain p ≡ true → (E f → ⊥) → q ≡ contents f → ⊥) → CountedBut E D → CountedBut E (with_object q (Some (Table t)) D)
+  pub rows_keep : (E : ℕ → Type 0) (D : Changed) (q : ℕ) (t : Tbl) → 4 < q % 32 → ((f : ℕ) (p : FolderPlace) → find_place f places ≡ Some p → is_plain p ≡ true → (E f → ⊥) → q ≡ contents f → ⊥) → CountedBut E D → CountedBut E (with_object q (Some (Table t)) D)
   rows_keep E D q t high apart s = counted_put E places (now_at T D) _ q (Some (Table t)) s (puts_object T D q (Some (Table t))) (λ f p c e plain free same is. cc) apart (λ f p t e plain free is row four. omega arith)
 
-  pub put_counts : (E : ℕ → Type 0) (D : Changed) (q id : ℕ) (props : List Val) → 4 < q % 32 → ((f : ℕ) (p : Place) → find_place f places ≡ Some p → is_plain p ≡ true → (E f → ⊥) → q ≡ contents f → ⊥) → CountedBut E D → IfOk (put_shown T q id props D) (CountedBut E)
+  pub put_counts : (E : ℕ → Type 0) (D : Changed) (q id : ℕ) (props : List Val) → 4 < q % 32 → ((f : ℕ) (p : FolderPlace) → find_place f places ≡ Some p → is_plain p ≡ true → (E f → ⊥) → q ≡ contents f → ⊥) → CountedBut E D → IfOk (put_shown T q id props D) (CountedBut E)
   unfolding put_shown
   put_counts E D q id props high apart s = if_then (λ t. Unit {0}) (CountedBut E) (table_at T D q) _ (if_any (table_at T D q)) (λ t u.
       rows_keep E D q (record { parent = t.parent; table = record t.table { rows = shown_row id props t.table } }) high apart s)
 
-  pub add_counts : (E : ℕ → Type 0) (D : Changed) (q id : ℕ) (props : List Val) → 4 < q % 32 → ((f : ℕ) (p : Place) → find_place f places ≡ Some p → is_plain p ≡ true → (E f → ⊥) → q ≡ contents f → ⊥) → CountedBut E D → IfOk (add_shown T q id props D) (CountedBut E)
+  pub add_counts : (E : ℕ → Type 0) (D : Changed) (q id : ℕ) (props : List Val) → 4 < q % 32 → ((f : ℕ) (p : FolderPlace) → find_place f places ≡ Some p → is_plain p ≡ true → (E f → ⊥) → q ≡ contents f → ⊥) → CountedBut E D → IfOk (add_shown T q id props D) (CountedBut E)
   unfolding add_shown
   add_counts E D q id props high apart s = if_then (λ t. Unit {0}) (CountedBut E) (table_at T D q) _ (if_any (table_at T D q)) (λ t u. elim (cases_Bool (overfills t.table.rows (shown_row id props t.table))) [
     | inl b ↦ rw b tt
     | inr b ↦ rw b (rows_keep E D q (record { parent = t.parent; table = record t.table { rows = shown_row id props t.table } }) high apart s)
   ])
 
-  pub drop_counts : (E : ℕ → Type 0) (D : Changed) (q id : ℕ) → 4 < q % 32 → ((f : ℕ) (p : Place) → find_place f places ≡ Some p → is_plain p ≡ true → (E f → ⊥) → q ≡ contents f → ⊥) → CountedBut E D → IfOk (drop_shown T q id D) (CountedBut E)
+  pub drop_counts : (E : ℕ → Type 0) (D : Changed) (q id : ℕ) → 4 < q % 32 → ((f : ℕ) (p : FolderPlace) → find_place f places ≡ Some p → is_plain p ≡ true → (E f → ⊥) → q ≡ contents f → ⊥) → CountedBut E D → IfOk (drop_shown T q id D) (CountedBut E)
   unfolding drop_shown
   drop_counts E D q id high apart s = if_then (λ t. Unit {0}) (CountedBut E) (table_at T D q) _ (if_any (table_at T D q)) (λ t u.
       rows_keep E D q (record { parent = t.parent; table = record t.table { rows = drop_row id t.table.rows } }) high apart s)
 
   -- which tables those are
-  pub no_contents : (E : ℕ → Type 0) (g : ℕ) (f : ℕ) (p : Place) → find_place f places ≡ Some p → is_plain p ≡ true → (E f → ⊥) → hierarchy g ≡ contents f → ⊥
+  pub no_contents : (E : ℕ → Type 0) (g : ℕ) (f : ℕ) (p : FolderPlace) → find_place f places ≡ Some p → is_plain p ≡ true → (E f → ⊥) → hierarchy g ≡ contents f → ⊥
   no_contents E g f p e plain free same = omega (arith, beside_kind g 13 (omega arith), beside_kind f 14 (omega arith))
 
-  pub own_contents : (E : ℕ → Type 0) (g : ℕ) → g % 32 ≡ 2 → E g → (f : ℕ) (p : Place) → find_place f places ≡ Some p → is_plain p ≡ true → (E f → ⊥) → contents g ≡ contents f → ⊥
+  pub own_contents : (E : ℕ → Type 0) (g : ℕ) → g % 32 ≡ 2 → E g → (f : ℕ) (p : FolderPlace) → find_place f places ≡ Some p → is_plain p ≡ true → (E f → ⊥) → contents g ≡ contents f → ⊥
   own_contents E g two has f p e plain free same = free (subst E (same_folder g f 14 two (ids f p e plain) same) has)
 
   -- a folder's other values, but for these

@@ -4,7 +4,7 @@ use Rattle.std.specs.List.{list_any}
 use Rattle.std.proofs.lemmas.Bool.{and_cases, cases_Bool, cases_eq, eq-eqb, eqb-false, eqb-true, false≢true, ltb-false, ne_eqb, or_parts}
 use Rattle.std.proofs.lemmas.Option.{none-some, same_Some}
 use Rattle.mapi_values.specs.Keyed.{drop_key, keys_ascend, put_key}
-use Rattle.mail_tree.specs.declared.places.Place.{Place}
+use Rattle.mail_tree.specs.declared.places.FolderPlace.{FolderPlace}
 use Rattle.mail_tree.specs.Places.{ROOT, find_place, is_deep, is_within, moves_deep, path, path_from, place_id}
 use Rattle.mail_tree.specs.Folders.{place}
 use Rattle.mail_tree.specs.Found.{StandsBelow}
@@ -12,15 +12,15 @@ use Rattle.mail_tree.proofs.KeyedFinds.{find-drop_other, find-drop_same, find-pu
 use Rattle.mail_laws.proofs.PlaceEffects.{found_id}
 
 -- each folder stands at most 64 folders below the root
-abbrev pub AreReached : List Place → Type 0
-AreReached places = (f : ℕ) (p : Place) → find_place f places ≡ Some p → (n : ℕ) × (n ≤ 64) × StandsBelow places n f
+abbrev pub AreReached : List FolderPlace → Type 0
+AreReached places = (f : ℕ) (p : FolderPlace) → find_place f places ≡ Some p → (n : ℕ) × (n ≤ 64) × StandsBelow places n f
 
 -- each place but that of one folder is the same
-abbrev pub SameBut : ℕ → List Place → List Place → Type 0
+abbrev pub SameBut : ℕ → List FolderPlace → List FolderPlace → Type 0
 SameBut f places places' = (x : ℕ) → (x ≡ f → ⊥) → find_place x places' ≡ find_place x places
 
 -- the path of a folder that stands n below the root has n + 1 ids
-path_length : (places : List Place) (n k f : ℕ) → StandsBelow places n f → n ≤ k → length (path_from k places f) ≡ suc n
+path_length : (places : List FolderPlace) (n k f : ℕ) → StandsBelow places n f → n ≤ k → length (path_from k places f) ≡ suc n
 unfolding path_from
 path_length places zero zero f b less = refl
 path_length places zero (suc k) f b less = rw (eq-eqb f ROOT b) refl
@@ -30,7 +30,7 @@ path_length places (suc n) (suc k) f b less =
     rw (ne_eqb f ROOT b.0, b.1.1) (omega arith)
 
 -- a folder has one depth
-one_depth : (places : List Place) (n m f : ℕ) → StandsBelow places n f → StandsBelow places m f → n ≡ m
+one_depth : (places : List FolderPlace) (n m f : ℕ) → StandsBelow places n f → StandsBelow places m f → n ≡ m
 one_depth places zero zero f a b = refl
 one_depth places zero (suc m) f a b = absurd (b.0 a)
 one_depth places (suc n) zero f a b = absurd (a.0 b)
@@ -39,15 +39,15 @@ one_depth places (suc n) (suc m) f a b =
     ap suc (one_depth places n m a.1.0.parent.bits a.1.2 (subst (λ p. StandsBelow places m p.parent.bits) same b.1.2))
 
 -- where the folders stand still, so do those above them
-still : (places places' : List Place) → ((x : ℕ) (p : Place) → find_place x places ≡ Some p → (x ≡ ROOT → ⊥) → find_place x places' ≡ Some p) → (n f : ℕ) → StandsBelow places n f → StandsBelow places' n f
+still : (places places' : List FolderPlace) → ((x : ℕ) (p : FolderPlace) → find_place x places ≡ Some p → (x ≡ ROOT → ⊥) → find_place x places' ≡ Some p) → (n f : ℕ) → StandsBelow places n f → StandsBelow places' n f
 still places places' same zero f b = b
 still places places' same (suc n) f b = (b.0, (b.1.0, same f b.1.0 b.1.1 b.0, still places places' same n b.1.0.parent.bits b.1.2))
 
 -- a new folder stands one below its parent
-pub made_reached : (places : List Place) (f parent : ℕ) (q : Place) → AreReached places → find_place f places ≡ None → (f ≡ ROOT → ⊥) → find_place parent places ≡ Some q → is_deep places parent ≡ false → AreReached (put_key place_id (place f parent) places)
+pub made_reached : (places : List FolderPlace) (f parent : ℕ) (q : FolderPlace) → AreReached places → find_place f places ≡ None → (f ≡ ROOT → ⊥) → find_place parent places ≡ Some q → is_deep places parent ≡ false → AreReached (put_key place_id (place f parent) places)
 made_reached places f parent q reached none no_root found deep g p e =
     let places' = put_key place_id (place f parent) places in
-    let same : (x : ℕ) (r : Place) → find_place x places ≡ Some r → (x ≡ ROOT → ⊥) → find_place x places' ≡ Some r = λ x r is other.
+    let same : (x : ℕ) (r : FolderPlace) → find_place x places ≡ Some r → (x ≡ ROOT → ⊥) → find_place x places' ≡ Some r = λ x r is other.
     find-put_other place_id x (place f parent) places (λ one. none-some r (sym none ∙ ap (λ y. find_place y places) (sym one) ∙ is)) ∙ is in
     elim (cases_eq g f) [
       | inl one ↦
@@ -61,18 +61,18 @@ made_reached places f parent q reached none no_root found deep g p e =
     ]
 
 -- folders stay where they stood when one goes in which none stands
-childless : (places places' : List Place) (f : ℕ) → SameBut f places places' → ((g : ℕ) (p : Place) → find_place g places ≡ Some p → (g ≡ ROOT → ⊥) → p.parent.bits ≡ f → ⊥) → (n g : ℕ) → (g ≡ f → ⊥) → StandsBelow places n g → StandsBelow places' n g
+childless : (places places' : List FolderPlace) (f : ℕ) → SameBut f places places' → ((g : ℕ) (p : FolderPlace) → find_place g places ≡ Some p → (g ≡ ROOT → ⊥) → p.parent.bits ≡ f → ⊥) → (n g : ℕ) → (g ≡ f → ⊥) → StandsBelow places n g → StandsBelow places' n g
 childless places places' f same none zero g other b = b
 childless places places' f same none (suc n) g other b = (b.0, (b.1.0, same g other ∙ b.1.1, childless places places' f same none n b.1.0.parent.bits (none g b.1.0 b.1.1 b.0) b.1.2))
 
-pub removed_reached : (places : List Place) (f : ℕ) → AreReached places → keys_ascend place_id 0 places ≡ true → ((g : ℕ) (p : Place) → find_place g places ≡ Some p → (g ≡ ROOT → ⊥) → p.parent.bits ≡ f → ⊥) → AreReached (drop_key place_id f places)
+pub removed_reached : (places : List FolderPlace) (f : ℕ) → AreReached places → keys_ascend place_id 0 places ≡ true → ((g : ℕ) (p : FolderPlace) → find_place g places ≡ Some p → (g ≡ ROOT → ⊥) → p.parent.bits ≡ f → ⊥) → AreReached (drop_key place_id f places)
 removed_reached places f reached ascend none g p e =
     let places' = drop_key place_id f places in
     let other : g ≡ f → ⊥ = λ one. none-some p (sym (find-drop_same place_id 0 f places ascend) ∙ ap (λ x. find_place x places') (sym one) ∙ e) in
     let n = reached g p (sym (find-drop_other place_id g f places other) ∙ e) in
     (n.0, n.1, childless places places' f (λ x apart. find-drop_other place_id x f places apart) none n.0 g other n.2)
 
-module _ (places places' : List Place) (f : ℕ) (same : SameBut f places places') where
+module _ (places places' : List FolderPlace) (f : ℕ) (same : SameBut f places places') where
   -- a folder that isn't within f stands where it stood
   outside : (n k g : ℕ) → StandsBelow places n g → n ≤ k → list_any (λ h. h == f) (path_from k places g) ≡ false → StandsBelow places' n g
   unfolding path_from
@@ -104,7 +104,7 @@ module _ (places places' : List Place) (f : ℕ) (same : SameBut f places places
     ]
 
 -- no place fails a test that all pass
-none_passes : (test : Place → Bool) (ps : List Place) (g : ℕ) (p : Place) → find_place g ps ≡ Some p → list_any test ps ≡ false → test p ≡ false
+none_passes : (test : FolderPlace → Bool) (ps : List FolderPlace) (g : ℕ) (p : FolderPlace) → find_place g ps ≡ Some p → list_any test ps ≡ false → test p ≡ false
 none_passes test [] g p e none = absurd (none-some p e)
 none_passes test (q ∷ qs) g p e none =
     let parts = or_parts (test q) (list_any test qs) none in
@@ -114,7 +114,7 @@ none_passes test (q ∷ qs) g p e none =
     ]
 
 -- a folder moves with all within it
-pub moved_reached : (places : List Place) (f parent : ℕ) (p q : Place) → AreReached places → find_place f places ≡ Some p → (f ≡ ROOT → ⊥) → find_place parent places ≡ Some q → is_within places f parent ≡ false → moves_deep places f parent ≡ false
+pub moved_reached : (places : List FolderPlace) (f parent : ℕ) (p q : FolderPlace) → AreReached places → find_place f places ≡ Some p → (f ≡ ROOT → ⊥) → find_place parent places ≡ Some q → is_within places f parent ≡ false → moves_deep places f parent ≡ false
     → AreReached (put_key place_id (place f parent) places)
 moved_reached places f parent p q reached is no_root found out deep g r e =
     let places' = put_key place_id (place f parent) places in
@@ -122,7 +122,7 @@ moved_reached places f parent p q reached is no_root found out deep g r e =
     let d = reached f p is in
     let l = reached parent q found in
     let now : StandsBelow places' (suc l.0) f = (no_root, (place f parent, find-put_same place_id (place f parent) places, outside places places' f same l.0 64 parent l.2 l.1 out)) in
-    let placed : (s : Place) × (find_place g places ≡ Some s) = elim (cases_eq g f) [ inl one ↦ (p, ap (λ x. find_place x places) one ∙ is) | inr other ↦ (r, sym (same g other) ∙ e) ] in
+    let placed : (s : FolderPlace) × (find_place g places ≡ Some s) = elim (cases_eq g f) [ inl one ↦ (p, ap (λ x. find_place x places) one ∙ is) | inr other ↦ (r, sym (same g other) ∙ e) ] in
     let n = reached g placed.0 placed.1 in
     elim (cases_Bool (is_within places f g)) [
       | inr b ↦ (n.0, n.1, outside places places' f same n.0 64 g n.2 n.1 b)

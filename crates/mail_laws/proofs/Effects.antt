@@ -8,7 +8,7 @@ use Rattle.mapi_values.specs.declared.value.Tag.{Tag}
 use Rattle.command_text.specs.declared.reply.LastLine.TheVariants.{Done, Made}
 use Rattle.mail_objects.specs.declared.object.Object.{Object}
 use Rattle.mail_objects.specs.declared.object.Object.TheVariants.{Context, Table, Message}
-use Rattle.mail_tree.specs.declared.places.Place.{Place}
+use Rattle.mail_tree.specs.declared.places.FolderPlace.{FolderPlace}
 use Rattle.mail_tree.specs.Places.{find_place, is_plain}
 use Rattle.mail_tree.specs.Tree.{Tree, object_at}
 use Rattle.mail_tree.specs.Values.{bytes_of, finished, has_object, has_parts, is_own_id, is_set_protected, is_unset_protected, message_props, number, number_of, text, time_value, with_attachment_flag, with_flag, with_props}
@@ -30,7 +30,7 @@ use Rattle.mail_laws.proofs.Keeping.{Comes, Four, no_table, KeepsAt, PutsMessage
 use Rattle.mail_tree.proofs.Settles.{store_of}
 
 -- a folder is no message
-pub place_apart : (T : Tree) → Before T → (f : ℕ) (p : Place) → find_place f T.places ≡ Some p → f % 32 ≡ 4 → ⊥
+pub place_apart : (T : Tree) → Before T → (f : ℕ) (p : FolderPlace) → find_place f T.places ≡ Some p → f % 32 ≡ 4 → ⊥
 place_apart T w f p e four = let (above, below) = low f (folder_kind p.sort f (w.kinds f p e)) in omega arith
 
 -- one message changed, and no place
@@ -100,7 +100,7 @@ pub record Adds (T : Tree) (M : Mes) (index : ℕ) (o : Outcome) : Type 0 where
   pub changes_it : Changes T M.nid (Some M) o
   pub reply_is : o.reply ≡ replied (Made (nid (new_id 4 index)))
 
-adds : (T : Tree) (M : Mes) (crowded : Bool) (p : Place) (index : ℕ) → Before T → M.nid % 32 ≡ 4 → find_place M.folder T.places ≡ Some p → IfOk (added_message T M (record nothing { crowded = crowded }) >>= making T T.places 4 index) (Adds T M index)
+adds : (T : Tree) (M : Mes) (crowded : Bool) (p : FolderPlace) (index : ℕ) → Before T → M.nid % 32 ≡ 4 → find_place M.folder T.places ≡ Some p → IfOk (added_message T M (record nothing { crowded = crowded }) >>= making T T.places 4 index) (Adds T M index)
 adds T M crowded p index w four found =
     let D0 = record nothing { crowded = crowded } in
     let D = with_object M.nid (Some (Message M)) D0 in

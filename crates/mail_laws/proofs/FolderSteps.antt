@@ -16,7 +16,7 @@ use Rattle.mail_objects.specs.declared.object.Object.{Object}
 use Rattle.mail_objects.specs.declared.object.Object.TheVariants.{Context, Table}
 use Rattle.node_port.specs.Nodes.{node_at}
 use Rattle.node_port.specs.declared.node.NodeRec.{NodeRec}
-use Rattle.mail_tree.specs.declared.places.Place.{Place}
+use Rattle.mail_tree.specs.declared.places.FolderPlace.{FolderPlace}
 use Rattle.mail_tree.specs.Places.{ROOT, children, find_place, is_child, is_deep, is_plain, is_within, moves_deep, place_id}
 use Rattle.mail_tree.specs.Tree.{Tree, object_at}
 use Rattle.mail_tree.specs.Values.{folder_props, is_special, name_of, text}
@@ -54,7 +54,7 @@ EachContext at [] = Unit {0}
 EachContext at (f ∷ fs) = ((c : Ctx) × (at f ≡ Some (Context c))) × EachContext at fs
 
 -- values stand at the places of which a test picks some
-each_context : (at : ℕ → Option Object) (test : Place → Bool) (ps : List Place) → ((f : ℕ) → IsSome (find_place f ps) → (c : Ctx) × (at f ≡ Some (Context c))) → EachContext at (map place_id (filter test ps))
+each_context : (at : ℕ → Option Object) (test : FolderPlace → Bool) (ps : List FolderPlace) → ((f : ℕ) → IsSome (find_place f ps) → (c : Ctx) × (at f ≡ Some (Context c))) → EachContext at (map place_id (filter test ps))
 each_context at test [] named = tt
 each_context at test (p ∷ ps) named =
     let rest = each_context at test ps (λ f is. named f (later f is)) in
@@ -70,13 +70,13 @@ filtered : (at : ℕ → Option Object) (test : ℕ → Bool) (fs : List ℕ) �
 filtered at test [] each = tt
 filtered at test (f ∷ fs) each = elim (cases_Bool (test f)) [ inl t ↦ rw t (each.0, filtered at test fs each.1) | inr t ↦ rw t (filtered at test fs each.1) ]
 
-context_of : {places : List Place} {at : ℕ → Option Object} → AreWhole places at → (f : ℕ) → IsSome (find_place f places) → (c : Ctx) × (at f ≡ Some (Context c))
+context_of : {places : List FolderPlace} {at : ℕ → Option Object} → AreWhole places at → (f : ℕ) → IsSome (find_place f places) → (c : Ctx) × (at f ≡ Some (Context c))
 context_of {places} w f is = elim (cases_Option (find_place f places)) [
   | inl e ↦ absurd (false≢true (subst IsSome e is))
   | inr p ↦ let c = w.contexts f p.0 p.1 in (c.0, c.1)
 ]
 
-children_of : {places : List Place} {at : ℕ → Option Object} → AreWhole places at → (f : ℕ) → EachContext at (children f places)
+children_of : {places : List FolderPlace} {at : ℕ → Option Object} → AreWhole places at → (f : ℕ) → EachContext at (children f places)
 children_of {places} {at} w f = each_context at (is_child f) places (context_of w)
 
 fine_named : (T : Tree) (name : List ℕ) (fs : List ℕ) → EachContext (now_at T nothing) fs → Fine (unless_named T name fs) (λ u. Unit {0})
@@ -100,10 +100,10 @@ fine_renamed T f name w = elim (cases_Option (find_place f T.places)) [
 ]
 
 -- the lines of folders and of messages
-abbrev pub EachPlace : (ℕ → Option Object) → List Place → Type 0
+abbrev pub EachPlace : (ℕ → Option Object) → List FolderPlace → Type 0
 EachPlace at ps = EachContext at (map place_id ps)
 
-fine_folder_lines : (T : Tree) (ps : List Place) → EachPlace (now_at T nothing) ps → Fine (folder_lines T ps) (λ l. Unit {0})
+fine_folder_lines : (T : Tree) (ps : List FolderPlace) → EachPlace (now_at T nothing) ps → Fine (folder_lines T ps) (λ l. Unit {0})
 fine_folder_lines T [] each = tt
 fine_folder_lines T (p ∷ ps) each = rw each.0.1 (fine_then (λ l. Unit {0}) (λ l. Unit {0}) (folder_lines T ps) _ (fine_folder_lines T ps each.1) (λ l u. tt))
 
@@ -125,22 +125,22 @@ fine_listing T f w = elim (cases_Option (find_place f T.places)) [
 ]
 
 -- changes leave a tree with these places whole
-abbrev LeavesIn : List Place → Tree → Changed → Type 0
+abbrev LeavesIn : List FolderPlace → Tree → Changed → Type 0
 LeavesIn places T D = AreWhole places (now_at T D)
 
-fine_moving : (T : Tree) (places : List Place) (D : Changed) → LeavesIn places T D → Fine (moving T places (replied Done) D) (Keeps T)
+fine_moving : (T : Tree) (places : List FolderPlace) (D : Changed) → LeavesIn places T D → Fine (moving T places (replied Done) D) (Keeps T)
 fine_moving T places D w = after_limits (Keeps T) D (λ u. Ok (record { changed = D; places = places; last = T.last; reply = replied Done })) w
 
 -- the rows of a plain folder's table change
-record RowsChange (E : ℕ → Type 0) (places : List Place) (parent : ℕ) (at at' : ℕ → Option Object) : Type 0 where
+record RowsChange (E : ℕ → Type 0) (places : List FolderPlace) (parent : ℕ) (at at' : ℕ → Option Object) : Type 0 where
   nearly_whole : AreNearly E places at'
   others : (x : ℕ) → (x ≡ hierarchy parent → ⊥) → at' x ≡ at x
 
-table_now : {E : ℕ → Type 0} {places : List Place} {at : ℕ → Option Object} → AreNearly E places at → (f : ℕ) (p : Place) → find_place f places ≡ Some p → is_plain p ≡ true → (t : Tbl) × (at (hierarchy f) ≡ Some (Table t))
+table_now : {E : ℕ → Type 0} {places : List FolderPlace} {at : ℕ → Option Object} → AreNearly E places at → (f : ℕ) (p : FolderPlace) → find_place f places ≡ Some p → is_plain p ≡ true → (t : Tbl) × (at (hierarchy f) ≡ Some (Table t))
 table_now {at = at} n f p e plain = table_of (hierarchy f) (at (hierarchy f)) (n.typed (hierarchy f)) (inl (beside_kind f 13 (omega arith))) (n.tables f p e plain).0
 
 -- a row of a folder is added
-added_folder : (E : ℕ → Type 0) (places : List Place) (T : Tree) (D : Changed) (parent : ℕ) (q : Place) (f : ℕ) (props : List Val) → AreNearly E places (now_at T D) → find_place parent places ≡ Some q → is_plain q ≡ true
+added_folder : (E : ℕ → Type 0) (places : List FolderPlace) (T : Tree) (D : Changed) (parent : ℕ) (q : FolderPlace) (f : ℕ) (props : List Val) → AreNearly E places (now_at T D) → find_place parent places ≡ Some q → is_plain q ≡ true
     → Fine (add_shown T (hierarchy parent) f props D) (λ D'. RowsChange E places parent (now_at T D) (now_at T D') × HasRow (now_at T D' (hierarchy parent)) f)
 unfolding add_shown
 added_folder E places T D parent q f props n found plain =
@@ -161,8 +161,8 @@ added_folder E places T D parent q f props n found plain =
     ])
 
 -- a row of a folder goes, which no folder that matters has
-dropped_folder : (E : ℕ → Type 0) (places : List Place) (T : Tree) (D : Changed) (parent : ℕ) (q : Place) (f : ℕ) → AreNearly E places (now_at T D) → find_place parent places ≡ Some q → is_plain q ≡ true
-    → ((g : ℕ) (r : Place) → find_place g places ≡ Some r → (E g → ⊥) → g ≡ f → ⊥) → Fine (drop_shown T (hierarchy parent) f D) (λ D'. RowsChange E places parent (now_at T D) (now_at T D'))
+dropped_folder : (E : ℕ → Type 0) (places : List FolderPlace) (T : Tree) (D : Changed) (parent : ℕ) (q : FolderPlace) (f : ℕ) → AreNearly E places (now_at T D) → find_place parent places ≡ Some q → is_plain q ≡ true
+    → ((g : ℕ) (r : FolderPlace) → find_place g places ≡ Some r → (E g → ⊥) → g ≡ f → ⊥) → Fine (drop_shown T (hierarchy parent) f D) (λ D'. RowsChange E places parent (now_at T D) (now_at T D'))
 unfolding drop_shown
 dropped_folder E places T D parent q f n found plain no_matter =
     let t = table_now n parent q found plain in
@@ -199,7 +199,7 @@ table_fits_id f kind t is x e = subst (λ z. fits_id (beside f kind) z ≡ true)
 ])
 
 -- a table without rows is put beside a folder that isn't there
-puts_empty : (E : ℕ → Type 0) (places : List Place) (T : Tree) (D : Changed) (f kind : ℕ) (t : Tbl) → (kind ≡ 13) ⊎ ((kind ≡ 14) ⊎ (kind ≡ 15)) → t.table.rows ≡ [] → AreNearly E places (now_at T D) → find_place f places ≡ None → f % 32 ≡ 2
+puts_empty : (E : ℕ → Type 0) (places : List FolderPlace) (T : Tree) (D : Changed) (f kind : ℕ) (t : Tbl) → (kind ≡ 13) ⊎ ((kind ≡ 14) ⊎ (kind ≡ 15)) → t.table.rows ≡ [] → AreNearly E places (now_at T D) → find_place f places ≡ None → f % 32 ≡ 2
     → AreNearly E places (now_at T (with_object (beside f kind) (Some (Table t)) D))
 puts_empty E places T D f kind t is no_rows n none two =
     let range : (13 ≤ kind) × (kind < 32) = elim is [ inl k ↦ (omega arith, omega arith) | inr k ↦ elim k [ inl l ↦ (omega arith, omega arith) | inr l ↦ (omega arith, omega arith) ] ] in
@@ -239,7 +239,7 @@ not_placed T f w none = elim (cases_Option (find_place f T.places)) [
   | inr p ↦ let c = w.contexts f p.0 p.1 in absurd (none-some (Context c.0) (sym none ∙ c.1))
 ]
 
-listed_new : (T : Tree) (f parent : ℕ) (q : Place) (name : List ℕ) → Before T → f % 32 ≡ 2 → now_at T nothing f ≡ None → find_place parent T.places ≡ Some q → is_plain q ≡ true
+listed_new : (T : Tree) (f parent : ℕ) (q : FolderPlace) (name : List ℕ) → Before T → f % 32 ≡ 2 → now_at T nothing f ≡ None → find_place parent T.places ≡ Some q → is_plain q ≡ true
     → Fine (add_shown T (hierarchy parent) f (folder_props name) (with_folder f parent name nothing)) (LeavesIn (put_key place_id (place f parent) T.places) T)
 listed_new T f parent q name w two none found plain =
     let unplaced = not_placed T f w none in
@@ -259,7 +259,7 @@ listed_new T f parent q name w two none found plain =
     (ap is_some messages)
     (λ t m is row four. absurd (false≢true (subst (λ x. IsSome (find_row m x.table.rows)) (sym (same_table contents_table t (sym messages ∙ is))) row))))
 
-pub fine_making_folder : (T : Tree) (parent : ℕ) (q : Place) (name : List ℕ) → Before T → find_place parent T.places ≡ Some q → is_plain q ≡ true → Fine (making_folder T parent name (next_index T 2 folder_kinds)) (Keeps T)
+pub fine_making_folder : (T : Tree) (parent : ℕ) (q : FolderPlace) (name : List ℕ) → Before T → find_place parent T.places ≡ Some q → is_plain q ≡ true → Fine (making_folder T parent name (next_index T 2 folder_kinds)) (Keeps T)
 unfolding making_folder
 fine_making_folder T parent q name w found plain = elim (cases_Bool (is_spent (next_index T 2 folder_kinds))) [
   | inl t ↦
@@ -304,7 +304,7 @@ fine_made_folder T parent name w = elim (cases_Option (find_place parent T.place
 abbrev MovedFolder : Tree → ℕ → ℕ → Changed → Type 0
 MovedFolder T f parent D = AreNearly (λ x. x ≡ f) T.places (now_at T D) × ((c : Ctx) × (now_at T D f ≡ Some (Context c)) × (c.parent ≡ parent))
 
-fine_between : (T : Tree) (f from to : ℕ) (p q r : Place) → Before T → find_place f T.places ≡ Some p → is_plain p ≡ true → (f ≡ ROOT → ⊥) → find_place from T.places ≡ Some q → is_plain q ≡ true → find_place to T.places ≡ Some r → is_plain r ≡ true
+fine_between : (T : Tree) (f from to : ℕ) (p q r : FolderPlace) → Before T → find_place f T.places ≡ Some p → is_plain p ≡ true → (f ≡ ROOT → ⊥) → find_place from T.places ≡ Some q → is_plain q ≡ true → find_place to T.places ≡ Some r → is_plain r ≡ true
     → Fine (moved_between T f from to (put_key place_id (place f to) T.places)) (LeavesIn (put_key place_id (place f to) T.places) T)
 unfolding moved_between
 fine_between T f from to p q r w ep plain_p no_root eq plain_q er plain_r =
@@ -381,14 +381,14 @@ fine_associated T f w no_node = go (is_taken T (associated f)) refl
         rw t.1 tt
 
 -- nothing stands at the ids of a folder that isn't there any more
-removes_beside : (E : ℕ → Type 0) (places : List Place) (T : Tree) (D : Changed) (f q : ℕ) → find_place f places ≡ None → f % 32 ≡ 2 → q / 32 ≡ f / 32 → (q % 32 ≡ 2) ⊎ (13 ≤ q % 32) → AreNearly E places (now_at T D) → AreNearly E places (now_at T (with_object q None D))
+removes_beside : (E : ℕ → Type 0) (places : List FolderPlace) (T : Tree) (D : Changed) (f q : ℕ) → find_place f places ≡ None → f % 32 ≡ 2 → q / 32 ≡ f / 32 → (q % 32 ≡ 2) ⊎ (13 ≤ q % 32) → AreNearly E places (now_at T D) → AreNearly E places (now_at T (with_object q None D))
 removes_beside E places T D f q none two index kind n = puts_free E places (now_at T D) _ n f q None none two index kind (λ x e. absurd (none-some x e)) (λ t e. absurd (none-some (Table t) e)) (puts_object T D q None)
 
-node_gone : (E : ℕ → Type 0) (places : List Place) (T : Tree) (D : Changed) (f q : ℕ) (b : Bool) → find_place f places ≡ None → f % 32 ≡ 2 → q / 32 ≡ f / 32 → (q % 32 ≡ 2) ⊎ (13 ≤ q % 32) → AreNearly E places (now_at T D) → AreNearly E places (now_at T (without_node q b D))
+node_gone : (E : ℕ → Type 0) (places : List FolderPlace) (T : Tree) (D : Changed) (f q : ℕ) (b : Bool) → find_place f places ≡ None → f % 32 ≡ 2 → q / 32 ≡ f / 32 → (q % 32 ≡ 2) ⊎ (13 ≤ q % 32) → AreNearly E places (now_at T D) → AreNearly E places (now_at T (without_node q b D))
 node_gone E places T D f q false none two index kind n = n
 node_gone E places T D f q true none two index kind n = removes_beside E places T D f q none two index kind n
 
-folder_gone : (T : Tree) (places : List Place) (f : ℕ) → AreWhole places (now_at T nothing) → find_place f places ≡ None → f % 32 ≡ 2 → AreNearly (λ x. ⊥) places (now_at T (without_folder T f nothing))
+folder_gone : (T : Tree) (places : List FolderPlace) (f : ℕ) → AreWhole places (now_at T nothing) → find_place f places ≡ None → f % 32 ≡ 2 → AreNearly (λ x. ⊥) places (now_at T (without_folder T f nothing))
 folder_gone T places f w none two =
     let D1 = with_object f None nothing in let D2 = with_object (hierarchy f) None D1 in let D3 = with_object (contents f) None D2 in
     let above : (kind : ℕ) → 13 ≤ kind → kind < 32 → (beside f kind % 32 ≡ 2) ⊎ (13 ≤ beside f kind % 32) = λ kind low high. inr (omega (arith, beside_kind f kind high)) in
@@ -414,7 +414,7 @@ fine_removed_folder T f w clear = elim (cases_Option (find_place f T.places)) [
   ])
 ]
   where
-    removes : (p : Place) → find_place f T.places ≡ Some p → is_plain p ≡ true → (f ≡ ROOT → ⊥) → (a : Tbl) → now_at T nothing (hierarchy f) ≡ Some (Table a) → has_rows a ≡ false → (b : Tbl) → now_at T nothing (contents f) ≡ Some (Table b) → has_rows b ≡ false
+    removes : (p : FolderPlace) → find_place f T.places ≡ Some p → is_plain p ≡ true → (f ≡ ROOT → ⊥) → (a : Tbl) → now_at T nothing (hierarchy f) ≡ Some (Table a) → has_rows a ≡ false → (b : Tbl) → now_at T nothing (contents f) ≡ Some (Table b) → has_rows b ≡ false
         → Fine (drop_shown T (hierarchy p.parent.bits) f (without_folder T f nothing) >>= settled T (drop_key place_id f T.places) p.parent.bits >>= moving T (drop_key place_id f T.places) (replied Done)) (Keeps T)
     removes p e plain no_root a is_a none_a b is_b none_b =
         let places = drop_key place_id f T.places in

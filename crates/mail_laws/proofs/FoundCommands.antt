@@ -18,7 +18,7 @@ use Rattle.command_text.specs.declared.reply.Reply.{Reply}
 use Rattle.mail_objects.specs.Forms.{Ctx, Tbl}
 use Rattle.mail_objects.specs.declared.object.Object.{Object}
 use Rattle.mail_objects.specs.declared.object.Object.TheVariants.{Context, Message, Table}
-use Rattle.mail_tree.specs.declared.places.Place.{Place}
+use Rattle.mail_tree.specs.declared.places.FolderPlace.{FolderPlace}
 use Rattle.mail_tree.specs.Places.{ROOT, children, find_place, is_deep, is_plain, is_within, moves_deep, place_id}
 use Rattle.mail_tree.specs.Tree.{Tree, object_at}
 use Rattle.mail_tree.specs.Values.{bytes_of, finished, folder_props, is_set_protected, is_unset_protected, message_props, name_of, text, with_props}
@@ -94,7 +94,7 @@ module _ (T : Tree) (w : Before T) (h : IsFound T) where
   abbrev After : Outcome → Type 0
   After o = Finds T o.places o.changed × AreReached o.places
 
-  two_of : (f : ℕ) (p : Place) → find_place f T.places ≡ Some p → is_plain p ≡ true → f % 32 ≡ 2
+  two_of : (f : ℕ) (p : FolderPlace) → find_place f T.places ≡ Some p → is_plain p ≡ true → f % 32 ≡ 2
   two_of f p e plain = plain_id (nearly (λ x. ⊥) T.places (now_at T nothing) w) f p e plain
 
   ids : PlainIds T.places
@@ -103,7 +103,7 @@ module _ (T : Tree) (w : Before T) (h : IsFound T) where
     elim (cases_eq f ROOT) [
       | inl root ↦
           let same = same_Some w.root.0 p (sym w.root.1 ∙ ap (λ x. find_place x T.places) (sym root) ∙ e) in
-          ap (λ (x : Place). x.parent.bits % 32) (sym same) ∙ ap (λ x. x % 32) w.root.3
+          ap (λ (x : FolderPlace). x.parent.bits % 32) (sym same) ∙ ap (λ x. x % 32) w.root.3
       | inr other ↦ let q = w.parents f p e other in two_of p.parent.bits q.0 q.1 q.2
     ],
   )
@@ -122,10 +122,10 @@ module _ (T : Tree) (w : Before T) (h : IsFound T) where
   then_changing : (a : Answer Changed) (reply : Reply) → IfOk a (Finds T T.places) → IfOk (a >>= changing T reply) After
   then_changing a reply k = if_then (Finds T T.places) After a (changing T reply) k (λ D s. limited After D _ (s, h.reached))
 
-  then_moving : (places : List Place) → AreReached places → (a : Answer Changed) (reply : Reply) → IfOk a (Finds T places) → IfOk (a >>= moving T places reply) After
+  then_moving : (places : List FolderPlace) → AreReached places → (a : Answer Changed) (reply : Reply) → IfOk a (Finds T places) → IfOk (a >>= moving T places reply) After
   then_moving places reached a reply k = if_then (Finds T places) After a (moving T places reply) k (λ D s. limited After D _ (s, reached))
 
-  then_making : (places : List Place) → AreReached places → (a : Answer Changed) (kind index : ℕ) → IfOk a (Finds T places) → IfOk (a >>= making T places kind index) After
+  then_making : (places : List FolderPlace) → AreReached places → (a : Answer Changed) (kind index : ℕ) → IfOk a (Finds T places) → IfOk (a >>= making T places kind index) After
   then_making places reached a kind index k = if_then (Finds T places) After a (making T places kind index) k (λ D s. limited After D _ (if_test After (is_spent index) Ids _ (s, reached)))
 
   -- a message is put, or goes
@@ -163,7 +163,7 @@ module _ (T : Tree) (w : Before T) (h : IsFound T) where
   ])
 
   -- a new message is listed
-  adds : (M : Mes) (crowded : Bool) (p : Place) (index : ℕ) → M.nid % 32 ≡ 4 → find_place M.folder T.places ≡ Some p → is_plain p ≡ true → IfOk (added_message T M (record nothing { crowded = crowded }) >>= making T T.places 4 index) After
+  adds : (M : Mes) (crowded : Bool) (p : FolderPlace) (index : ℕ) → M.nid % 32 ≡ 4 → find_place M.folder T.places ≡ Some p → is_plain p ≡ true → IfOk (added_message T M (record nothing { crowded = crowded }) >>= making T T.places 4 index) After
   adds M crowded p index four found plain =
       let D0 = record nothing { crowded = crowded } in
       let o = Some (Message M) in
@@ -258,17 +258,17 @@ module _ (T : Tree) (w : Before T) (h : IsFound T) where
   ]
 
   -- a place is put
-  put_is : (f parent g : ℕ) (p : Place) → g ≡ f → find_place g (put_key place_id (place f parent) T.places) ≡ Some p → place f parent ≡ p
+  put_is : (f parent g : ℕ) (p : FolderPlace) → g ≡ f → find_place g (put_key place_id (place f parent) T.places) ≡ Some p → place f parent ≡ p
   put_is f parent g p same e = same_Some (place f parent) p (sym (find-put_same place_id (place f parent) T.places) ∙ ap (λ x. find_place x (put_key place_id (place f parent) T.places)) (sym same) ∙ e)
 
-  put_was : (f parent g : ℕ) (p : Place) → (g ≡ f → ⊥) → find_place g (put_key place_id (place f parent) T.places) ≡ Some p → find_place g T.places ≡ Some p
+  put_was : (f parent g : ℕ) (p : FolderPlace) → (g ≡ f → ⊥) → find_place g (put_key place_id (place f parent) T.places) ≡ Some p → find_place g T.places ≡ Some p
   put_was f parent g p other e = sym (find-put_other place_id g (place f parent) T.places other) ∙ e
 
   put_ids : (f parent : ℕ) → f % 32 ≡ 2 → parent % 32 ≡ 2 → PlainIds (put_key place_id (place f parent) T.places)
   put_ids f parent two two_parent g p e plain = elim (cases_eq g f) [
     | inl same ↦
         let one = put_is f parent g p same e in
-        (ap (λ x. x % 32) same ∙ two, ap (λ (x : Place). x.parent.bits % 32) (sym one) ∙ two_parent)
+        (ap (λ x. x % 32) same ∙ two, ap (λ (x : FolderPlace). x.parent.bits % 32) (sym one) ∙ two_parent)
     | inr other ↦ ids g p (put_was f parent g p other e) plain
   ]
 
@@ -292,7 +292,7 @@ module _ (T : Tree) (w : Before T) (h : IsFound T) where
         told = λ g p c e plain is. elim (cases_eq g f) [
           | inl same ↦
               let values : new.1.0 ≡ c = same_context new.1.0 c (sym (ap (now_at T D) same ∙ new.1.1) ∙ is) in
-              ap (λ (x : Ctx). x.parent) (sym values) ∙ new.1.2 ∙ ap (λ (x : Place). x.parent.bits) (put_is f parent g p same e)
+              ap (λ (x : Ctx). x.parent) (sym values) ∙ new.1.2 ∙ ap (λ (x : FolderPlace). x.parent.bits) (put_is f parent g p same e)
           | inr other ↦
               let was = put_was f parent g p other e in
               start.told g p c was plain (sym (now_still T D g (with_untouched f parent g name (folder_elsewhere f g (two_of g p was plain) other))) ∙ is)
@@ -336,9 +336,9 @@ module _ (T : Tree) (w : Before T) (h : IsFound T) where
   ]
 
   -- the row of a folder goes from its parent's table, the only one that lists it
-  dropped : (places : List Place) (places_ids : PlainIds places) (f : ℕ) (p : Place) (D : Changed) → find_place f T.places ≡ Some p → SameBut f T.places places
-      → ((g : ℕ) (q : Place) → find_place g places ≡ Some q → is_plain q ≡ true → ((r : Place) × (find_place g T.places ≡ Some r) × (is_plain r ≡ true)) × (now_at T D (hierarchy g) ≡ now_at T nothing (hierarchy g)))
-      → ((g : ℕ) (q : Place) (c : Ctx) → find_place g places ≡ Some q → is_plain q ≡ true → now_at T D g ≡ Some (Context c) → c.parent ≡ q.parent.bits)
+  dropped : (places : List FolderPlace) (places_ids : PlainIds places) (f : ℕ) (p : FolderPlace) (D : Changed) → find_place f T.places ≡ Some p → SameBut f T.places places
+      → ((g : ℕ) (q : FolderPlace) → find_place g places ≡ Some q → is_plain q ≡ true → ((r : FolderPlace) × (find_place g T.places ≡ Some r) × (is_plain r ≡ true)) × (now_at T D (hierarchy g) ≡ now_at T nothing (hierarchy g)))
+      → ((g : ℕ) (q : FolderPlace) (c : Ctx) → find_place g places ≡ Some q → is_plain q ≡ true → now_at T D g ≡ Some (Context c) → c.parent ≡ q.parent.bits)
       → ((k : ℕ) → k % 32 ≡ 3 → map.get D.objects k ≡ None) → IfOk (drop_shown T (hierarchy p.parent.bits) f D) (Finds T places)
   unfolding drop_shown
   dropped places places_ids f p D found same_but was told apart =
@@ -363,7 +363,7 @@ module _ (T : Tree) (w : Before T) (h : IsFound T) where
                   let k = start.listed g v.0.0 u r v.0.1 v.0.2 (sym v.1 ∙ sym (puts.others (hierarchy g) away) ∙ is) row s named in
                   let other : r ≡ f → ⊥ = λ one.
                   let here = same_Some p (record { nid = nid r; parent = nid g; sort = s }) (sym found ∙ ap (λ x. find_place x T.places) (sym one) ∙ k.1) in
-                  away (ap (λ (x : Place). hierarchy x.parent.bits) (sym here)) in
+                  away (ap (λ (x : FolderPlace). hierarchy x.parent.bits) (sym here)) in
                   (k.0, same_but r other ∙ k.1)
             ];
         told = λ g q c e plain is. told g q c e plain (sym (puts.others g (kind_apart g from 13 (omega arith) (λ k. let two = (places_ids g q e plain).0 in omega arith))) ∙ is);
@@ -413,7 +413,7 @@ module _ (T : Tree) (w : Before T) (h : IsFound T) where
   ]
     where
       -- the folder leaves its parent's table, and its values tell the new one
-      move_drops : (f parent : ℕ) (p : Place) (c : Ctx) → find_place f T.places ≡ Some p → is_plain p ≡ true → f % 32 ≡ 2 → PlainIds (put_key place_id (place f parent) T.places)
+      move_drops : (f parent : ℕ) (p : FolderPlace) (c : Ctx) → find_place f T.places ≡ Some p → is_plain p ≡ true → f % 32 ≡ 2 → PlainIds (put_key place_id (place f parent) T.places)
           → IfOk (drop_shown T (hierarchy p.parent.bits) f (with_object f (Some (Context (record c { parent = parent }))) nothing)) (Finds T (put_key place_id (place f parent) T.places))
       move_drops f parent p c e plain two places_ids =
           let o = Some (Context (record c { parent = parent })) in
@@ -427,7 +427,7 @@ module _ (T : Tree) (w : Before T) (h : IsFound T) where
           (λ g q d is plain_q at_g. elim (cases_eq g f) [
             | inl same ↦
                 let values = same_context (record c { parent = parent }) d (sym (ap (now_at T D) same ∙ puts.here) ∙ at_g) in
-                ap (λ (x : Ctx). x.parent) (sym values) ∙ ap (λ (x : Place). x.parent.bits) (put_is f parent g q same is)
+                ap (λ (x : Ctx). x.parent) (sym values) ∙ ap (λ (x : FolderPlace). x.parent.bits) (put_is f parent g q same is)
             | inr other ↦ start.told g q d (put_was f parent g q other is) plain_q (sym (puts.others g other) ∙ at_g)
           ])
           (λ k three. get_other nothing f k o (λ same. omega arith) ∙ map.get-empty nat_cmp k)
@@ -449,14 +449,14 @@ module _ (T : Tree) (w : Before T) (h : IsFound T) where
             | inr none ↦
                 let from = p.0.parent.bits in let v = w.parents f p.0 p.1 no_root in
                 let no_row = (or_parts (has_rows a) (has_rows b || has_associated c) none).0 in
-                let childless : (g : ℕ) (q : Place) → find_place g T.places ≡ Some q → (g ≡ ROOT → ⊥) → q.parent.bits ≡ f → ⊥ = λ g q e other up.
+                let childless : (g : ℕ) (q : FolderPlace) → find_place g T.places ≡ Some q → (g ≡ ROOT → ⊥) → q.parent.bits ≡ f → ⊥ = λ g q e other up.
                 let row = (w.parents g q e other).3 in
                 no_rows a.table.rows g no_row (subst (λ (x : Tbl). IsSome (find_row g x.table.rows)) (same_table row.0 a (sym row.1 ∙ ap (λ x. now_at T nothing (hierarchy x)) up ∙ is_a)) row.2) in
                 let places = drop_key place_id f T.places in
                 let two = two_of f p.0 p.1 plain in
                 let gone = find-drop_same place_id 0 f T.places w.ascend in
-                let apart : (g : ℕ) (q : Place) → find_place g places ≡ Some q → g ≡ f → ⊥ = λ g q e same. none-some q (sym gone ∙ ap (λ x. find_place x places) (sym same) ∙ e) in
-                let was : (g : ℕ) (q : Place) → find_place g places ≡ Some q → find_place g T.places ≡ Some q = λ g q e. sym (find-drop_other place_id g f T.places (apart g q e)) ∙ e in
+                let apart : (g : ℕ) (q : FolderPlace) → find_place g places ≡ Some q → g ≡ f → ⊥ = λ g q e same. none-some q (sym gone ∙ ap (λ x. find_place x places) (sym same) ∙ e) in
+                let was : (g : ℕ) (q : FolderPlace) → find_place g places ≡ Some q → find_place g T.places ≡ Some q = λ g q e. sym (find-drop_other place_id g f T.places (apart g q e)) ∙ e in
                 let places_ids : PlainIds places = λ g q e plain. ids g q (was g q e) plain in
                 let from_still : find_place from places ≡ Some v.0 = find-drop_other place_id from f T.places (childless f p.0 p.1 no_root) ∙ v.1 in
                 let D = without_folder T f nothing in

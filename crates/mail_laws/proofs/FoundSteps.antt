@@ -13,7 +13,7 @@ use Rattle.mapi_values.specs.Values.{Val}
 use Rattle.mail_objects.specs.Forms.{Ctx, Tbl}
 use Rattle.mail_objects.specs.declared.object.Object.{Object}
 use Rattle.mail_objects.specs.declared.object.Object.TheVariants.{Context, Table}
-use Rattle.mail_tree.specs.declared.places.Place.{Place}
+use Rattle.mail_tree.specs.declared.places.FolderPlace.{FolderPlace}
 use Rattle.mail_tree.specs.declared.places.Sort.{Sort}
 use Rattle.mail_tree.specs.declared.places.Sort.TheVariants.{Plain}
 use Rattle.mail_tree.specs.Places.{ROOT, find_place, is_child, is_plain}
@@ -36,17 +36,17 @@ use Rattle.mail_tree.proofs.Nearly.{Puts}
 use Rattle.mail_laws.proofs.PlaceEffects.{found_id, is_place}
 
 -- plain folders, and those in which they stand, have ids of kind 2
-abbrev pub PlainIds : List Place → Type 0
-PlainIds places = (f : ℕ) (p : Place) → find_place f places ≡ Some p → is_plain p ≡ true → (f % 32 ≡ 2) × (p.parent.bits % 32 ≡ 2)
+abbrev pub PlainIds : List FolderPlace → Type 0
+PlainIds places = (f : ℕ) (p : FolderPlace) → find_place f places ≡ Some p → is_plain p ≡ true → (f % 32 ≡ 2) × (p.parent.bits % 32 ≡ 2)
 
 -- where a row of this id in a folder's table names a folder, that one stands there
-abbrev pub Names : Tree → List Place → ℕ → ℕ → Type 0
+abbrev pub Names : Tree → List FolderPlace → ℕ → ℕ → Type 0
 Names T places f r = (s : Sort) → named_sort T r ≡ Some s → (r ≡ ROOT → ⊥) × (find_place r places ≡ Some (record { nid = nid r; parent = nid f; sort = s }))
 
 -- After changes the rows of folders name those that stand there, folders' values tell where they stand, and no search folder changed.
-pub record Finds (T : Tree) (places : List Place) (D : Changed) : Type 0 where
-  pub listed : (f : ℕ) (p : Place) (t : Tbl) (r : ℕ) → find_place f places ≡ Some p → is_plain p ≡ true → now_at T D (hierarchy f) ≡ Some (Table t) → IsSome (find_row r t.table.rows) → Names T places f r
-  pub told : (f : ℕ) (p : Place) (c : Ctx) → find_place f places ≡ Some p → is_plain p ≡ true → now_at T D f ≡ Some (Context c) → c.parent ≡ p.parent.bits
+pub record Finds (T : Tree) (places : List FolderPlace) (D : Changed) : Type 0 where
+  pub listed : (f : ℕ) (p : FolderPlace) (t : Tbl) (r : ℕ) → find_place f places ≡ Some p → is_plain p ≡ true → now_at T D (hierarchy f) ≡ Some (Table t) → IsSome (find_row r t.table.rows) → Names T places f r
+  pub told : (f : ℕ) (p : FolderPlace) (c : Ctx) → find_place f places ≡ Some p → is_plain p ≡ true → now_at T D f ≡ Some (Context c) → c.parent ≡ p.parent.bits
   pub apart : (k : ℕ) → k % 32 ≡ 3 → map.get D.objects k ≡ None
 
 -- an id of another kind is none beside a folder
@@ -58,12 +58,12 @@ pub get_other : (D : Changed) (q k : ℕ) (o : Option Object) → (k ≡ q → �
 get_other D q k o other = rw (map.get-insert nat_cmp_total D.objects q o k, tied false k q (ne_eqb k q other)) refl
 
 -- a plain folder is named by a row in its parent's table
-pub named_place : (T : Tree) (places : List Place) (f parent : ℕ) (p : Place) → find_place f places ≡ Some p → is_plain p ≡ true → p.parent.bits ≡ parent → f % 32 ≡ 2 → (f ≡ ROOT → ⊥) → Names T places parent f
+pub named_place : (T : Tree) (places : List FolderPlace) (f parent : ℕ) (p : FolderPlace) → find_place f places ≡ Some p → is_plain p ≡ true → p.parent.bits ≡ parent → f % 32 ≡ 2 → (f ≡ ROOT → ⊥) → Names T places parent f
 named_place T places f parent p e plain up two no_root s named =
     let sort : Plain ≡ s = same_Some Plain s (rw (eq-eqb (f % 32) 2 two) at named) in
-    (no_root, e ∙ ap (λ (x : Place). Some x) (is_place p f parent (found_id f places p e) up plain) ∙ ap (λ x. Some (record { nid = nid f; parent = nid parent; sort = x })) sort)
+    (no_root, e ∙ ap (λ (x : FolderPlace). Some x) (is_place p f parent (found_id f places p e) up plain) ∙ ap (λ x. Some (record { nid = nid f; parent = nid parent; sort = x })) sort)
 
-module _ (T : Tree) (places : List Place) (ids : PlainIds places) where
+module _ (T : Tree) (places : List FolderPlace) (ids : PlainIds places) where
   -- an object is put, or removed, that is none of a folder and no table of folders
   pub finds_elsewhere : (D D' : Changed) (q : ℕ) (o : Option Object) → Finds T places D → Puts (now_at T D) (now_at T D') q o → ((k : ℕ) → (k ≡ q → ⊥) → map.get D'.objects k ≡ map.get D.objects k)
       → (q % 32 ≡ 2 → ⊥) → (q % 32 ≡ 3 → ⊥) → (q % 32 ≡ 13 → ⊥) → Finds T places D'
@@ -86,7 +86,7 @@ module _ (T : Tree) (places : List Place) (ids : PlainIds places) where
         apart = λ k three. get_other D f k (Some (Context new)) (λ same. omega arith) ∙ s.apart k three;
       }
     where
-      told_here : (g : ℕ) (p : Place) (d : Ctx) → find_place g places ≡ Some p → is_plain p ≡ true → ◌≡◌ {A = Option Object} (Some (Context (record c { props = props }))) (Some (Context d)) → now_at T D g ≡ Some (Context c) → d.parent ≡ p.parent.bits
+      told_here : (g : ℕ) (p : FolderPlace) (d : Ctx) → find_place g places ≡ Some p → is_plain p ≡ true → ◌≡◌ {A = Option Object} (Some (Context (record c { props = props }))) (Some (Context d)) → now_at T D g ≡ Some (Context c) → d.parent ≡ p.parent.bits
       told_here g p d e plain same is = let one : record c { props = props } ≡ d = cc in ap (λ (x : Ctx). x.parent) (sym one) ∙ s.told g p c e plain is
 
   -- a table of folders gets other rows, and each new one names a folder that stands there
@@ -154,7 +154,7 @@ module _ (T : Tree) (places : List Place) (ids : PlainIds places) where
   finds_drop_message D f id s = if_then (λ t. Unit {0}) (Finds T places) (table_at T D (contents f)) _ (if_any (table_at T D (contents f))) (λ t u. finds_message_table D f (Some (with_rows (drop_row id t.table.rows) t)) s)
 
   -- the row of a folder shows it
-  pub finds_mirrored : (D : Changed) (f : ℕ) (p : Place) → find_place f places ≡ Some p → is_plain p ≡ true → Finds T places D → IfOk (mirrored T f D) (Finds T places)
+  pub finds_mirrored : (D : Changed) (f : ℕ) (p : FolderPlace) → find_place f places ≡ Some p → is_plain p ≡ true → Finds T places D → IfOk (mirrored T f D) (Finds T places)
   unfolding mirrored
   finds_mirrored D f p e plain s = elim (cases_Bool (f == ROOT)) [
     | inl b ↦ rw b s
@@ -165,7 +165,7 @@ module _ (T : Tree) (places : List Place) (ids : PlainIds places) where
   ]
 
   -- a folder is counted anew, and its row shows it
-  finds_settled : (D : Changed) (f : ℕ) (p : Place) → find_place f places ≡ Some p → is_plain p ≡ true → Finds T places D → IfOk (settled T places f D) (Finds T places)
+  finds_settled : (D : Changed) (f : ℕ) (p : FolderPlace) → find_place f places ≡ Some p → is_plain p ≡ true → Finds T places D → IfOk (settled T places f D) (Finds T places)
   unfolding settled counted
   finds_settled D f p e plain s =
       if_then (Finds T places) (Finds T places) (counted T places f D) (mirrored T f)
@@ -175,7 +175,7 @@ module _ (T : Tree) (places : List Place) (ids : PlainIds places) where
       finds_values D f c (with_counts (length (message_ids t.table)) n (list_any (is_child f) places) c.props) (ids f p e plain).0 s at))))
       (λ D' s'. finds_mirrored D' f p e plain s')
 
-  pub then_finds : (a : Answer Changed) (f : ℕ) (p : Place) → find_place f places ≡ Some p → is_plain p ≡ true → IfOk a (Finds T places) → IfOk (a >>= settled T places f) (Finds T places)
+  pub then_finds : (a : Answer Changed) (f : ℕ) (p : FolderPlace) → find_place f places ≡ Some p → is_plain p ≡ true → IfOk a (Finds T places) → IfOk (a >>= settled T places f) (Finds T places)
   then_finds a f p e plain h = if_then (Finds T places) (Finds T places) a (settled T places f) h (λ D s. finds_settled D f p e plain s)
 
 -- the node of a search folder is there after changes if it was

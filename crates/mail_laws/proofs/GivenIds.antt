@@ -14,7 +14,7 @@ use Rattle.command_text.specs.declared.reply.CommandRefusal.TheVariants.{Propert
 use Rattle.command_text.specs.declared.reply.Limit.TheVariants.{Depth, Rows}
 use Rattle.command_text.specs.declared.reply.LastLine.TheVariants.{Done}
 use Rattle.mail_objects.specs.declared.object.Object.TheVariants.{Message}
-use Rattle.mail_tree.specs.declared.places.Place.{Place}
+use Rattle.mail_tree.specs.declared.places.FolderPlace.{FolderPlace}
 use Rattle.mail_tree.specs.Places.{children, is_child, is_deep, is_plain, is_within, moves_deep, place_id}
 use Rattle.mail_tree.specs.Tree.{Tree}
 use Rattle.mail_tree.specs.Values.{bytes_of, finished, folder_props, is_set_protected, is_unset_protected, message_props, name_of, text, with_props}
@@ -52,10 +52,10 @@ module _ (T : Tree) where
   then_changing : (a : Answer Changed) → IfOk (a >>= changing T (replied Done)) Right
   then_changing a = then_any a (changing T (replied Done)) (λ D. then_any (within_limits D) _ (λ u. refl))
 
-  then_moving : (places : List Place) (a : Answer Changed) → IfOk (a >>= moving T places (replied Done)) Right
+  then_moving : (places : List FolderPlace) (a : Answer Changed) → IfOk (a >>= moving T places (replied Done)) Right
   then_moving places a = then_any a (moving T places (replied Done)) (λ D. then_any (within_limits D) _ (λ u. refl))
 
-  then_making : (places : List Place) (kind : ℕ) (kinds : List ℕ) (a : Answer Changed) → kind < 32 → is_spent (next_index T kind kinds) ≡ false → IfOk (a >>= making T places kind (next_index T kind kinds)) Right
+  then_making : (places : List FolderPlace) (kind : ℕ) (kinds : List ℕ) (a : Answer Changed) → kind < 32 → is_spent (next_index T kind kinds) ≡ false → IfOk (a >>= making T places kind (next_index T kind kinds)) Right
   then_making places kind kinds a small left =
       let index = next_index T kind kinds in
       let id = new_id_is kind index (next_is_free T kind kinds left).1 in

@@ -9,7 +9,7 @@ use Rattle.command_text.specs.declared.reply.Reply.{Reply}
 use Rattle.mail_objects.specs.Forms.{Ctx}
 use Rattle.mail_objects.specs.declared.object.Object.{Object}
 use Rattle.mail_objects.specs.declared.object.Object.TheVariants.{Context}
-use Rattle.mail_tree.specs.declared.places.Place.{Place}
+use Rattle.mail_tree.specs.declared.places.FolderPlace.{FolderPlace}
 use Rattle.mail_tree.specs.Places.{ROOT}
 use Rattle.mail_tree.specs.Tree.{Tree}
 use Rattle.mail_tree.specs.Changing.{Answer, Changed, ◌>>=◌, add_shown, beside, contents, context_at, drop_shown, hierarchy, now_at, overfills, put_shown, refused_if, shown_row, table_at, with_rows, within_limits}
@@ -37,7 +37,7 @@ if_test Q true refusal f h = tt
 if_test Q false refusal f h = h
 
 -- where no index is left nothing is made
-pub never_made : (T : Tree) (places : List Place) (kind index : ℕ) (Q : Outcome → Type 0) (a : Answer Changed) → is_spent index ≡ true → IfOk (a >>= making T places kind index) Q
+pub never_made : (T : Tree) (places : List FolderPlace) (kind index : ℕ) (Q : Outcome → Type 0) (a : Answer Changed) → is_spent index ≡ true → IfOk (a >>= making T places kind index) Q
 never_made T places kind index Q a spent = if_then (λ D. Unit {0}) Q a (making T places kind index) (if_any a) (λ D u. if_then (λ v. Unit {0}) Q (within_limits D) _ (if_any (within_limits D)) (λ v v'. rw spent tt))
 
 -- what an answer is
@@ -106,7 +106,7 @@ module _ (S : ℕ → Type 0) (no_hierarchy : (g : ℕ) → S (hierarchy g) → 
   context_keeps : (f : ℕ) (c : Ctx) (props : List Val) (D : Changed) → (S f → ⊥) → KeepsAt S T D (with_context f c props D)
   context_keeps f c props D other = kept_put S _ _ f _ (puts_values T D f (Context (record c { props = props })) c.props props) other
 
-  counted_keeps : (places : List Place) (f : ℕ) (D : Changed) → (S f → ⊥) → IfOk (counted T places f D) (KeepsAt S T D)
+  counted_keeps : (places : List FolderPlace) (f : ℕ) (D : Changed) → (S f → ⊥) → IfOk (counted T places f D) (KeepsAt S T D)
   unfolding counted
   counted_keeps places f D other =
       if_then (λ c. Unit {0}) (KeepsAt S T D) (context_at T D f) _ (if_any (context_at T D f)) (λ c u.
@@ -121,16 +121,16 @@ module _ (S : ℕ → Type 0) (no_hierarchy : (g : ℕ) → S (hierarchy g) → 
     | inr b ↦ rw b (if_then (λ c. Unit {0}) (KeepsAt S T D) (context_at T D f) _ (if_any (context_at T D f)) (λ c u. put_keeps (hierarchy c.parent) f c.props D (no_hierarchy c.parent)))
   ]
 
-  pub settled_keeps : (places : List Place) (f : ℕ) (D : Changed) → (S f → ⊥) → IfOk (settled T places f D) (KeepsAt S T D)
+  pub settled_keeps : (places : List FolderPlace) (f : ℕ) (D : Changed) → (S f → ⊥) → IfOk (settled T places f D) (KeepsAt S T D)
   unfolding settled
   settled_keeps places f D other = if_then (KeepsAt S T D) (KeepsAt S T D) (counted T places f D) (mirrored T f) (counted_keeps places f D other) (λ D' k. if_weaker (KeepsAt S T D') (KeepsAt S T D) (mirrored T f D') (mirrored_keeps f D') (λ D'' k' m four. k' m four ∙ k m four))
 
   -- settled too
-  pub then_settled : (places : List Place) (f : ℕ) (D : Changed) (a : Answer Changed) → (S f → ⊥) → IfOk a (KeepsAt S T D) → IfOk (a >>= settled T places f) (KeepsAt S T D)
+  pub then_settled : (places : List FolderPlace) (f : ℕ) (D : Changed) (a : Answer Changed) → (S f → ⊥) → IfOk a (KeepsAt S T D) → IfOk (a >>= settled T places f) (KeepsAt S T D)
   then_settled places f D a other h = if_then (KeepsAt S T D) (KeepsAt S T D) a (settled T places f) h (λ D' k. if_weaker (KeepsAt S T D') (KeepsAt S T D) (settled T places f D') (settled_keeps places f D' other) (λ D'' k' m four. k' m four ∙ k m four))
 
   -- what a command comes to
-  pub record Comes (D : Changed) (places : List Place) (reply : Reply) (o : Outcome) : Type 0 where
+  pub record Comes (D : Changed) (places : List FolderPlace) (reply : Reply) (o : Outcome) : Type 0 where
     pub keeps : KeepsAt S T D o.changed
     pub places_are : o.places ≡ places
     pub reply_is : o.reply ≡ reply
@@ -141,10 +141,10 @@ module _ (S : ℕ → Type 0) (no_hierarchy : (g : ℕ) → S (hierarchy g) → 
   pub then_changing : (D : Changed) (a : Answer Changed) (reply : Reply) → IfOk a (KeepsAt S T D) → IfOk (a >>= changing T reply) (Comes D T.places reply)
   then_changing D a reply h = if_then (KeepsAt S T D) (Comes D T.places reply) a (changing T reply) h (λ D' k. limited (Comes D T.places reply) D' _ (record { keeps = k; places_are = refl; reply_is = refl }))
 
-  pub then_moving : (D : Changed) (a : Answer Changed) (places : List Place) (reply : Reply) → IfOk a (KeepsAt S T D) → IfOk (a >>= moving T places reply) (Comes D places reply)
+  pub then_moving : (D : Changed) (a : Answer Changed) (places : List FolderPlace) (reply : Reply) → IfOk a (KeepsAt S T D) → IfOk (a >>= moving T places reply) (Comes D places reply)
   then_moving D a places reply h = if_then (KeepsAt S T D) (Comes D places reply) a (moving T places reply) h (λ D' k. limited (Comes D places reply) D' _ (record { keeps = k; places_are = refl; reply_is = refl }))
 
-  pub then_making : (D : Changed) (a : Answer Changed) (places : List Place) (kind index : ℕ) → IfOk a (KeepsAt S T D) → IfOk (a >>= making T places kind index) (Comes D places (replied (Made (nid (new_id kind index)))))
+  pub then_making : (D : Changed) (a : Answer Changed) (places : List FolderPlace) (kind index : ℕ) → IfOk a (KeepsAt S T D) → IfOk (a >>= making T places kind index) (Comes D places (replied (Made (nid (new_id kind index)))))
   then_making D a places kind index h = if_then (KeepsAt S T D) (Comes D places (replied (Made (nid (new_id kind index))))) a (making T places kind index) h
       (λ D' k. limited (Comes D places (replied (Made (nid (new_id kind index))))) D' _
       (if_test (Comes D places (replied (Made (nid (new_id kind index))))) (is_spent index) Ids _ (record { keeps = k; places_are = refl; reply_is = refl })))

@@ -18,7 +18,7 @@ use Rattle.command_text.specs.declared.reply.Reply.{Reply}
 use Rattle.mail_objects.specs.Forms.{Ctx}
 use Rattle.mail_objects.specs.declared.object.Object.{Object}
 use Rattle.mail_objects.specs.declared.object.Object.TheVariants.{Context, Table, Message}
-use Rattle.mail_tree.specs.declared.places.Place.{Place}
+use Rattle.mail_tree.specs.declared.places.FolderPlace.{FolderPlace}
 use Rattle.mail_tree.specs.Places.{ROOT, children, find_place, is_deep, is_plain, is_within, moves_deep, place_id}
 use Rattle.mail_tree.specs.Tree.{Tree, object_at}
 use Rattle.mail_tree.specs.Values.{bytes_of, finished, folder_props, is_set_protected, is_unset_protected, message_props, name_of, text, with_props}
@@ -119,10 +119,10 @@ module _ (T : Tree) (whole : IsWhole T) (scope : Scope) where
   in_tree q x is = sym (ap (λ g. g q) (now_nothing T false)) ∙ is
 
   -- a folder isn't the store
-  place_elsewhere : (f : ℕ) (p : Place) → find_place f T.places ≡ Some p → f ≡ 0x21 → ⊥
+  place_elsewhere : (f : ℕ) (p : FolderPlace) → find_place f T.places ≡ Some p → f ≡ 0x21 → ⊥
   place_elsewhere f p e same = let (above, below) = low f (folder_kind p.sort f (whole.objects.kinds f p e)) in omega arith
 
-  then_settled : (places : List Place) (a : Answer Changed) (f : ℕ) (p : Place) → find_place f T.places ≡ Some p → IfOk a Kept → IfOk (a >>= settled T places f) Kept
+  then_settled : (places : List FolderPlace) (a : Answer Changed) (f : ℕ) (p : FolderPlace) → find_place f T.places ≡ Some p → IfOk a Kept → IfOk (a >>= settled T places f) Kept
   then_settled places a f p e h = let c = whole.objects.contexts f p e in then_good T scope places a f (Context c.0) (place_elsewhere f p e) c.1 h
 
   limited : {B : Type 0} (Q : B → Type 0) (D : Changed) (f : Unit {0} → Answer B) → IfOk (f tt) Q → IfOk (within_limits D >>= f) Q
@@ -131,10 +131,10 @@ module _ (T : Tree) (whole : IsWhole T) (scope : Scope) where
   then_changing : (a : Answer Changed) (reply : Reply) → IfOk a Kept → IfOk (a >>= changing T reply) After
   then_changing a reply h = if_then Kept After a (changing T reply) h (λ D k. limited After D _ k)
 
-  then_moving : (places : List Place) (a : Answer Changed) (reply : Reply) → IfOk a Kept → IfOk (a >>= moving T places reply) After
+  then_moving : (places : List FolderPlace) (a : Answer Changed) (reply : Reply) → IfOk a Kept → IfOk (a >>= moving T places reply) After
   then_moving places a reply h = if_then Kept After a (moving T places reply) h (λ D k. limited After D _ k)
 
-  then_making : (places : List Place) (a : Answer Changed) (kind index : ℕ) → IfOk a Kept → IfOk (a >>= making T places kind index) After
+  then_making : (places : List FolderPlace) (a : Answer Changed) (kind index : ℕ) → IfOk a Kept → IfOk (a >>= making T places kind index) After
   then_making places a kind index h = if_then Kept After a (making T places kind index) h (λ D k. limited After D _ (if_test After (is_spent index) Ids _ k))
 
   none_yet : KeepsObjects T scope nothing.objects
@@ -174,7 +174,7 @@ module _ (T : Tree) (whole : IsWhole T) (scope : Scope) where
     ])
   ])
 
-  adds : (M : Mes) (crowded : Bool) (p : Place) (index : ℕ) → M.nid % 32 ≡ 4 → Free T M.nid → scope.brings M.nid ≡ true → find_place M.folder T.places ≡ Some p → IfOk (added_message T M (record nothing { crowded = crowded }) >>= making T T.places 4 index) After
+  adds : (M : Mes) (crowded : Bool) (p : FolderPlace) (index : ℕ) → M.nid % 32 ≡ 4 → Free T M.nid → scope.brings M.nid ≡ true → find_place M.folder T.places ≡ Some p → IfOk (added_message T M (record nothing { crowded = crowded }) >>= making T T.places 4 index) After
   adds M crowded p index four free brings found =
       let D0 = record nothing { crowded = crowded } in
       let D = with_object M.nid (Some (Message M)) D0 in

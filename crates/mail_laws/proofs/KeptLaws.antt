@@ -13,7 +13,7 @@ use Rattle.command_text.specs.declared.reply.Reply.{Reply}
 use Rattle.mail_objects.specs.Forms.{Ctx, Tbl}
 use Rattle.mail_objects.specs.declared.object.Object.{Object}
 use Rattle.mail_objects.specs.declared.object.Object.TheVariants.{Context, Table}
-use Rattle.mail_tree.specs.declared.places.Place.{Place}
+use Rattle.mail_tree.specs.declared.places.FolderPlace.{FolderPlace}
 use Rattle.mail_tree.specs.Places.{find_place}
 use Rattle.mail_tree.specs.Tree.{Tree, object_at}
 use Rattle.mail_tree.specs.Changing.{as_message, newest, nothing, now_at}
@@ -81,7 +81,7 @@ module _ (T : Tree) (o : Outcome) where
     ]
 
     -- a folder that stays
-    same_values : (f : ℕ) (p : Place) (old : Ctx) → Keeps T o → find_place f o.places ≡ Some p → object_at T f ≡ Some (Context old)
+    same_values : (f : ℕ) (p : FolderPlace) (old : Ctx) → Keeps T o → find_place f o.places ≡ Some p → object_at T f ≡ Some (Context old)
         → (new : Ctx) × (object_at (after T o) f ≡ Some (Context new)) × StaysFolder (scope.names f) old new
     same_values f p old w e is = let c = w.contexts f p e in (c.0, after_is f ∙ c.1, subst (KeepsFolder (scope.names f) old) c.1 (k.folders f old is))
 

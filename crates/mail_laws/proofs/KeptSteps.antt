@@ -9,7 +9,7 @@ use Rattle.mapi_values.specs.Values.{Val}
 use Rattle.mail_objects.specs.Forms.{Ctx}
 use Rattle.mail_objects.specs.declared.object.Object.{Object}
 use Rattle.mail_objects.specs.declared.object.Object.TheVariants.{Context, Table}
-use Rattle.mail_tree.specs.declared.places.Place.{Place}
+use Rattle.mail_tree.specs.declared.places.FolderPlace.{FolderPlace}
 use Rattle.mail_tree.specs.Places.{ROOT, is_child}
 use Rattle.mail_tree.specs.Tree.{Tree, object_at}
 use Rattle.mail_tree.specs.Values.{number, truth, with_counts}
@@ -73,7 +73,7 @@ module _ (T : Tree) (scope : Scope) where
   pub context_good : (f : ℕ) (c : Ctx) (props : List Val) (D : Changed) → (f ≡ 0x21 → ⊥) → now_at T D f ≡ Some (Context c) → StaysFolder (scope.names f) c (record c { props = props }) → Good D → Good (with_context f c props D)
   context_good f c props D other is stays k = keeps_more T scope D.objects f (Some (Context (record c { props = props }))) k (fits_context T scope D.objects f c (record c { props = props }) k is other stays)
 
-  counted_good : (places : List Place) (f : ℕ) (D : Changed) → (f ≡ 0x21 → ⊥) → Good D → IfOk (counted T places f D) Good
+  counted_good : (places : List FolderPlace) (f : ℕ) (D : Changed) → (f ≡ 0x21 → ⊥) → Good D → IfOk (counted T places f D) Good
   unfolding counted
   counted_good places f D other k =
       if_then (λ c. now_at T D f ≡ Some (Context c)) Good (context_at T D f) _ (if_context T D f) (λ c is.
@@ -89,7 +89,7 @@ module _ (T : Tree) (scope : Scope) where
   ]
 
   -- a folder that stood there is settled
-  pub then_good : (places : List Place) (a : Answer Changed) (f : ℕ) (x : Object) → (f ≡ 0x21 → ⊥) → object_at T f ≡ Some x → IfOk a Good → IfOk (a >>= settled T places f) Good
+  pub then_good : (places : List FolderPlace) (a : Answer Changed) (f : ℕ) (x : Object) → (f ≡ 0x21 → ⊥) → object_at T f ≡ Some x → IfOk a Good → IfOk (a >>= settled T places f) Good
   unfolding settled
   then_good places a f x other is h = if_then Good Good a (settled T places f) h (λ D k.
       if_then Good Good (counted T places f D) (mirrored T f) (counted_good places f D other k) (λ D' k'. mirrored_good f D' (stood T D'.objects f x is) k'))

@@ -9,7 +9,7 @@ use Rattle.mapi_values.proofs.KeyedLaws.{put-ascends, drop-ascends}
 use Rattle.mail_objects.specs.Forms.{Tbl}
 use Rattle.mail_objects.specs.declared.object.Object.{Object}
 use Rattle.mail_objects.specs.declared.object.Object.TheVariants.{Table, Message}
-use Rattle.mail_tree.specs.declared.places.Place.{Place}
+use Rattle.mail_tree.specs.declared.places.FolderPlace.{FolderPlace}
 use Rattle.mail_tree.specs.Places.{find_place, is_plain}
 use Rattle.mail_tree.specs.Changing.{contents, shown_row, with_rows}
 use Rattle.mail_tree.specs.Whole.{AreWhole, HasRow, fits_id}
@@ -28,7 +28,7 @@ message_fits m M four nid = and_from (m % 32 == 4) (M.nid == m) (eq-eqb (m % 32)
 pub apart : (m f : ℕ) → m % 32 ≡ 4 → m ≡ contents f → ⊥
 apart m f four e = let k = beside_kind f 14 (omega arith) in omega arith
 
-module _ (places : List Place) (m : ℕ) (four : m % 32 ≡ 4) where
+module _ (places : List FolderPlace) (m : ℕ) (four : m % 32 ≡ 4) where
   -- a message, or nothing, is put at its id
   pub puts_at : (at at' : ℕ → Option Object) (M : Mes) → AreWhole places at → M.nid ≡ m → Puts at at' m (Some (Message M)) → AreNearly (λ x. x ≡ m) places at'
   puts_at at at' M w nid puts = puts_message (λ x. x ≡ m) places at at' (nearly (λ x. x ≡ m) places at w) m (Some (Message M)) four refl
@@ -37,9 +37,9 @@ module _ (places : List Place) (m : ℕ) (four : m % 32 ≡ 4) where
   pub removes_at : (at at' : ℕ → Option Object) → AreWhole places at → Puts at at' m None → AreNearly (λ x. x ≡ m) places at'
   removes_at at at' w puts = puts_message (λ x. x ≡ m) places at at' (nearly (λ x. x ≡ m) places at w) m None four refl (λ x e. absurd (none-some x e)) (λ t e. none-some (Table t) e) puts
 
-  module _ (at at' : ℕ → Option Object) (n : AreNearly (λ x. x ≡ m) places at) (F : ℕ) (p : Place) (found : find_place F places ≡ Some p) (plain : is_plain p ≡ true) (t : Tbl) (is : at (contents F) ≡ Some (Table t)) where
+  module _ (at at' : ℕ → Option Object) (n : AreNearly (λ x. x ≡ m) places at) (F : ℕ) (p : FolderPlace) (found : find_place F places ≡ Some p) (plain : is_plain p ≡ true) (t : Tbl) (is : at (contents F) ≡ Some (Table t)) where
     -- what a plain folder's table has
-    split : (o : Option Object) → Puts at at' (contents F) o → (f : ℕ) (q : Place) (u : Tbl) → find_place f places ≡ Some q → is_plain q ≡ true → at' (contents f) ≡ Some (Table u)
+    split : (o : Option Object) → Puts at at' (contents F) o → (f : ℕ) (q : FolderPlace) (u : Tbl) → find_place f places ≡ Some q → is_plain q ≡ true → at' (contents f) ≡ Some (Table u)
         → ((f ≡ F) × (o ≡ Some (Table u))) ⊎ ((f ≡ F → ⊥) × (at (contents f) ≡ Some (Table u)))
     split o puts f q u e plain_q at_u = elim (cases_eq (contents f) (contents F)) [
       | inl same ↦ inl (same_folder f F 14 (plain_id n f q e plain_q) (plain_id n F p found plain) same, sym puts.here ∙ ap at' (sym same) ∙ at_u)
@@ -48,7 +48,7 @@ module _ (places : List Place) (m : ℕ) (four : m % 32 ≡ 4) where
 
     -- the folder lists the message that stands there, which no other folder does
     pub lists_message : (M : Mes) (props : List Val) → at m ≡ Some (Message M) → M.folder ≡ F
-        → ((f : ℕ) (q : Place) (u : Tbl) → find_place f places ≡ Some q → is_plain q ≡ true → at (contents f) ≡ Some (Table u) → IsSome (find_row m u.table.rows) → f ≡ F)
+        → ((f : ℕ) (q : FolderPlace) (u : Tbl) → find_place f places ≡ Some q → is_plain q ≡ true → at (contents f) ≡ Some (Table u) → IsSome (find_row m u.table.rows) → f ≡ F)
         → Puts at at' (contents F) (Some (with_rows (shown_row m props t.table) t)) → AreWhole places at'
     lists_message M props at_m folder only puts =
         let row : ℕ × List Val = (m, mirror t.table.columns props) in
@@ -68,9 +68,9 @@ module _ (places : List Place) (m : ℕ) (four : m % 32 ≡ 4) where
         (p, subst (λ x. find_place x places ≡ Some p) home found, plain, subst (λ x. HasRow (at' (contents x)) m) home (t', puts.here, ap is_some (find-put_same (λ r. r.0) row t.table.rows))))
 
     -- the folder lists a message no more, and no other folder does
-    pub drops_message : ((f : ℕ) (q : Place) (u : Tbl) → find_place f places ≡ Some q → is_plain q ≡ true → at (contents f) ≡ Some (Table u) → IsSome (find_row m u.table.rows) → f ≡ F)
+    pub drops_message : ((f : ℕ) (q : FolderPlace) (u : Tbl) → find_place f places ≡ Some q → is_plain q ≡ true → at (contents f) ≡ Some (Table u) → IsSome (find_row m u.table.rows) → f ≡ F)
         → Puts at at' (contents F) (Some (with_rows (drop_row m t.table.rows) t))
-        → AreNearly (λ x. x ≡ m) places at' × ((f : ℕ) (q : Place) (u : Tbl) → find_place f places ≡ Some q → is_plain q ≡ true → at' (contents f) ≡ Some (Table u) → IsSome (find_row m u.table.rows) → ⊥)
+        → AreNearly (λ x. x ≡ m) places at' × ((f : ℕ) (q : FolderPlace) (u : Tbl) → find_place f places ≡ Some q → is_plain q ≡ true → at' (contents f) ≡ Some (Table u) → IsSome (find_row m u.table.rows) → ⊥)
     drops_message only puts =
         let t' : Tbl = record { parent = t.parent; table = record t.table { rows = drop_row m t.table.rows } } in
         let ascend = n.rows_ascend (contents F) t is in

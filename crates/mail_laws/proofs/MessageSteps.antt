@@ -12,7 +12,7 @@ use Rattle.command_text.specs.declared.reply.LastLine.TheVariants.{Done}
 use Rattle.mail_objects.specs.Forms.{Tbl}
 use Rattle.mail_objects.specs.declared.object.Object.{Object}
 use Rattle.mail_objects.specs.declared.object.Object.TheVariants.{Table, Message}
-use Rattle.mail_tree.specs.declared.places.Place.{Place}
+use Rattle.mail_tree.specs.declared.places.FolderPlace.{FolderPlace}
 use Rattle.mail_tree.specs.Places.{find_place, is_plain}
 use Rattle.mail_tree.specs.Tree.{Tree}
 use Rattle.mail_tree.specs.Values.{bytes_of, finished, is_set_protected, is_unset_protected, message_props, with_props}
@@ -67,12 +67,12 @@ fine_message_in T m w = elim (cases_Bool (m % 32 == 4)) [
 ]
 
 -- the table of a plain folder's messages, after a message was put
-table_now : {E : ℕ → Type 0} {places : List Place} {at : ℕ → Option Object} → AreNearly E places at → (f : ℕ) (p : Place) → find_place f places ≡ Some p → is_plain p ≡ true → (t : Tbl) × (at (contents f) ≡ Some (Table t))
+table_now : {E : ℕ → Type 0} {places : List FolderPlace} {at : ℕ → Option Object} → AreNearly E places at → (f : ℕ) (p : FolderPlace) → find_place f places ≡ Some p → is_plain p ≡ true → (t : Tbl) × (at (contents f) ≡ Some (Table t))
 table_now {at = at} n f p e plain = table_of (contents f) (at (contents f)) (n.typed (contents f)) (inr (inl (beside_kind f 14 (omega arith)))) (n.tables f p e plain).1
 
 -- before, only the folder of a message lists it
 only_home : (T : Tree) (w : Before T) (D : Changed) (m : ℕ) (o : Option Object) (four : m % 32 ≡ 4) (puts : Puts (now_at T nothing) (now_at T D) m o) (M : Mes) → now_at T nothing m ≡ Some (Message M)
-    → (f : ℕ) (q : Place) (u : Tbl) → find_place f T.places ≡ Some q → is_plain q ≡ true → now_at T D (contents f) ≡ Some (Table u) → IsSome (find_row m u.table.rows) → f ≡ M.folder
+    → (f : ℕ) (q : FolderPlace) (u : Tbl) → find_place f T.places ≡ Some q → is_plain q ≡ true → now_at T D (contents f) ≡ Some (Table u) → IsSome (find_row m u.table.rows) → f ≡ M.folder
 only_home T w D m o four puts M is f q u e plain at_u row =
     let v = w.listed f q u m e plain (sym (puts.others (contents f) (λ e. apart m f four (sym e))) ∙ at_u) row four in
     let same : v.0 ≡ M = cc in
@@ -91,7 +91,7 @@ pub fine_changing : (T : Tree) (D : Changed) → Leaves T D → Fine (changing T
 fine_changing T D w = after_limits (Keeps T) D (λ u. Ok (record { changed = D; places = T.places; last = T.last; reply = replied Done })) w
 
 -- a message gets other values
-shown_message : (T : Tree) (old new : Mes) (p : Place) → Before T → now_at T nothing new.nid ≡ Some (Message old) → new.nid % 32 ≡ 4 → new.folder ≡ old.folder → old.nid ≡ new.nid → find_place new.folder T.places ≡ Some p → is_plain p ≡ true
+shown_message : (T : Tree) (old new : Mes) (p : FolderPlace) → Before T → now_at T nothing new.nid ≡ Some (Message old) → new.nid % 32 ≡ 4 → new.folder ≡ old.folder → old.nid ≡ new.nid → find_place new.folder T.places ≡ Some p → is_plain p ≡ true
     → Fine (put_shown T (contents new.folder) new.nid new.props (with_message old new nothing)) (Leaves T)
 unfolding put_shown
 shown_message T old new p w is four folder nid found plain =
@@ -104,11 +104,11 @@ shown_message T old new p w is four folder nid found plain =
     (puts_object T D (contents new.folder) (Some (with_rows (shown_row new.nid new.props t.0.table) t.0))))
 
 -- what a message of a whole tree has
-pub home_of : (T : Tree) → Before T → (m : ℕ) (M : Mes) → now_at T nothing m ≡ Some (Message M) → (M.nid ≡ m) × (p : Place) × (find_place M.folder T.places ≡ Some p) × (is_plain p ≡ true)
+pub home_of : (T : Tree) → Before T → (m : ℕ) (M : Mes) → now_at T nothing m ≡ Some (Message M) → (M.nid ≡ m) × (p : FolderPlace) × (find_place M.folder T.places ≡ Some p) × (is_plain p ≡ true)
 home_of T w m M is = let v = w.held m M is in ((message_id m M (w.typed m (Message M) is)).1, v.0, v.1, v.2)
 
 -- settled, and within the limits
-settled_changing : (T : Tree) (a : Answer Changed) (f : ℕ) (p : Place) → find_place f T.places ≡ Some p → is_plain p ≡ true → Fine a (Leaves T) → Fine (a >>= settled T T.places f >>= changing T (replied Done)) (Keeps T)
+settled_changing : (T : Tree) (a : Answer Changed) (f : ℕ) (p : FolderPlace) → find_place f T.places ≡ Some p → is_plain p ≡ true → Fine a (Leaves T) → Fine (a >>= settled T T.places f >>= changing T (replied Done)) (Keeps T)
 settled_changing T a f p found plain fine =
     fine_then (Leaves T) (Keeps T) (a >>= settled T T.places f) (changing T (replied Done))
     (fine_then (Leaves T) (Leaves T) a (settled T T.places f) fine (λ D w. fine_settled T T.places f p D w found plain))
@@ -152,7 +152,7 @@ unfolding details
 fine_details T m w = fine_then _ (Keeps T) (message_in T m) _ (fine_message_in T m w) (λ M h. w)
 
 -- `rm`
-dropped_message : (T : Tree) (m : ℕ) (M : Mes) (p : Place) → Before T → now_at T nothing m ≡ Some (Message M) → m % 32 ≡ 4 → find_place M.folder T.places ≡ Some p → is_plain p ≡ true
+dropped_message : (T : Tree) (m : ℕ) (M : Mes) (p : FolderPlace) → Before T → now_at T nothing m ≡ Some (Message M) → m % 32 ≡ 4 → find_place M.folder T.places ≡ Some p → is_plain p ≡ true
     → Fine (drop_shown T (contents M.folder) m (with_object m None nothing)) (Leaves T)
 unfolding drop_shown
 dropped_message T m M p w is four found plain =
@@ -172,8 +172,8 @@ fine_removed T m w = fine_then _ (Keeps T) (message_in T m) _ (fine_message_in T
     settled_changing T (drop_shown T (contents M.folder) m (with_object m None nothing)) M.folder v.1 v.2 v.3 (dropped_message T m M v.1 w h.0 h.1 v.2 v.3))
 
 -- a row that shows a message that stands there is added
-listed_message : (T : Tree) (D : Changed) (m : ℕ) (M : Mes) (props : List Val) (p : Place) → AreNearly (λ x. x ≡ m) T.places (now_at T D) → m % 32 ≡ 4 → now_at T D m ≡ Some (Message M) → find_place M.folder T.places ≡ Some p → is_plain p ≡ true
-    → ((f : ℕ) (q : Place) (u : Tbl) → find_place f T.places ≡ Some q → is_plain q ≡ true → now_at T D (contents f) ≡ Some (Table u) → IsSome (find_row m u.table.rows) → f ≡ M.folder)
+listed_message : (T : Tree) (D : Changed) (m : ℕ) (M : Mes) (props : List Val) (p : FolderPlace) → AreNearly (λ x. x ≡ m) T.places (now_at T D) → m % 32 ≡ 4 → now_at T D m ≡ Some (Message M) → find_place M.folder T.places ≡ Some p → is_plain p ≡ true
+    → ((f : ℕ) (q : FolderPlace) (u : Tbl) → find_place f T.places ≡ Some q → is_plain q ≡ true → now_at T D (contents f) ≡ Some (Table u) → IsSome (find_row m u.table.rows) → f ≡ M.folder)
     → Fine (add_shown T (contents M.folder) m props D) (Leaves T)
 unfolding add_shown
 listed_message T D m M props p n four is found plain only =
@@ -185,7 +185,7 @@ listed_message T D m M props p n four is found plain only =
     ])
 
 -- a new message
-fine_added : (T : Tree) (D : Changed) (M : Mes) (p : Place) → AreWhole T.places (now_at T D) → M.nid % 32 ≡ 4 → now_at T D M.nid ≡ None → find_place M.folder T.places ≡ Some p → is_plain p ≡ true
+fine_added : (T : Tree) (D : Changed) (M : Mes) (p : FolderPlace) → AreWhole T.places (now_at T D) → M.nid % 32 ≡ 4 → now_at T D M.nid ≡ None → find_place M.folder T.places ≡ Some p → is_plain p ≡ true
     → Fine (added_message T M D) (Leaves T)
 fine_added T D M p w four none found plain =
     let puts = puts_object T D M.nid (Some (Message M)) in
@@ -216,7 +216,7 @@ fine_making : (T : Tree) (a : Answer Changed) (kind index : ℕ) → Fine a (Lea
 fine_making T a kind index fine = fine_then (Leaves T) (Keeps T) a (making T T.places kind index) fine (λ D w. after_limits (Keeps T) D _ (after_test (Keeps T) (is_spent index) Ids _ (λ left. w)))
 
 -- `new`
-fine_made : (T : Tree) (folder : ℕ) (p : Place) (class : List ℕ) (time : ℕ) (store : List Val) → Before T → find_place folder T.places ≡ Some p → is_plain p ≡ true
+fine_made : (T : Tree) (folder : ℕ) (p : FolderPlace) (class : List ℕ) (time : ℕ) (store : List Val) → Before T → find_place folder T.places ≡ Some p → is_plain p ≡ true
     → Fine (making_message T folder class time store (next_index T 4 message_kinds)) (Keeps T)
 unfolding making_message
 fine_made T folder p class time store w found plain = elim (cases_Bool (is_spent (next_index T 4 message_kinds))) [
@@ -246,7 +246,7 @@ fine_new T folder class time w = elim (cases_Option (find_place folder T.places)
 ]
 
 -- `cp`
-fine_copying : (T : Tree) (M : Mes) (folder : ℕ) (p : Place) → Before T → find_place folder T.places ≡ Some p → is_plain p ≡ true → Fine (copying T M folder (next_index T 4 message_kinds)) (Keeps T)
+fine_copying : (T : Tree) (M : Mes) (folder : ℕ) (p : FolderPlace) → Before T → find_place folder T.places ≡ Some p → is_plain p ≡ true → Fine (copying T M folder (next_index T 4 message_kinds)) (Keeps T)
 unfolding copying
 fine_copying T M folder p w found plain = elim (cases_Bool (is_spent (next_index T 4 message_kinds))) [
   | inl t ↦
@@ -278,9 +278,9 @@ fine_copied T m folder w = fine_then _ (Keeps T) (message_in T m) _ (fine_messag
 -- `mv`
 abbrev MovedFrom : Tree → ℕ → Mes → Changed → Type 0
 MovedFrom T m M D = AreNearly (λ x. x ≡ m) T.places (now_at T D) × (now_at T D m ≡ Some (Message M))
-    × ((f : ℕ) (q : Place) (u : Tbl) → find_place f T.places ≡ Some q → is_plain q ≡ true → now_at T D (contents f) ≡ Some (Table u) → IsSome (find_row m u.table.rows) → ⊥)
+    × ((f : ℕ) (q : FolderPlace) (u : Tbl) → find_place f T.places ≡ Some q → is_plain q ≡ true → now_at T D (contents f) ≡ Some (Table u) → IsSome (find_row m u.table.rows) → ⊥)
 
-moved_from : (T : Tree) (m folder : ℕ) (M : Mes) (p : Place) → Before T → now_at T nothing m ≡ Some (Message M) → m % 32 ≡ 4 → M.nid ≡ m → find_place M.folder T.places ≡ Some p → is_plain p ≡ true
+moved_from : (T : Tree) (m folder : ℕ) (M : Mes) (p : FolderPlace) → Before T → now_at T nothing m ≡ Some (Message M) → m % 32 ≡ 4 → M.nid ≡ m → find_place M.folder T.places ≡ Some p → is_plain p ≡ true
     → Fine (drop_shown T (contents M.folder) m (with_object m (Some (Message (in_folder folder M))) nothing)) (MovedFrom T m (in_folder folder M))
 unfolding drop_shown
 moved_from T m folder M p w is four nid found plain =

@@ -16,7 +16,7 @@ use Rattle.command_text.specs.declared.reply.Reply.{Reply}
 use Rattle.mail_objects.specs.Forms.{Ctx, Tbl}
 use Rattle.mail_objects.specs.declared.object.Object.{Object}
 use Rattle.mail_objects.specs.declared.object.Object.TheVariants.{Context, Table, Message}
-use Rattle.mail_tree.specs.declared.places.Place.{Place}
+use Rattle.mail_tree.specs.declared.places.FolderPlace.{FolderPlace}
 use Rattle.mail_tree.specs.Places.{ROOT, children, find_place, is_child, is_deep, is_plain, is_within, moves_deep, place_id}
 use Rattle.mail_tree.specs.Tree.{Tree}
 use Rattle.mail_tree.specs.Values.{bytes_of, finished, folder_props, is_set_protected, is_unset_protected, message_props, name_of, text, with_props}
@@ -107,7 +107,7 @@ module _ (T : Tree) (w : Before T) (s : AreShownBut (λ x. ⊥) T.places (now_at
     ])
   ])
 
-  adds : (M : Mes) (crowded : Bool) (p : Place) (index : ℕ) → M.nid % 32 ≡ 4 → find_place M.folder T.places ≡ Some p → IfOk (added_message T M (record nothing { crowded = crowded }) >>= making T T.places 4 index) After
+  adds : (M : Mes) (crowded : Bool) (p : FolderPlace) (index : ℕ) → M.nid % 32 ≡ 4 → find_place M.folder T.places ≡ Some p → IfOk (added_message T M (record nothing { crowded = crowded }) >>= making T T.places 4 index) After
   unfolding Shows_now
   adds M crowded p index four found =
       let D0 = record nothing { crowded = crowded } in
@@ -219,14 +219,14 @@ module _ (T : Tree) (w : Before T) (s : AreShownBut (λ x. ⊥) T.places (now_at
   ]
 
   -- where folders come, go and move
-  Shows_in : List Place → Changed → Type 0
+  Shows_in : List FolderPlace → Changed → Type 0
   Shows_in places D = AreShownBut (λ x. ⊥) places (now_at T D)
 
-  then_moving : (places : List Place) (a : Answer Changed) (reply : Reply) → IfOk a (Shows_in places) → IfOk (a >>= moving T places reply) After
+  then_moving : (places : List FolderPlace) (a : Answer Changed) (reply : Reply) → IfOk a (Shows_in places) → IfOk (a >>= moving T places reply) After
   unfolding Shows_in After
   then_moving places a reply h = if_then (Shows_in places) After a (moving T places reply) h (λ D k. limited After D _ k)
 
-  then_making_in : (places : List Place) (a : Answer Changed) (kind index : ℕ) → IfOk a (Shows_in places) → IfOk (a >>= making T places kind index) After
+  then_making_in : (places : List FolderPlace) (a : Answer Changed) (kind index : ℕ) → IfOk a (Shows_in places) → IfOk (a >>= making T places kind index) After
   unfolding Shows_in After
   then_making_in places a kind index h = if_then (Shows_in places) After a (making T places kind index) h (λ D k. limited After D _ (if_test After (is_spent index) Ids _ k))
 
@@ -236,7 +236,7 @@ module _ (T : Tree) (w : Before T) (s : AreShownBut (λ x. ⊥) T.places (now_at
     | inr other ↦ ids g p (sym (find-put_other place_id g (place f parent) T.places other) ∙ e)
   ]
 
-  put_was : (f parent : ℕ) (g : ℕ) (p : Place) → find_place g (put_key place_id (place f parent) T.places) ≡ Some p → (g ≡ f → ⊥) → find_place g T.places ≡ Some p
+  put_was : (f parent : ℕ) (g : ℕ) (p : FolderPlace) → find_place g (put_key place_id (place f parent) T.places) ≡ Some p → (g ≡ f → ⊥) → find_place g T.places ≡ Some p
   put_was f parent g p e other = sym (find-put_other place_id g (place f parent) T.places other) ∙ e
 
   -- a folder's values are put: its row needn't show them yet
@@ -244,7 +244,7 @@ module _ (T : Tree) (w : Before T) (s : AreShownBut (λ x. ⊥) T.places (now_at
   folder_opens f o at' two puts = shown_put (λ x. ⊥) (λ x. x ≡ f) T.places (now_at T nothing) at' f o s (λ x e. absurd e) puts (λ e. omega arith) (λ e. omega arith) (λ p e. refl) (λ M e. refl)
 
   -- a table beside a folder comes where none stood
-  table_comes : (places : List Place) (places_ids : FolderIds places) (D : Changed) (f kind : ℕ) (t : Tbl) → kind < 32 → 4 < kind → AreShownBut (λ x. x ≡ f) places (now_at T D) → now_at T D (beside f kind) ≡ None
+  table_comes : (places : List FolderPlace) (places_ids : FolderIds places) (D : Changed) (f kind : ℕ) (t : Tbl) → kind < 32 → 4 < kind → AreShownBut (λ x. x ≡ f) places (now_at T D) → now_at T D (beside f kind) ≡ None
       → AreShownBut (λ x. x ≡ f) places (now_at T (with_object (beside f kind) (Some (Table t)) D))
   table_comes places places_ids D f kind t small large s none = shown_unlisting (λ x. x ≡ f) (λ x. x ≡ f) places (now_at T D) _ (beside f kind) (Some (Table t)) s (λ x e. e) (puts_object T D (beside f kind) (Some (Table t)))
       places_ids (high f kind small large) (λ id props h. none-some (Table h.0) (sym none ∙ h.1)) (λ M e. cc)
@@ -378,7 +378,7 @@ module _ (T : Tree) (w : Before T) (s : AreShownBut (λ x. ⊥) T.places (now_at
                 let none_b = (or_parts (has_rows b) (has_associated c) (or_parts (has_rows a) (has_rows b || has_associated c) none).1).0 in
                 let places = drop_key place_id f T.places in
                 let two = plain_id (nearly (λ x. ⊥) T.places (now_at T nothing) w) f p.0 p.1 plain in
-                let was : (g : ℕ) (r : Place) → find_place g places ≡ Some r → (g ≡ f → ⊥) → find_place g T.places ≡ Some r = λ g r e other. sym (find-drop_other place_id g f T.places other) ∙ e in
+                let was : (g : ℕ) (r : FolderPlace) → find_place g places ≡ Some r → (g ≡ f → ⊥) → find_place g T.places ≡ Some r = λ g r e other. sym (find-drop_other place_id g f T.places other) ∙ e in
                 let gone = find-drop_same place_id 0 f T.places w.ascend in
                 let places_ids : FolderIds places = λ g r e. ids g r (was g r e (λ same. none-some r (sym gone ∙ ap (λ x. find_place x places) (sym same) ∙ e))) in
                 let D1 = with_object f None nothing in let D2 = with_object (hierarchy f) None D1 in let D3 = with_object (contents f) None D2 in

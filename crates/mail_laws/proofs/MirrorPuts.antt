@@ -7,7 +7,7 @@ use Rattle.mapi_values.specs.Values.{Val}
 use Rattle.mail_objects.specs.Forms.{Ctx, Tbl}
 use Rattle.mail_objects.specs.declared.object.Object.{Object}
 use Rattle.mail_objects.specs.declared.object.Object.TheVariants.{Context, Table, Message}
-use Rattle.mail_tree.specs.declared.places.Place.{Place}
+use Rattle.mail_tree.specs.declared.places.FolderPlace.{FolderPlace}
 use Rattle.mail_tree.specs.Places.{ROOT, find_place}
 use Rattle.mail_tree.specs.Changing.{contents, hierarchy}
 use Rattle.mail_laws.specs.Laws.{AreShown, Shows}
@@ -15,23 +15,23 @@ use Rattle.mail_tree.proofs.Nearly.{Puts}
 use Rattle.mail_tree.proofs.KindsOfPuts.{beside_kind, same_table}
 
 -- but for these ids rows show what they name
-pub record AreShownBut (E : ℕ → Type 0) (places : List Place) (at : ℕ → Option Object) : Type 0 where
-  pub folders : (f : ℕ) (p : Place) (c : Ctx) → find_place f places ≡ Some p → (f ≡ ROOT → ⊥) → (E f → ⊥) → at f ≡ Some (Context c) → Shows (at (hierarchy c.parent)) f c.props
+pub record AreShownBut (E : ℕ → Type 0) (places : List FolderPlace) (at : ℕ → Option Object) : Type 0 where
+  pub folders : (f : ℕ) (p : FolderPlace) (c : Ctx) → find_place f places ≡ Some p → (f ≡ ROOT → ⊥) → (E f → ⊥) → at f ≡ Some (Context c) → Shows (at (hierarchy c.parent)) f c.props
   pub messages : (m : ℕ) (M : Mes) → (E m → ⊥) → at m ≡ Some (Message M) → Shows (at (contents M.folder)) m M.props
 
-pub shown_but : (places : List Place) (at : ℕ → Option Object) → AreShown places at → AreShownBut (λ x. ⊥) places at
+pub shown_but : (places : List FolderPlace) (at : ℕ → Option Object) → AreShown places at → AreShownBut (λ x. ⊥) places at
 shown_but places at s = record { folders = λ f p c e no_root free is. s.folders f p c e no_root is; messages = λ m M free is. s.messages m M is }
 
-pub all_shown : (places : List Place) (at : ℕ → Option Object) → AreShownBut (λ x. ⊥) places at → AreShown places at
+pub all_shown : (places : List FolderPlace) (at : ℕ → Option Object) → AreShownBut (λ x. ⊥) places at → AreShown places at
 all_shown places at s = record { folders = λ f p c e no_root is. s.folders f p c e no_root (λ x. x) is; messages = λ m M is. s.messages m M (λ x. x) is }
 
 -- ids of places are of folders
-abbrev pub FolderIds : List Place → Type 0
-FolderIds places = (f : ℕ) (p : Place) → find_place f places ≡ Some p → (f % 32 ≡ 2) ⊎ (f % 32 ≡ 3)
+abbrev pub FolderIds : List FolderPlace → Type 0
+FolderIds places = (f : ℕ) (p : FolderPlace) → find_place f places ≡ Some p → (f % 32 ≡ 2) ⊎ (f % 32 ≡ 3)
 
-module _ (E E' : ℕ → Type 0) (places : List Place) (at at' : ℕ → Option Object) (q : ℕ) (o : Option Object) (s : AreShownBut E places at) (more : (x : ℕ) → E x → E' x) (puts : Puts at at' q o) where
+module _ (E E' : ℕ → Type 0) (places : List FolderPlace) (at at' : ℕ → Option Object) (q : ℕ) (o : Option Object) (s : AreShownBut E places at) (more : (x : ℕ) → E x → E' x) (puts : Puts at at' q o) where
   -- an object that is no table of folders or messages is put: it needn't be shown
-  pub shown_put : (q % 32 ≡ 13 → ⊥) → (q % 32 ≡ 14 → ⊥) → ((p : Place) → find_place q places ≡ Some p → E' q) → ((M : Mes) → o ≡ Some (Message M) → E' q) → AreShownBut E' places at'
+  pub shown_put : (q % 32 ≡ 13 → ⊥) → (q % 32 ≡ 14 → ⊥) → ((p : FolderPlace) → find_place q places ≡ Some p → E' q) → ((M : Mes) → o ≡ Some (Message M) → E' q) → AreShownBut E' places at'
   shown_put no_hierarchy no_contents place message = record {
     folders = λ f p c e no_root free is.
         let other : f ≡ q → ⊥ = λ same. free (subst E' (sym same) (place p (subst (λ x. find_place x places ≡ Some p) same e))) in
@@ -57,7 +57,7 @@ module _ (E E' : ℕ → Type 0) (places : List Place) (at at' : ℕ → Option 
   }
 
 -- a table gets other rows, of which that of an id that needn't be shown changes
-pub shown_rows : (E : ℕ → Type 0) (places : List Place) (at at' : ℕ → Option Object) (q : ℕ) (t t' : Tbl) → AreShownBut E places at → FolderIds places → 4 < q % 32 → at q ≡ Some (Table t) → Puts at at' q (Some (Table t'))
+pub shown_rows : (E : ℕ → Type 0) (places : List FolderPlace) (at at' : ℕ → Option Object) (q : ℕ) (t t' : Tbl) → AreShownBut E places at → FolderIds places → 4 < q % 32 → at q ≡ Some (Table t) → Puts at at' q (Some (Table t'))
     → t'.table.columns ≡ t.table.columns → ((id : ℕ) → (E id → ⊥) → find_row id t'.table.rows ≡ find_row id t.table.rows) → AreShownBut E places at'
 shown_rows E places at at' q t t' s ids high is_t puts columns rows = record {
   folders = λ f p c e no_root free is.
@@ -77,8 +77,8 @@ shown_rows E places at at' q t t' s ids high is_t puts columns rows = record {
     ]
 
 -- what needn't be shown is
-pub closes : (e : ℕ) (places : List Place) (at : ℕ → Option Object) → AreShownBut (λ x. x ≡ e) places at
-    → ((p : Place) (c : Ctx) → find_place e places ≡ Some p → (e ≡ ROOT → ⊥) → at e ≡ Some (Context c) → Shows (at (hierarchy c.parent)) e c.props)
+pub closes : (e : ℕ) (places : List FolderPlace) (at : ℕ → Option Object) → AreShownBut (λ x. x ≡ e) places at
+    → ((p : FolderPlace) (c : Ctx) → find_place e places ≡ Some p → (e ≡ ROOT → ⊥) → at e ≡ Some (Context c) → Shows (at (hierarchy c.parent)) e c.props)
     → ((M : Mes) → at e ≡ Some (Message M) → Shows (at (contents M.folder)) e M.props) → AreShownBut (λ x. ⊥) places at
 closes e places at s folder message = record {
   folders = λ f p c is no_root free is_c. elim (cases_eq f e) [
@@ -93,5 +93,5 @@ closes e places at s folder message = record {
 }
 
 -- places change at ids that needn't be shown
-pub shown_places : (E : ℕ → Type 0) (places places' : List Place) (at : ℕ → Option Object) → AreShownBut E places at → ((g : ℕ) (p : Place) → find_place g places' ≡ Some p → (E g → ⊥) → find_place g places ≡ Some p) → AreShownBut E places' at
+pub shown_places : (E : ℕ → Type 0) (places places' : List FolderPlace) (at : ℕ → Option Object) → AreShownBut E places at → ((g : ℕ) (p : FolderPlace) → find_place g places' ≡ Some p → (E g → ⊥) → find_place g places ≡ Some p) → AreShownBut E places' at
 shown_places E places places' at s was = record { folders = λ f p c e no_root free is. s.folders f p c (was f p e free) no_root free is; messages = s.messages }

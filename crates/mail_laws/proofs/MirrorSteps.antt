@@ -8,7 +8,7 @@ use Rattle.mapi_values.specs.Values.{Val}
 use Rattle.mail_objects.specs.Forms.{Ctx, Tbl}
 use Rattle.mail_objects.specs.declared.object.Object.{Object}
 use Rattle.mail_objects.specs.declared.object.Object.TheVariants.{Context, Table, Message}
-use Rattle.mail_tree.specs.declared.places.Place.{Place}
+use Rattle.mail_tree.specs.declared.places.FolderPlace.{FolderPlace}
 use Rattle.mail_tree.specs.Places.{ROOT, is_child}
 use Rattle.mail_tree.specs.Tree.{Tree}
 use Rattle.mail_tree.specs.Values.{with_counts}
@@ -42,7 +42,7 @@ module _ (T : Tree) where
   pub if_table : (D : Changed) (q : ℕ) → IfOk (table_at T D q) (λ t. now_at T D q ≡ Some (Table t))
   if_table D q = known_table (now_at T D q)
 
-  module _ (places : List Place) (ids : FolderIds places) where
+  module _ (places : List FolderPlace) (ids : FolderIds places) where
     -- rows show what they name, but for one id
     abbrev pub ShownBut : ℕ → Changed → Type 0
     ShownBut e D = AreShownBut (λ x. x ≡ e) places (now_at T D)

@@ -9,7 +9,7 @@ use Rattle.command_text.specs.declared.reply.LastLine.TheVariants.{Done, Made}
 use Rattle.mail_objects.specs.Forms.{Ctx}
 use Rattle.mail_objects.specs.declared.object.Object.TheVariants.{Context, Table}
 use Rattle.node_port.specs.Nodes.{node_at}
-use Rattle.mail_tree.specs.declared.places.Place.{Place}
+use Rattle.mail_tree.specs.declared.places.FolderPlace.{FolderPlace}
 use Rattle.mail_tree.specs.declared.places.Sort.{Sort}
 use Rattle.mail_tree.specs.declared.places.Sort.TheVariants.{Plain, Foreign}
 use Rattle.mail_tree.specs.Places.{ROOT, children, find_place, is_deep, is_plain, is_plain_sort, is_within, moves_deep, place_id}
@@ -35,12 +35,12 @@ use Rattle.mail_laws.proofs.Keeping.{Comes, Four, no_table, Kept, KeepsAt, add_k
 use Rattle.mail_laws.proofs.Effects.{no_message, place_apart}
 
 -- one folder stands so now, and the others where they stood
-pub record Placed (T : Tree) (f : ℕ) (now : Option Place) (o : Outcome) : Type 0 where
+pub record Placed (T : Tree) (f : ℕ) (now : Option FolderPlace) (o : Outcome) : Type 0 where
   pub keeps : Kept Four (now_at T nothing) (now_at T o.changed)
   pub here : find_place f o.places ≡ now
   pub others : (g : ℕ) → (g ≡ f → ⊥) → find_place g o.places ≡ find_place g T.places
 
-pub only_place : (T : Tree) (f : ℕ) (now : Option Place) (o : Outcome) → Before T → Keeps T o → Placed T f now o → OnlyPlace T (after T o) f now
+pub only_place : (T : Tree) (f : ℕ) (now : Option FolderPlace) (o : Outcome) → Before T → Keeps T o → Placed T f now o → OnlyPlace T (after T o) f now
 only_place T f now o w w' c = record {
   here = c.here;
   others = c.others;
@@ -143,7 +143,7 @@ makes_folder T parent name w = elim (cases_Option (find_place parent T.places)) 
 
 -- `rename`
 abbrev pub Renamed : Tree → ℕ → List ℕ → Outcome → Type 0
-Renamed T f name o = (p : Place) × (find_place f T.places ≡ Some p) × Placed T f (Some p) o × NamedNow T f name o
+Renamed T f name o = (p : FolderPlace) × (find_place f T.places ≡ Some p) × Placed T f (Some p) o × NamedNow T f name o
 
 pub renames_folder : (T : Tree) (f : ℕ) (name : List ℕ) → Before T → IfOk (renamed_folder T f name) (Renamed T f name)
 unfolding renamed_folder
@@ -181,14 +181,14 @@ sort_plain : (s : Sort) → is_plain_sort s ≡ true → s ≡ Plain
 sort_plain Plain e = refl
 sort_plain Foreign e = cc
 
-pub found_id : (f : ℕ) (ps : List Place) (p : Place) → find_place f ps ≡ Some p → place_id p ≡ f
+pub found_id : (f : ℕ) (ps : List FolderPlace) (p : FolderPlace) → find_place f ps ≡ Some p → place_id p ≡ f
 found_id f [] p e = absurd (none-some p e)
 found_id f (q ∷ qs) p e = elim (cases_Bool (place_id q == f)) [
   | inl t ↦ ap place_id (sym (same_Some q p (rw t at e))) ∙ eqb-true (place_id q) f t
   | inr t ↦ found_id f qs p (rw t at e)
 ]
 
-pub is_place : (p : Place) (f parent : ℕ) → place_id p ≡ f → p.parent.bits ≡ parent → is_plain p ≡ true → p ≡ place f parent
+pub is_place : (p : FolderPlace) (f parent : ℕ) → place_id p ≡ f → p.parent.bits ≡ parent → is_plain p ≡ true → p ≡ place f parent
 is_place p f parent a b plain = λ i. record { nid = record { bits = a i }; parent = record { bits = b i }; sort = sort_plain p.sort plain i }
 
 pub moves_folder : (T : Tree) (f parent : ℕ) → Before T → IfOk (moved_folder T f parent) (Placed T f (Some (place f parent)))
@@ -206,7 +206,7 @@ moves_folder T f parent w = elim (cases_Option (find_place f T.places)) [
           | inr b ↦ rw b (elim (cases_Bool (p.0.parent.bits == parent)) [
             | inl b ↦ rw b (record {
               keeps = λ k four. refl;
-              here = p.1 ∙ ap (λ (x : Place). Some x) (is_place p.0 f parent (found_id f T.places p.0 p.1) (eqb-true p.0.parent.bits parent b) plain_p);
+              here = p.1 ∙ ap (λ (x : FolderPlace). Some x) (is_place p.0 f parent (found_id f T.places p.0 p.1) (eqb-true p.0.parent.bits parent b) plain_p);
               others = λ g other. refl;
             })
             | inr b ↦

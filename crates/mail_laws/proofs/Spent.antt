@@ -8,7 +8,7 @@ use Rattle.mapi_values.specs.Values.{Val}
 use Rattle.mail_objects.specs.Forms.{Ctx, Tbl}
 use Rattle.mail_objects.specs.declared.object.Object.{Object}
 use Rattle.mail_objects.specs.declared.object.Object.TheVariants.{Context, Table, Message}
-use Rattle.mail_tree.specs.declared.places.Place.{Place}
+use Rattle.mail_tree.specs.declared.places.FolderPlace.{FolderPlace}
 use Rattle.mail_tree.specs.Places.{ROOT, find_place, is_child, is_plain}
 use Rattle.mail_tree.specs.Tree.{Tree}
 use Rattle.mail_tree.specs.Values.{folder_props, with_counts}
@@ -31,7 +31,7 @@ pub new_id_kind : (kind index : ℕ) → kind < 32 → new_id kind index % 32 �
 new_id_kind kind index small = omega arith
 
 -- where no index is left, what was planned is refused
-pub refused_later : (T : Tree) (places : List Place) (kind index : ℕ) (Q : Outcome → Type 0) (a : Answer Changed) → is_spent index ≡ true → Fine a (λ D. Unit {0}) → Fine (a >>= making T places kind index) Q
+pub refused_later : (T : Tree) (places : List FolderPlace) (kind index : ℕ) (Q : Outcome → Type 0) (a : Answer Changed) → is_spent index ≡ true → Fine a (λ D. Unit {0}) → Fine (a >>= making T places kind index) Q
 refused_later T places kind index Q a spent fine = fine_then (λ D. Unit {0}) Q a (making T places kind index) fine (λ D u. after_limits Q D _ (rw spent tt))
 
 -- what counting a folder anew and showing it asks for
@@ -42,7 +42,7 @@ record IsReadable (at : ℕ → Option Object) (f : ℕ) : Type 0 where
 abbrev CanMirror : (ℕ → Option Object) → ℕ → Type 0
 CanMirror at f = (c : Ctx) × (at f ≡ Some (Context c)) × ((f ≡ ROOT → ⊥) → (u : Tbl) × (at (hierarchy c.parent) ≡ Some (Table u)))
 
-fine_counts : (T : Tree) (places : List Place) (f : ℕ) (D : Changed) → f % 32 ≡ 2 → IsReadable (now_at T D) f → Fine (counted T places f D) (λ D'. CanMirror (now_at T D') f)
+fine_counts : (T : Tree) (places : List FolderPlace) (f : ℕ) (D : Changed) → f % 32 ≡ 2 → IsReadable (now_at T D) f → Fine (counted T places f D) (λ D'. CanMirror (now_at T D') f)
 unfolding counted
 fine_counts T places f D two r =
     let c = r.context in let t = r.table in
@@ -59,12 +59,12 @@ fine_shows T f D c = elim (cases_Bool (f == ROOT)) [
   | inr t ↦ let u = c.2 (eqb-false f ROOT t) in rw (t, c.1, u.1) tt
 ]
 
-fine_read : (T : Tree) (places : List Place) (f : ℕ) (D : Changed) → f % 32 ≡ 2 → IsReadable (now_at T D) f → Fine (settled T places f D) (λ D'. Unit {0})
+fine_read : (T : Tree) (places : List FolderPlace) (f : ℕ) (D : Changed) → f % 32 ≡ 2 → IsReadable (now_at T D) f → Fine (settled T places f D) (λ D'. Unit {0})
 unfolding settled
 fine_read T places f D two r = fine_then (λ D'. CanMirror (now_at T D') f) (λ D'. Unit {0}) (counted T places f D) (mirrored T f) (fine_counts T places f D two r) (λ D' c. fine_shows T f D' c)
 
 -- a message that is planned at an id of its kind
-pub fine_planned : (T : Tree) (M : Mes) (crowded : Bool) (p : Place) → AreWhole T.places (now_at T nothing) → M.nid % 32 ≡ 4 → find_place M.folder T.places ≡ Some p → is_plain p ≡ true
+pub fine_planned : (T : Tree) (M : Mes) (crowded : Bool) (p : FolderPlace) → AreWhole T.places (now_at T nothing) → M.nid % 32 ≡ 4 → find_place M.folder T.places ≡ Some p → is_plain p ≡ true
     → Fine (added_message T M (record nothing { crowded = crowded })) (λ D. Unit {0})
 unfolding add_shown
 fine_planned T M crowded p w four found plain =
@@ -157,7 +157,7 @@ module _ (T : Tree) (f parent : ℕ) (name : List ℕ) (two : f % 32 ≡ 2) wher
     )
   ]
 
-  module _ (q : Place) (w : AreWhole T.places (now_at T nothing)) (found : find_place parent T.places ≡ Some q) (plain : is_plain q ≡ true) (t : Tbl) (row : List (ℕ × List Val)) where
+  module _ (q : FolderPlace) (w : AreWhole T.places (now_at T nothing)) (found : find_place parent T.places ≡ Some q) (plain : is_plain q ≡ true) (t : Tbl) (row : List (ℕ × List Val)) where
     abbrev D5 : Changed
     D5 = with_object (hierarchy parent) (Some (with_rows row t)) D4
 
@@ -216,7 +216,7 @@ module _ (T : Tree) (f parent : ℕ) (name : List ℕ) (two : f % 32 ≡ 2) wher
     readable_there = record { context = context_there; table = table_there }
 
 -- a folder that is planned at an id of its kind
-pub fine_planned_folder : (T : Tree) (f parent : ℕ) (q : Place) (name : List ℕ) (places : List Place) → AreWhole T.places (now_at T nothing) → f % 32 ≡ 2 → find_place parent T.places ≡ Some q → is_plain q ≡ true
+pub fine_planned_folder : (T : Tree) (f parent : ℕ) (q : FolderPlace) (name : List ℕ) (places : List FolderPlace) → AreWhole T.places (now_at T nothing) → f % 32 ≡ 2 → find_place parent T.places ≡ Some q → is_plain q ≡ true
     → Fine (add_shown T (hierarchy parent) f (folder_props name) (with_folder f parent name nothing) >>= settled T places parent) (λ D. Unit {0})
 unfolding add_shown
 fine_planned_folder T f parent q name places w two found plain =

@@ -13,7 +13,7 @@ use Rattle.mapi_values.specs.Tables.{find_row}
 use Rattle.mail_objects.specs.Forms.{Ctx, Tbl}
 use Rattle.mail_objects.specs.declared.object.Object.{Object}
 use Rattle.mail_objects.specs.declared.object.Object.TheVariants.{Context, Table, Message}
-use Rattle.mail_tree.specs.declared.places.Place.{Place}
+use Rattle.mail_tree.specs.declared.places.FolderPlace.{FolderPlace}
 use Rattle.mail_tree.specs.Changing.{associated, contents, hierarchy}
 use Rattle.mail_tree.specs.Places.{ROOT, find_place, is_plain}
 use Rattle.mail_tree.specs.Columns.{contents_table, hierarchy_table}
@@ -37,12 +37,12 @@ find_passes P (x ∷ es) q o e all =
       | inr f ↦ find_passes P es q o (ap (λ b. cond b (Some x.1) (map.find nat_cmp q es)) (sym f) ∙ is) parts.1
     ]
 
-moved : (R : ℕ → Place → Type 0) (k f : ℕ) (x p : Place) → k ≡ f → x ≡ p → R k x → R f p
+moved : (R : ℕ → FolderPlace → Type 0) (k f : ℕ) (x p : FolderPlace) → k ≡ f → x ≡ p → R k x → R f p
 moved R k f x p a b r = subst (λ z. R z p) a (subst (λ z. R k z) b r)
 
 -- what holds of the four folders holds of each
-pub four : (R : ℕ → Place → Type 0) → R ROOT (place ROOT ROOT) → R TOP (place TOP ROOT) → R SEARCH_ROOT (place SEARCH_ROOT ROOT) → R DELETED (place DELETED ROOT)
-    → (f : ℕ) (p : Place) → find_place f start_places ≡ Some p → R f p
+pub four : (R : ℕ → FolderPlace → Type 0) → R ROOT (place ROOT ROOT) → R TOP (place TOP ROOT) → R SEARCH_ROOT (place SEARCH_ROOT ROOT) → R DELETED (place DELETED ROOT)
+    → (f : ℕ) (p : FolderPlace) → find_place f start_places ≡ Some p → R f p
 four R a b c d f p e = elim (cases_Bool (ROOT == f)) [
   | inl t ↦ moved R ROOT f (place ROOT ROOT) p (eqb-true ROOT f t) (same_Some (place ROOT ROOT) p (rw t at e)) a
   | inr s ↦ elim (cases_Bool (TOP == f)) [
@@ -92,7 +92,7 @@ is_whole name = record {
   ascend = refl;
   root = (place ROOT ROOT, refl, refl, refl);
   kinds = four (λ f p. f % 32 ≡ kind_of_sort p.sort) refl refl refl refl;
-  parents = four (λ f p. (f ≡ ROOT → ⊥) → (q : Place) × (find_place p.parent.bits start_places ≡ Some q) × (is_plain q ≡ true) × HasRow (at name (hierarchy p.parent.bits)) f)
+  parents = four (λ f p. (f ≡ ROOT → ⊥) → (q : FolderPlace) × (find_place p.parent.bits start_places ≡ Some q) × (is_plain q ≡ true) × HasRow (at name (hierarchy p.parent.bits)) f)
       (λ no. absurd (no refl)) (λ no. (place ROOT ROOT, refl, refl, (listing, refl, refl))) (λ no. (place ROOT ROOT, refl, refl, (listing, refl, refl))) (λ no. (place ROOT ROOT, refl, refl, (listing, refl, refl)));
   typed = λ q o e. find_passes fits_id (start_objects name) q o e refl;
   rows_ascend = λ q t e. find_passes rows_rise (start_objects name) q (Table t) e refl;

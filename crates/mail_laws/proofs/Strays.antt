@@ -10,7 +10,7 @@ use Rattle.command_text.specs.declared.command.Command.{Command}
 use Rattle.command_text.specs.declared.command.Command.TheVariants.{MakeFolder, RenameFolder, MoveFolder, RemoveFolder, ListFolder, NewMessage, SetProperty, UnsetProperty, GetProperty, ListProperties, MoveMessage, CopyMessage, RemoveMessage, Save, Quit}
 use Rattle.mapi_values.specs.Messages.{Mes}
 use Rattle.mail_objects.specs.declared.object.Object.{Object}
-use Rattle.mail_tree.specs.declared.places.Place.{Place}
+use Rattle.mail_tree.specs.declared.places.FolderPlace.{FolderPlace}
 use Rattle.mail_tree.specs.Places.{find_place, is_plain}
 use Rattle.mail_tree.specs.Tree.{Tree}
 use Rattle.mail_tree.specs.Changing.{Answer, associated}
@@ -38,7 +38,7 @@ no_node_comes cs others q none = get-without_changed cs others q ∙ either (is_
 
 -- beside what is a plain folder after a command no other node stood before it
 abbrev pub Clear : Tree → Outcome → Type 0
-Clear T o = (f : ℕ) (p : Place) → find_place f o.places ≡ Some p → is_plain p ≡ true → node_at T.others (associated f) ≡ None
+Clear T o = (f : ℕ) (p : FolderPlace) → find_place f o.places ≡ Some p → is_plain p ≡ true → node_at T.others (associated f) ≡ None
 
 clear_after : (T : Tree) (o : Outcome) → Clear T o → HasNoStray (after T o)
 clear_after T o clear f p e plain = no_node_comes (map.entries o.changed.objects) T.others (associated f) (clear f p e plain)
@@ -48,7 +48,7 @@ clear_places : (T : Tree) (o : Outcome) → HasNoStray T → o.places ≡ T.plac
 clear_places T o clear same f p e plain = clear f p (sym (ap (find_place f) same) ∙ e) plain
 
 -- one place changes, and it is clear
-clear_placed : (T : Tree) (f : ℕ) (now : Option Place) (o : Outcome) → HasNoStray T → Placed T f now o → ((p : Place) → now ≡ Some p → is_plain p ≡ true → node_at T.others (associated f) ≡ None) → Clear T o
+clear_placed : (T : Tree) (f : ℕ) (now : Option FolderPlace) (o : Outcome) → HasNoStray T → Placed T f now o → ((p : FolderPlace) → now ≡ Some p → is_plain p ≡ true → node_at T.others (associated f) ≡ None) → Clear T o
 clear_placed T f now o clear placed here g p e plain = elim (cases_eq g f) [
   | inl same ↦ ap (λ x. node_at T.others (associated x)) same ∙ here p (sym placed.here ∙ sym (ap (λ x. find_place x o.places) same) ∙ e) plain
   | inr other ↦ clear g p (sym (placed.others g other) ∙ e) plain

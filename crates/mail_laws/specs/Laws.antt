@@ -13,7 +13,7 @@ use Rattle.command_text.specs.declared.reply.LastLine.TheVariants.{Made, Value}
 use Rattle.mail_objects.specs.Forms.{Ctx, Tbl}
 use Rattle.mail_objects.specs.declared.object.Object.{Object}
 use Rattle.mail_objects.specs.declared.object.Object.TheVariants.{Context, Message, Table}
-use Rattle.mail_tree.specs.declared.places.Place.{Place}
+use Rattle.mail_tree.specs.declared.places.FolderPlace.{FolderPlace}
 use Rattle.mail_tree.specs.Places.{ROOT, find_place, is_child, is_plain}
 use Rattle.mail_tree.specs.Tree.{Tree, object_at}
 use Rattle.mail_tree.specs.Values.{is_read, number, text, time_value, truth, with_props}
@@ -35,7 +35,7 @@ pub record OnlyMessage (T T' : Tree) (m : ℕ) (now : Option Mes) : Type 0 where
   pub places : T'.places ≡ T.places
 
 -- this folder now stands so, or there is none, each other stands where it stood, and each message is as it was
-pub record OnlyPlace (T T' : Tree) (f : ℕ) (now : Option Place) : Type 0 where
+pub record OnlyPlace (T T' : Tree) (f : ℕ) (now : Option FolderPlace) : Type 0 where
   pub here : find_place f T'.places ≡ now
   pub others : (g : ℕ) → (g ≡ f → ⊥) → find_place g T'.places ≡ find_place g T.places
   pub messages : (k : ℕ) → message_with T' k ≡ message_with T k
@@ -90,7 +90,7 @@ MakesFolder = (T : Tree) (parent : Nid) (name : List ℕ) → IsWhole T → IfOk
 -- after `rename` the folder has that name, and stands where it stood
 abbrev pub RenamesFolder : Type 0
 RenamesFolder = (T : Tree) (f : Nid) (name : List ℕ) → IsWhole T
-    → IfOk (outcome T (RenameFolder f name)) (λ o. (p : Place) × (find_place f.bits T.places ≡ Some p) × OnlyPlace T (after T o) f.bits (Some p) × IsNamed (after T o) f.bits name)
+    → IfOk (outcome T (RenameFolder f name)) (λ o. (p : FolderPlace) × (find_place f.bits T.places ≡ Some p) × OnlyPlace T (after T o) f.bits (Some p) × IsNamed (after T o) f.bits name)
 
 -- after `mvdir` the folder stands in that one
 abbrev pub MovesFolder : Type 0
@@ -118,8 +118,8 @@ abbrev pub Shows : Option Object → ℕ → List Val → Type 0
 Shows object id props = (t : Tbl) × (object ≡ Some (Table t)) × (find_row id t.table.rows ≡ Some (id, mirror t.table.columns props))
 
 -- each folder but the root is shown by a row of its parent's table, and each message by one of its folder's
-pub record AreShown (places : List Place) (at : ℕ → Option Object) : Type 0 where
-  pub folders : (f : ℕ) (p : Place) (c : Ctx) → find_place f places ≡ Some p → (f ≡ ROOT → ⊥) → at f ≡ Some (Context c) → Shows (at (hierarchy c.parent)) f c.props
+pub record AreShown (places : List FolderPlace) (at : ℕ → Option Object) : Type 0 where
+  pub folders : (f : ℕ) (p : FolderPlace) (c : Ctx) → find_place f places ≡ Some p → (f ≡ ROOT → ⊥) → at f ≡ Some (Context c) → Shows (at (hierarchy c.parent)) f c.props
   pub messages : (m : ℕ) (M : Mes) → at m ≡ Some (Message M) → Shows (at (contents M.folder)) m M.props
 
 -- the rows of a tree mirror what they show
@@ -136,14 +136,14 @@ is_unread (Some (Message m)) = not (is_read m.props)
 is_unread other = false
 
 -- a folder's values tell how many messages its table lists, how many of them weren't read, and whether it has folders
-pub record IsCounted (places : List Place) (at : ℕ → Option Object) (f : ℕ) (c : Ctx) (t : Tbl) : Type 0 where
+pub record IsCounted (places : List FolderPlace) (at : ℕ → Option Object) (f : ℕ) (c : Ctx) (t : Tbl) : Type 0 where
   pub messages : find 0x3602 c.props ≡ Some (number 0x3602 (length (message_ids t.table)))
   pub unread : find 0x3603 c.props ≡ Some (number 0x3603 (length (filter (λ m. is_unread (at m)) (message_ids t.table))))
   pub folders : find 0x360A c.props ≡ Some (truth 0x360A (list_any (is_child f) places))
 
 -- each plain folder's counts are right, but for these
-abbrev pub AreCountedBut : (ℕ → Type 0) → List Place → (ℕ → Option Object) → Type 0
-AreCountedBut E places at = (f : ℕ) (p : Place) (c : Ctx) (t : Tbl) → find_place f places ≡ Some p → is_plain p ≡ true → (E f → ⊥) → at f ≡ Some (Context c) → at (contents f) ≡ Some (Table t) → IsCounted places at f c t
+abbrev pub AreCountedBut : (ℕ → Type 0) → List FolderPlace → (ℕ → Option Object) → Type 0
+AreCountedBut E places at = (f : ℕ) (p : FolderPlace) (c : Ctx) (t : Tbl) → find_place f places ≡ Some p → is_plain p ≡ true → (E f → ⊥) → at f ≡ Some (Context c) → at (contents f) ≡ Some (Table t) → IsCounted places at f c t
 
 -- the counts of each plain folder are right
 abbrev pub Counts : Tree → Type 0

@@ -10,7 +10,7 @@ use Rattle.command_text.specs.declared.reply.LastLine.TheVariants.{Made}
 use Rattle.mail_objects.specs.Forms.{Ctx, Tbl}
 use Rattle.mail_objects.specs.declared.object.Object.TheVariants.{Context, Table}
 use Rattle.node_port.specs.Nodes.{node_at}
-use Rattle.mail_tree.specs.declared.places.Place.{Place}
+use Rattle.mail_tree.specs.declared.places.FolderPlace.{FolderPlace}
 use Rattle.mail_tree.specs.Places.{find_place}
 use Rattle.mail_tree.specs.Tree.{Tree, object_at}
 use Rattle.mail_tree.specs.Found.{IsFound}
@@ -34,7 +34,7 @@ pub record StaysFolder (named : Bool) (old new : Ctx) : Type 0 where
 
 -- each folder that stays has its values still, and the store all of its own
 pub record KeepsValues : Type 0 where
-  pub folders : (T : Tree) (c : Command) → IsWhole T → IfOk (outcome T c) (λ o. (f : ℕ) (p : Place) (old : Ctx) → find_place f o.places ≡ Some p → object_at T f ≡ Some (Context old)
+  pub folders : (T : Tree) (c : Command) → IsWhole T → IfOk (outcome T c) (λ o. (f : ℕ) (p : FolderPlace) (old : Ctx) → find_place f o.places ≡ Some p → object_at T f ≡ Some (Context old)
       → (new : Ctx) × (object_at (after T o) f ≡ Some (Context new)) × StaysFolder (gives_name c f) old new)
   pub store : (T : Tree) (c : Command) → IsWhole T → IfOk (outcome T c) (λ o. object_at (after T o) 0x21 ≡ object_at T 0x21)
 

@@ -6,13 +6,13 @@ use Rattle.command_text.specs.declared.reply.CommandRefusal.TheVariants.{Object}
 use Rattle.mapi_values.specs.Messages.{Mes}
 use Rattle.mapi_values.specs.Tables.{find_row}
 use Rattle.mail_objects.specs.Forms.{Tbl}
-use Rattle.mail_tree.specs.declared.places.Place.{Place}
+use Rattle.mail_tree.specs.declared.places.FolderPlace.{FolderPlace}
 use Rattle.mail_tree.specs.Places.{find_place, is_plain}
 use Rattle.mail_tree.specs.Tree.{Tree}
 use Rattle.mail_tree.specs.Changing.{Answer, ◌>>=◌, found, message_at, nothing, refused_if}
 
 -- there is a folder with this id, and it is plain: where it isn't, the command is refused by `reserved`
-abbrev pub plain_at : ℕ → CommandRefusal → List Place → Answer (Unit {0})
+abbrev pub plain_at : ℕ → CommandRefusal → List FolderPlace → Answer (Unit {0})
 plain_at f reserved places = found Object (find_place f places) >>= λ p. refused_if (not (is_plain p)) reserved
 
 -- the message with this id, if the table lists it

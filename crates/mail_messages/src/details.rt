@@ -9,6 +9,10 @@ ghost use Rattle.mail_messages.specs.Parts.{detail_lines};
 use command_text::{DataLine, DataLines, LastLine, Reply};
 use mail_draft::{number_of, text_of};
 use mail_objects::Mail;
+use mapi_values::tags::{
+    PID_TAG_ATTACH_DATA_BINARY, PID_TAG_ATTACH_FILENAME, PID_TAG_DISPLAY_NAME,
+    PID_TAG_EMAIL_ADDRESS, PID_TAG_RECIPIENT_TYPE,
+};
 use mapi_values::{Part, Props, Table, Value};
 use std::alloc::{AllocError, Global};
 
@@ -50,9 +54,9 @@ fn recipient_line(alloc: Global, recipient: &(u32, Props)) -> Result<DataLine, A
     let props = &recipient.1;
     Ok(DataLine::Recipient {
         row: recipient.0,
-        kind: number_of(props, 0x0C15),
-        address: text_of(alloc, props, 0x3003)?,
-        name: text_of(alloc, props, 0x3001)?,
+        kind: number_of(props, PID_TAG_RECIPIENT_TYPE.id),
+        address: text_of(alloc, props, PID_TAG_EMAIL_ADDRESS.id)?,
+        name: text_of(alloc, props, PID_TAG_DISPLAY_NAME.id)?,
     })
 }
 
@@ -96,8 +100,8 @@ fn attachment_line(alloc: Global, part: &Part) -> Result<DataLine, AllocError>
 {
     Ok(DataLine::Attachment {
         id: part.nid,
-        len: length_at(&part.props, 0x3701),
-        name: text_of(alloc, &part.props, 0x3704)?,
+        len: length_at(&part.props, PID_TAG_ATTACH_DATA_BINARY.id),
+        name: text_of(alloc, &part.props, PID_TAG_ATTACH_FILENAME.id)?,
     })
 }
 

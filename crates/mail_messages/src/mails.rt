@@ -9,18 +9,14 @@ ghost use Rattle.mail_draft.specs.Drafts.{changed_of};
 
 use mail_draft::{Draft, bytes_of, crowds, number_of, put_number, put_text, put_time};
 use mail_objects::{Mail, Object};
+use mapi_values::tags::{
+    ID_MESSAGE_FLAGS, ID_MESSAGE_SIZE, PID_TAG_CREATION_TIME, PID_TAG_LAST_MODIFICATION_TIME,
+    PID_TAG_MESSAGE_CLASS, PID_TAG_RECORD_KEY, PID_TAG_SEARCH_KEY, PTYP_BINARY, PTYP_INTEGER_32,
+};
 use mapi_values::{Message, Props, Tag, Units, Value, size};
 use pst_base::{Bytes, Nid, Subs};
 use std::alloc::{AllocError, Global};
 
-/// The flags of a message, of which bit 10h says that it has attachments.
-const FLAGS: u16 = 0x0E07;
-/// The size that a message tells of itself.
-const SIZE: u16 = 0x0E08;
-/// The kind of a whole number of 4 bytes.
-const NUMBER: u16 = 0x0003;
-/// The kind of bytes.
-const BINARY: u16 = 0x0102;
 /// How many values an object may have that a command makes.
 const MOST_VALUES: usize = 1000;
 
@@ -96,12 +92,12 @@ fn with_number(alloc: Global, props: Props, id: u16, n: u32) -> Result<Props, Al
 fn with_attachment_flag(alloc: Global, on: bool, props: Props) -> Result<Props, AllocError>
     ensures { IfOk result (λ p. p ≡ with_attachment_flag on props) }
 {
-    if bytes_of(&props, FLAGS, NUMBER).is_some() {
-        let flags = with_flag(on, number_of(&props, FLAGS));
-        return with_number(alloc, props, FLAGS, flags);
+    if bytes_of(&props, ID_MESSAGE_FLAGS, PTYP_INTEGER_32).is_some() {
+        let flags = with_flag(on, number_of(&props, ID_MESSAGE_FLAGS));
+        return with_number(alloc, props, ID_MESSAGE_FLAGS, flags);
     }
     if on {
-        with_number(alloc, props, FLAGS, 16)
+        with_number(alloc, props, ID_MESSAGE_FLAGS, 16)
     } else {
         Ok(props)
     }
@@ -132,7 +128,7 @@ fn sized(alloc: Global, mail: Mail) -> Result<Mail, AllocError>
 {
     let size = size(mail.message());
     let message = mail.into_message();
-    let props = with_number(alloc, message.props, SIZE, size)?;
+    let props = with_number(alloc, message.props, ID_MESSAGE_SIZE, size)?;
     Ok(Mail::new(Message {
         nid: message.nid,
         folder: message.folder,
@@ -176,7 +172,7 @@ fn push_key(bytes: &mut Vec<u8>, store: &Props) -> Result<(), AllocError>
     ensures len { OnOk result (length bytes.new.items ≡ length bytes.old.items + 12) }
 {
     let zeros = [0; 12];
-    match bytes_of(store, 0x0FF9, BINARY) {
+    match bytes_of(store, PID_TAG_RECORD_KEY.id, PTYP_BINARY) {
         Some(key) => {
             if key.len() >= 12 {
                 bytes.extend_from_slice(&key[..12])
@@ -210,13 +206,13 @@ pub(crate) fn message_props(
     ensures { IfOk result (λ p. p ≡ message_props message.bits class.now time store.now) }
 {
     let mut props = Props::new(alloc);
-    put_text(alloc, &mut props, 0x001A, class)?;
-    put_number(alloc, &mut props, FLAGS, 0)?;
-    put_time(alloc, &mut props, 0x3007, time)?;
-    put_time(alloc, &mut props, 0x3008, time)?;
+    put_text(alloc, &mut props, PID_TAG_MESSAGE_CLASS.id, class)?;
+    put_number(alloc, &mut props, ID_MESSAGE_FLAGS, 0)?;
+    put_time(alloc, &mut props, PID_TAG_CREATION_TIME.id, time)?;
+    put_time(alloc, &mut props, PID_TAG_LAST_MODIFICATION_TIME.id, time)?;
     let tag = Tag {
-        id: 0x300B,
-        kind: BINARY,
+        id: PID_TAG_SEARCH_KEY.id,
+        kind: PTYP_BINARY,
     };
     props.put(Value::new(tag, search_key(alloc, message, store)?))?;
     Ok(props)

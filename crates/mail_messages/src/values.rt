@@ -14,31 +14,36 @@ use command_text::CommandRefusal;
 use mail_draft::{Outcome, Stop, bytes_of};
 use mail_objects::Mail;
 use mail_tree::Places;
+use mapi_values::tags::{
+    FIRST_NAMED_ID, ID_LTP_ROW_ID, ID_LTP_ROW_VER, ID_MESSAGE_ATTACHMENTS, ID_MESSAGE_FLAGS,
+    ID_MESSAGE_RECIPIENTS, ID_MESSAGE_SIZE, ID_SEARCH_KEY, PTYP_OBJECT,
+};
 use mapi_values::{Props, Tag, Value};
 use node_port::NodeReader;
 use pst_base::Nid;
 use pst_outside::Outside;
 use std::alloc::Global;
 
-/// The flags of a message.
-const FLAGS: u16 = 0x0E07;
-/// The kind of an object that another program embedded.
-const OBJECT: u16 = 0x000D;
-/// The first id of a property that has a name.
-const FIRST_NAMED: u16 = 0x8000;
-
 /// Whether the store keeps the values of this id itself.
 fn is_own_id(id: u16) -> bool
     ensures { result ≡ is_own_id id }
 {
-    matches!(id, 0x0E08 | 0x0E12 | 0x0E13 | 0x300B | 0x67F2 | 0x67F3)
+    matches!(
+        id,
+        ID_MESSAGE_SIZE
+            | ID_MESSAGE_RECIPIENTS
+            | ID_MESSAGE_ATTACHMENTS
+            | ID_SEARCH_KEY
+            | ID_LTP_ROW_ID
+            | ID_LTP_ROW_VER
+    )
 }
 
 /// Whether a value of this id may not be set.
 fn is_set_protected(id: u16, props: &Props) -> bool
     ensures { result ≡ is_set_protected id props.now }
 {
-    is_own_id(id) || bytes_of(props, id, OBJECT).is_some()
+    is_own_id(id) || bytes_of(props, id, PTYP_OBJECT).is_some()
 }
 
 /// Whether the value of this tag may not be removed.
@@ -46,8 +51,8 @@ fn is_unset_protected(tag: Tag, props: &Props) -> bool
     ensures { result ≡ is_unset_protected tag.id tag.kind props.now }
 {
     is_own_id(tag.id)
-        || tag.id == FLAGS
-        || (tag.kind == OBJECT && bytes_of(props, tag.id, OBJECT).is_some())
+        || tag.id == ID_MESSAGE_FLAGS
+        || (tag.kind == PTYP_OBJECT && bytes_of(props, tag.id, PTYP_OBJECT).is_some())
 }
 
 /// Checks that a value of this id may be set.
@@ -58,7 +63,7 @@ fn check_set(id: u16, mail: &Mail) -> Result<(), Stop>
     if is_set_protected(id, &mail.message().props) {
         return Err(Stop::Refused(CommandRefusal::Protected));
     }
-    if id >= FIRST_NAMED {
+    if id >= FIRST_NAMED_ID {
         return Err(Stop::Refused(CommandRefusal::Property));
     }
     Ok(())

@@ -21,7 +21,7 @@ use Rattle.mail_store.specs.Planning.{IsHindered, Plans, PlansTo, Stores}
 use Rattle.mail_store.specs.declared.store.Store.{Store}
 use Rattle.mail_laws.proofs.Starting.{starts_whole}
 use Rattle.mail_laws.proofs.Strays.{whole_after}
-use Rattle.mail_tree.specs.declared.places.Place.{Place}
+use Rattle.mail_tree.specs.declared.places.FolderPlace.{FolderPlace}
 use Rattle.mail_tree.specs.Changing.{Answer}
 use Rattle.mail_tree.specs.Folders.{Outcome, replied}
 use Rattle.mail_tree.specs.Start.{IsStart, start_last, start_places}

@@ -12,7 +12,7 @@ use Rattle.mapi_values.proofs.KeyedLaws.{put-ascends}
 use Rattle.mapi_values.specs.Values.{Val}
 use Rattle.mail_objects.specs.Forms.{Tbl}
 use Rattle.mail_objects.specs.declared.object.Object.TheVariants.{Table}
-use Rattle.mail_tree.specs.declared.places.Place.{Place}
+use Rattle.mail_tree.specs.declared.places.FolderPlace.{FolderPlace}
 use Rattle.mail_tree.specs.declared.places.Sort.{Sort}
 use Rattle.mail_tree.specs.declared.places.Sort.TheVariants.{Plain, Foreign}
 use Rattle.mail_tree.specs.Changing.{as_table, hierarchy, known}
@@ -51,24 +51,24 @@ among_at (x ∷ xs) zero d h = inl refl
 among_at (x ∷ xs) (suc i) d h = inr (among_at xs i d (omega arith))
 
 -- the level with a folder
-with_among : (q : Place) (level : List Nid) (f : ℕ) → IsAmong f (with_plain q level) → IsAmong f level ⊎ ((is_plain q ≡ true) × (q.nid.bits ≡ f))
+with_among : (q : FolderPlace) (level : List Nid) (f : ℕ) → IsAmong f (with_plain q level) → IsAmong f level ⊎ ((is_plain q ≡ true) × (q.nid.bits ≡ f))
 with_among q level f h = elim (cases_Bool (is_plain q)) [
   | inl t ↦ ⊎_elim inl (λ last. inr (t, ⊎_elim (λ e. e) (λ never. absurd never) last)) (among_either f level (q.nid ∷ []) (rw t at h))
   | inr t ↦ inl (rw t at h)
 ]
 
-with_waits : (q : Place) (level : List Nid) (f : ℕ) → IsAmong f level → IsAmong f (with_plain q level)
+with_waits : (q : FolderPlace) (level : List Nid) (f : ℕ) → IsAmong f level → IsAmong f (with_plain q level)
 with_waits q level f h = elim (cases_Bool (is_plain q)) [ inl t ↦ rw t (among_front f level (q.nid ∷ []) h) | inr t ↦ rw t h ]
 
-with_comes : (q : Place) (level : List Nid) (f : ℕ) → is_plain q ≡ true → q.nid.bits ≡ f → IsAmong f (with_plain q level)
+with_comes : (q : FolderPlace) (level : List Nid) (f : ℕ) → is_plain q ≡ true → q.nid.bits ≡ f → IsAmong f (with_plain q level)
 with_comes q level f plain same = rw plain (among_back f level (q.nid ∷ []) (inl same))
 
 -- nothing more was found
-pub grows_same : (T : Tree) (found : List Place) (level : List Nid) → Grows T found found level level
+pub grows_same : (T : Tree) (found : List FolderPlace) (level : List Nid) → Grows T found found level level
 grows_same T found level = record { ascends = λ a. a; kept = λ f p e. e; are_of = λ a. a; are_plain = λ a. a; waits = λ f h. h; comes = λ f p e plain. inl e }
 
 -- more, and then more
-pub grows_then : {T : Tree} {a b c : List Place} {x y z : List Nid} → Grows T a b x y → Grows T b c y z → Grows T a c x z
+pub grows_then : {T : Tree} {a b c : List FolderPlace} {x y z : List Nid} → Grows T a b x y → Grows T b c y z → Grows T a c x z
 grows_then first then = record {
   ascends = λ a. then.ascends (first.ascends a);
   kept = λ f p e. then.kept f p (first.kept f p e);
@@ -79,7 +79,7 @@ grows_then first then = record {
 }
 
 -- one more
-found_one : (T : Tree) (q : Place) (old : List Place) (level : List Nid) → find_place q.nid.bits old ≡ None → find_place q.nid.bits T.places ≡ Some q → Grows T old (put_key place_id q old) level (with_plain q level)
+found_one : (T : Tree) (q : FolderPlace) (old : List FolderPlace) (level : List Nid) → find_place q.nid.bits old ≡ None → find_place q.nid.bits T.places ≡ Some q → Grows T old (put_key place_id q old) level (with_plain q level)
 found_one T q old level free stands = record {
   ascends = put-ascends place_id 0 q old (omega arith);
   kept = λ f p e. elim (cases_eq f (place_id q)) [
@@ -101,7 +101,7 @@ found_one T q old level free stands = record {
 }
 
 -- what a row names is found still
-pub lists_still : {T : Tree} {old new : List Place} {before after : List Nid} (f r : ℕ) → Grows T old new before after → Lists T f old r → Lists T f new r
+pub lists_still : {T : Tree} {old new : List FolderPlace} {before after : List Nid} (f r : ℕ) → Grows T old new before after → Lists T f old r → Lists T f new r
 lists_still f r grows lists = λ s e. grows.kept r _ (lists s e)
 
 -- no reference was found
@@ -110,11 +110,11 @@ finds_none None stands none copied = sym copied
 finds_none (Some x) stands none copied = cc
 
 -- what a row names is found now
-pub lists_now : (T : Tree) (row folder : Nid) (s : Sort) (old new : List Place) (before after : List Nid) → Some s ≡ named_sort T row.bits → find_place row.bits old ≡ None
+pub lists_now : (T : Tree) (row folder : Nid) (s : Sort) (old new : List FolderPlace) (before after : List Nid) → Some s ≡ named_sort T row.bits → find_place row.bits old ≡ None
     → Lists T folder.bits T.places row.bits → new ≡ put_key place_id (record { nid = row; parent = folder; sort = s }) old → after ≡ with_plain (record { nid = row; parent = folder; sort = s }) before
     → Grows T old new before after × Lists T folder.bits new row.bits
 lists_now T row folder s old new before after named free lists e e' =
-    let q : Place = record { nid = row; parent = folder; sort = s } in (
+    let q : FolderPlace = record { nid = row; parent = folder; sort = s } in (
       subst (λ n. Grows T old n before after) (sym e) (subst (λ a. Grows T old (put_key place_id q old) before a) (sym e') (found_one T q old before free (lists s (sym named)))),
       λ s' n. ap (find_place row.bits) e ∙ (find-put_same place_id q old ∙ ap (λ x. Some (record { nid = row; parent = folder; sort = x })) (same_Some s s' (named ∙ n))),
     )
@@ -140,14 +140,14 @@ row_here (x ∷ xs) zero d h = rw (eq-eqb x.0 x.0 refl) refl
 row_here (x ∷ xs) (suc i) d h = elim (cases_Bool (x.0 == (get_or xs i d).0)) [ inl t ↦ rw t refl | inr t ↦ rw t (row_here xs i d (omega arith)) ]
 
 -- what the rows before i name was found
-pub record ToRow (T : Tree) (f : ℕ) (rows : List (ℕ × List Val)) (i : ℕ) (old new : List Place) (before after : List Nid) : Type 0 where
+pub record ToRow (T : Tree) (f : ℕ) (rows : List (ℕ × List Val)) (i : ℕ) (old new : List FolderPlace) (before after : List Nid) : Type 0 where
   pub grows : Grows T old new before after
   pub lists : (r : ℕ) → IsSome (find_row r rows) → Lists T f new r ⊎ IsSome (find_row r (drop i rows))
 
-pub first_row : (T : Tree) (f : ℕ) (rows : List (ℕ × List Val)) (found : List Place) (level : List Nid) → ToRow T f rows 0 found found level level
+pub first_row : (T : Tree) (f : ℕ) (rows : List (ℕ × List Val)) (found : List FolderPlace) (level : List Nid) → ToRow T f rows 0 found found level level
 first_row T f rows found level = record { grows = grows_same T found level; lists = λ r row. inr row }
 
-pub next_row : (T : Tree) (f : ℕ) (rows : List (ℕ × List Val)) (i : ℕ) (d : ℕ × List Val) (old new new' : List Place) (before after after' : List Nid) → i < length rows
+pub next_row : (T : Tree) (f : ℕ) (rows : List (ℕ × List Val)) (i : ℕ) (d : ℕ × List Val) (old new new' : List FolderPlace) (before after after' : List Nid) → i < length rows
     → ToRow T f rows i old new before after → Grows T new new' after after' → Lists T f new' ((get_or rows i d).0) → ToRow T f rows (i + 1) old new' before after'
 next_row T f rows i d old new new' before after after' h so_far grows lists = record {
   grows = grows_then so_far.grows grows;
@@ -161,7 +161,7 @@ next_row T f rows i d old new new' before after after' h so_far grows lists = re
     ]
 
 -- the folders in a folder were found
-pub last_row : (T : Tree) (f : ℕ) (t : Tbl) (rows : List (ℕ × List Val)) (i : ℕ) (old new : List Place) (before after : List Nid) → IsWhole T → AreOf T old → object_at T (hierarchy f) ≡ Some (Table t)
+pub last_row : (T : Tree) (f : ℕ) (t : Tbl) (rows : List (ℕ × List Val)) (i : ℕ) (old new : List FolderPlace) (before after : List Nid) → IsWhole T → AreOf T old → object_at T (hierarchy f) ≡ Some (Table t)
     → rows ≡ t.table.rows → length rows ≤ i → ToRow T f rows i old new before after → Grows T old new before after × HasChildren T new f
 last_row T f t rows i old new before after whole of at e h so_far = (so_far.grows, children)
   where
@@ -171,7 +171,7 @@ last_row T f t rows i old new before after whole of at e h so_far = (so_far.grow
         none_left : IsSome (find_row r []) → ⊥
         none_left never = cc
 
-    taken : (g : ℕ) (p : Place) → find_place g T.places ≡ Some p → is_taken T g ≡ true
+    taken : (g : ℕ) (p : FolderPlace) → find_place g T.places ≡ Some p → is_taken T g ≡ true
     taken g p e = let context = whole.objects.contexts g p e in rw context.1 refl
 
     named : (g : ℕ) (s : Sort) → g % 32 ≡ kind_of_sort s → is_taken T g ≡ true → named_sort T g ≡ Some s
@@ -187,17 +187,17 @@ last_row T f t rows i old new before after whole of at e h so_far = (so_far.grow
         here ∙ (sym (so_far.grows.are_of of g _ here) ∙ e)
 
 -- the folders in those before i were found
-pub record ToFolder (T : Tree) (level : List Nid) (i : ℕ) (old new : List Place) (below : List Nid) : Type 0 where
+pub record ToFolder (T : Tree) (level : List Nid) (i : ℕ) (old new : List FolderPlace) (below : List Nid) : Type 0 where
   pub grows : Grows T old new [] below
   pub has : (f : ℕ) → IsAmong f level → HasChildren T new f ⊎ IsAmong f (drop i level)
 
-pub children_still : {T : Tree} {old new : List Place} {before after : List Nid} (f : ℕ) → Grows T old new before after → HasChildren T old f → HasChildren T new f
+pub children_still : {T : Tree} {old new : List FolderPlace} {before after : List Nid} (f : ℕ) → Grows T old new before after → HasChildren T old f → HasChildren T new f
 children_still f grows has = λ g p e parent below_root. grows.kept g p (has g p e parent below_root)
 
-pub first_folder : (T : Tree) (level : List Nid) (found : List Place) (below : List Nid) → below ≡ [] → ToFolder T level 0 found found below
+pub first_folder : (T : Tree) (level : List Nid) (found : List FolderPlace) (below : List Nid) → below ≡ [] → ToFolder T level 0 found found below
 first_folder T level found below e = subst (ToFolder T level 0 found found) (sym e) (record { grows = grows_same T found []; has = λ f h. inr h })
 
-pub next_folder : (T : Tree) (level : List Nid) (i : ℕ) (d : Nid) (old new new' : List Place) (below below' : List Nid) → i < length level
+pub next_folder : (T : Tree) (level : List Nid) (i : ℕ) (d : Nid) (old new new' : List FolderPlace) (below below' : List Nid) → i < length level
     → ToFolder T level i old new below → Grows T new new' below below' → HasChildren T new' ((get_or level i d).bits) → ToFolder T level (i + 1) old new' below'
 next_folder T level i d old new new' under under' h so_far grows here = record {
   grows = grows_then so_far.grows grows;
@@ -205,7 +205,7 @@ next_folder T level i d old new new' under under' h so_far grows here = record {
       (λ left. ⊎_elim (λ same. inl (subst (HasChildren T new') same here)) (λ rest. inr (subst (λ n. IsAmong f (drop n level)) (sym (add-one i)) rest)) (subst (IsAmong f) (drop-cons level i d h) left)) (so_far.has f among);
 }
 
-pub last_folder : (T : Tree) (level : List Nid) (i : ℕ) (old new : List Place) (below : List Nid) → length level ≤ i → ToFolder T level i old new below
+pub last_folder : (T : Tree) (level : List Nid) (i : ℕ) (old new : List FolderPlace) (below : List Nid) → length level ≤ i → ToFolder T level i old new below
     → Grows T old new [] below × ((f : ℕ) → IsAmong f level → HasChildren T new f)
 last_folder T level i old new below h so_far = (so_far.grows, λ f among. ⊎_elim (λ has. has) (λ left. absurd (subst (IsAmong f) (drop_all i level h) left)) (so_far.has f among))
 
@@ -217,10 +217,10 @@ found_key key k (y ∷ ys) x e = elim (cases_Bool (key y == k)) [
 ]
 
 -- the root, and then level by level
-pub reaches_root : (T : Tree) (found : List Place) (level : List Nid) → IsWhole T → found ≡ root_place ∷ [] → level ≡ root_place.nid ∷ [] → Reaches T found level 0
+pub reaches_root : (T : Tree) (found : List FolderPlace) (level : List Nid) → IsWhole T → found ≡ root_place ∷ [] → level ≡ root_place.nid ∷ [] → Reaches T found level 0
 reaches_root T found level whole e e' = subst (λ places. Reaches T places level 0) (sym e) (subst (λ ids. Reaches T (root_place ∷ []) ids 0) (sym e') root)
   where
-    plain_sort : (q : Place) → is_plain q ≡ true → q.nid.bits ≡ ROOT → q.parent.bits ≡ ROOT → q ≡ root_place
+    plain_sort : (q : FolderPlace) → is_plain q ≡ true → q.nid.bits ≡ ROOT → q.parent.bits ≡ ROOT → q ≡ root_place
     plain_sort q plain n m = λ i. record { nid = record { bits = n i }; parent = record { bits = m i }; sort = sort q.sort plain i }
       where
         sort : (s : Sort) → is_plain_sort s ≡ true → s ≡ Plain
@@ -230,7 +230,7 @@ reaches_root T found level whole e e' = subst (λ places. Reaches T places level
     stands : find_place ROOT T.places ≡ Some root_place
     stands = let is = whole.objects.root in is.1 ∙ ap Some (plain_sort is.0 is.2 (found_key place_id ROOT T.places is.0 is.1) is.3)
 
-    alone : (f : ℕ) (p : Place) → find_place f (root_place ∷ []) ≡ Some p → (f ≡ ROOT) × (root_place ≡ p)
+    alone : (f : ℕ) (p : FolderPlace) → find_place f (root_place ∷ []) ≡ Some p → (f ≡ ROOT) × (root_place ≡ p)
     alone f p e = elim (cases_Bool (ROOT == f)) [
       | inl t ↦ (sym (eqb-true ROOT f t), same_Some root_place p (rw t at e))
       | inr t ↦ absurd (none-some p (rw t at e))
@@ -245,11 +245,11 @@ reaches_root T found level whole e e' = subst (λ places. Reaches T places level
       deep = λ n f p le stands_below e. at_root n f p le stands_below e;
     }
       where
-        at_root : (n f : ℕ) (p : Place) → n ≤ 0 → StandsBelow T.places n f → find_place f T.places ≡ Some p → find_place f (root_place ∷ []) ≡ Some p
+        at_root : (n f : ℕ) (p : FolderPlace) → n ≤ 0 → StandsBelow T.places n f → find_place f T.places ≡ Some p → find_place f (root_place ∷ []) ≡ Some p
         at_root zero f p le is_root e = subst (λ k. find_place k (root_place ∷ []) ≡ Some p) (sym is_root) (sym stands ∙ subst (λ k. find_place k T.places ≡ Some p) is_root e)
         at_root (suc n) f p le stands_below e = absurd (omega arith)
 
-pub reaches_below : (T : Tree) (old new : List Place) (level below : List Nid) (depth : ℕ) → IsWhole T → Reaches T old level depth
+pub reaches_below : (T : Tree) (old new : List FolderPlace) (level below : List Nid) (depth : ℕ) → IsWhole T → Reaches T old level depth
     → Grows T old new [] below × ((f : ℕ) → IsAmong f level → HasChildren T new f) → Reaches T new below (depth + 1)
 reaches_below T old new level below depth whole so_far found = record {
   ascend = grows.ascends so_far.ascend;
@@ -262,15 +262,15 @@ reaches_below T old new level below depth whole so_far found = record {
     grows : Grows T old new [] below
     grows = found.0
 
-    children : (f : ℕ) (p : Place) → find_place f old ≡ Some p → is_plain p ≡ true → HasChildren T new f
+    children : (f : ℕ) (p : FolderPlace) → find_place f old ≡ Some p → is_plain p ≡ true → HasChildren T new f
     children f p was plain = ⊎_elim (found.1 f) (children_still f grows) (so_far.closed f p was plain)
 
-    deep : (n f : ℕ) (p : Place) → n ≤ depth + 1 → StandsBelow T.places n f → find_place f T.places ≡ Some p → find_place f new ≡ Some p
+    deep : (n f : ℕ) (p : FolderPlace) → n ≤ depth + 1 → StandsBelow T.places n f → find_place f T.places ≡ Some p → find_place f new ≡ Some p
     deep zero f p le is_root e = grows.kept f p (so_far.deep zero f p (omega arith) is_root e)
     deep (suc n) f p le stands_below e =
         let above = whole.objects.parents f p e stands_below.0 in
         let same : (stands_below.1).0 ≡ p = same_Some _ p (sym (stands_below.1).1 ∙ e) in
-        let from = subst (λ (q : Place). StandsBelow T.places n q.parent.bits) same (stands_below.1).2 in
+        let from = subst (λ (q : FolderPlace). StandsBelow T.places n q.parent.bits) same (stands_below.1).2 in
         children p.parent.bits above.0 (so_far.deep n p.parent.bits above.0 (omega arith) from above.1) above.2 f p e refl stands_below.0
 
 -- an element that stands under a key from low on has no lower one
@@ -311,6 +311,6 @@ one_list key low low' (x ∷ xs) (y ∷ ys) a b f g =
     λ i. same i ∷ rest i
 
 -- all folders of the tree were found
-pub reaches_all : (T : Tree) (found : List Place) (level : List Nid) (depth : ℕ) → IsWhole T → IsFound T → 64 ≤ depth → Reaches T found level depth → T.places ≡ found
+pub reaches_all : (T : Tree) (found : List FolderPlace) (level : List Nid) (depth : ℕ) → IsWhole T → IsFound T → 64 ≤ depth → Reaches T found level depth → T.places ≡ found
 reaches_all T found level depth whole is_found h so_far =
     one_list place_id 0 0 T.places found whole.objects.ascend so_far.ascend (λ f p e. let below = is_found.reached f p e in so_far.deep below.0 f p (omega (arith, below.1)) below.2 e) so_far.are_of

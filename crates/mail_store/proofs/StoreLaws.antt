@@ -9,7 +9,7 @@ use Rattle.node_port.specs.Stops.{Room}
 use Rattle.node_port.specs.declared.node.NodeRec.{NodeRec}
 use Rattle.pst_base.specs.declared.ids.Nid.{Nid}
 use Rattle.pst_outside.specs.World.{World}
-use Rattle.mail_tree.specs.declared.places.Place.{Place}
+use Rattle.mail_tree.specs.declared.places.FolderPlace.{FolderPlace}
 use Rattle.mail_tree.specs.Changing.{Answer}
 use Rattle.mail_tree.specs.Folders.{Outcome}
 use Rattle.mail_tree.specs.Step.{after, with_changes, without_changed}
@@ -79,6 +79,6 @@ unless_fault (Changed ib stored computed) p = p
 unless_fault Memory p = p
 
 -- a store that was only looked at has its tree still
-pub stores_still : {holds holds' : Nodes → Type 0} {last last' : List ℕ} {room room' : Room} {v w : World} (places places' : List Place) (T : Tree)
+pub stores_still : {holds holds' : Nodes → Type 0} {last last' : List ℕ} {room room' : Room} {v w : World} (places places' : List FolderPlace) (T : Tree)
     → Looks holds holds' last last' room room' v w → places' ≡ places → Stores holds last places T → Stores holds' last' places' T
 stores_still places places' T looks e s = record { shown = shown_still T looks s.shown; where_is = s.where_is ∙ sym e }

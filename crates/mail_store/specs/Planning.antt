@@ -6,7 +6,7 @@ use Rattle.command_text.specs.declared.reply.Reply.{Reply}
 use Rattle.node_port.specs.Nodes.{Nodes, changed, node_at}
 use Rattle.node_port.specs.Stops.{Room}
 use Rattle.node_port.specs.declared.node.NodeRec.{NodeRec}
-use Rattle.mail_tree.specs.declared.places.Place.{Place}
+use Rattle.mail_tree.specs.declared.places.FolderPlace.{FolderPlace}
 use Rattle.mail_tree.specs.Changing.{Answer}
 use Rattle.mail_tree.specs.Folders.{Outcome}
 use Rattle.mail_tree.specs.Step.{after}
@@ -17,7 +17,7 @@ use Rattle.mail_draft.specs.declared.stop.Stop.{Stop}
 use Rattle.mail_draft.specs.declared.stop.Stop.TheVariants.{Refused, Fault, Changed, Memory}
 
 -- a store over these nodes and counters, with these places, has the tree
-pub record Stores (holds : Nodes → Type 0) (last : List ℕ) (places : List Place) (T : Tree) : Type 0 where
+pub record Stores (holds : Nodes → Type 0) (last : List ℕ) (places : List FolderPlace) (T : Tree) : Type 0 where
   pub shown : Shown holds last T
   pub where_is : T.places ≡ places
 
@@ -31,7 +31,7 @@ Carries fits T o None = after T o ≡ T
 Carries fits T o (Some ready) = (cs : List (Nid × Option NodeRec)) × fits ready o.last cs × ((N : Nodes) → ShowsTree N T → ShowsTree (changed N cs) (after T o))
 
 -- what was planned comes to this: the reply, the places, and the changes
-pub record PlansTo {R : Type 0} (fits : R → List ℕ → List (Nid × Option NodeRec) → Type 0) (T : Tree) (o : Outcome) (change : Option R) (places : Option (List Place)) (reply : Reply) : Type 0 where
+pub record PlansTo {R : Type 0} (fits : R → List ℕ → List (Nid × Option NodeRec) → Type 0) (T : Tree) (o : Outcome) (change : Option R) (places : Option (List FolderPlace)) (reply : Reply) : Type 0 where
   pub reply_is : reply ≡ o.reply
   pub places_are : o.places ≡ places_after T.places places
   pub carries : Carries fits T o change

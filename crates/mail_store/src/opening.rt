@@ -15,7 +15,7 @@ ghost use Rattle.mail_store.specs.Planning.{Stores};
 use crate::store::Store;
 use mail_draft::{Stop, hierarchy};
 use mail_objects::{TableNode, read_table};
-use mail_tree::{Place, Places, ROOT_FOLDER, Sort};
+use mail_tree::{FolderPlace, Places, ROOT_FOLDER, Sort};
 use node_port::{Keeper, NodeReader, NodeRec};
 use pst_base::Nid;
 use pst_outside::Outside;
@@ -79,7 +79,11 @@ fn named_sort<W: Outside, K: NodeReader<W>>(
 }
 
 /// Puts a folder to those that were found, and on the level below if it is plain.
-fn add_folder(places: &mut Places, below: &mut Vec<Nid>, place: Place) -> Result<(), AllocError>
+fn add_folder(
+    places: &mut Places,
+    below: &mut Vec<Nid>,
+    place: FolderPlace,
+) -> Result<(), AllocError>
     ensures places { OnOk result (places.new ≡ put_key place_id place places.old) }
     ensures below { OnOk result (below.new.items ≡ with_plain place below.old.items) }
 {
@@ -114,7 +118,7 @@ fn find_named<W: Outside, K: NodeReader<W>>(
     let Some(sort) = named_sort(alloc, keeper, w, row)? else {
         return Ok(());
     };
-    let place = Place {
+    let place = FolderPlace {
         nid: row,
         parent: folder,
         sort,
@@ -173,7 +177,7 @@ fn start_at_root(alloc: Global) -> Result<(Places, Vec<Nid>), AllocError>
     let root = Nid { bits: ROOT_FOLDER };
     let mut places = Places::new(alloc);
     let mut level = Vec::new(alloc);
-    let place = Place {
+    let place = FolderPlace {
         nid: root,
         parent: root,
         sort: Sort::Plain,

@@ -5,7 +5,7 @@ use mail_draft::{Stop, put_text};
 use mail_objects::{
     Context, Object, TableNode, object_fits, read_context, read_table, write_object,
 };
-use mail_tree::{Place, Sort};
+use mail_tree::{FolderPlace, Sort};
 use mapi_values::{Column, Props, Table, Tag, Units, Value, fits, is_layout, put_row};
 use new_store::new_store;
 use node_port::{Changes, Counts, Keeper, MapKeeper, NodeReader, NodeRec};
@@ -464,7 +464,7 @@ fn add_search(alloc: Global, lab: &mut Lab) -> Result<(), Fail> {
         SEARCH,
         written(alloc, &Object::Context(search))?,
     )?;
-    lab.store.places.put(Place {
+    lab.store.places.put(FolderPlace {
         nid: nid(SEARCH),
         parent: nid(0x8042),
         sort: Sort::Foreign,

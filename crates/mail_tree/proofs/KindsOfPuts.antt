@@ -7,7 +7,7 @@ use Rattle.mapi_values.specs.Tables.{find_row}
 use Rattle.mail_objects.specs.Forms.{Ctx, Tbl}
 use Rattle.mail_objects.specs.declared.object.Object.{Object}
 use Rattle.mail_objects.specs.declared.object.Object.TheVariants.{Context, Table}
-use Rattle.mail_tree.specs.declared.places.Place.{Place}
+use Rattle.mail_tree.specs.declared.places.FolderPlace.{FolderPlace}
 use Rattle.mail_tree.specs.Places.{find_place, is_plain}
 use Rattle.mail_tree.specs.Changing.{beside, contents, hierarchy}
 use Rattle.mail_tree.specs.Whole.{HasRow, fits_id}
@@ -36,9 +36,9 @@ beside_kind f kind less = omega arith
 pub same_folder : (f g kind : ℕ) → f % 32 ≡ 2 → g % 32 ≡ 2 → beside f kind ≡ beside g kind → f ≡ g
 same_folder f g kind a b e = omega arith
 
-module _ (E : ℕ → Type 0) (places : List Place) (at at' : ℕ → Option Object) (n : AreNearly E places at) where
+module _ (E : ℕ → Type 0) (places : List FolderPlace) (at at' : ℕ → Option Object) (n : AreNearly E places at) where
   -- a folder gets other values, with its parent
-  pub puts_context : (f : ℕ) (p : Place) (c : Ctx) → find_place f places ≡ Some p → ((E f → ⊥) → c.parent ≡ p.parent.bits) → Puts at at' f (Some (Context c)) → AreNearly E places at'
+  pub puts_context : (f : ℕ) (p : FolderPlace) (c : Ctx) → find_place f places ≡ Some p → ((E f → ⊥) → c.parent ≡ p.parent.bits) → Puts at at' f (Some (Context c)) → AreNearly E places at'
   puts_context f p c e parent puts =
       let kind = folder_kind p.sort f (n.kinds f p e) in
       let (above, below) = low f kind in
@@ -53,8 +53,8 @@ module _ (E : ℕ → Type 0) (places : List Place) (at at' : ℕ → Option Obj
       })
 
   -- a plain folder's table of folders gets other rows, which list all that matter still
-  pub puts_folders : (f : ℕ) (p : Place) (t : Tbl) → find_place f places ≡ Some p → is_plain p ≡ true → keys_ascend (λ r. r.0) 0 t.table.rows ≡ true
-      → ((g : ℕ) (r : Place) → find_place g places ≡ Some r → (E g → ⊥) → r.parent.bits ≡ f → HasRow (at (hierarchy f)) g → IsSome (find_row g t.table.rows))
+  pub puts_folders : (f : ℕ) (p : FolderPlace) (t : Tbl) → find_place f places ≡ Some p → is_plain p ≡ true → keys_ascend (λ r. r.0) 0 t.table.rows ≡ true
+      → ((g : ℕ) (r : FolderPlace) → find_place g places ≡ Some r → (E g → ⊥) → r.parent.bits ≡ f → HasRow (at (hierarchy f)) g → IsSome (find_row g t.table.rows))
       → Puts at at' (hierarchy f) (Some (Table t)) → AreNearly E places at'
   puts_folders f p t e plain ascend keeps puts =
       let kind : hierarchy f % 32 ≡ 13 = beside_kind f 13 (omega arith) in
@@ -71,7 +71,7 @@ module _ (E : ℕ → Type 0) (places : List Place) (at at' : ℕ → Option Obj
       })
 
   -- a plain folder's table of messages gets other rows, which list all that matter still, and of those that matter only what they listed
-  pub puts_messages : (f : ℕ) (p : Place) (t t' : Tbl) → find_place f places ≡ Some p → is_plain p ≡ true → keys_ascend (λ r. r.0) 0 t'.table.rows ≡ true
+  pub puts_messages : (f : ℕ) (p : FolderPlace) (t t' : Tbl) → find_place f places ≡ Some p → is_plain p ≡ true → keys_ascend (λ r. r.0) 0 t'.table.rows ≡ true
       → at (contents f) ≡ Some (Table t) → ((m : ℕ) → (E m → ⊥) → is_some (find_row m t'.table.rows) ≡ is_some (find_row m t.table.rows))
       → Puts at at' (contents f) (Some (Table t')) → AreNearly E places at'
   puts_messages f p t t' e plain ascend was same_rows puts =
@@ -114,7 +114,7 @@ module _ (E : ℕ → Type 0) (places : List Place) (at at' : ℕ → Option Obj
   pub puts_free : (f q : ℕ) (o : Option Object) → find_place f places ≡ None → f % 32 ≡ 2 → q / 32 ≡ f / 32 → (q % 32 ≡ 2) ⊎ (13 ≤ q % 32)
       → ((x : Object) → o ≡ Some x → fits_id q x ≡ true) → ((t : Tbl) → o ≡ Some (Table t) → keys_ascend (λ r. r.0) 0 t.table.rows ≡ true) → Puts at at' q o → AreNearly E places at'
   puts_free f q o none kind index kinds fits ascend puts =
-      let apart : (g : ℕ) (r : Place) → find_place g places ≡ Some r → g ≡ f → ⊥ = λ g r e same. cc (subst (λ x. find_place x places ≡ Some r) same e) in
+      let apart : (g : ℕ) (r : FolderPlace) → find_place g places ≡ Some r → g ≡ f → ⊥ = λ g r e same. cc (subst (λ x. find_place x places ≡ Some r) same e) in
       puts_suiting E places at at' q o n puts (record {
         typed = fits;
         rows_ascend = ascend;

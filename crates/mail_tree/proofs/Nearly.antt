@@ -7,7 +7,7 @@ use Rattle.mapi_values.specs.Tables.{find_row}
 use Rattle.mail_objects.specs.Forms.{Ctx, Tbl}
 use Rattle.mail_objects.specs.declared.object.Object.{Object}
 use Rattle.mail_objects.specs.declared.object.Object.TheVariants.{Context, Table, Message}
-use Rattle.mail_tree.specs.declared.places.Place.{Place}
+use Rattle.mail_tree.specs.declared.places.FolderPlace.{FolderPlace}
 use Rattle.mail_tree.specs.declared.places.Sort.{Sort}
 use Rattle.mail_tree.specs.declared.places.Sort.TheVariants.{Plain, Foreign}
 use Rattle.mail_tree.specs.Places.{ROOT, find_place, is_plain, is_plain_sort, place_id}
@@ -20,23 +20,23 @@ pub record Puts (at at' : ℕ → Option Object) (q : ℕ) (o : Option Object) :
   pub others : (x : ℕ) → (x ≡ q → ⊥) → at' x ≡ at x
 
 -- whole but for what is said of these folders' rows and parents, and of these messages
-pub record AreNearly (E : ℕ → Type 0) (places : List Place) (at : ℕ → Option Object) : Type 0 where
+pub record AreNearly (E : ℕ → Type 0) (places : List FolderPlace) (at : ℕ → Option Object) : Type 0 where
   pub ascend : keys_ascend place_id 0 places ≡ true
-  pub root : (p : Place) × (find_place ROOT places ≡ Some p) × (is_plain p ≡ true) × (p.parent.bits ≡ ROOT)
-  pub kinds : (f : ℕ) (p : Place) → find_place f places ≡ Some p → f % 32 ≡ kind_of_sort p.sort
-  pub parents : (f : ℕ) (p : Place) → find_place f places ≡ Some p → (f ≡ ROOT → ⊥) → (E f → ⊥)
-      → (q : Place) × (find_place p.parent.bits places ≡ Some q) × (is_plain q ≡ true) × HasRow (at (hierarchy p.parent.bits)) f
+  pub root : (p : FolderPlace) × (find_place ROOT places ≡ Some p) × (is_plain p ≡ true) × (p.parent.bits ≡ ROOT)
+  pub kinds : (f : ℕ) (p : FolderPlace) → find_place f places ≡ Some p → f % 32 ≡ kind_of_sort p.sort
+  pub parents : (f : ℕ) (p : FolderPlace) → find_place f places ≡ Some p → (f ≡ ROOT → ⊥) → (E f → ⊥)
+      → (q : FolderPlace) × (find_place p.parent.bits places ≡ Some q) × (is_plain q ≡ true) × HasRow (at (hierarchy p.parent.bits)) f
   pub typed : (q : ℕ) (o : Object) → at q ≡ Some o → fits_id q o ≡ true
   pub rows_ascend : (q : ℕ) (t : Tbl) → at q ≡ Some (Table t) → keys_ascend (λ r. r.0) 0 t.table.rows ≡ true
   pub store : IsSome (at 0x21)
-  pub contexts : (f : ℕ) (p : Place) → find_place f places ≡ Some p → (c : Ctx) × (at f ≡ Some (Context c)) × ((E f → ⊥) → c.parent ≡ p.parent.bits)
-  pub tables : (f : ℕ) (p : Place) → find_place f places ≡ Some p → is_plain p ≡ true → IsSome (at (hierarchy f)) × IsSome (at (contents f))
-  pub listed : (f : ℕ) (p : Place) (t : Tbl) (m : ℕ) → find_place f places ≡ Some p → is_plain p ≡ true → at (contents f) ≡ Some (Table t)
+  pub contexts : (f : ℕ) (p : FolderPlace) → find_place f places ≡ Some p → (c : Ctx) × (at f ≡ Some (Context c)) × ((E f → ⊥) → c.parent ≡ p.parent.bits)
+  pub tables : (f : ℕ) (p : FolderPlace) → find_place f places ≡ Some p → is_plain p ≡ true → IsSome (at (hierarchy f)) × IsSome (at (contents f))
+  pub listed : (f : ℕ) (p : FolderPlace) (t : Tbl) (m : ℕ) → find_place f places ≡ Some p → is_plain p ≡ true → at (contents f) ≡ Some (Table t)
       → IsSome (find_row m t.table.rows) → m % 32 ≡ 4 → (E m → ⊥) → (M : Mes) × (at m ≡ Some (Message M)) × (M.folder ≡ f)
-  pub held : (m : ℕ) (M : Mes) → at m ≡ Some (Message M) → (E m → ⊥) → (p : Place) × (find_place M.folder places ≡ Some p) × (is_plain p ≡ true) × HasRow (at (contents M.folder)) m
+  pub held : (m : ℕ) (M : Mes) → at m ≡ Some (Message M) → (E m → ⊥) → (p : FolderPlace) × (find_place M.folder places ≡ Some p) × (is_plain p ≡ true) × HasRow (at (contents M.folder)) m
 
 -- a whole tree is so but for any ids
-pub nearly : (E : ℕ → Type 0) (places : List Place) (at : ℕ → Option Object) → AreWhole places at → AreNearly E places at
+pub nearly : (E : ℕ → Type 0) (places : List FolderPlace) (at : ℕ → Option Object) → AreWhole places at → AreNearly E places at
 nearly E places at w = record {
   ascend = w.ascend;
   root = w.root;
@@ -52,7 +52,7 @@ nearly E places at w = record {
 }
 
 -- one that is so but for no id is whole
-pub whole : (places : List Place) (at : ℕ → Option Object) → AreNearly (λ x. ⊥) places at → AreWhole places at
+pub whole : (places : List FolderPlace) (at : ℕ → Option Object) → AreNearly (λ x. ⊥) places at → AreWhole places at
 whole places at n = record {
   ascend = n.ascend;
   root = n.root;
@@ -76,7 +76,7 @@ pub folder_kind : (s : Sort) (f : ℕ) → f % 32 ≡ kind_of_sort s → (f % 32
 folder_kind Plain f e = inl e
 folder_kind Foreign f e = inr e
 
-pub plain_id : {E : ℕ → Type 0} {places : List Place} {at : ℕ → Option Object} → AreNearly E places at → (f : ℕ) (p : Place) → find_place f places ≡ Some p → is_plain p ≡ true → f % 32 ≡ 2
+pub plain_id : {E : ℕ → Type 0} {places : List FolderPlace} {at : ℕ → Option Object} → AreNearly E places at → (f : ℕ) (p : FolderPlace) → find_place f places ≡ Some p → is_plain p ≡ true → f % 32 ≡ 2
 plain_id n f p e plain = n.kinds f p e ∙ plain_kind p.sort plain
 
 -- a message's id
@@ -103,20 +103,20 @@ table_of q (Some (Context c)) typed kind is = absurd (no_context q c (typed (Con
 table_of q (Some (Message m)) typed kind is = let e = message_id q m (typed (Message m) refl) in absurd (elim kind [ inl k ↦ omega arith | inr k ↦ elim k [ inl l ↦ omega arith | inr l ↦ omega arith ] ])
 
 -- what an object that is put has to meet
-pub record Suits (E : ℕ → Type 0) (places : List Place) (at : ℕ → Option Object) (q : ℕ) (o : Option Object) : Type 0 where
+pub record Suits (E : ℕ → Type 0) (places : List FolderPlace) (at : ℕ → Option Object) (q : ℕ) (o : Option Object) : Type 0 where
   pub typed : (x : Object) → o ≡ Some x → fits_id q x ≡ true
   pub rows_ascend : (t : Tbl) → o ≡ Some (Table t) → keys_ascend (λ r. r.0) 0 t.table.rows ≡ true
   pub store : q ≡ 0x21 → IsSome o
-  pub context : (p : Place) → find_place q places ≡ Some p → (c : Ctx) × (o ≡ Some (Context c)) × ((E q → ⊥) → c.parent ≡ p.parent.bits)
-  pub folders : (f : ℕ) (p : Place) → find_place f places ≡ Some p → is_plain p ≡ true → q ≡ hierarchy f
-      → IsSome o × ((g : ℕ) (r : Place) → find_place g places ≡ Some r → (g ≡ ROOT → ⊥) → (E g → ⊥) → r.parent.bits ≡ f → HasRow o g)
-  pub messages : (f : ℕ) (p : Place) → find_place f places ≡ Some p → is_plain p ≡ true → q ≡ contents f
+  pub context : (p : FolderPlace) → find_place q places ≡ Some p → (c : Ctx) × (o ≡ Some (Context c)) × ((E q → ⊥) → c.parent ≡ p.parent.bits)
+  pub folders : (f : ℕ) (p : FolderPlace) → find_place f places ≡ Some p → is_plain p ≡ true → q ≡ hierarchy f
+      → IsSome o × ((g : ℕ) (r : FolderPlace) → find_place g places ≡ Some r → (g ≡ ROOT → ⊥) → (E g → ⊥) → r.parent.bits ≡ f → HasRow o g)
+  pub messages : (f : ℕ) (p : FolderPlace) → find_place f places ≡ Some p → is_plain p ≡ true → q ≡ contents f
       → IsSome o
       × ((t : Tbl) (m : ℕ) → o ≡ Some (Table t) → IsSome (find_row m t.table.rows) → m % 32 ≡ 4 → (E m → ⊥) → (M : Mes) × (at m ≡ Some (Message M)) × (M.folder ≡ f))
       × ((m : ℕ) (M : Mes) → at m ≡ Some (Message M) → (E m → ⊥) → M.folder ≡ f → HasRow o m)
   pub message : (E q → ⊥) → q % 32 ≡ 4 → ⊥
 
-module _ (E : ℕ → Type 0) (places : List Place) (at at' : ℕ → Option Object) (q : ℕ) (o : Option Object) (n : AreNearly E places at) (puts : Puts at at' q o) (suits : Suits E places at q o) where
+module _ (E : ℕ → Type 0) (places : List FolderPlace) (at at' : ℕ → Option Object) (q : ℕ) (o : Option Object) (n : AreNearly E places at) (puts : Puts at at' q o) (suits : Suits E places at q o) where
   typed_still : (x : ℕ) (y : Object) → at' x ≡ Some y → fits_id x y ≡ true
   typed_still x y e = elim (cases_eq x q) [
     | inl same ↦ rw same (suits.typed y (sym puts.here ∙ (rw same at e)))

@@ -9,7 +9,7 @@ use Rattle.mapi_values.proofs.KeyedLaws.{put-ascends}
 use Rattle.mail_objects.specs.Forms.{Ctx, Tbl}
 use Rattle.mail_objects.specs.declared.object.Object.{Object}
 use Rattle.mail_objects.specs.declared.object.Object.TheVariants.{Context, Table, Message}
-use Rattle.mail_tree.specs.declared.places.Place.{Place}
+use Rattle.mail_tree.specs.declared.places.FolderPlace.{FolderPlace}
 use Rattle.mail_tree.specs.Places.{ROOT, find_place, is_child, is_plain}
 use Rattle.mail_tree.specs.Tree.{Tree}
 use Rattle.mail_tree.specs.Values.{with_counts}
@@ -42,18 +42,18 @@ each_message at (r ∷ rs) named =
     later m row = elim (cases_Bool (r.0 == m)) [ inl t ↦ rw t refl | inr t ↦ rw t row ]
 
 -- the table of a plain folder's messages, and what stands at their ids
-pub messages_of : {places : List Place} {at : ℕ → Option Object} → AreWhole places at → (f : ℕ) (p : Place) → find_place f places ≡ Some p → is_plain p ≡ true
+pub messages_of : {places : List FolderPlace} {at : ℕ → Option Object} → AreWhole places at → (f : ℕ) (p : FolderPlace) → find_place f places ≡ Some p → is_plain p ≡ true
     → (t : Tbl) × (at (contents f) ≡ Some (Table t)) × EachMessage at (message_ids t.table)
 messages_of {places} {at} w f p e plain =
     let t = table_of (contents f) (at (contents f)) (w.typed (contents f)) (inr (inl (beside_kind f 14 (omega arith)))) (w.tables f p e plain).1 in
     (t.0, t.1, each_message at t.0.table.rows (λ m row four. let M = w.listed f p t.0 m e plain t.1 row four in (M.0, M.1)))
 
 -- the table of a plain folder's folders
-pub folders_of : {places : List Place} {at : ℕ → Option Object} → AreWhole places at → (f : ℕ) (p : Place) → find_place f places ≡ Some p → is_plain p ≡ true → (t : Tbl) × (at (hierarchy f) ≡ Some (Table t))
+pub folders_of : {places : List FolderPlace} {at : ℕ → Option Object} → AreWhole places at → (f : ℕ) (p : FolderPlace) → find_place f places ≡ Some p → is_plain p ≡ true → (t : Tbl) × (at (hierarchy f) ≡ Some (Table t))
 folders_of {places} {at} w f p e plain = table_of (hierarchy f) (at (hierarchy f)) (w.typed (hierarchy f)) (inl (beside_kind f 13 (omega arith))) (w.tables f p e plain).0
 
 -- the store's values
-pub store_of : {places : List Place} {at : ℕ → Option Object} → AreWhole places at → (c : Ctx) × (at 0x21 ≡ Some (Context c))
+pub store_of : {places : List FolderPlace} {at : ℕ → Option Object} → AreWhole places at → (c : Ctx) × (at 0x21 ≡ Some (Context c))
 store_of {places} {at} w = values (at 0x21) (w.typed 0x21) w.store
   where
     values : (o : Option Object) → ((x : Object) → o ≡ Some x → fits_id 0x21 x ≡ true) → IsSome o → (c : Ctx) × (o ≡ Some (Context c))
@@ -66,7 +66,7 @@ pub fine_unread : (T : Tree) (D : Changed) (ms : List ℕ) → EachMessage (now_
 fine_unread T D [] each = tt
 fine_unread T D (m ∷ ms) each = rw each.0.1 (fine_then (λ n. Unit {0}) (λ n. Unit {0}) (unread_among T D ms) _ (fine_unread T D ms each.1) (λ n u. tt))
 
-module _ (T : Tree) (places : List Place) (f : ℕ) (p : Place) (D : Changed) (w : AreWhole places (now_at T D)) (e : find_place f places ≡ Some p) where
+module _ (T : Tree) (places : List FolderPlace) (f : ℕ) (p : FolderPlace) (D : Changed) (w : AreWhole places (now_at T D)) (e : find_place f places ≡ Some p) where
   -- a folder gets other values
   pub other_values : (c : Ctx) (props : List Val) → now_at T D f ≡ Some (Context c) → AreWhole places (now_at T (with_context f c props D))
   other_values c props at =
@@ -97,7 +97,7 @@ module _ (T : Tree) (places : List Place) (f : ℕ) (p : Place) (D : Changed) (w
   ]
 
 -- a plain folder that is settled leaves the tree whole
-pub fine_settled : (T : Tree) (places : List Place) (f : ℕ) (p : Place) (D : Changed) → AreWhole places (now_at T D) → find_place f places ≡ Some p → is_plain p ≡ true
+pub fine_settled : (T : Tree) (places : List FolderPlace) (f : ℕ) (p : FolderPlace) (D : Changed) → AreWhole places (now_at T D) → find_place f places ≡ Some p → is_plain p ≡ true
     → Fine (settled T places f D) (λ D'. AreWhole places (now_at T D'))
 unfolding settled
 fine_settled T places f p D w e plain =

@@ -15,7 +15,7 @@ use Rattle.command_text.specs.declared.reply.LastLine.TheVariants.{Done, Made, C
 use Rattle.command_text.specs.declared.reply.Reply.{Reply}
 use Rattle.mail_objects.specs.Forms.{Tbl}
 use Rattle.mail_objects.specs.declared.object.Object.TheVariants as objects
-use Rattle.mail_tree.specs.declared.places.Place.{Place}
+use Rattle.mail_tree.specs.declared.places.FolderPlace.{FolderPlace}
 use Rattle.mail_tree.specs.declared.places.Sort.TheVariants.{Plain}
 use Rattle.mail_tree.specs.Places.{ROOT, children, find_place, is_child, is_deep, is_plain, is_within, moves_deep, place_id}
 use Rattle.mail_tree.specs.Tree.{Tree}
@@ -39,7 +39,7 @@ listed data_lines = record { lines = data_lines; last = Count (length data_lines
 -- What a command comes to: the objects that it changes, the places of the folders after it, the counters after it, and the reply.
 pub record Outcome : Type 0 where
   pub changed : Changed
-  pub places : List Place
+  pub places : List FolderPlace
   pub last : List ℕ
   pub reply : Reply
 
@@ -52,18 +52,18 @@ abbrev pub changing : Tree → Reply → Changed → Answer Outcome
 changing T reply D = within_limits D >>= λ u. Ok (record { changed = D; places = T.places; last = T.last; reply = reply })
 
 -- the same, where folders come, go or move
-abbrev pub moving : Tree → List Place → Reply → Changed → Answer Outcome
+abbrev pub moving : Tree → List FolderPlace → Reply → Changed → Answer Outcome
 moving T places reply D = within_limits D >>= λ u. Ok (record { changed = D; places = places; last = T.last; reply = reply })
 
 -- the same with a new object of a kind at this index, which the kind's counter then has, unless it is past the last one
-abbrev pub making : Tree → List Place → ℕ → ℕ → Changed → Answer Outcome
+abbrev pub making : Tree → List FolderPlace → ℕ → ℕ → Changed → Answer Outcome
 making T places kind index D = within_limits D >>= λ u. refused_if (is_spent index) Ids >>= λ v. Ok (record { changed = D; places = places; last = set T.last kind index; reply = replied (Made (nid (new_id kind index))) })
 
-abbrev pub folder_in : Tree → ℕ → Answer Place
+abbrev pub folder_in : Tree → ℕ → Answer FolderPlace
 folder_in T f = found NoObject (find_place f T.places)
 
 -- the folder isn't one that holds folders and messages
-abbrev pub unless_plain : Place → Answer (Unit {0})
+abbrev pub unless_plain : FolderPlace → Answer (Unit {0})
 unless_plain p = refused_if (not (is_plain p)) Reserved
 
 -- the folder is the root, or one that the store names
@@ -85,7 +85,7 @@ with_folder f parent name D =
     with_object (associated f) (Some (objects.Table contents_table)) (with_object (contents f) (Some (objects.Table contents_table)) (with_object (hierarchy f) (Some (objects.Table hierarchy_table))
     (with_object f (Some (objects.Context (record { parent = parent; props = folder_props name; kept = [] }))) D)))
 
-abbrev pub place : ℕ → ℕ → Place
+abbrev pub place : ℕ → ℕ → FolderPlace
 place f parent = record { nid = nid f; parent = nid parent; sort = Plain }
 
 -- a table has as many rows as a command may bring it to
@@ -110,7 +110,7 @@ renamed_folder T f name = folder_in T f >>= λ p. unless_plain p >>= λ u. unles
     mirrored T f (with_context f c (put (text 0x3001 name) c.props) nothing) >>= changing T (replied Done)
 
 -- the folder f moves from one parent to another
-unfoldable pub moved_between : Tree → ℕ → ℕ → ℕ → List Place → Answer Changed
+unfoldable pub moved_between : Tree → ℕ → ℕ → ℕ → List FolderPlace → Answer Changed
 moved_between T f from to places = context_at T nothing f >>= λ c.
     drop_shown T (hierarchy from) f (with_object f (Some (objects.Context (record c { parent = to }))) nothing) >>= λ D.
     add_shown T (hierarchy to) f c.props D >>= settled T places from >>= settled T places to
@@ -158,10 +158,10 @@ removed_folder T f = folder_in T f >>= λ p. unless_plain p >>= λ u. unless_pro
     drop_shown T (hierarchy p.parent.bits) f (without_folder T f nothing) >>= settled T places p.parent.bits >>= moving T places (replied Done)
 
 -- the line of a folder
-abbrev pub folder_line : Place → List Val → DataLine
+abbrev pub folder_line : FolderPlace → List Val → DataLine
 folder_line p props = if is_plain p then lines.Folder p.nid (name_of props) else lines.Foreign p.nid (name_of props)
 
-abbrev pub folder_lines : Tree → List Place → Answer (List DataLine)
+abbrev pub folder_lines : Tree → List FolderPlace → Answer (List DataLine)
 folder_lines T [] = Ok []
 folder_lines T (p ∷ ps) = context_at T nothing p.nid.bits >>= λ c. folder_lines T ps >>= λ more. Ok (folder_line p c.props ∷ more)
 

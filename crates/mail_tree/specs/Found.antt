@@ -3,7 +3,7 @@ use Rattle.std.specs.Prelude.{◌≡◌, ◌≤◌, ℕ, zero, suc, ◌%◌, ◌
 use Rattle.mapi_values.specs.Tables.{find_row}
 use Rattle.mail_objects.specs.Forms.{Tbl}
 use Rattle.mail_objects.specs.declared.object.Object.TheVariants.{Table}
-use Rattle.mail_tree.specs.declared.places.Place.{Place}
+use Rattle.mail_tree.specs.declared.places.FolderPlace.{FolderPlace}
 use Rattle.mail_tree.specs.declared.places.Sort.{Sort}
 use Rattle.mail_tree.specs.declared.places.Sort.TheVariants.{Plain, Foreign}
 use Rattle.mail_tree.specs.Places.{ROOT, find_place, is_plain}
@@ -13,9 +13,9 @@ use Rattle.mail_tree.specs.Folders.{nid}
 use Rattle.mail_tree.specs.Ids.{is_taken}
 
 -- the folder stands so many folders below the root
-abbrev pub StandsBelow : List Place → ℕ → ℕ → Type 0
+abbrev pub StandsBelow : List FolderPlace → ℕ → ℕ → Type 0
 StandsBelow places zero f = f ≡ ROOT
-StandsBelow places (suc n) f = (f ≡ ROOT → ⊥) × ((p : Place) × (find_place f places ≡ Some p) × StandsBelow places n p.parent.bits)
+StandsBelow places (suc n) f = (f ≡ ROOT → ⊥) × ((p : FolderPlace) × (find_place f places ≡ Some p) × StandsBelow places n p.parent.bits)
 
 -- of which sort the folder is that a row of this id names: one of a folder's id, or one of a search folder's id whose node is there
 abbrev pub named_sort : Tree → ℕ → Option Sort
@@ -24,7 +24,7 @@ named_sort T r = if r % 32 == 2 then Some Plain else (if (r % 32 == 3) && is_tak
 -- The folders of a tree are those that its tables of folders list.
 pub record IsFound (T : Tree) : Type 0 where
   -- each row of a plain folder's table that names a folder names one that stands in it, and not the root
-  pub listed : (f : ℕ) (p : Place) (t : Tbl) (r : ℕ) (s : Sort) → find_place f T.places ≡ Some p → is_plain p ≡ true → object_at T (hierarchy f) ≡ Some (Table t)
+  pub listed : (f : ℕ) (p : FolderPlace) (t : Tbl) (r : ℕ) (s : Sort) → find_place f T.places ≡ Some p → is_plain p ≡ true → object_at T (hierarchy f) ≡ Some (Table t)
       → IsSome (find_row r t.table.rows) → named_sort T r ≡ Some s → (r ≡ ROOT → ⊥) × (find_place r T.places ≡ Some (record { nid = nid r; parent = nid f; sort = s }))
   -- each folder stands at most 64 folders below the root
-  pub reached : (f : ℕ) (p : Place) → find_place f T.places ≡ Some p → (n : ℕ) × (n ≤ 64) × StandsBelow T.places n f
+  pub reached : (f : ℕ) (p : FolderPlace) → find_place f T.places ≡ Some p → (n : ℕ) × (n ≤ 64) × StandsBelow T.places n f

@@ -5,7 +5,7 @@ use Rattle.mapi_values.specs.Tables.{Tab}
 use Rattle.mapi_values.specs.Values.{Val}
 use Rattle.mail_objects.specs.Forms.{Ctx}
 use Rattle.mail_objects.specs.declared.object.Object.TheVariants.{Context}
-use Rattle.mail_tree.specs.declared.places.Place.{Place}
+use Rattle.mail_tree.specs.declared.places.FolderPlace.{FolderPlace}
 use Rattle.mail_tree.specs.Places.{ROOT, is_child}
 use Rattle.mail_tree.specs.Tree.{Tree}
 use Rattle.mail_tree.specs.Values.{is_read, with_counts}
@@ -32,7 +32,7 @@ abbrev pub with_context : ℕ → Ctx → List Val → Changed → Changed
 with_context f c props D = with_values f (Context (record c { props = props })) c.props props D
 
 -- a folder is counted anew: its messages, those that are unread, and whether it has folders
-unfoldable pub counted : Tree → List Place → ℕ → Changed → Answer Changed
+unfoldable pub counted : Tree → List FolderPlace → ℕ → Changed → Answer Changed
 counted T places f D = context_at T D f >>= λ c. table_at T D (contents f) >>= λ t. unread_among T D (message_ids t.table) >>= λ unread.
     Ok (with_context f c (with_counts (length (message_ids t.table)) unread (list_any (is_child f) places) c.props) D)
 
@@ -41,5 +41,5 @@ unfoldable pub mirrored : Tree → ℕ → Changed → Answer Changed
 mirrored T f D = if f == ROOT then Ok D else (context_at T D f >>= λ c. put_shown T (hierarchy c.parent) f c.props D)
 
 -- a folder in which something came, went or changed is counted anew, and its row shows it
-unfoldable pub settled : Tree → List Place → ℕ → Changed → Answer Changed
+unfoldable pub settled : Tree → List FolderPlace → ℕ → Changed → Answer Changed
 settled T places f D = counted T places f D >>= mirrored T f

@@ -17,7 +17,7 @@ use Rattle.node_port.specs.declared.node.NodeRec.{NodeRec}
 use Rattle.mail_objects.specs.Objects.{ShowsObject}
 use Rattle.mail_objects.specs.declared.object.Object.{Object}
 use Rattle.mail_objects.specs.declared.object.Object.TheVariants.{Context, Table}
-use Rattle.mail_tree.specs.declared.places.Place.{Place}
+use Rattle.mail_tree.specs.declared.places.FolderPlace.{FolderPlace}
 use Rattle.mail_tree.specs.Places.{ROOT}
 use Rattle.mail_tree.specs.Tree.{Tree}
 use Rattle.mail_tree.specs.Values.{folder_props, number, text, truth, value}
@@ -111,7 +111,7 @@ IsStartNode q (Some object) node = (rec : NodeRec) × (node ≡ Some rec) × Sho
 IsStartNode q None node = node ≡ (if (q == 0x1E1) || (q == 0x201) then Some empty_node else None)
 
 -- the places of the folders of a new store
-abbrev pub start_places : List Place
+abbrev pub start_places : List FolderPlace
 start_places = place 0x122 ROOT ∷ place TOP ROOT ∷ place SEARCH_ROOT ROOT ∷ place DELETED ROOT ∷ []
 
 -- the counters of a new store: by kinds, the last index that was given

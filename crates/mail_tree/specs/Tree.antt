@@ -6,7 +6,7 @@ use Rattle.mail_objects.specs.Objects.{ShowsObject}
 use Rattle.mail_objects.specs.declared.object.Object.{Object}
 use Rattle.node_port.specs.Nodes.{Nodes, node_at}
 use Rattle.node_port.specs.declared.node.NodeRec.{NodeRec}
-use Rattle.mail_tree.specs.declared.places.Place.{Place}
+use Rattle.mail_tree.specs.declared.places.FolderPlace.{FolderPlace}
 
 abbrev pub Objects : Type 0
 Objects = map.FinMap nat_cmp Object
@@ -14,7 +14,7 @@ Objects = map.FinMap nat_cmp Object
 -- The tree: where its folders stand; by their ids the store's own values (21h), each folder's values, the tables of each plain
 -- folder (its folders, its messages, its associated messages) and each message; all other nodes, as they are; and the counters.
 pub record Tree : Type 0 where
-  pub places : List Place
+  pub places : List FolderPlace
   pub objects : Objects
   pub others : Nodes
   pub last : List ℕ

@@ -5,6 +5,8 @@
 //! Leaves to others: what follows of every command (`mail_laws`), and how nodes are read and written.
 #![tactic(auto)]
 
+mod columns;
 mod places;
 
-pub use places::{Place, Places, ROOT_FOLDER, Sort};
+pub use columns::{attachments_table, contents_table, hierarchy_table, recipients_table};
+pub use places::{FolderPlace, Places, ROOT_FOLDER, Sort};

@@ -20,13 +20,13 @@ pub enum Sort {
 
 /// Where a folder stands: its id, its parent's (the root's is its own), and its sort.
 #[derive(Clone, Copy, Debug, PartialEq, Eq)]
-pub struct Place {
+pub struct FolderPlace {
     pub nid: Nid,
     pub parent: Nid,
     pub sort: Sort,
 }
 
-impl Keyed for Place {
+impl Keyed for FolderPlace {
     ghost key_of = { λ p. p.nid.bits };
 
     fn key(&self) -> u32 {
@@ -37,15 +37,15 @@ impl Keyed for Place {
 /// The places of all folders of a store. Contracts see the list, which ascends by id.
 #[derive(Debug, Drop)]
 pub struct Places {
-    places: Vec<Place>,
+    places: Vec<FolderPlace>,
 }
 
 impl Model for Places {
     ghost use Rattle.std.specs.Prelude.{◌≡◌, List, true};
     ghost use Rattle.mapi_values.specs.Keyed.{keys_ascend};
-    ghost use Rattle.mail_tree.specs.declared.places.Place.{Place};
+    ghost use Rattle.mail_tree.specs.declared.places.FolderPlace.{FolderPlace};
 
-    ghost Value = { List Place };
+    ghost Value = { List FolderPlace };
 
     ghost use Rattle.mail_tree.specs.Places.{place_id};
 
@@ -68,21 +68,21 @@ impl Places {
     }
 
     /// The places, ascending by id.
-    pub fn as_slice(&self) -> &[Place]
+    pub fn as_slice(&self) -> &[FolderPlace]
         ensures { result.now ≡ self.now }
     {
         self.places.as_slice()
     }
 
     /// The folder with this id.
-    pub fn find(&self, folder: Nid) -> Option<&Place>
+    pub fn find(&self, folder: Nid) -> Option<&FolderPlace>
         ensures { option_copied result ≡ find_place folder.bits self.now }
     {
         find_keyed(self.places.as_slice(), folder.bits)
     }
 
     /// Puts a folder in place of the one with its id. An `Err` changes nothing.
-    pub fn put(&mut self, place: Place) -> Result<(), AllocError>
+    pub fn put(&mut self, place: FolderPlace) -> Result<(), AllocError>
         ensures ok { OnOk result (self.new ≡ put_key place_id place self.old) }
         ensures err { OnErr result (self.new ≡ self.old) }
     {

@@ -1,5 +1,4 @@
 pub mod EntryLaws
 pub mod FitLaws
 pub mod KeyLaws
-pub mod LayoutLaws
 pub mod ShowingLaws

@@ -8,12 +8,15 @@ use crate::folders::{DELETED, SEARCH_ROOT, TOP};
 use crate::keys::{entry_id, record_key};
 use mail_draft::{put_number, put_text, put_truth};
 use mail_objects::{Context, Object};
+use mapi_values::tags::{
+    PID_TAG_CONTENT_COUNT, PID_TAG_CONTENT_UNREAD_COUNT, PID_TAG_DISPLAY_NAME,
+    PID_TAG_FINDER_ENTRY_ID, PID_TAG_IPM_SUBTREE_ENTRY_ID, PID_TAG_IPM_WASTEBASKET_ENTRY_ID,
+    PID_TAG_NAMEID_BUCKET_COUNT, PID_TAG_NAMEID_STREAM_ENTRY, PID_TAG_NAMEID_STREAM_GUID,
+    PID_TAG_NAMEID_STREAM_STRING, PID_TAG_RECORD_KEY, PID_TAG_SUBFOLDERS, PTYP_BINARY,
+};
 use mapi_values::{Props, Tag, Units, Value, fits};
 use pst_base::{Bytes, Nid, Subs};
 use std::alloc::{AllocError, Global};
-
-/// The kind of a value that is bytes.
-const BINARY: u16 = 0x0102;
 
 /// A node of these values below a parent.
 pub fn context(alloc: Global, parent: u32, props: Props) -> Object
@@ -27,10 +30,16 @@ fn put_binary(props: &mut Props, id: u16, bytes: Vec<u8>) -> Result<(), AllocErr
     ensures ok { OnOk result (props.new ≡ put (value id 0x0102 bytes.items) props.old) }
     ensures err { OnErr result (props.new ≡ props.old) }
 {
-    if !fits(BINARY, bytes.len()) {
+    if !fits(PTYP_BINARY, bytes.len()) {
         return Err(AllocError);
     }
-    props.put(Value::new(Tag { id, kind: BINARY }, Bytes::from_vec(bytes)))
+    props.put(Value::new(
+        Tag {
+            id,
+            kind: PTYP_BINARY,
+        },
+        Bytes::from_vec(bytes),
+    ))
 }
 
 /// The store's own values: its key, its name, and the folders that it names.
@@ -43,11 +52,11 @@ pub fn store_props(alloc: Global, name: &Units) -> Result<Props, AllocError>
     let deleted = entry_id(alloc, key.as_slice(), DELETED)?;
     let searches = entry_id(alloc, key.as_slice(), SEARCH_ROOT)?;
     let mut props = Props::new(alloc);
-    put_binary(&mut props, 0x0FF9, key)?;
-    put_text(alloc, &mut props, 0x3001, name)?;
-    put_binary(&mut props, 0x35E0, top)?;
-    put_binary(&mut props, 0x35E3, deleted)?;
-    put_binary(&mut props, 0x35E7, searches)?;
+    put_binary(&mut props, PID_TAG_RECORD_KEY.id, key)?;
+    put_text(alloc, &mut props, PID_TAG_DISPLAY_NAME.id, name)?;
+    put_binary(&mut props, PID_TAG_IPM_SUBTREE_ENTRY_ID.id, top)?;
+    put_binary(&mut props, PID_TAG_IPM_WASTEBASKET_ENTRY_ID.id, deleted)?;
+    put_binary(&mut props, PID_TAG_FINDER_ENTRY_ID.id, searches)?;
     Ok(props)
 }
 
@@ -56,10 +65,10 @@ pub fn names_props(alloc: Global) -> Result<Props, AllocError>
     ensures { IfOk result (λ props. props ≡ names_props) }
 {
     let mut props = Props::new(alloc);
-    put_number(alloc, &mut props, 0x0001, 251)?;
-    put_binary(&mut props, 0x0002, Vec::new(alloc))?;
-    put_binary(&mut props, 0x0003, Vec::new(alloc))?;
-    put_binary(&mut props, 0x0004, Vec::new(alloc))?;
+    put_number(alloc, &mut props, PID_TAG_NAMEID_BUCKET_COUNT.id, 251)?;
+    put_binary(&mut props, PID_TAG_NAMEID_STREAM_GUID.id, Vec::new(alloc))?;
+    put_binary(&mut props, PID_TAG_NAMEID_STREAM_ENTRY.id, Vec::new(alloc))?;
+    put_binary(&mut props, PID_TAG_NAMEID_STREAM_STRING.id, Vec::new(alloc))?;
     Ok(props)
 }
 
@@ -80,10 +89,10 @@ pub fn folder_props(alloc: Global, name: &[u8]) -> Result<Props, AllocError>
 {
     let name = name_of(alloc, name)?;
     let mut props = Props::new(alloc);
-    put_text(alloc, &mut props, 0x3001, &name)?;
-    put_number(alloc, &mut props, 0x3602, 0)?;
-    put_number(alloc, &mut props, 0x3603, 0)?;
-    put_truth(alloc, &mut props, 0x360A, false)?;
+    put_text(alloc, &mut props, PID_TAG_DISPLAY_NAME.id, &name)?;
+    put_number(alloc, &mut props, PID_TAG_CONTENT_COUNT.id, 0)?;
+    put_number(alloc, &mut props, PID_TAG_CONTENT_UNREAD_COUNT.id, 0)?;
+    put_truth(alloc, &mut props, PID_TAG_SUBFOLDERS.id, false)?;
     Ok(props)
 }
 
@@ -92,6 +101,6 @@ pub fn root_props(alloc: Global) -> Result<Props, AllocError>
     ensures { IfOk result (λ props. props ≡ root_props) }
 {
     let mut props = folder_props(alloc, b"")?;
-    put_truth(alloc, &mut props, 0x360A, true)?;
+    put_truth(alloc, &mut props, PID_TAG_SUBFOLDERS.id, true)?;
     Ok(props)
 }

@@ -9,7 +9,7 @@ ghost use Rattle.mail_tree.specs.Tree.{StandsAt, Tree, object_at};
 use crate::entries::start_entries;
 use crate::folders::{DELETED, ROOT, SEARCH_ROOT, TOP};
 use crate::writing::write_all;
-use mail_tree::{Place, Places, Sort};
+use mail_tree::{FolderPlace, Places, Sort};
 use mapi_values::Units;
 use node_port::{Counts, NodeRec};
 use pst_base::Nid;
@@ -36,10 +36,10 @@ fn start_counts() -> Counts
 }
 
 /// The place of a plain folder in the root.
-fn place(folder: u32) -> Place
+fn place(folder: u32) -> FolderPlace
     ensures { result ≡ place folder ROOT_ID }
 {
-    Place {
+    FolderPlace {
         nid: Nid { bits: folder },
         parent: Nid { bits: ROOT },
         sort: Sort::Plain,

@@ -3,7 +3,7 @@ use Rattle.mail_draft.proofs.Looking.{shown_still}
 use Rattle.mail_draft.proofs.Passes.{then_says}
 use Rattle.mail_draft.specs.Drafts.{changed_of}
 use Rattle.mail_draft.specs.Outcomes.{outcome_of}
-use Rattle.mail_tree.specs.declared.places.Place.{Place}
+use Rattle.mail_tree.specs.declared.places.FolderPlace.{FolderPlace}
 use Rattle.mail_tree.specs.Settling.{settled}
 use Rattle.mail_messages.specs.Parts.{settling}
 use Rattle.mail_messages.proofs.Calls.{as_at}
@@ -13,5 +13,5 @@ pub returns-clause-answer : goal.returns-clause-answer
 returns-clause-answer g c = λ T s p.
     let f = c.args.from.bits in let D = changed_of c.args.draft in
     then_says changed_of (outcome_of T) (settled T T.places f D) (settling T c.args.to.bits) _ _
-    (as_at changed_of (λ (places : List Place). settled T places f D) _ (sym p) (c.in_ok-draft.ensures.answer T s))
+    (as_at changed_of (λ (places : List FolderPlace). settled T places f D) _ (sym p) (c.in_ok-draft.ensures.answer T s))
     (c.settling.ensures.answer T (shown_still T c.in_ok-draft.ensures.looks s) p)
