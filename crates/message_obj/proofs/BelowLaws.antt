@@ -13,8 +13,7 @@ use Rattle.mapi_values.specs.Messages.{IsMessage, Mes, are_others, is_other, is_
 use Rattle.mapi_values.specs.Tables.{Tab}
 use Rattle.mapi_values.specs.Values.{Val}
 use Rattle.mapi_values.proofs.KeyedLaws.{ascend-lower}
-use Rattle.property_context.proofs.PlaceLaws.{ascend-first}
-use Rattle.node_values.proofs.SubLaws.{flattened-append, without-first}
+use Rattle.node_values.proofs.SubLaws.{ascend-first, flattened-append, without-first}
 use Rattle.node_values.specs.Subnodes.{contents, ids_ascend, sub_id, subnode, without}
 use Rattle.message_obj.specs.Answers.{ShowsBelow}
 use Rattle.message_obj.specs.Writing.{AddsParts, AddsTable, AreParts, AreTable, LaysBelow, rows_ascend}

@@ -7,4 +7,4 @@ pub returns-then-is_table : goal.returns-then-is_table
 returns-then-is_table c = sym (subnode-gone is_table false c.args.finder.now c.args.id (sym c.is_table.ensures ∙ c.if-is_table.true))
 
 pub returns : goal.returns
-returns c = c.find.ensures ∙ sym (subnode-kept is_table false c.args.finder.now c.args.id (sym c.is_table.ensures ∙ c.if-is_table.false))
+returns c = c.find.ensures.node ∙ sym (subnode-kept is_table false c.args.finder.now c.args.id (sym c.is_table.ensures ∙ c.if-is_table.false))
