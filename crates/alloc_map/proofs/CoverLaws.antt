@@ -1,12 +1,12 @@
 -- What covering one more place does, and how slots that are covered twice are later starts of places that meet.
-use Rattle.std.proofs.Common.{◌≡◌, ◌<◌, ◌≤◌, ◌⊎◌, ◌+◌, ℕ, Bool, true, false, List, [], ◌∷◌, ◌++◌, ◌==◌, ◌%◌, drop, length, get_or, min, Option, Some, None, IfSome, refl, sym, subst, ◌∙◌, inl, inr, arith}
+use Rattle.std.proofs.Common.{◌≡◌, ◌<◌, ◌≤◌, ◌⊎◌, ◌+◌, ℕ, zero, suc, Bool, true, false, List, [], ◌∷◌, ◌++◌, ◌==◌, ◌%◌, drop, length, get_or, min, Option, Some, None, IfSome, refl, sym, subst, ◌∙◌, inl, inr, arith}
 use Rattle.std.proofs.lemmas.Bool.{cases_lt, cases_Bool, true≢false}
 use Rattle.std.proofs.lemmas.List.{drop_more}
 use Rattle.pst_base.specs.declared.places.Place.{Place}
 use Rattle.alloc_map.specs.Covered.{IsCovering, IsLeastOf, IsTwice, IsUsedIn, least_of}
 use Rattle.alloc_map.specs.Rooms.{IsLeast}
 use Rattle.alloc_map.specs.Slots.{AreAll, Becomes, slot_of, slots_in}
-use Rattle.alloc_map.specs.Standing.{fixed_slots, Covers, SomeCovers, IsCovered, Meet, MeetsSome, IsMeeting}
+use Rattle.alloc_map.specs.Standing.{amap_places, fixed_places, fixed_slots, occupied, standing, Covers, SomeCovers, IsCovered, Meet, MeetsSome, IsMeeting}
 
 -- the lesser of the least of P and of Q is the least of both
 pub least_of_both : (P Q R : ℕ → Type 0) → ((s : ℕ) → P s → R s) → ((s : ℕ) → Q s → R s) → ((s : ℕ) → R s → P s ⊎ Q s) → (a b : Option ℕ) → IsLeastOf P a → IsLeastOf Q b → IsLeastOf R (least_of a b)
@@ -38,7 +38,7 @@ within_both (Some a) (Some b) n m e h g = omega arith
 
 -- one more place is covered
 module _ (p : Place) (ps : List Place) (used new : List Bool) (within : slot_of p.ib + slots_in p ≤ length used) (h : IsCovered ps used) (g : Becomes used new (slot_of p.ib) (slots_in p) true) where
-  covered_more : IsCovered (p ∷ ps) new
+  pub covered_more : IsCovered (p ∷ ps) new
   unfolding SomeCovers
   covered_more slot below =
       let small : slot < length used = omega (arith, g.size) in
@@ -126,3 +126,51 @@ fixed_slots_small r = elim (cases_Bool (r % 496 == 128)) [
   | inl e ↦ rw e (omega arith)
   | inr e ↦ rw e (elim (cases_Bool (r % 8 == 0)) [ inl f ↦ rw f (omega arith) | inr f ↦ rw f (omega arith) ])
 ]
+
+pub fixed_slots_some : (r : ℕ) → 8 ≤ fixed_slots r
+fixed_slots_some r = elim (cases_Bool (r % 496 == 128)) [
+  | inl e ↦ rw e (omega arith)
+  | inr e ↦ rw e (elim (cases_Bool (r % 8 == 0)) [ inl f ↦ rw f (omega arith) | inr f ↦ rw f (omega arith) ])
+]
+
+-- ---- places of which some cover a slot
+
+pub covers_first : (ps qs : List Place) (slot : ℕ) → SomeCovers ps slot → SomeCovers (ps ++ qs) slot
+unfolding SomeCovers
+covers_first [] qs slot c = absurd c
+covers_first (p ∷ ps) qs slot (inl c) = inl c
+covers_first (p ∷ ps) qs slot (inr c) = inr (covers_first ps qs slot c)
+
+pub covers_last : (ps qs : List Place) (slot : ℕ) → SomeCovers qs slot → SomeCovers (ps ++ qs) slot
+unfolding SomeCovers
+covers_last [] qs slot c = c
+covers_last (p ∷ ps) qs slot c = inr (covers_last ps qs slot c)
+
+pub covers_either : (ps qs : List Place) (slot : ℕ) → SomeCovers (ps ++ qs) slot → SomeCovers ps slot ⊎ SomeCovers qs slot
+unfolding SomeCovers
+covers_either [] qs slot c = inr c
+covers_either (p ∷ ps) qs slot (inl c) = inl (inl c)
+covers_either (p ∷ ps) qs slot (inr c) = elim (covers_either ps qs slot c) [ inl a ↦ inl (inr a) | inr b ↦ inr b ]
+
+-- an AMap page is a fixed page, or the first of several
+amap_fixed : (r slot : ℕ) → SomeCovers (amap_places r) slot → SomeCovers (fixed_places r) slot
+unfolding SomeCovers amap_places fixed_places
+amap_fixed zero slot c = c
+amap_fixed (suc r) slot (inl c) = let n = fixed_slots_some r in inl (record { begins = c.begins; ends = omega (arith, c.ends, n) })
+amap_fixed (suc r) slot (inr c) = inr (amap_fixed r slot c)
+
+-- once all fixed pages are covered too, just the slots of the places and of the fixed pages are
+pub covered_fixed : (places : List Place) (r : ℕ) (used : List Bool) → IsCovered (fixed_places r ++ standing places r) used → IsCovered (occupied places r) used
+covered_fixed places r used h slot below = (
+  λ on. elim (covers_either (fixed_places r) (standing places r) slot ((h slot below).0 on)) [
+    | inl c ↦ covers_last places (fixed_places r) slot c
+    | inr c ↦ elim (covers_either places (amap_places r) slot c) [
+      | inl own ↦ covers_first places (fixed_places r) slot own
+      | inr map ↦ covers_last places (fixed_places r) slot (amap_fixed r slot map)
+    ]
+  ],
+  λ c. (h slot below).1 (elim (covers_either places (fixed_places r) slot c) [
+    | inl own ↦ covers_last (fixed_places r) (standing places r) slot (covers_first places (amap_places r) slot own)
+    | inr page ↦ covers_first (fixed_places r) (standing places r) slot page
+  ]),
+)

@@ -1,8 +1,8 @@
 -- What stays true of the used slots and their bounds, and where places begin.
-use Rattle.std.proofs.Common.{◌≡◌, ◌+◌, ◌/◌, ℕ, Bool, true, false, List, sym, subst, ◌∙◌, arith}
+use Rattle.std.proofs.Common.{◌≡◌, ◌+◌, ◌/◌, ℕ, Bool, true, false, List, length, sym, subst, ◌∙◌, arith}
 use Rattle.std.proofs.lemmas.Bool.{or_parts}
 use Rattle.alloc_map.specs.Bounds.{Raises}
-use Rattle.alloc_map.specs.Rooms.{IsLeast, IsRoomAtEighth, IsSound}
+use Rattle.alloc_map.specs.Rooms.{AreBounds, IsLeast, IsRoomAtEighth, IsSound}
 use Rattle.alloc_map.specs.Slots.{is_used, Becomes, BeginsLeast, IsPageRoom, Unites, slot_of, start_of}
 use Rattle.alloc_map.proofs.RoomLaws.{AreBounds-used, ArePageBounds-used, AreBounds-freed, ArePageBounds-freed}
 
@@ -14,6 +14,17 @@ IsSound-used {used} {new} {at} {k} {bounds} {pages} h g = record {
   paged = h.paged;
   bounded = AreBounds-used bounds g h.bounded;
   page_bounded = ArePageBounds-used pages g h.page_bounded;
+}
+
+-- a search may lower bounds
+pub IsSound-lowered : {used : List Bool} {bounds pages bounds' : List ℕ} → IsSound used bounds pages → length bounds' ≡ length bounds → AreBounds used bounds' → IsSound used bounds' pages
+IsSound-lowered h same sound = record {
+  whole = rw same h.whole;
+  some = rw same h.some;
+  few = rw same h.few;
+  paged = rw same h.paged;
+  bounded = sound;
+  page_bounded = h.page_bounded;
 }
 
 pub IsSound-freed : {used new : List Bool} {at k : ℕ} {bounds pages bounds' pages' : List ℕ} → IsSound used bounds pages → Becomes used new at k false → Raises bounds bounds' (at / 3968) ((at + k + 3967) / 3968) → Raises pages pages' (at / 3968) ((at + k + 3967) / 3968) → IsSound new bounds' pages'

@@ -1,4 +1,4 @@
--- The places that stand in a file, and which two of them meet.
+-- The places that stand in a file, which two of them meet, and which slots they take.
 use Rattle.std.specs.Prelude.{◌≡◌, ◌==◌, ◌<◌, ◌≤◌, ◌⊎◌, ◌↔◌, ℕ, Bool, true, length, suc, zero, ◌+◌, ◌*◌, ◌%◌, List, [], ◌∷◌, ◌++◌, if◌then◌else◌}
 use Rattle.pst_base.specs.declared.places.Place.{Place}
 use Rattle.pst_base.specs.declared.stops.MemOr.{MemOr}
@@ -19,9 +19,22 @@ unfoldable pub fixed_places : ℕ → List Place
 fixed_places zero = []
 fixed_places (suc r) = fixed_place r ∷ fixed_places r
 
--- the places that stand in so many regions: those that are given, and the fixed pages
+-- the AMap page of a region, its first 512 bytes
+abbrev pub amap_place : ℕ → Place
+amap_place r = record { ib = start_of (3968 * r); len = 512 }
+
+-- those of the first regions
+unfoldable pub amap_places : ℕ → List Place
+amap_places zero = []
+amap_places (suc r) = amap_place r ∷ amap_places r
+
+-- the places of which no two may meet in so many regions: those that are given, and the AMap pages
 abbrev pub standing : List Place → ℕ → List Place
-standing places regions = places ++ fixed_places regions
+standing places regions = places ++ amap_places regions
+
+-- the places whose slots are used in so many regions: those that are given, and all fixed pages
+abbrev pub occupied : List Place → ℕ → List Place
+occupied places regions = places ++ fixed_places regions
 
 -- the slot is one of the place's
 pub record Covers (p : Place) (slot : ℕ) : Type 0 where

@@ -32,6 +32,13 @@ impl Bits {
         })
     }
 
+    /// How many bytes hold them.
+    pub(crate) fn bytes(&self) -> usize
+        ensures { 8 * result ≡ length self.now }
+    {
+        self.bytes.len()
+    }
+
     /// The bit at an index.
     #[inline]
     pub(crate) fn get(&self, at: usize) -> bool

@@ -1,7 +1,8 @@
 //! Places covered one after another, and the least slot that two of them cover.
-ghost use Rattle.std.specs.Prelude.{◌≡◌, ◌<◌, ◌≤◌, ◌*◌, ◌+◌, ◌^◌, true, false, length, All};
+ghost use Rattle.std.specs.Prelude.{◌≡◌, ◌<◌, ◌≤◌, ◌*◌, ◌+◌, ◌^◌, ◌++◌, List, true, false, length, All};
 ghost use Rattle.alloc_map.specs.Slots.{is_used, AreAll, Becomes, IsLaid, slot_of, slots_in, start_of};
-ghost use Rattle.alloc_map.specs.Standing.{fixed_slots, fixed_places, standing};
+ghost use Rattle.alloc_map.specs.Standing.{IsCovered, amap_places, fixed_places, fixed_slots, standing};
+ghost use Rattle.pst_base.specs.declared.places.Place.{Place as Places};
 ghost use Rattle.alloc_map.specs.Covered.{IsCovering, IsLeastOf, IsUsedIn, least_of};
 
 use crate::bits::Bits;
@@ -72,22 +73,34 @@ fn least_of(one: Option<usize>, other: Option<usize>) -> Option<usize>
     }
 }
 
-/// Covers the fixed pages of all regions, and gives the least slot that is covered twice.
-fn cover_fixed(used: &mut Bits, regions: usize) -> Option<usize>
+/// Covers the AMap pages of all regions, and gives the least slot that is covered twice.
+fn cover_amaps(used: &mut Bits, regions: usize) -> Option<usize>
     requires size { length used.old ≡ 3968 * regions }
     requires few { regions ≤ 8192 }
     requires clear { AreAll used.old 0 (3968 * regions) false }
     ensures size { length used.new ≡ length used.old }
-    ensures covering { IsCovering (fixed_places regions) used.new result }
+    ensures covering { IsCovering (amap_places regions) used.new result }
 {
     let mut twice = None;
     for region in 0..regions {
-        twice = least_of(twice, cover(used, REGION * region, fixed_slots(region)));
+        twice = least_of(twice, cover(used, REGION * region, 8));
     }
     twice
 }
 
-/// Covers the fixed pages of all regions, which are clear, and then the places, and gives the least slot that is covered twice.
+/// Fills the fixed pages of all regions, on which places may stand.
+pub(crate) fn fill_fixed(used: &mut Bits, regions: usize)
+    requires size { length used.old ≡ 3968 * regions }
+    requires few { regions ≤ 8192 }
+    ensures size { length used.new ≡ length used.old }
+    ensures covered { (places : List Places) → IsCovered places used.old → IsCovered (fixed_places regions ++ places) used.new }
+{
+    for region in 0..regions {
+        used.fill(REGION * region, fixed_slots(region), true);
+    }
+}
+
+/// Covers the AMap pages of all regions, which are clear, and then the places, and gives the least slot that is covered twice.
 pub(crate) fn cover_all(used: &mut Bits, places: &[Place], regions: usize) -> Option<usize>
     requires size { length used.old ≡ 3968 * regions }
     requires few { regions ≤ 8192 }
@@ -96,7 +109,7 @@ pub(crate) fn cover_all(used: &mut Bits, places: &[Place], regions: usize) -> Op
     ensures size { length used.new ≡ length used.old }
     ensures covering { IsCovering (standing places.now regions) used.new result }
 {
-    let mut twice = cover_fixed(used, regions);
+    let mut twice = cover_amaps(used, regions);
     let mut at = places.len();
     while at > 0 {
         at -= 1;

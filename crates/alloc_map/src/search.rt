@@ -10,7 +10,7 @@ use crate::bounds::Bounds;
 pub(crate) const REGION: usize = 3968;
 
 /// How many slots at the start of a region are never given.
-const HEAD: usize = 32;
+pub(crate) const HEAD: usize = 32;
 
 /// The first of the least n free slots in a row of a region.
 fn find_in_region(used: &Bits, region: usize, n: usize) -> Option<usize>

@@ -3,11 +3,12 @@ ghost use Rattle.std.specs.Prelude.{◌≡◌, ◌<◌, ◌≤◌, ◌*◌, ◌/
 ghost use Rattle.alloc_map.specs.Slots.{AreAll, Becomes, BeginsLeast, IsLaid, IsPageRoom, IsRoom, Unites, regions_of, slot_of, slots_in};
 ghost use Rattle.alloc_map.specs.Cells.{free_cells_of};
 ghost use Rattle.alloc_map.specs.Maps.{IsMapPage};
-ghost use Rattle.alloc_map.specs.Standing.{IsCovered, IsMeeting, StopsAtOverlap, standing};
+ghost use Rattle.alloc_map.specs.Standing.{IsCovered, IsMeeting, StopsAtOverlap, occupied, standing};
 
 use crate::bits::Bits;
 use crate::bounds::Bounds;
-use crate::cover::{cover_all, slot_of, slots_in, start_of};
+use crate::cells::Cells;
+use crate::cover::{cover_all, fill_fixed, slot_of, slots_in, start_of};
 use crate::overlap::Overlap;
 use crate::search::{REGION, find_block, find_page};
 use page_frame::seal;
@@ -18,7 +19,7 @@ use std::marker::Model;
 /// The set of used slots of from 1 to 8192 regions. Contracts see a list with a Bool for each slot.
 #[derive(Debug, Drop)]
 pub struct Slots {
-    used: Bits,
+    used: Cells,
     bounds: Bounds,
     pages: Bounds,
 }
@@ -37,13 +38,13 @@ impl Model for Slots {
 impl Slots {
     /// The used slots of a number of regions, from 1 to 8192, in which just the places given and the fixed pages stand. Each place is made of whole slots of these regions, and one without bytes is none.
     ///
-    /// `Refused` where two places meet, or one meets a fixed page: it names the least start of the later of such two.
+    /// `Refused` where two places meet, or one meets an AMap page: it names the least start of the later of such two. A place may stand on a fixed page of another kind, as in files that others wrote.
     pub fn rebuild(alloc: Global, places: &[Place], regions: u32) -> Result<Slots, MemOr<Overlap>>
         requires some { 1 ≤ regions }
         requires few { regions ≤ 8192 }
         requires laid { All (IsLaid regions) places.now }
         ensures size { IfOk result (λ slots. length slots ≡ 3968 * regions) }
-        ensures used { IfOk result (IsCovered (standing places.now regions)) }
+        ensures used { IfOk result (IsCovered (occupied places.now regions)) }
         ensures apart { IfOk result (λ _. (slot : ℕ) → IsMeeting (standing places.now regions) slot → ⊥) }
         ensures overlap { IfErr result (StopsAtOverlap (standing places.now regions)) }
     {
@@ -54,6 +55,7 @@ impl Slots {
         if let Some(slot) = cover_all(&mut used, places, regions) {
             return Err(MemOr::Refused(Overlap { ib: start_of(slot) }));
         }
+        fill_fixed(&mut used, regions);
         match Slots::over(alloc, used, regions) {
             Ok(slots) => Ok(slots),
             Err(_) => Err(MemOr::Memory),
@@ -68,7 +70,7 @@ impl Slots {
         ensures { IfOk result (λ slots. slots ≡ used) }
     {
         Ok(Slots {
-            used,
+            used: Cells::new(used),
             bounds: Bounds::new(alloc, regions)?,
             pages: Bounds::new(alloc, regions)?,
         })
@@ -138,14 +140,7 @@ impl Slots {
     pub fn free_cells(&self) -> u64
         ensures { result ≡ free_cells_of self.now }
     {
-        let mut free = 0;
-        for cell in 0..30 * self.bounds.len() {
-            let byte = REGION / 8 * (cell / 30) + 4 + 16 * (cell % 30);
-            if self.used.are_clear(byte, 16) {
-                free += 1;
-            }
-        }
-        free
+        self.used.free()
     }
 
     /// Uses the least free place of a length, a multiple of 64 from 64 to 8192, that lies in one region outside of its first 2048 bytes. `None` where there is none.
@@ -159,7 +154,7 @@ impl Slots {
         ensures same { IfNone result (self.new ≡ self.old) }
     {
         let n = len / 64;
-        let Some(slot) = find_block(&self.used, &mut self.bounds, n as u8) else {
+        let Some(slot) = find_block(self.used.bits(), &mut self.bounds, n as u8) else {
             return None;
         };
         self.used.fill(slot, n, true);
@@ -173,7 +168,7 @@ impl Slots {
         ensures none { IfNone result ((slot : ℕ) → IsPageRoom self.old slot → ⊥) }
         ensures same { IfNone result (self.new ≡ self.old) }
     {
-        let Some(slot) = find_page(&self.used, &mut self.pages) else {
+        let Some(slot) = find_page(self.used.bits(), &mut self.pages) else {
             return None;
         };
         self.used.fill(slot, 8, true);
@@ -187,7 +182,7 @@ impl Slots {
         ensures only { (page : List ℕ) → IsMapPage self.now r page
             → ((i : ℕ) → slice_index page i < 256) → page ≡ result }
     {
-        let body = self.used.region(r as usize);
+        let body = self.used.bits().region(r as usize);
         let ib = start_of(REGION * r as usize);
         let bid = Bid { bits: ib };
         seal(&body, 0x84, Bref { bid, ib })

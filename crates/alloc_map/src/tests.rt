@@ -28,7 +28,7 @@ const fn at(ib: u64, len: u64) -> Place
 
 #[test]
 fn places_that_meet_are_refused(rt: HostRuntime) -> Result<(), Fail> {
-    let rows: [(&[Place], u32, Option<u64>); 12] = [
+    let rows: [(&[Place], u32, Option<u64>); 13] = [
         (&[], 1, None),
         (&[at(19_968, 512), at(20_480, 512)], 1, None),
         (&[at(19_968, 512), at(20_224, 512)], 1, Some(20_224)),
@@ -50,10 +50,11 @@ fn places_that_meet_are_refused(rt: HostRuntime) -> Result<(), Fail> {
         ),
         (&[at(20_480, 0), at(20_416, 128), at(20_480, 0)], 1, None),
         (&[at(17_408, 64)], 1, Some(17_408)),
-        (&[at(18_368, 128)], 1, Some(18_368)),
+        (&[at(17_856, 128)], 1, Some(17_856)),
+        (&[at(17_920, 512)], 1, None),
         (&[at(271_872, 512), at(271_232, 128)], 2, None),
         (&[at(271_296, 128)], 2, Some(271_360)),
-        (&[at(32_524_288, 512)], 129, Some(32_524_288)),
+        (&[at(32_524_288, 512)], 129, None),
     ];
     for (places, regions, meets) in rows {
         assert!(rt; 1 <= regions && regions <= 8192);

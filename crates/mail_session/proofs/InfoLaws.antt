@@ -7,8 +7,8 @@ use Rattle.mail_session.specs.declared.exit.Status.{Status}
 use Rattle.mail_session.specs.declared.exit.Status.TheVariants.{Done, Refused, Disk, Output, Memory}
 use Rattle.pst_header.specs.declared.header.Header.{Header}
 use Rattle.gate_file.specs.Effective.{is_open}
-use Rattle.pst_recover.specs.declared.stops.OpenRefusal.{OpenRefusal}
-use Rattle.pst_recover.specs.Opening.{opening}
+use Rattle.file_layout.specs.declared.stops.OpenRefusal.{OpenRefusal}
+use Rattle.file_layout.specs.Opening.{opening}
 use Rattle.mail_session.specs.Texts.{info_text, refusal_line}
 use Rattle.mail_session.specs.Info.{InfoEnds, Says, info_outcome, outcome_of}
 use Rattle.mail_session.proofs.Disks.{keeps_started, keeps_untouched, keeps_says, keeps_along}

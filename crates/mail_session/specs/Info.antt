@@ -4,8 +4,8 @@ use Rattle.pst_outside.specs.World.{World}
 use Rattle.pst_outside.specs.Calls.{Rose}
 use Rattle.pst_header.specs.declared.header.Header.{Header}
 use Rattle.gate_file.specs.Effective.{is_open}
-use Rattle.pst_recover.specs.declared.stops.OpenRefusal.{OpenRefusal}
-use Rattle.pst_recover.specs.Opening.{opening}
+use Rattle.file_layout.specs.declared.stops.OpenRefusal.{OpenRefusal}
+use Rattle.file_layout.specs.Opening.{opening}
 use Rattle.mail_session.specs.Texts.{info_text, refusal_line}
 use Rattle.mail_session.specs.Worlds.{KeepsDisk}
 use Rattle.mail_session.specs.declared.exit.Status.{Status}

@@ -3,12 +3,13 @@ use Rattle.std.specs.Prelude.{◌≡◌, ◌⊎◌, ℕ, List, [], ◌++◌, tak
 use Rattle.pst_outside.specs.World.{Image, World}
 use Rattle.pst_outside.specs.Calls.{Rose}
 use Rattle.pst_header.specs.declared.header.Header.{Header}
-use Rattle.pst_recover.specs.declared.nodes.NodeLine.{NodeLine}
-use Rattle.pst_recover.specs.declared.stops.OpenRefusal.{OpenRefusal}
-use Rattle.pst_recover.specs.Nodes.{NodeMap, Lays, lines_of}
-use Rattle.pst_recover.specs.Opening.{opening}
-use Rattle.pst_recover.specs.Scan.{Scans, IsRefused}
-use Rattle.pst_recover.specs.Trees.{file_of}
+use Rattle.file_scan.specs.declared.nodes.NodeLine.{NodeLine}
+use Rattle.file_layout.specs.declared.stops.OpenRefusal.{OpenRefusal}
+use Rattle.file_layout.specs.Nodes.{NodeMap, Lays}
+use Rattle.file_scan.specs.Lines.{lines_of}
+use Rattle.file_layout.specs.Opening.{opening}
+use Rattle.file_scan.specs.Scan.{Scans, IsRefused}
+use Rattle.file_layout.specs.Trees.{file_of}
 use Rattle.mail_session.specs.Texts.{nodes_text, refusal_line}
 use Rattle.mail_session.specs.Worlds.{KeepsDisk}
 use Rattle.mail_session.specs.declared.exit.ChangedAt.{ChangedAt}

@@ -9,13 +9,13 @@ use Rattle.pst_base.specs.declared.stops.PageFault.TheVariants.{Kind, Crc as Bad
 use Rattle.block_frame.specs.declared.block.BlockFault.TheVariants as block_faults
 use Rattle.file_blocks.specs.declared.check.BlockRefusal.{BlockRefusal}
 use Rattle.file_blocks.specs.declared.check.BlockRefusal.TheVariants as blocks
-use Rattle.pst_recover.specs.declared.nodes.NodeLine.{NodeLine}
-use Rattle.pst_recover.specs.declared.stops.NodeFault.{NodeFault}
-use Rattle.pst_recover.specs.declared.stops.NodeFault.TheVariants.{Deep, Many, Long}
-use Rattle.pst_recover.specs.declared.stops.PageRefusal.{PageRefusal}
-use Rattle.pst_recover.specs.declared.stops.PageRefusal.TheVariants.{Outside, Faulty}
-use Rattle.pst_recover.specs.declared.stops.OpenRefusal.{OpenRefusal}
-use Rattle.pst_recover.specs.declared.stops.OpenRefusal.TheVariants as refusals
+use Rattle.file_scan.specs.declared.nodes.NodeLine.{NodeLine}
+use Rattle.file_layout.specs.declared.stops.NodeFault.{NodeFault}
+use Rattle.file_layout.specs.declared.stops.NodeFault.TheVariants.{Deep, Many, Long}
+use Rattle.file_layout.specs.declared.stops.PageRefusal.{PageRefusal}
+use Rattle.file_layout.specs.declared.stops.PageRefusal.TheVariants.{Outside, Faulty}
+use Rattle.file_layout.specs.declared.stops.OpenRefusal.{OpenRefusal}
+use Rattle.file_layout.specs.declared.stops.OpenRefusal.TheVariants as refusals
 
 -- the number in lower-case hexadecimal digits, behind `0x`
 abbrev pub hex : ℕ → List ℕ

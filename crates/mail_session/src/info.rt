@@ -3,8 +3,8 @@ ghost use Rattle.mail_session.specs.Info.{InfoEnds, Says};
 
 use crate::exit::Status;
 use crate::texts::{info_text, refusal_line};
+use file_layout::{OpenStop, open_header};
 use pst_outside::{Failed, Outside, say_all};
-use pst_recover::{OpenStop, open_header};
 use std::alloc::{AllocError, Global};
 
 /// Says a text, and answers the status that is meant, or that the output failed.

@@ -4,8 +4,9 @@ ghost use Rattle.mail_session.specs.Nodes.{NodesEnds};
 use crate::exit::{ChangedAt, Status};
 use crate::info::say;
 use crate::texts::{nodes_text, refusal_line};
+use file_layout::OpenStop;
+use file_scan::scan_nodes;
 use pst_outside::Outside;
-use pst_recover::{OpenStop, scan_nodes};
 use std::alloc::{AllocError, Global};
 
 /// Says a line for each node, ascending by id, and how many they are, or the line of a refusal. Writes nothing.

@@ -1,9 +1,10 @@
 //! Known lines.
 use crate::texts::{nodes_text, refusal_line};
 use block_frame::BlockFault;
+use file_layout::{BlockRefusal, NodeFault, OpenRefusal, PageRefusal};
+use file_scan::NodeLine;
 use pst_base::{Bid, Nid, PageFault};
 use pst_header::HeaderRefusal;
-use pst_recover::{BlockRefusal, NodeFault, NodeLine, OpenRefusal, PageRefusal};
 use std::process::Abort;
 use std::test::Fail;
 

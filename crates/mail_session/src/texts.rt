@@ -4,9 +4,10 @@ ghost use Rattle.std.specs.String.{string_bytes};
 ghost use Rattle.mail_session.specs.Texts.{info_text, gate_text, refusal_line, header_line, crc_text, page_word, block_word, node_word, node_line, nodes_text};
 
 use block_frame::BlockFault;
+use file_layout::{BlockRefusal, NodeFault, OpenRefusal, PageRefusal};
+use file_scan::NodeLine;
 use pst_base::PageFault;
 use pst_header::{Header, HeaderRefusal};
-use pst_recover::{BlockRefusal, NodeFault, NodeLine, OpenRefusal, PageRefusal};
 use std::alloc::{AllocError, Global};
 use std::fmt::Write;
 

@@ -2,14 +2,14 @@ use Rattle.std.proofs.Common.{◌∙◌, ◌-◌, ◌+◌, ◌<◌, ◌≤◌, �
 use Rattle.std.proofs.lemmas.List.{get_or_default}
 use Rattle.pst_base.specs.declared.places.Place.{Place}
 use Rattle.alloc_map.specs.Slots.{slot_of, slots_in}
-use Rattle.alloc_map.specs.Standing.{fixed_places}
+use Rattle.alloc_map.specs.Standing.{amap_places}
 use Rattle.alloc_map.proofs.CoverLaws.{cover_more, drop_place}
 use Rattle.alloc_map.proofs.cover.cover_all.Goals as goal
 
 pub loop-at-preserved : goal.loop-at-preserved
 loop-at-preserved c =
     let places = c.args.places.now in
-    let fixed = fixed_places c.args.regions in
+    let fixed = amap_places c.args.regions in
     let below : c.loop-at.at - 1 < length places = omega arith in
     let p : Place = get_or places (c.loop-at.at - 1) (record { ib = 0; len = 0 }) in
     let was = c.loop-at.invariant in

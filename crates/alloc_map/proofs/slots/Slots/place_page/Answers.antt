@@ -5,7 +5,7 @@ use Rattle.alloc_map.proofs.SlotLaws.{IsSound-used, least_begins, least_page_roo
 use Rattle.alloc_map.proofs.slots.Slots.place_page.Goals as goal
 
 pub returns-in_default-clause-none : goal.returns-in_default-clause-none
-returns-in_default-clause-none c = rw (← c.self.view_is) (λ slot room. c.in_default.ensures.none slot (room_at_eighth c.self.inside.used slot room))
+returns-in_default-clause-none c = rw (← c.self.view_is) (λ slot room. (rw c.bits.ensures at c.in_default.ensures.none) slot (room_at_eighth c.self.inside.used slot room))
 
 pub invariant_of-self-2 : goal.invariant_of-self-2
 invariant_of-self-2 c =
@@ -17,9 +17,9 @@ invariant_of-self-2 c =
       few = was.few;
       paged = found.same ∙ was.paged;
       bounded = was.bounded;
-      page_bounded = found.sound;
+      page_bounded = rw c.bits.ensures at found.sound;
     } in
     IsSound-used sound c.fill.ensures
 
 pub returns-clause-least : goal.returns-clause-least
-returns-clause-least c = rw (← c.self.view_is) (least_begins (IsPageRoom c.self.inside.used) c.in-Some.slot c.start_of.result c.start_of.ensures (least_page_room c.self.inside.used c.in-Some.slot c.in-Some.ensures.some))
+returns-clause-least c = rw (← c.self.view_is) (least_begins (IsPageRoom c.self.inside.used) c.in-Some.slot c.start_of.result c.start_of.ensures (least_page_room c.self.inside.used c.in-Some.slot (rw c.bits.ensures at c.in-Some.ensures.some)))

@@ -1,0 +1,6 @@
+pub mod Gates
+pub mod PlaceLaws
+pub mod RiseLaws
+pub mod SeatLaws
+pub mod Underway
+pub mod WalkLaws

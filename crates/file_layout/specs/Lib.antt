@@ -1,0 +1,4 @@
+pub mod Nodes
+pub mod Opening
+pub mod Trees
+pub mod Walk

@@ -1,0 +1,4 @@
+pub mod BlockSteps
+pub mod NodeSteps
+pub mod OpeningLaws
+pub mod ScanLaws

@@ -1,0 +1,121 @@
+-- What a scan of a file answers: the lines of the nodes that the file lays, or why it lays none.
+use Rattle.std.specs.Prelude.{◌≡◌, ◌⊎◌, ◌≤◌, ◌<◌, ℕ, List, [], ◌∷◌, length, Option, Some, None, Ok, Err}
+use Rattle.pst_base.specs.declared.ids.Bid.{Bid}
+use Rattle.pst_base.specs.Ids.{key_of}
+use Rattle.pst_outside.specs.World.{Image}
+use Rattle.pst_header.specs.declared.header.Header.{Header}
+use Rattle.alloc_map.specs.Standing.{standing, IsOverlap}
+use Rattle.btree_pages.specs.declared.entry.BlockEntry.{BlockEntry}
+use Rattle.btree_pages.specs.declared.entry.NodeEntry.{NodeEntry}
+use Rattle.data_tree.specs.declared.source.TreeStop.{TreeStop}
+use Rattle.data_tree.specs.declared.source.TreeStop.TheVariants as tree_stops
+use Rattle.file_blocks.specs.declared.check.BlockRefusal.{BlockRefusal}
+use Rattle.file_blocks.specs.declared.check.BlockRefusal.TheVariants.{Form}
+use Rattle.file_blocks.specs.Blocks.{data_at, Stands, AllStand, entry_with, found_in}
+use Rattle.file_scan.specs.declared.nodes.NodeLine.{NodeLine}
+use Rattle.file_layout.specs.declared.stops.NodeFault.{NodeFault}
+use Rattle.file_layout.specs.declared.stops.NodeFault.TheVariants as faults
+use Rattle.file_layout.specs.declared.stops.OpenRefusal.{OpenRefusal}
+use Rattle.file_layout.specs.declared.stops.OpenRefusal.TheVariants as refusals
+use Rattle.file_layout.specs.declared.stops.OpenStop.{OpenStop}
+use Rattle.file_layout.specs.declared.stops.OpenStop.TheVariants.{Refused, Fault, Changed, Memory}
+use Rattle.file_layout.specs.Nodes.{Node, NodeMap, block_tree, node_tree, blocks_in, nodes_in, node_at, places_of, LARGEST, regions_to, Lays}
+use Rattle.file_scan.specs.Lines.{lines_of}
+use Rattle.file_layout.specs.Opening.{opening}
+use Rattle.file_layout.specs.Trees.{file_of, Found, IsWhole}
+use Rattle.file_layout.specs.Walk.{IsBadPage}
+
+-- the files open with a header, and the store's file lays a node map of these lines
+pub record Scans (image : Image) (lines : List NodeLine) : Type 0 where
+  pub header : Header
+  pub opened : opening image.main image.side ≡ Ok header
+  pub nodes : NodeMap
+  pub lays : Lays header (file_of image) nodes
+  pub listed : lines ≡ lines_of nodes
+
+-- the files open with a header, and something is so by which the store's file lays no node map
+pub record IsFaulty (image : Image) (P : Header → List ℕ → Type 0) : Type 0 where
+  pub header : Header
+  pub opened : opening image.main image.side ≡ Ok header
+  pub fault : P header (file_of image)
+  pub none : (nodes : NodeMap) → Lays header (file_of image) nodes → ⊥
+
+-- ---- the blocks
+
+-- the first of these entries that names no whole block names one at ib, with this fault
+abbrev pub IsFirstBad : List ℕ → ℕ → List BlockEntry → ℕ → BlockRefusal → Type 0
+IsFirstBad file eof [] ib fault = ⊥
+IsFirstBad file eof (e ∷ es) ib fault =
+    ((e.at.ib ≡ ib) × (data_at file eof e ≡ Err fault)) ⊎ (Stands file eof e × IsFirstBad file eof es ib fault)
+
+-- the block tree is whole, and the first block that isn't stands at ib
+pub record HasBadBlock (header : Header) (file : List ℕ) (ib : ℕ) (fault : BlockRefusal) : Type 0 where
+  pub blocks : Found
+  pub pages : IsWhole (block_tree file header.eof) header.bbt blocks
+  pub first : IsFirstBad file header.eof (blocks_in blocks) ib fault
+
+-- ---- the nodes
+
+-- the first of these entries that leads to no node is that of this id, and stops so
+abbrev pub IsFirstStop : (ℕ → Option (List ℕ)) → ℕ → List NodeEntry → ℕ → TreeStop → Type 0
+IsFirstStop find eof [] nid stop = ⊥
+IsFirstStop find eof (e ∷ es) nid stop =
+    (((e.nid).bits ≡ nid) × (node_at find eof e ≡ Err stop)) ⊎ ((n : Node) × (node_at find eof e ≡ Ok n) × IsFirstStop find eof es nid stop)
+
+-- both trees and all blocks are whole, and the first node that isn't stops so
+pub record HasBadNode (header : Header) (file : List ℕ) (nid : ℕ) (stop : TreeStop) : Type 0 where
+  pub blocks : Found
+  pub block_pages : IsWhole (block_tree file header.eof) header.bbt blocks
+  pub stand : AllStand file header.eof (blocks_in blocks)
+  pub nodes : Found
+  pub node_pages : IsWhole (node_tree file header.eof) header.nbt nodes
+  pub first : IsFirstStop (found_in file (blocks_in blocks)) header.eof (nodes_in nodes) nid stop
+
+-- where an entry says that its block begins
+abbrev pub ib_of : Option BlockEntry → ℕ
+ib_of None = 0
+ib_of (Some e) = e.at.ib
+
+-- the same, where the stop is that a block has another form than it is read by: the block begins at ib
+pub record HasBadForm (header : Header) (file : List ℕ) (ib : ℕ) : Type 0 where
+  pub nid : ℕ
+  pub bid : Bid
+  pub bad : HasBadNode header file nid (tree_stops.Form bid)
+  pub place : ib ≡ ib_of (entry_with (key_of bid.bits) (blocks_in bad.blocks))
+
+abbrev pub stop_of : NodeFault → TreeStop
+stop_of faults.Deep = tree_stops.Deep
+stop_of faults.Many = tree_stops.Many
+stop_of faults.Long = tree_stops.Long
+
+-- ---- the places
+
+-- both trees are whole, and of the places of their pages and blocks, or of the fixed pages, two meet: the least later start is ib
+pub record HasMeeting (header : Header) (file : List ℕ) (ib : ℕ) : Type 0 where
+  pub blocks : Found
+  pub block_pages : IsWhole (block_tree file header.eof) header.bbt blocks
+  pub nodes : Found
+  pub node_pages : IsWhole (node_tree file header.eof) header.nbt nodes
+  pub meet : IsOverlap (standing (places_of blocks nodes) (regions_to header.eof)) ib
+
+-- ---- the answers
+
+-- what a refusal says of the files
+abbrev pub IsRefused : Image → OpenRefusal → Type 0
+IsRefused image (refusals.Truncated len eof) = IsFaulty image (λ header file. (len ≡ length image.main) × (eof ≡ header.eof) × (len < eof))
+IsRefused image (refusals.Large eof) = IsFaulty image (λ header file. (eof ≡ header.eof) × (eof ≤ length image.main) × (LARGEST < eof))
+IsRefused image (refusals.Page ib fault) =
+    IsFaulty image (λ header file. IsBadPage (block_tree file header.eof) header.bbt ib fault ⊎ IsBadPage (node_tree file header.eof) header.nbt ib fault)
+IsRefused image (refusals.Block ib Form) = IsFaulty image (λ header file. HasBadForm header file ib)
+IsRefused image (refusals.Block ib fault) = IsFaulty image (λ header file. HasBadBlock header file ib fault)
+IsRefused image (refusals.Missing bid) = IsFaulty image (λ header file. (nid : ℕ) × HasBadNode header file nid (tree_stops.Missing bid))
+IsRefused image (refusals.Overlap ib) = IsFaulty image (λ header file. HasMeeting header file ib)
+IsRefused image (refusals.Node nid fault) = IsFaulty image (λ header file. HasBadNode header file nid.bits (stop_of fault))
+IsRefused image refusal = opening image.main image.side ≡ Err refusal
+
+-- what a stop says of files whose bytes are told: what has passed its check never changes there
+abbrev pub StopsScan : OpenStop → Image → Type 0
+StopsScan Memory image = Unit {0}
+StopsScan Fault image = Unit {0}
+StopsScan (Changed ib stored computed) image = ⊥
+StopsScan (Refused refusal) image = IsRefused image refusal

@@ -1,6 +1,0 @@
-use Rattle.std.proofs.Common.{◌≡◌, ◌++◌, map, take}
-use Rattle.pst_recover.specs.Nodes.{place_of}
-use Rattle.pst_recover.proofs.places.push_blocks.Given as goal
-
-abbrev pub invariant-loop-entry : goal.invariant-loop-entry
-invariant-loop-entry l = l.places.items ≡ l.initial.places.items ++ map place_of (take l.entry-index l.blocks)
