@@ -8,6 +8,7 @@
 mod bits;
 mod bounds;
 mod cells;
+mod count;
 mod cover;
 mod overlap;
 mod search;

@@ -1,5 +1,5 @@
 //! The used slots of a file's regions.
-ghost use Rattle.std.specs.Prelude.{◌≡◌, ◌<◌, ◌≤◌, ◌*◌, ◌/◌, ◌%◌, ◌+◌, ℕ, List, true, false, length, slice_index, All, IfOk, IfErr, IfSome, IfNone};
+ghost use Rattle.std.specs.Prelude.{◌≡◌, ◌<◌, ◌≤◌, ◌*◌, ◌/◌, ◌%◌, ◌+◌, ℕ, List, true, false, not, length, slice_index, count_by, take, All, IfOk, IfErr, IfSome, IfNone};
 ghost use Rattle.alloc_map.specs.Slots.{AreAll, Becomes, BeginsLeast, IsLaid, IsPageRoom, IsRoom, Unites, regions_of, slot_of, slots_in};
 ghost use Rattle.alloc_map.specs.Cells.{free_cells_of};
 ghost use Rattle.alloc_map.specs.Maps.{IsMapPage};
@@ -8,6 +8,7 @@ ghost use Rattle.alloc_map.specs.Standing.{IsCovered, IsMeeting, StopsAtOverlap,
 use crate::bits::Bits;
 use crate::bounds::Bounds;
 use crate::cells::Cells;
+use crate::count::count_clear;
 use crate::cover::{cover_all, fill_fixed, slot_of, slots_in, start_of};
 use crate::overlap::Overlap;
 use crate::search::{REGION, find_block, find_page};
@@ -141,6 +142,14 @@ impl Slots {
         ensures { result ≡ free_cells_of self.now }
     {
         self.used.free()
+    }
+
+    /// How many bytes the free slots of the first regions have.
+    pub fn free_bytes(&self, regions: u32) -> u64
+        requires { regions ≤ regions_of self.now }
+        ensures { result ≡ 64 * count_by not (take (3968 * regions) self.now) }
+    {
+        64 * count_clear(self.used.bits(), REGION * regions as usize) as u64
     }
 
     /// Uses the least free place of a length, a multiple of 64 from 64 to 8192, that lies in one region outside of its first 2048 bytes. `None` where there is none.
