@@ -11,7 +11,6 @@ pub mod Placing
 pub mod Tally
 pub mod Plans
 pub mod Renewing
-pub mod Openings
 pub mod Opened
 pub mod MapPages
 pub mod Saving

@@ -12,8 +12,8 @@ use Rattle.alloc_map.specs.Maps.{IsMapPage}
 use Rattle.node_port.specs.Nodes.{Nodes}
 use Rattle.file_layout.specs.Trees.{IsPlace}
 use Rattle.file_layout.specs.Nodes.{Lays, places_of, regions_to, LARGEST}
-use Rattle.lays_kept.specs.Kept.{Each, IsClear, HoldsEach, Scattered}
-use Rattle.lays_kept.specs.Saved.{region_end, SameTrees, map_pieces, HoldsMaps, last_byte}
+use Rattle.lays_kept.specs.Kept.{Each, SameAt, IsClear, HoldsEach, Scattered}
+use Rattle.lays_kept.specs.Saved.{region_end, SameTrees, map_pieces, HoldsMaps, last_byte, LaysSame, HasMaps}
 use Rattle.lays_kept.specs.Stands.{Maps, FileStands, Commits}
 use Rattle.lays_kept.proofs.Kept.{each_front, lays_kept}
 use Rattle.lays_kept.proofs.Places.{each_append, lays_places, lays_wholes, scattered_same}
@@ -35,6 +35,13 @@ reads_as {old} {new} {sealed} file is = ap reading (take_at sealed (drop 564 fil
 -- and is as long
 pub long_under : {old new : Header} {sealed : List ℕ} (file : List ℕ) → Follows old new sealed → 564 ≤ length (sealed ++ drop 564 file)
 long_under {old} {new} {sealed} file is = omega (arith, is.size, length-append sealed (drop 564 file))
+
+-- the bytes of places stay while others are written, and under another header
+same_through : (old file sealed : List ℕ) (eof : ℕ) → length sealed ≡ 564 → (ps : List Place) → Each (IsPlace eof) ps → Each (SameAt old file) ps → Each (SameAt old (sealed ++ drop 564 file)) ps
+same_through old file sealed eof size [] places same = tt
+same_through old file sealed eof size (p ∷ ps) places same =
+    let above = (places.0).above in
+    (behind sealed file p.ib p.len size (omega (arith, above)) ∙ same.0, same_through old file sealed eof size ps places.1 same.1)
 
 -- ---- the end of the last region
 
@@ -99,6 +106,13 @@ module _ {found bytes : List ℕ} {N : Nodes} {last : List ℕ} (is : FileStands
       (scattered_same (last_byte is.header.eof (region_end n)) bytes file is.header.eof writes is.lays.long_enough places (lays_places is.header bytes is.m is.lays)
       (each_front (λ p. IsClear (last_byte is.header.eof (region_end n)) p.ib p.len) places (amap_places (regions_to is.header.eof)) beside_byte))
 
+  pub unmapped_same : (file : List ℕ) → Lengthened file → Each (SameAt bytes (sealed ++ drop 564 file)) (places_of is.lays.blocks is.lays.nodes)
+  unmapped_same file writes =
+      let places : List Place = places_of is.lays.blocks is.lays.nodes in
+      same_through bytes file sealed is.header.eof follows.size places (lays_places is.header bytes is.m is.lays)
+      (scattered_same (last_byte is.header.eof (region_end n)) bytes file is.header.eof writes is.lays.long_enough places (lays_places is.header bytes is.m is.lays)
+      (each_front (λ p. IsClear (last_byte is.header.eof (region_end n)) p.ib p.len) places (amap_places (regions_to is.header.eof)) beside_byte))
+
   -- the file stands for the same nodes under a header that vouches for no maps and ends with the region
   abbrev pub unmapped_stands : (file : List ℕ) → Lengthened file → HoldsEach file (last_byte is.header.eof (region_end n)) → FileStands found (sealed ++ drop 564 file) N new.indexes
   unmapped_stands file writes holds =
@@ -117,6 +131,18 @@ module _ {found bytes : List ℕ} {N : Nodes} {last : List ℕ} (is : FileStands
         counters = refl;
         maps = inl unmapped;
       }
+
+  -- by the same trees
+  pub unmapped_lays : (file : List ℕ) → Lengthened file → HoldsEach file (last_byte is.header.eof (region_end n)) → LaysSame is.header new bytes (sealed ++ drop 564 file)
+  unmapped_lays file writes holds = record {
+    m = is.m;
+    was = is.lays;
+    is = (unmapped_stands file writes holds).lays;
+    blocks = refl;
+    nodes = refl;
+    trees = follows.trees;
+    bytes = unmapped_same file writes;
+  }
 
   pub unmapped_commits : Commits found Lengthened (λ file. HoldsEach file (last_byte is.header.eof (region_end n))) sealed N last N new.indexes
   unmapped_commits = record { keeps = byte_keeps; makes = unmapped_stands }
@@ -184,6 +210,12 @@ module _ {found bytes : List ℕ} {N : Nodes} {last : List ℕ} (is : FileStands
         free = free ∙ ap (λ l. 64 * count_by not l) (sym whole);
       }
 
+  pub mapped_same : (file : List ℕ) → Mapping file → Each (SameAt bytes (sealed ++ drop 564 file)) (places_of is.lays.blocks is.lays.nodes)
+  mapped_same file writes =
+      let places : List Place = places_of is.lays.blocks is.lays.nodes in
+      same_through bytes file sealed is.header.eof follows.size places (lays_places is.header bytes is.m is.lays)
+      (scattered_same (map_pieces n) bytes file is.header.eof writes is.lays.long_enough places (lays_places is.header bytes is.m is.lays) clear_of_maps)
+
   -- the file stands for the same nodes under a header that vouches for the maps
   abbrev pub mapped_stands : (file : List ℕ) → Mapping file → HoldsMaps used n file → FileStands found (sealed ++ drop 564 file) N new.indexes
   mapped_stands file writes holds = record {
@@ -197,6 +229,22 @@ module _ {found bytes : List ℕ} {N : Nodes} {last : List ℕ} (is : FileStands
     counters = refl;
     maps = inr (inl (valid, mapped file holds));
   }
+
+  -- by the same trees
+  pub mapped_lays : (file : List ℕ) → Mapping file → HoldsMaps used n file → LaysSame is.header new bytes (sealed ++ drop 564 file)
+  mapped_lays file writes holds = record {
+    m = is.m;
+    was = is.lays;
+    is = (mapped_stands file writes holds).lays;
+    blocks = refl;
+    nodes = refl;
+    trees = follows.trees;
+    bytes = mapped_same file writes;
+  }
+
+  -- and with right maps
+  pub mapped_maps : (file : List ℕ) → Mapping file → HoldsMaps used n file → HasMaps new (sealed ++ drop 564 file)
+  mapped_maps file writes holds = record { valid = valid; m = is.m; lays = (mapped_stands file writes holds).lays; maps = mapped file holds }
 
   pub mapped_commits : Commits found Mapping (HoldsMaps used n) sealed N last N new.indexes
   mapped_commits = record { keeps = mapping_keeps; makes = mapped_stands }
