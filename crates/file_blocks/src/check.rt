@@ -53,8 +53,8 @@ impl From<Failed> for BlockStop {
     }
 }
 
-/// Whether so many bytes may stand at a place of a file of `eof` bytes.
-fn has_room(eof: u64, len: usize, ib: u64) -> bool
+/// Whether `len` bytes of a block or a page may stand at a place of a file of `eof` bytes: at a multiple of 64, at or above 4400h, and ending at or before `eof`.
+pub fn has_room(eof: u64, len: usize, ib: u64) -> bool
     requires { len ≤ 8192 }
     ensures { result ≡ has_room eof len ib }
 {
@@ -86,18 +86,20 @@ fn misplaced(eof: u64, entry: BlockEntry) -> Option<BlockRefusal>
     }
 }
 
-/// All bytes of a block in the file, and zeros after them.
-fn bytes_of<W: Outside>(w: &mut W, entry: BlockEntry) -> Result<[u8; 8192], Failed>
+/// Reads all bytes of a block in the file to the front of a buffer.
+fn read_bytes<W: Outside>(
+    w: &mut W,
+    entry: BlockEntry,
+    buffer: &mut [u8; 8192],
+) -> Result<(), Failed>
     requires fits { entry.cb ≤ 8176 }
     requires low { 0x4400 ≤ entry.at.ib }
-    ensures bytes { IfOk result (λ b. (W.view w.new).tells → entry.at.ib + disk_size_of entry.cb ≤ length (W.view w.new).here.main → take (disk_size_of entry.cb) b ≡ take (disk_size_of entry.cb) (drop entry.at.ib (file_of (W.view w.new).here))) }
+    ensures bytes { OnOk result ((W.view w.new).tells → entry.at.ib + disk_size_of entry.cb ≤ length (W.view w.new).here.main → take (disk_size_of entry.cb) buffer.new ≡ take (disk_size_of entry.cb) (drop entry.at.ib (file_of (W.view w.new).here))) }
     ensures cause { OnErr result (Rose (W.view w.old).disk_faults (W.view w.new).disk_faults) }
     ensures same { Untouched (W.view w.old) (W.view w.new) }
 {
-    let mut bytes = [0; LARGEST];
-    let (front, _) = bytes.split_at_mut(disk_size(entry.cb));
-    read_part(w, Part::Main, entry.at.ib, front)?;
-    Ok(bytes)
+    let (front, _) = buffer.split_at_mut(disk_size(entry.cb));
+    read_part(w, Part::Main, entry.at.ib, front)
 }
 
 /// The block that the bytes begin with, or what is wrong with its frame.
@@ -111,11 +113,16 @@ fn framed<'a>(bytes: &'a [u8; 8192], entry: BlockEntry) -> Result<BlockView<'a>,
     }
 }
 
-/// Checks that an entry of the block tree names a whole block of a file of `eof` bytes. It reads the block and writes nothing.
+/// Checks that an entry of the block tree names a whole block of a file of `eof` bytes. It reads the block into the buffer, whose bytes don't matter, and writes nothing.
 ///
 /// `Refused` says the first thing that is wrong with it; `Failed` comes only where the disk failed.
 #[tactic(auto, unfolding(crate::specs::Blocks::data_at))]
-pub fn check_block<W: Outside>(w: &mut W, eof: u64, entry: BlockEntry) -> Result<(), BlockStop>
+pub fn check_block<W: Outside>(
+    w: &mut W,
+    eof: u64,
+    entry: BlockEntry,
+    buffer: &mut [u8; 8192],
+) -> Result<(), BlockStop>
     ensures placed { OnOk result (IsPlaced eof entry) }
     ensures stands { OnOk result (Tells (W.view w.new) eof → Stands (file_of (W.view w.new).here) eof entry) }
     ensures refused { IfErr result (λ stop. Tells (W.view w.new) eof → StopsBlock stop (data_at (file_of (W.view w.new).here) eof entry)) }
@@ -125,8 +132,8 @@ pub fn check_block<W: Outside>(w: &mut W, eof: u64, entry: BlockEntry) -> Result
     if let Some(refusal) = misplaced(eof, entry) {
         return Err(BlockStop::Refused(refusal));
     }
-    let bytes = bytes_of(w, entry)?;
-    match framed(&bytes, entry) {
+    read_bytes(w, entry, buffer)?;
+    match framed(buffer, entry) {
         Ok(_) => Ok(()),
         Err(refusal) => Err(BlockStop::Refused(refusal)),
     }
@@ -148,11 +155,11 @@ pub fn read_block<W: Outside>(
     if let Some(refusal) = misplaced(eof, entry) {
         return Err(MemOr::Refused(BlockStop::Refused(refusal)));
     }
-    let bytes = match bytes_of(w, entry) {
-        Ok(bytes) => bytes,
-        Err(Failed) => return Err(MemOr::Refused(BlockStop::Failed)),
-    };
-    match framed(&bytes, entry) {
+    let mut buffer = [0; LARGEST];
+    if let Err(Failed) = read_bytes(w, entry, &mut buffer) {
+        return Err(MemOr::Refused(BlockStop::Failed));
+    }
+    match framed(&buffer, entry) {
         Ok(view) => Ok(Bytes::from_slice(alloc, view.body())?),
         Err(refusal) => Err(MemOr::Refused(BlockStop::Refused(refusal))),
     }

@@ -11,6 +11,6 @@ mod source;
 #[cfg(test)]
 mod tests;
 
-pub use check::{BlockRefusal, BlockStop, check_block, read_block};
+pub use check::{BlockRefusal, BlockStop, check_block, has_room, read_block};
 pub use entries::find_entry;
 pub use source::FileBlocks;

@@ -89,8 +89,9 @@ fn a_block_is_found_by_its_id_but_for_bit_0(rt: HostRuntime) -> Result<(), Fail>
 #[test]
 fn the_first_thing_that_is_wrong_with_a_block_is_named(rt: HostRuntime) -> Result<(), Fail> {
     let mut w = world(rt.alloc(), None)?;
+    let mut buffer = [0; 8192];
     for entry in entries() {
-        assert_eq!(rt; check_block(&mut w, EOF, entry), Ok(()));
+        assert_eq!(rt; check_block(&mut w, EOF, entry, &mut buffer), Ok(()));
     }
     let (outside, length) = (BlockRefusal::Outside, BlockRefusal::Length);
     let other_length = BlockRefusal::Faulty(BlockFault::Length {
@@ -113,11 +114,15 @@ fn the_first_thing_that_is_wrong_with_a_block_is_named(rt: HostRuntime) -> Resul
         (entry(9, 0x4400, 48), other_id),
     ] {
         let stop = Err(BlockStop::Refused(wanted));
-        assert_eq!(rt; check_block(&mut w, EOF, entry), stop, "{entry:?}");
+        assert_eq!(rt;
+            check_block(&mut w, EOF, entry, &mut buffer),
+            stop,
+            "{entry:?}"
+        );
     }
     let last = entry(12, 0x44c0, 1);
     let stop = Err(BlockStop::Refused(outside));
-    assert_eq!(rt; check_block(&mut w, EOF - 1, last), stop);
+    assert_eq!(rt; check_block(&mut w, EOF - 1, last, &mut buffer), stop);
     Ok(())
 }
 
@@ -128,7 +133,11 @@ fn changed(
     patches: &[(u64, u8)],
 ) -> Result<(Option<MemOr<SourceStop>>, u64), Fail> {
     let mut w = world(rt.alloc(), None)?;
-    assert_eq!(rt; check_block(&mut w, EOF, entry(4, 0x4400, 48)), Ok(()));
+    let mut buffer = [0; 8192];
+    assert_eq!(rt;
+        check_block(&mut w, EOF, entry(4, 0x4400, 48), &mut buffer),
+        Ok(())
+    );
     for (at, byte) in patches {
         assert_eq!(rt; w.write_at(Part::Main, *at, &[*byte]), Ok(()));
     }
@@ -172,7 +181,8 @@ fn a_changed_block_is_told_with_both_numbers(rt: HostRuntime) -> Result<(), Fail
 #[test]
 fn a_dead_disk_has_failed(rt: HostRuntime) -> Result<(), Fail> {
     let mut w = world(rt.alloc(), Some(0))?;
-    let stop = check_block(&mut w, EOF, entry(4, 0x4400, 48));
+    let mut buffer = [0; 8192];
+    let stop = check_block(&mut w, EOF, entry(4, 0x4400, 48), &mut buffer);
     assert_eq!(rt; stop, Err(BlockStop::Failed));
     let entries = entries();
     let mut s = FileBlocks {

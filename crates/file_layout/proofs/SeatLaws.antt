@@ -1,4 +1,4 @@
--- Pages in their seats: where they stand, the order of their faults, and their keys.
+-- Pages in their seats: the order of their faults, and their keys.
 use Rattle.std.proofs.Common.{Bool, true, false, not, ◌≡◌, ◌≢◌, ℕ, suc, ◌+◌, ◌-◌, ◌%◌, ◌<◌, ◌≤◌, ltb, leb, eqb, ◌&&◌, ◌||◌, List, [], ◌∷◌, ◌++◌, length, take, drop, get_or, Option, Some, None, Result, Ok, Err, refl, sym, ap, subst, ◌∙◌, arith, length-drop, length-append, inl, inr, ◌⊎◌, if◌then◌else◌}
 use Rattle.std.proofs.lemmas.Bool.{cases_lt, le-leb, lt-leb, ltb-false, eqb-true, eq-eqb, ne_eqb}
 use Rattle.std.proofs.lemmas.List.{drop-drop, drop_at, drop_all, get_or-map, length-map}
@@ -10,30 +10,7 @@ use Rattle.pst_base.specs.declared.stops.PageFault.TheVariants.{Count, Level, Ke
 use Rattle.btree_pages.specs.Pages.{Page, pieces, size_at, keys, key_in, ascend, is_counted, page_of}
 use Rattle.btree_pages.specs.Pages as pages
 use Rattle.file_layout.specs.declared.tree_pages.Seat.{Seat}
-use Rattle.file_layout.specs.Trees.{is_placed, in_span, may_have, is_wanted, owed, sooner, page_in, page_with}
-
--- ---- where pages stand
-
-pub placed-low : (eof ib : ℕ) → ib < 0x4400 → is_placed eof ib ≡ false
-placed-low eof ib low = rw (lt-leb 0x4400 ib low) refl
-
-pub placed-odd : (eof ib : ℕ) → 0x4400 ≤ ib → ib % 64 ≢ 0 → is_placed eof ib ≡ false
-placed-odd eof ib high odd = rw (le-leb 0x4400 ib high, ne_eqb (ib % 64) 0 odd) refl
-
-pub placed-high : (eof ib : ℕ) → 0x4400 ≤ ib → leb ib (eof - 512) ≡ leb (ib + 512) eof
-placed-high eof ib high = elim (cases_lt eof (ib + 512)) [
-  | inl short ↦
-      let a : leb ib (eof - 512) ≡ false = lt-leb ib (eof - 512) (omega (arith, short, high)) in
-      let b : leb (ib + 512) eof ≡ false = lt-leb (ib + 512) eof short in
-      a ∙ sym b
-  | inr long ↦
-      let a : leb ib (eof - 512) ≡ true = le-leb ib (eof - 512) (omega (arith, long)) in
-      let b : leb (ib + 512) eof ≡ true = le-leb (ib + 512) eof long in
-      a ∙ sym b
-]
-
-pub placed-rest : (eof ib last : ℕ) → 0x4400 ≤ ib → ib % 64 ≡ 0 → last ≡ eof - 512 → leb ib last ≡ is_placed eof ib
-placed-rest eof ib last high whole is = rw (le-leb 0x4400 ib high, eq-eqb (ib % 64) 0 whole, is) (placed-high eof ib high)
+use Rattle.file_layout.specs.Trees.{in_span, may_have, is_wanted, owed, sooner, page_in, page_with}
 
 -- ---- keys
 

@@ -2,7 +2,7 @@
 use Rattle.std.proofs.Common.{◌≡◌, ℕ, zero, suc, ◌+◌, ◌-◌, ◌<◌, ◌≤◌, List, [], ◌∷◌, ◌++◌, length, drop, map, get_or, Option, Some, None, Result, Ok, Err, refl, sym, ap, subst, ◌∙◌, arith, append_assoc, append-nil, inl, inr, ⊎_elim}
 use Rattle.std.proofs.lemmas.List.{drop_all, map-append}
 use Rattle.std.proofs.Math.Seq.{drop-cons}
-use Rattle.pst_base.specs.declared.places.Place.{Place}
+use Rattle.pst_base.specs.declared.ids.Bref.{Bref}
 use Rattle.pst_base.specs.declared.stops.PageFault.{PageFault}
 use Rattle.pst_outside.specs.World.{World}
 use Rattle.pst_outside.specs.Calls.{Untouched}
@@ -48,10 +48,10 @@ deeper kind rule leaf seat b page e inner = by_frame (reading kind seat.at b) e
 -- ---- joining what was found
 
 both-nothing : (f : Found) → both f nothing ≡ f
-both-nothing f = λ i. record { entries = append-nil f.entries i; places = append-nil f.places i }
+both-nothing f = λ i. record { entries = append-nil f.entries i; pages = append-nil f.pages i }
 
 both-both : (f g h : Found) → both (both f g) h ≡ both f (both g h)
-both-both f g h = λ i. record { entries = append_assoc f.entries g.entries h.entries i; places = append_assoc f.places g.places h.places i }
+both-both f g h = λ i. record { entries = append_assoc f.entries g.entries h.entries i; pages = append_assoc f.pages g.pages h.pages i }
 
 after-after : (f g : Found) (r : Result Found BadPage) → after f (after g r) ≡ after (both f g) r
 after-after f g (Ok h) = ap Ok (sym (both-both f g h))
@@ -91,20 +91,20 @@ outside_stops t seat (Refused refusal) out = faulty_stops t seat Outside (Refuse
 
 -- ---- a page's children, of which i were read
 
-pub record Underway {E : Type 0} (entry_of : List ℕ → E) (t : FileTree) (seat : Seat) (page : Page) (i : ℕ) (old_entries entries : List E) (old_places places : List Place) : Type 0 where
+pub record Underway {E : Type 0} (entry_of : List ℕ → E) (t : FileTree) (seat : Seat) (page : Page) (i : ℕ) (old_entries entries : List E) (old_pages pages : List Bref) : Type 0 where
   pub front : Found
   pub rest : walk t seat ≡ after front (children (reading_of t (page.level - 1)) t.rule (page.level - 1) seat.high (drop i page.entries))
-  pub adds : Adds entry_of front old_entries entries old_places places
+  pub adds : Adds entry_of front old_entries entries old_pages pages
 
 -- a page was read, and its place was put down
-pub underway-start : {E : Type 0} (entry_of : List ℕ → E) (t : FileTree) (seat : Seat) (page : Page) (entries : List E) (old_places places : List Place)
-    → page_at t seat ≡ Ok page → (page.level ≡ 0 → ⊥) → places ≡ old_places ++ record { ib = seat.at.ib; len = 512 } ∷ []
-    → Underway entry_of t seat page 0 entries entries old_places places
+pub underway-start : {E : Type 0} (entry_of : List ℕ → E) (t : FileTree) (seat : Seat) (page : Page) (entries : List E) (old_pages pages : List Bref)
+    → page_at t seat ≡ Ok page → (page.level ≡ 0 → ⊥) → pages ≡ old_pages ++ seat.at ∷ []
+    → Underway entry_of t seat page 0 entries entries old_pages pages
 unfolding walk below
-underway-start {E} entry_of t seat page entries old_places places is inner put = record {
+underway-start {E} entry_of t seat page entries old_pages pages is inner put = record {
   front = page_alone seat;
   rest = ap (λ (r : Result Page PageRefusal). through seat r (λ q. below t q.level seat.high q.entries)) is ∙ ap (λ (r : Result Found BadPage). after (page_alone seat) r) (by_level page.level refl inner);
-  adds = record { entries = sym (append-nil entries); places = put };
+  adds = record { entries = sym (append-nil entries); pages = put };
 }
   where
     by_level : (l : ℕ) → page.level ≡ l → (l ≡ 0 → ⊥) → below t l seat.high page.entries ≡ children (reading_of t (l - 1)) t.rule (l - 1) seat.high page.entries
@@ -112,25 +112,25 @@ underway-start {E} entry_of t seat page entries old_places places is inner put =
     by_level (suc n) e h = let one : suc n - 1 ≡ n = omega arith in rw one refl
 
 -- a leaf was read
-pub leaf-end : {E : Type 0} (entry_of : List ℕ → E) (t : FileTree) (seat : Seat) (page : Page) (old_entries entries : List E) (old_places places : List Place)
-    → page_at t seat ≡ Ok page → page.level ≡ 0 → places ≡ old_places ++ record { ib = seat.at.ib; len = 512 } ∷ [] → entries ≡ old_entries ++ map entry_of page.entries
-    → (found : Found) × (walk t seat ≡ Ok found) × Adds entry_of found old_entries entries old_places places
+pub leaf-end : {E : Type 0} (entry_of : List ℕ → E) (t : FileTree) (seat : Seat) (page : Page) (old_entries entries : List E) (old_pages pages : List Bref)
+    → page_at t seat ≡ Ok page → page.level ≡ 0 → pages ≡ old_pages ++ seat.at ∷ [] → entries ≡ old_entries ++ map entry_of page.entries
+    → (found : Found) × (walk t seat ≡ Ok found) × Adds entry_of found old_entries entries old_pages pages
 unfolding walk below
-leaf-end {E} entry_of t seat page old_entries entries old_places places is leaf put more =
-    (both (page_alone seat) (leaf_of page.entries), rw (is, leaf) refl, record { entries = more; places = put })
+leaf-end {E} entry_of t seat page old_entries entries old_pages pages is leaf put more =
+    (both (page_alone seat) (leaf_of page.entries), rw (is, leaf) refl, record { entries = more; pages = put })
 
 -- the entries from a place on
 from_here : (entries : List (List ℕ)) (i : ℕ) → i < length entries → drop i entries ≡ get_or entries i [] ∷ drop (i + 1) entries
 from_here entries i h = let e : suc i ≡ i + 1 = omega arith in drop-cons entries i [] h ∙ ap (λ (k : ℕ). get_or entries i [] ∷ drop k entries) e
 
 -- one child more
-pub underway-next : {E : Type 0} (entry_of : List ℕ → E) (t : FileTree) (seat : Seat) (page : Page) (i : ℕ) (old_entries entries new_entries : List E) (old_places places new_places : List Place) (first : Found) (child : Seat)
-    → Underway entry_of t seat page i old_entries entries old_places places → i < length page.entries
+pub underway-next : {E : Type 0} (entry_of : List ℕ → E) (t : FileTree) (seat : Seat) (page : Page) (i : ℕ) (old_entries entries new_entries : List E) (old_pages pages new_pages : List Bref) (first : Found) (child : Seat)
+    → Underway entry_of t seat page i old_entries entries old_pages pages → i < length page.entries
     → child ≡ child_of t.rule (page.level - 1) seat.high (get_or page.entries i []) (drop (i + 1) page.entries)
-    → walk t child ≡ Ok first → Adds entry_of first entries new_entries places new_places
-    → Underway entry_of t seat page (i + 1) old_entries new_entries old_places new_places
+    → walk t child ≡ Ok first → Adds entry_of first entries new_entries pages new_pages
+    → Underway entry_of t seat page (i + 1) old_entries new_entries old_pages new_pages
 unfolding children
-underway-next {E} entry_of t seat page i old_entries entries new_entries old_places places new_places first child under within is read adds =
+underway-next {E} entry_of t seat page i old_entries entries new_entries old_pages pages new_pages first child under within is read adds =
     let n : ℕ = page.level - 1 in
     let later : Result Found BadPage = children (reading_of t n) t.rule n seat.high (drop (i + 1) page.entries) in
     let wants : child.level ≡ Some n = ap (λ (s : Seat). s.level) is in
@@ -144,17 +144,17 @@ underway-next {E} entry_of t seat page i old_entries entries new_entries old_pla
       adds = record {
         entries = adds.entries ∙ ap (λ (l : List E). l ++ map entry_of first.entries) under.adds.entries ∙ append_assoc old_entries (map entry_of under.front.entries) (map entry_of first.entries)
             ∙ ap (λ (l : List E). old_entries ++ l) (sym (map-append entry_of under.front.entries first.entries));
-        places = adds.places ∙ ap (λ (l : List Place). l ++ first.places) under.adds.places ∙ append_assoc old_places under.front.places first.places;
+        pages = adds.pages ∙ ap (λ (l : List Bref). l ++ first.pages) under.adds.pages ∙ append_assoc old_pages under.front.pages first.pages;
       };
     }
 
 -- a child where the reading stops
-pub underway-stop : {E : Type 0} (entry_of : List ℕ → E) (t : FileTree) (seat : Seat) (page : Page) (i : ℕ) (old_entries entries : List E) (old_places places : List Place) (bad : BadPage) (child : Seat)
-    → Underway entry_of t seat page i old_entries entries old_places places → i < length page.entries
+pub underway-stop : {E : Type 0} (entry_of : List ℕ → E) (t : FileTree) (seat : Seat) (page : Page) (i : ℕ) (old_entries entries : List E) (old_pages pages : List Bref) (bad : BadPage) (child : Seat)
+    → Underway entry_of t seat page i old_entries entries old_pages pages → i < length page.entries
     → child ≡ child_of t.rule (page.level - 1) seat.high (get_or page.entries i []) (drop (i + 1) page.entries)
     → walk t child ≡ Err bad → walk t seat ≡ Err bad
 unfolding children
-underway-stop {E} entry_of t seat page i old_entries entries old_places places bad child under within is read =
+underway-stop {E} entry_of t seat page i old_entries entries old_pages pages bad child under within is read =
     let n : ℕ = page.level - 1 in
     let later : Result Found BadPage = children (reading_of t n) t.rule n seat.high (drop (i + 1) page.entries) in
     let wants : child.level ≡ Some n = ap (λ (s : Seat). s.level) is in
@@ -165,23 +165,23 @@ underway-stop {E} entry_of t seat page i old_entries entries old_places places b
     under.rest ∙ ap (after under.front) here
 
 -- the same, as an answer says it
-pub child_stops : {E : Type 0} (entry_of : List ℕ → E) (t : FileTree) (seat : Seat) (page : Page) (i : ℕ) (old_entries entries : List E) (old_places places : List Place) (child : Seat)
-    → Underway entry_of t seat page i old_entries entries old_places places → i < length page.entries
+pub child_stops : {E : Type 0} (entry_of : List ℕ → E) (t : FileTree) (seat : Seat) (page : Page) (i : ℕ) (old_entries entries : List E) (old_pages pages : List Bref) (child : Seat)
+    → Underway entry_of t seat page i old_entries entries old_pages pages → i < length page.entries
     → child ≡ child_of t.rule (page.level - 1) seat.high (get_or page.entries i []) (drop (i + 1) page.entries)
     → (stop : OpenStop) → StopsWalk stop (walk t child) → StopsWalk stop (walk t seat)
-child_stops {E} entry_of t seat page i old_entries entries old_places places child under within is Memory stops = tt
-child_stops {E} entry_of t seat page i old_entries entries old_places places child under within is Fault stops = tt
-child_stops {E} entry_of t seat page i old_entries entries old_places places child under within is (Changed ib stored computed) stops = stops
-child_stops {E} entry_of t seat page i old_entries entries old_places places child under within is (Refused (refusals.Page ib fault)) stops =
-    underway-stop entry_of t seat page i old_entries entries old_places places (record { ib = ib; fault = fault }) child under within is stops
-child_stops {E} entry_of t seat page i old_entries entries old_places places child under within is (Refused other) stops = stops
+child_stops {E} entry_of t seat page i old_entries entries old_pages pages child under within is Memory stops = tt
+child_stops {E} entry_of t seat page i old_entries entries old_pages pages child under within is Fault stops = tt
+child_stops {E} entry_of t seat page i old_entries entries old_pages pages child under within is (Changed ib stored computed) stops = stops
+child_stops {E} entry_of t seat page i old_entries entries old_pages pages child under within is (Refused (refusals.Page ib fault)) stops =
+    underway-stop entry_of t seat page i old_entries entries old_pages pages (record { ib = ib; fault = fault }) child under within is stops
+child_stops {E} entry_of t seat page i old_entries entries old_pages pages child under within is (Refused other) stops = stops
 
 -- all children were read
-pub underway-end : {E : Type 0} (entry_of : List ℕ → E) (t : FileTree) (seat : Seat) (page : Page) (i : ℕ) (old_entries entries : List E) (old_places places : List Place)
-    → Underway entry_of t seat page i old_entries entries old_places places → length page.entries ≤ i
-    → (found : Found) × (walk t seat ≡ Ok found) × Adds entry_of found old_entries entries old_places places
+pub underway-end : {E : Type 0} (entry_of : List ℕ → E) (t : FileTree) (seat : Seat) (page : Page) (i : ℕ) (old_entries entries : List E) (old_pages pages : List Bref)
+    → Underway entry_of t seat page i old_entries entries old_pages pages → length page.entries ≤ i
+    → (found : Found) × (walk t seat ≡ Ok found) × Adds entry_of found old_entries entries old_pages pages
 unfolding children
-underway-end {E} entry_of t seat page i old_entries entries old_places places under all =
+underway-end {E} entry_of t seat page i old_entries entries old_pages pages under all =
     let n : ℕ = page.level - 1 in
     let here : children (reading_of t n) t.rule n seat.high (drop i page.entries) ≡ Ok nothing =
     ap (children (reading_of t n) t.rule n seat.high) (drop_all i page.entries all) in

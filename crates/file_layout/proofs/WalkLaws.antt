@@ -3,7 +3,6 @@ use Rattle.std.proofs.Common.{Bool, true, false, ◌≡◌, ℕ, zero, suc, ◌+
 use Rattle.std.proofs.lemmas.Bool.{and_parts, leb-true, le-leb, eqb-true, eq-eqb}
 use Rattle.std.proofs.lemmas.List.{length-take-le}
 use Rattle.pst_base.specs.declared.ids.Bref.{Bref}
-use Rattle.pst_base.specs.declared.places.Place.{Place}
 use Rattle.pst_base.specs.declared.stops.PageFault.{PageFault}
 use Rattle.page_frame.specs.Page.{reading}
 use Rattle.btree_pages.specs.Pages.{Page}
@@ -170,7 +169,7 @@ walk-of t seat page is =
     ap (λ (r : Result Page PageRefusal). through seat r (λ q. below t q.level seat.high q.entries)) is
     ∙ sym (ap (λ (r : Result Page PageRefusal). through seat r (λ q. below t page.level seat.high q.entries)) is)
 
-same_page : (r : Result Page PageRefusal) (page got : Page) → r ≡ Ok page → r ≡ Ok got → got ≡ page
+pub same_page : (r : Result Page PageRefusal) (page got : Page) → r ≡ Ok page → r ≡ Ok got → got ≡ page
 same_page r page got e h = let both_are : ◌≡◌ {A = Result Page PageRefusal} (Ok page) (Ok got) = sym e ∙ h in cc
 
 -- what a root leads to is its tree
@@ -202,10 +201,10 @@ whole-walk t root found here =
 pub found_same : {r : Result Found BadPage} {found got : Found} → r ≡ Ok found → r ≡ Ok got → found ≡ got
 found_same {r} {found} {got} e h = let both_are : ◌≡◌ {A = Result Found BadPage} (Ok found) (Ok got) = sym e ∙ h in cc
 
-pub adds-same : {E : Type 0} {entry_of : List ℕ → E} {old_entries new_entries : List E} {old_places new_places : List Place} (found got : Found) → found ≡ got
-    → Adds entry_of found old_entries new_entries old_places new_places → Adds entry_of got old_entries new_entries old_places new_places
-adds-same {E} {entry_of} {old_entries} {new_entries} {old_places} {new_places} found got same adds =
-    subst (λ (f : Found). Adds entry_of f old_entries new_entries old_places new_places) same adds
+pub adds-same : {E : Type 0} {entry_of : List ℕ → E} {old_entries new_entries : List E} {old_pages new_pages : List Bref} (found got : Found) → found ≡ got
+    → Adds entry_of found old_entries new_entries old_pages new_pages → Adds entry_of got old_entries new_entries old_pages new_pages
+adds-same {E} {entry_of} {old_entries} {new_entries} {old_pages} {new_pages} found got same adds =
+    subst (λ (f : Found). Adds entry_of f old_entries new_entries old_pages new_pages) same adds
 
 -- ---- where a reading stops
 

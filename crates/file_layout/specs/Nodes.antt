@@ -13,7 +13,7 @@ use Rattle.data_tree.specs.declared.source.TreeStop.{TreeStop}
 use Rattle.data_tree.specs.Tree.{and_then, blocks_of}
 use Rattle.subnode_tree.specs.Subnodes.{subs_of}
 use Rattle.file_blocks.specs.Blocks.{AllStand, found_in}
-use Rattle.file_layout.specs.Trees.{FileTree, Found, IsWhole}
+use Rattle.file_layout.specs.Trees.{FileTree, Found, IsWhole, page_place}
 
 -- ---- the node map
 
@@ -61,7 +61,7 @@ place_of e = record { ib = e.at.ib; len = disk_size_of e.cb }
 
 -- the places of all pages and blocks
 abbrev pub places_of : Found → Found → List Place
-places_of blocks nodes = (blocks.places ++ nodes.places) ++ map place_of (blocks_in blocks)
+places_of blocks nodes = map page_place (blocks.pages ++ nodes.pages) ++ map place_of (blocks_in blocks)
 
 -- the most bytes that a file may have: those before the first region, and 8192 regions
 abbrev pub LARGEST : ℕ
@@ -72,7 +72,7 @@ abbrev pub regions_to : ℕ → ℕ
 regions_to eof = max 1 ((eof - 0x4400 + 253951) / 253952)
 
 -- The file with this header lays the node map: both trees are whole, the block tree names whole blocks, the node tree's entries
--- lead to the nodes, and no two of the pages, blocks and fixed pages meet.
+-- lead to the nodes, and no two of the pages, blocks and AMap pages meet.
 pub record Lays (header : Header) (file : List ℕ) (m : NodeMap) : Type 0 where
   pub long_enough : header.eof ≤ length file
   pub small_enough : header.eof ≤ LARGEST

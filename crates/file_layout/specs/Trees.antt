@@ -1,5 +1,5 @@
 -- The trees of pages in a file, by levels: the pages that they reach, and the entries of their leaves in order.
-use Rattle.std.specs.Prelude.{◌≡◌, ℕ, zero, suc, ◌+◌, ◌-◌, ◌%◌, ◌^◌, ◌≤◌, ◌==◌, ◌&&◌, ◌||◌, nat_le, nat_lt, not, if◌then◌else◌, Bool, true, List, [], ◌∷◌, ◌++◌, take, drop, Result, Ok, Err, Option, Some, None}
+use Rattle.std.specs.Prelude.{◌≡◌, ℕ, zero, suc, ◌+◌, ◌-◌, ◌%◌, ◌^◌, ◌≤◌, ◌==◌, ◌&&◌, ◌||◌, nat_le, nat_lt, not, if◌then◌else◌, Bool, true, List, [], ◌∷◌, ◌++◌, map, take, drop, Result, Ok, Err, Option, Some, None}
 use Rattle.pst_base.specs.declared.ids.Bref.{Bref}
 use Rattle.pst_base.specs.declared.places.Place.{Place}
 use Rattle.pst_base.specs.declared.stops.PageFault.{PageFault}
@@ -14,12 +14,13 @@ use Rattle.file_layout.specs.declared.stops.PageRefusal.TheVariants.{Outside, Fa
 use Rattle.file_layout.specs.declared.tree_pages.Seat.{Seat}
 -- the store's file
 pub use Rattle.file_blocks.specs.Blocks.{file_of}
+use Rattle.file_blocks.specs.Blocks.{has_room}
 
 -- ---- one page
 
 -- a page may stand there: at a multiple of 64, at or above the first map, and ending at or before eof
 abbrev pub is_placed : ℕ → ℕ → Bool
-is_placed eof ib = nat_le 0x4400 ib && ((ib % 64 == 0) && nat_le (ib + 512) eof)
+is_placed eof ib = has_room eof 512 ib
 
 -- a page of a kind stands in the file with this content, under an id and at a place that are right
 pub record FilePage (file : List ℕ) (eof kind : ℕ) (at : Bref) (body : List ℕ) : Type 0 where
@@ -110,31 +111,39 @@ pub record IsPlace (eof : ℕ) (p : Place) : Type 0 where
   pub whole : p.len % 64 ≡ 0
   pub before : p.ib + p.len ≤ eof
 
--- each place may be one of a page or a block
-abbrev pub AllPlaces : ℕ → List Place → Type 0
-AllPlaces eof [] = Unit {0}
-AllPlaces eof (p ∷ ps) = IsPlace eof p × AllPlaces eof ps
+-- where a page stands
+abbrev pub page_place : Bref → Place
+page_place at = record { ib = at.ib; len = 512 }
+
+-- each page may stand where it is said to
+abbrev pub AllPages : ℕ → List Bref → Type 0
+AllPages eof [] = Unit {0}
+AllPages eof (at ∷ pages) = IsPlace eof (page_place at) × AllPages eof pages
 
 -- ---- a tree
 
--- what a tree gives: the entries of its leaves, each as its bytes, and the places of its pages
+-- what a tree gives: the entries of its leaves, each as its bytes, and its pages, each by its id and its place
 pub record Found : Type 0 where
   pub entries : List (List ℕ)
-  pub places : List Place
+  pub pages : List Bref
+
+-- where the pages stand
+abbrev pub page_places : Found → List Place
+page_places found = map page_place found.pages
 
 abbrev pub nothing : Found
-nothing = record { entries = []; places = [] }
+nothing = record { entries = []; pages = [] }
 
 abbrev pub both : Found → Found → Found
-both first later = record { entries = first.entries ++ later.entries; places = first.places ++ later.places }
+both first later = record { entries = first.entries ++ later.entries; pages = first.pages ++ later.pages }
 
 -- the page in a seat, without what lies below
 abbrev pub page_alone : Seat → Found
-page_alone seat = record { entries = []; places = record { ib = seat.at.ib; len = 512 } ∷ [] }
+page_alone seat = record { entries = []; pages = seat.at ∷ [] }
 
 -- a leaf's entries
 abbrev pub leaf_of : List (List ℕ) → Found
-leaf_of entries = record { entries = entries; places = [] }
+leaf_of entries = record { entries = entries; pages = [] }
 
 -- the key of an inner page's entry
 abbrev pub key_below : (ℕ → ℕ) → List ℕ → ℕ

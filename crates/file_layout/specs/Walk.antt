@@ -1,7 +1,6 @@
 -- A tree's reading: page by page, each when it is reached, in the order of keys. It gives what the tree gives, or names the first page that is at fault.
-use Rattle.std.specs.Prelude.{◌≡◌, ℕ, zero, suc, List, [], ◌∷◌, ◌++◌, map, take, drop, true, false, Result, Ok, Err}
+use Rattle.std.specs.Prelude.{◌≡◌, ℕ, zero, suc, List, [], ◌∷◌, ◌++◌, map, take, drop, Contains, true, false, Result, Ok, Err}
 use Rattle.pst_base.specs.declared.ids.Bref.{Bref}
-use Rattle.pst_base.specs.declared.places.Place.{Place}
 use Rattle.btree_pages.specs.Pages.{Page}
 use Rattle.file_layout.specs.declared.stops.OpenRefusal.TheVariants as refusals
 use Rattle.file_layout.specs.declared.stops.OpenStop.{OpenStop}
@@ -47,9 +46,9 @@ walk t seat = through seat (page_at t seat) (λ page. below t page.level seat.hi
 -- ---- what is said of it
 
 -- what was found was put behind what was there
-pub record Adds {E : Type 0} (entry_of : List ℕ → E) (found : Found) (old_entries new_entries : List E) (old_places new_places : List Place) : Type 0 where
+pub record Adds {E : Type 0} (entry_of : List ℕ → E) (found : Found) (old_entries new_entries : List E) (old_pages new_pages : List Bref) : Type 0 where
   pub entries : new_entries ≡ old_entries ++ map entry_of found.entries
-  pub places : new_places ≡ old_places ++ found.places
+  pub pages : new_pages ≡ old_pages ++ found.pages
 
 -- a refusal names the page at which the reading stopped
 abbrev pub StopsWalk : OpenStop → Result Found BadPage → Type 0
@@ -77,6 +76,29 @@ Leads t top [] seat = seat ≡ top
 Leads t top (i ∷ path) seat =
     (page : Page) × (n : ℕ) × (entry : List ℕ) × (rest : List (List ℕ)) × (page_at t top ≡ Ok page) × (page.level ≡ suc n)
     × (drop i page.entries ≡ entry ∷ rest) × Leads t (child_of t.rule n top.high entry rest) path seat
+
+-- an entry stands in a leaf to which a path leads from a seat
+pub record IsReached (t : FileTree) (top : Seat) (entry : List ℕ) : Type 0 where
+  pub path : List ℕ
+  pub seat : Seat
+  pub leads : Leads t top path seat
+  pub page : Page
+  pub right : page_at t seat ≡ Ok page
+  pub leaf : page.level ≡ 0
+  pub has : Contains page.entries entry
+
+-- what was put behind the entries that were there stands in leaves that are reached
+pub record AddsReached {E : Type 0} (entry_of : List ℕ → E) (t : FileTree) (top : Seat) (old new : List E) : Type 0 where
+  pub some : List (List ℕ)
+  pub entries : new ≡ old ++ map entry_of some
+  pub reached : (entry : List ℕ) → Contains some entry → IsReached t top entry
+
+-- the same where the reading stops with a refusal
+abbrev pub AddsBefore : {E : Type 0} → OpenStop → (List ℕ → E) → FileTree → Seat → List E → List E → Type 0
+AddsBefore Memory entry_of t top old new = Unit {0}
+AddsBefore Fault entry_of t top old new = Unit {0}
+AddsBefore (Changed ib stored computed) entry_of t top old new = Unit {0}
+AddsBefore (Refused refusal) entry_of t top old new = AddsReached entry_of t top old new
 
 -- a page that is reached from a root is at fault, and so the root has no tree
 pub record IsBadPage (t : FileTree) (root : Bref) (ib : ℕ) (fault : PageRefusal) : Type 0 where

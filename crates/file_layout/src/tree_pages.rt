@@ -2,18 +2,12 @@
 ghost use Rattle.std.specs.Prelude.{◌≡◌, ◌≤◌, ◌<◌, ◌+◌, ◌-◌, [], length, take, drop, slice_index_or, IfOk, OnErr};
 ghost use Rattle.pst_outside.specs.Calls.{Rose, Untouched};
 ghost use Rattle.btree_pages.specs.Pages.{Page, keys, key_in};
-ghost use Rattle.file_layout.specs.Trees.{is_placed, in_span, owed, sooner, page_in, framed, child_of, file_of};
+ghost use Rattle.file_layout.specs.Trees.{in_span, owed, sooner, page_in, framed, child_of, file_of};
 
 use btree_pages::{Entry, TreePage};
 use page_frame::PageView;
 use pst_base::{Bref, PageFault, u8_at, u64_at};
 use pst_outside::{Failed, Outside, Part, read_part};
-
-/// Where the file's first page may stand.
-const FIRST: u64 = 0x4400;
-
-/// The length of a page, in bytes.
-pub(crate) const PAGE: u64 = 512;
 
 /// A place for a page in a tree: the page that is named there, and what it owes to its parent. A root has no `level`: it may have any up to 7. `low` and `high` are the least and the greatest key that the page may have.
 #[derive(Clone, Copy, Debug, PartialEq, Eq)]
@@ -22,19 +16,6 @@ pub struct Seat {
     pub level: Option<u8>,
     pub low: u64,
     pub high: u64,
-}
-
-/// Whether a page may stand at a place of a file of `eof` bytes.
-pub(crate) fn is_placed(eof: u64, ib: u64) -> bool
-    ensures { result ≡ is_placed eof ib }
-{
-    if ib < FIRST {
-        return false;
-    }
-    if ib % 64 != 0 {
-        return false;
-    }
-    ib <= eof.saturating_sub(PAGE)
 }
 
 /// The bytes of the page at a place. Behind an open gate only the header lies elsewhere than in Main.

@@ -1,18 +1,21 @@
 //! Reading a whole tree.
 ghost use Rattle.std.specs.Prelude.{◌≡◌, ◌≤◌, ◌<◌, ◌+◌, ◌-◌, ◌++◌, zero, true, map, length, OnOk, OnErr, IfErr, IfOk};
 ghost use Rattle.pst_outside.specs.Calls.{Rose, Untouched};
-ghost use Rattle.file_layout.specs.Trees.{FileTree, tree_in, file_of, page_at, framed, is_placed, Found, IsWhole, rise_from, root_seat};
-ghost use Rattle.file_layout.specs.Trees.{AllPlaces};
-ghost use Rattle.file_layout.specs.Walk.{walk, Adds, StopsWalk, StopsTree, Stands, StopsOutside};
+ghost use Rattle.file_layout.specs.Trees.{FileTree, tree_in, file_of, page_at, framed, is_placed, AllPages, Found, IsWhole, rise_from, root_seat};
+ghost use Rattle.file_layout.specs.Walk.{walk, Adds, AddsBefore, AddsReached, StopsWalk, StopsTree, Stands, StopsOutside};
 
 use crate::stops::{OpenRefusal, OpenStop, PageRefusal};
-use crate::tree_pages::{PAGE, Seat, child, is_placed, read_page, tree_page};
+use crate::tree_pages::{Seat, child, read_page, tree_page};
 use btree_pages::{Entry, TreePage};
-use pst_base::{Bref, Place};
+use file_blocks::has_room;
+use pst_base::Bref;
 use pst_outside::Outside;
 use std::alloc::AllocError;
 
-/// Reads the tree of a root, whose pages have this kind (80h for blocks, 81h for nodes; [MS-PST] 2.2.2.7.7), in a file of `eof` bytes: puts the entries of its leaves in the order of their keys behind those in `entries`, and the places of its pages, each once when it is reached, behind those in `places`. After an `Err` both may have got some. It writes nothing.
+/// The length of a page, in bytes.
+const PAGE: usize = 512;
+
+/// Reads the tree of a root, whose pages have this kind (80h for blocks, 81h for nodes; [MS-PST] 2.2.2.7.7), in a file of `eof` bytes: puts the entries of its leaves in the order of their keys behind those in `entries`, and its pages, each once when it is reached, behind those in `pages`. After `Refused` both have got those of the pages before the one at fault, and after another `Err` some. It writes nothing.
 ///
 /// `Page` names the first page that is at fault in the order of the keys; `Fault` comes only where the disk failed.
 pub fn read_tree<W: Outside, E: Entry>(
@@ -21,12 +24,14 @@ pub fn read_tree<W: Outside, E: Entry>(
     eof: u64,
     root: Bref,
     entries: &mut Vec<E>,
-    places: &mut Vec<Place>,
+    pages: &mut Vec<Bref>,
 ) -> Result<(), OpenStop>
     requires { (W.view w.old).tells → eof ≤ length (W.view w.old).here.main }
-    ensures tree { OnOk result ((W.view w.new).tells → (found : Found) × IsWhole (tree_in (W.view w.new).here eof kind E.size E.rule) root found × Adds E.entry_of found entries.old.items entries.new.items places.old.items places.new.items) }
-    ensures only { OnOk result ((W.view w.new).tells → (found : Found) → IsWhole (tree_in (W.view w.new).here eof kind E.size E.rule) root found → Adds E.entry_of found entries.old.items entries.new.items places.old.items places.new.items) }
-    ensures placed { OnOk result (AllPlaces eof places.old.items → AllPlaces eof places.new.items) }
+    ensures tree { OnOk result ((W.view w.new).tells → (found : Found) × IsWhole (tree_in (W.view w.new).here eof kind E.size E.rule) root found × Adds E.entry_of found entries.old.items entries.new.items pages.old.items pages.new.items) }
+    ensures only { OnOk result ((W.view w.new).tells → (found : Found) → IsWhole (tree_in (W.view w.new).here eof kind E.size E.rule) root found → Adds E.entry_of found entries.old.items entries.new.items pages.old.items pages.new.items) }
+    ensures placed { OnOk result (AllPages eof pages.old.items → AllPages eof pages.new.items) }
+    ensures reached { OnOk result ((W.view w.new).tells → AddsReached E.entry_of (tree_in (W.view w.new).here eof kind E.size E.rule) (root_seat root) entries.old.items entries.new.items) }
+    ensures before { IfErr result (λ stop. (W.view w.new).tells → AddsBefore stop E.entry_of (tree_in (W.view w.new).here eof kind E.size E.rule) (root_seat root) entries.old.items entries.new.items) }
     ensures refused { IfErr result (λ stop. (W.view w.new).tells → StopsTree stop (tree_in (W.view w.new).here eof kind E.size E.rule) root) }
     ensures fault { result ≡ Err OpenStop.Fault → Rose (W.view w.old).disk_faults (W.view w.new).disk_faults }
     ensures same { Untouched (W.view w.old) (W.view w.new) }
@@ -37,21 +42,23 @@ pub fn read_tree<W: Outside, E: Entry>(
         low: 0,
         high: u64::MAX,
     };
-    read_below(w, kind, eof, seat, entries, places)
+    read_below(w, kind, eof, seat, entries, pages)
 }
 
-/// Reads what a seat leads to, in a file of `eof` bytes: puts the entries of the leaves and the places of the pages behind those that are there. A child's level is below its parent's, so it goes no deeper than eight pages.
+/// Reads what a seat leads to, in a file of `eof` bytes: puts the entries of the leaves and the pages behind those that are there. A child's level is below its parent's, so it goes no deeper than eight pages.
 fn read_below<W: Outside, E: Entry>(
     w: &mut W,
     kind: u8,
     eof: u64,
     seat: Seat,
     entries: &mut Vec<E>,
-    places: &mut Vec<Place>,
+    pages: &mut Vec<Bref>,
 ) -> Result<(), OpenStop>
     requires { (W.view w.old).tells → eof ≤ length (W.view w.old).here.main }
-    ensures found { OnOk result ((W.view w.new).tells → (found : Found) × (walk (tree_in (W.view w.old).here eof kind E.size E.rule) seat ≡ Ok found) × Adds E.entry_of found entries.old.items entries.new.items places.old.items places.new.items) }
-    ensures placed { OnOk result (AllPlaces eof places.old.items → AllPlaces eof places.new.items) }
+    ensures found { OnOk result ((W.view w.new).tells → (found : Found) × (walk (tree_in (W.view w.old).here eof kind E.size E.rule) seat ≡ Ok found) × Adds E.entry_of found entries.old.items entries.new.items pages.old.items pages.new.items) }
+    ensures placed { OnOk result (AllPages eof pages.old.items → AllPages eof pages.new.items) }
+    ensures reached { OnOk result ((W.view w.new).tells → AddsReached E.entry_of (tree_in (W.view w.old).here eof kind E.size E.rule) seat entries.old.items entries.new.items) }
+    ensures before { IfErr result (λ stop. (W.view w.new).tells → AddsBefore stop E.entry_of (tree_in (W.view w.old).here eof kind E.size E.rule) seat entries.old.items entries.new.items) }
     ensures refused { IfErr result (λ stop. (W.view w.new).tells → StopsWalk stop (walk (tree_in (W.view w.old).here eof kind E.size E.rule) seat)) }
     ensures cause { IfErr result (λ stop. stop ≡ OpenStop.Fault → Rose (W.view w.old).disk_faults (W.view w.new).disk_faults) }
     ensures same { Untouched (W.view w.old) (W.view w.new) }
@@ -61,16 +68,13 @@ fn read_below<W: Outside, E: Entry>(
         Ok(page) => page,
         Err(fault) => return Err(bad_page(seat, PageRefusal::Faulty(fault))),
     };
-    places.push(Place {
-        ib: seat.at.ib,
-        len: PAGE,
-    })?;
+    pages.push(seat.at)?;
     if page.level() == 0 {
         push_leaf(&page, entries)?;
         return Ok(());
     }
     for i in 0..page.count() {
-        read_below(w, kind, eof, child(&page, i, seat.high), entries, places)?;
+        read_below(w, kind, eof, child(&page, i, seat.high), entries, pages)?;
     }
     Ok(())
 }
@@ -84,7 +88,7 @@ fn seat_bytes<W: Outside>(w: &mut W, eof: u64, seat: Seat) -> Result<[u8; 512], 
     ensures cause { IfErr result (λ stop. stop ≡ OpenStop.Fault → Rose (W.view w.old).disk_faults (W.view w.new).disk_faults) }
     ensures same { Untouched (W.view w.old) (W.view w.new) }
 {
-    if !is_placed(eof, seat.at.ib) {
+    if !has_room(eof, PAGE, seat.at.ib) {
         return Err(bad_page(seat, PageRefusal::Outside));
     }
     let bytes = read_page(w, seat.at.ib)?;

@@ -9,10 +9,11 @@ use Rattle.file_blocks.specs.declared.check.BlockRefusal.{BlockRefusal}
 use Rattle.file_blocks.specs.Blocks.{data_at, Stands, AllStand}
 use Rattle.file_blocks.specs.Stops.{Tells, IsPlaced}
 use Rattle.block_frame.specs.Size.{disk_size_of}
+use Rattle.pst_base.specs.declared.ids.Bref.{Bref}
 use Rattle.pst_base.specs.declared.places.Place.{Place}
 use Rattle.alloc_map.specs.Slots.{IsLaid}
 use Rattle.file_layout.specs.Nodes.{place_of, LARGEST, regions_to}
-use Rattle.file_layout.specs.Trees.{IsPlace, AllPlaces}
+use Rattle.file_layout.specs.Trees.{IsPlace, AllPages, page_place}
 use Rattle.file_scan.specs.Parts.{AllPlaced, AllShort}
 use Rattle.file_scan.specs.Scan.{IsFirstBad}
 
@@ -94,14 +95,14 @@ blocks-laid eof [] small placed = all-none (IsLaid (regions_to eof))
 blocks-laid eof (e ∷ es) small placed =
     all-more (IsLaid (regions_to eof)) (place_of e) (map place_of es) (laid eof (place_of e) small (placed-place eof e placed.0)) (blocks-laid eof es small placed.1)
 
-all-laid : (eof : ℕ) (places : List Place) (blocks : List BlockEntry) → eof ≤ LARGEST → AllPlaces eof places → AllPlaced eof blocks → All (IsLaid (regions_to eof)) (places ++ map place_of blocks)
+all-laid : (eof : ℕ) (pages : List Bref) (blocks : List BlockEntry) → eof ≤ LARGEST → AllPages eof pages → AllPlaced eof blocks → All (IsLaid (regions_to eof)) (map page_place pages ++ map place_of blocks)
 all-laid eof [] blocks small pages placed = blocks-laid eof blocks small placed
 all-laid eof (p ∷ ps) blocks small pages placed =
-    all-more (IsLaid (regions_to eof)) p (ps ++ map place_of blocks) (laid eof p small pages.0) (all-laid eof ps blocks small pages.1 placed)
+    all-more (IsLaid (regions_to eof)) (page_place p) (map page_place ps ++ map place_of blocks) (laid eof (page_place p) small pages.0) (all-laid eof ps blocks small pages.1 placed)
 
 -- the same of the list that they were put into
-pub laid-in : (eof regions : ℕ) (places all : List Place) (blocks : List BlockEntry) → eof ≤ LARGEST → AllPlaces eof places → AllPlaced eof blocks
-    → all ≡ places ++ map place_of blocks → regions ≡ regions_to eof → All (IsLaid regions) all
-laid-in eof regions places all blocks small pages placed is count =
-    let one : All (IsLaid (regions_to eof)) all = subst (All (IsLaid (regions_to eof))) (sym is) (all-laid eof places blocks small pages placed) in
+pub laid-in : (eof regions : ℕ) (pages : List Bref) (blocks : List BlockEntry) (all : List Place) → eof ≤ LARGEST → AllPages eof pages → AllPlaced eof blocks
+    → all ≡ map page_place pages ++ map place_of blocks → regions ≡ regions_to eof → All (IsLaid regions) all
+laid-in eof regions pages blocks all small whole placed is count =
+    let one : All (IsLaid (regions_to eof)) all = subst (All (IsLaid (regions_to eof))) (sym is) (all-laid eof pages blocks small whole placed) in
     subst (λ (n : ℕ). All (IsLaid n) all) (sym count) one

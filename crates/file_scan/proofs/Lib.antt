@@ -1,4 +1,5 @@
 pub mod BlockSteps
+pub mod NextLaws
 pub mod NodeSteps
 pub mod OpeningLaws
 pub mod ScanLaws

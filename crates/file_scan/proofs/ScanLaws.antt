@@ -1,24 +1,24 @@
 -- A file lays one node map at most, and what is at fault leaves it none.
-use Rattle.std.proofs.Common.{Bool, true, false, ◌≡◌, ℕ, ◌≤◌, ◌<◌, nat_lt, List, [], ◌∷◌, ◌++◌, map, take, drop, length, Option, Some, None, Result, Ok, Err, refl, sym, ap, subst, ◌∙◌, arith, inl, inr, if◌then◌else◌}
+use Rattle.std.proofs.Common.{Bool, true, false, ◌≡◌, ℕ, ◌≤◌, ◌<◌, zero, suc, ◌+◌, nat_lt, List, [], ◌∷◌, ◌++◌, map, take, drop, length, Option, Some, None, Result, Ok, Err, refl, sym, ap, subst, ◌∙◌, arith, inl, inr, if◌then◌else◌}
+use Rattle.std.specs.List.{Contains}
 use Rattle.pst_base.specs.declared.ids.Bref.{Bref}
 use Rattle.pst_base.specs.declared.ids.Nid.{Nid}
-use Rattle.pst_base.specs.declared.places.Place.{Place}
 use Rattle.pst_base.specs.declared.stops.MemOr.TheVariants as or_memory
 use Rattle.pst_base.specs.declared.stops.SourceStop.TheVariants as sources
 use Rattle.pst_outside.specs.World.{Image, World}
 use Rattle.pst_header.specs.declared.header.Header.{Header}
-use Rattle.alloc_map.specs.Standing.{standing, IsMeeting}
+use Rattle.alloc_map.specs.Standing.{standing, occupied, IsCovered, IsMeeting}
 use Rattle.block_frame.specs.declared.block.BlockFault.{BlockFault}
 use Rattle.block_frame.specs.Block.{reading}
 use Rattle.block_frame.specs.Size.{disk_size_of}
 use Rattle.btree_pages.specs.declared.entry.BlockEntry.{BlockEntry}
 use Rattle.btree_pages.specs.declared.entry.NodeEntry.{NodeEntry}
-use Rattle.btree_pages.specs.Entries.{node_of}
+use Rattle.btree_pages.specs.Entries.{block_of, node_of}
 use Rattle.data_tree.specs.declared.source.TreeStop.{TreeStop}
 use Rattle.data_tree.specs.declared.source.TreeStop.TheVariants as tree_stops
 use Rattle.file_blocks.specs.declared.check.BlockRefusal.{BlockRefusal}
 use Rattle.file_blocks.specs.declared.check.BlockRefusal.TheVariants.{Length, Outside, Faulty, Form}
-use Rattle.file_blocks.specs.Blocks.{file_of, has_room, faulty, unless, misplaced, data_at, AllStand, found_in}
+use Rattle.file_blocks.specs.Blocks.{file_of, has_room, faulty, unless, misplaced, data_at, Stands, AllStand, found_in}
 use Rattle.file_blocks.specs.Stops.{Tells, Holds}
 use Rattle.file_scan.specs.declared.nodes.NodeLine.{NodeLine}
 use Rattle.file_layout.specs.declared.stops.NodeFault.TheVariants as faults
@@ -29,12 +29,13 @@ use Rattle.file_layout.specs.declared.stops.OpenStop.TheVariants.{Refused, Fault
 use Rattle.file_layout.specs.Nodes.{Node, NodeMap, block_tree, node_tree, blocks_in, nodes_in, node_at, AreNodes, place_of, places_of, LARGEST, regions_to, Lays}
 use Rattle.file_scan.specs.Lines.{lines_of}
 use Rattle.file_layout.specs.Opening.{opening}
-use Rattle.file_scan.specs.Parts.{HasBlocks, StopsBlocks, StopsAtNodes, place_in, stop_at, AreLines, StopsAtMeeting, StopsTrees, LaysLines, StopsEof}
-use Rattle.file_scan.specs.Scan.{IsFirstBad, IsFirstStop, HasBadNode, StopsScan, Scans}
-use Rattle.file_layout.specs.Trees.{FileTree, Found, IsWhole}
-use Rattle.file_layout.specs.Walk.{StopsTree, Adds}
+use Rattle.file_scan.specs.Parts.{HasBlocks, StopsAtBlock, StopsBlocks, StopsAtNodes, place_in, stop_at, AreLines, StopsAtMeeting, StopsTrees, LaysThese, StopsEof}
+use Rattle.file_scan.specs.Scan.{IsFirstBad, IsFirstStop, HasBadBlock, HasBadNode, StopsScan, Scans}
+use Rattle.file_layout.specs.Trees.{FileTree, Found, page_place, root_seat, IsWhole}
+use Rattle.file_layout.specs.Walk.{StopsTree, Adds, AddsReached}
 use Rattle.file_blocks.proofs.FileLaws.{no_shorter, same_length}
 use Rattle.file_scan.proofs.OpeningLaws.{opened-long}
+use Rattle.file_layout.proofs.ReachLaws.{whole-has}
 use Rattle.file_layout.proofs.RiseLaws.{whole-rises, blocks-rise}
 use Rattle.file_layout.proofs.WalkLaws.{whole-walk, found_same}
 
@@ -61,11 +62,6 @@ are-once find eof (e ∷ es) ns ms one two =
     one.2 ∙ cons_same one.0 two.0 one.1 two.1 (ok_same {E = TreeStop} one.0 two.0 (sym one.3 ∙ two.3)) (are-once find eof es one.1 two.1 one.4 two.4) ∙ sym two.2
 
 -- ---- never both
-
-pub no-bad : (file : List ℕ) (eof : ℕ) (es : List BlockEntry) (ib : ℕ) (fault : BlockRefusal) → AllStand file eof es → IsFirstBad file eof es ib fault → ⊥
-no-bad file eof [] ib fault all bad = bad
-no-bad file eof (e ∷ es) ib fault all (inl here) = never (data_at file eof e) all.0.0 fault all.0.1 here.1
-no-bad file eof (e ∷ es) ib fault all (inr later) = no-bad file eof es ib fault all.1 later.1
 
 pub no-stop : (find : ℕ → Option (List ℕ)) (eof : ℕ) (es : List NodeEntry) (ns : List Node) (nid : ℕ) (stop : TreeStop) → AreNodes find eof es ns → IsFirstStop find eof es nid stop → ⊥
 no-stop find eof [] ns nid stop are first = first
@@ -96,11 +92,6 @@ no-form-at : (file : List ℕ) (eof : ℕ) (e : BlockEntry) → data_at file eof
 unfolding data_at misplaced
 no-form-at file eof e h =
     unless-form (misplaced eof e) (reading e.cb e.at (take (disk_size_of e.cb) (drop e.at.ib file))) (λ is. two-tests (nat_lt 8176 e.cb) (has_room eof (disk_size_of e.cb) e.at.ib) is) h
-
-no-form : (file : List ℕ) (eof : ℕ) (es : List BlockEntry) (ib : ℕ) → IsFirstBad file eof es ib Form → ⊥
-no-form file eof [] ib bad = bad
-no-form file eof (e ∷ es) ib (inl here) = no-form-at file eof e here.1
-no-form file eof (e ∷ es) ib (inr later) = no-form file eof es ib later.1
 
 -- ---- what a file lays
 
@@ -134,23 +125,85 @@ holds-found world eof root found told pages stand = record {
 
 -- ---- stops
 
--- no node map, where the first bad block is known
-none-by-block : (header : Header) (file : List ℕ) (found : Found) (ib : ℕ) (fault : BlockRefusal) → IsWhole (block_tree file header.eof) header.bbt found
-    → IsFirstBad file header.eof (blocks_in found) ib fault → (m : NodeMap) → Lays header file m → ⊥
-none-by-block header file found ib fault pages first m lays =
-    let same : lays.blocks ≡ found = whole-once (block_tree file header.eof) header.bbt lays.blocks found lays.block_pages pages in
-    no-bad file header.eof (blocks_in found) ib fault (subst (λ (f : Found). AllStand file header.eof (blocks_in f)) same lays.stand) first
+-- an entry of a list whose entries all name whole blocks
+stands-in : (file : List ℕ) (eof : ℕ) (entries : List (List ℕ)) (e : List ℕ) → AllStand file eof (map block_of entries) → Contains entries e → Stands file eof (block_of e)
+stands-in file eof [] e all has = absurd (below-none has.0 has.1)
+  where
+    below-none : (n : ℕ) → n < 0 → ⊥
+    below-none n h = omega (arith, h)
+stands-in file eof (x ∷ xs) e all (zero, within, is) = subst (λ (b : List ℕ). Stands file eof (block_of b)) is all.0
+stands-in file eof (x ∷ xs) e all (suc k, within, is) = stands-in file eof xs e all.1 (k, omega (arith, within), is)
+
+-- no node map, where an entry that is reached names a bad block
+none-by-block : (header : Header) (file : List ℕ) (ib : ℕ) (fault : BlockRefusal) → HasBadBlock file header.eof header.bbt ib fault → (m : NodeMap) → Lays header file m → ⊥
+none-by-block header file ib fault bad m lays =
+    let has : Contains lays.blocks.entries bad.entry = whole-has (block_tree file header.eof) header.bbt lays.blocks lays.block_pages bad.entry bad.reached in
+    let stands : Stands file header.eof (block_of bad.entry) = stands-in file header.eof lays.blocks.entries bad.entry lays.stand has in
+    never (data_at file header.eof (block_of bad.entry)) stands.0 fault stands.1 bad.bad
+
+-- the first bad block of some entries
+first-bad : (file : List ℕ) (eof : ℕ) (some : List (List ℕ)) (ib : ℕ) (fault : BlockRefusal) → IsFirstBad file eof (map block_of some) ib fault
+    → (entry : List ℕ) × Contains some entry × ((block_of entry).at.ib ≡ ib) × (data_at file eof (block_of entry) ≡ Err fault)
+first-bad file eof [] ib fault bad = absurd bad
+first-bad file eof (e ∷ es) ib fault (inl here) = (e, (0, omega arith, refl), here.0, here.1)
+first-bad file eof (e ∷ es) ib fault (inr later) =
+    let more : (entry : List ℕ) × Contains es entry × ((block_of entry).at.ib ≡ ib) × (data_at file eof (block_of entry) ≡ Err fault) = first-bad file eof es ib fault later.1 in
+    let within = more.1.1 in
+    (more.0, (suc more.1.0, omega (arith, within), more.1.2), more.2, more.3)
+
+bad-reached : (file : List ℕ) (eof : ℕ) (root : Bref) (old blocks : List BlockEntry) (ib : ℕ) (fault : BlockRefusal) → old ≡ [] → AddsReached block_of (block_tree file eof) (root_seat root) old blocks
+    → IsFirstBad file eof blocks ib fault → HasBadBlock file eof root ib fault
+bad-reached file eof root old blocks ib fault none adds first =
+    let all : blocks ≡ map block_of adds.some = adds.entries ∙ ap (λ (es : List BlockEntry). es ++ map block_of adds.some) none in
+    let bad : (entry : List ℕ) × Contains adds.some entry × ((block_of entry).at.ib ≡ ib) × (data_at file eof (block_of entry) ≡ Err fault) =
+    first-bad file eof adds.some ib fault (subst (λ (es : List BlockEntry). IsFirstBad file eof es ib fault) all first) in
+    record { entry = bad.0; reached = adds.reached bad.0 bad.1; place = bad.2; bad = bad.3 }
+
+-- a stop at a block of entries that are reached
+pub block-stops : (file : List ℕ) (eof : ℕ) (root : Bref) (old blocks bs : List BlockEntry) (stop : OpenStop) → old ≡ [] → AddsReached block_of (block_tree file eof) (root_seat root) old blocks → bs ≡ blocks
+    → StopsAtBlock stop file eof bs → StopsBlocks stop file eof root
+block-stops file eof root old blocks bs Memory none adds same stops = tt
+block-stops file eof root old blocks bs Fault none adds same stops = tt
+block-stops file eof root old blocks bs (Changed ib stored computed) none adds same stops = absurd stops
+block-stops file eof root old blocks bs (Refused (refusals.Block ib fault)) none adds same stops =
+    bad-reached file eof root old blocks ib fault none adds (subst (λ (es : List BlockEntry). IsFirstBad file eof es ib fault) same stops)
+block-stops file eof root old blocks bs (Refused (refusals.Page ib fault)) none adds same stops = absurd stops
+block-stops file eof root old blocks bs (Refused refusals.Empty) none adds same stops = absurd stops
+block-stops file eof root old blocks bs (Refused (refusals.Gate len)) none adds same stops = absurd stops
+block-stops file eof root old blocks bs (Refused (refusals.Short len)) none adds same stops = absurd stops
+block-stops file eof root old blocks bs (Refused (refusals.Header refusal)) none adds same stops = absurd stops
+block-stops file eof root old blocks bs (Refused (refusals.Truncated len end)) none adds same stops = absurd stops
+block-stops file eof root old blocks bs (Refused (refusals.Large end)) none adds same stops = absurd stops
+block-stops file eof root old blocks bs (Refused (refusals.Missing bid)) none adds same stops = absurd stops
+block-stops file eof root old blocks bs (Refused (refusals.Overlap ib)) none adds same stops = absurd stops
+block-stops file eof root old blocks bs (Refused (refusals.Node nid fault)) none adds same stops = absurd stops
+
+-- a stop at a page of the block tree
+pub page-stops : (file : List ℕ) (eof : ℕ) (root : Bref) (stop : OpenStop) → StopsTree stop (block_tree file eof) root → StopsBlocks stop file eof root
+page-stops file eof root Memory stops = tt
+page-stops file eof root Fault stops = tt
+page-stops file eof root (Changed ib stored computed) stops = stops
+page-stops file eof root (Refused (refusals.Page ib fault)) stops = stops
+page-stops file eof root (Refused (refusals.Block ib fault)) stops = absurd stops
+page-stops file eof root (Refused refusals.Empty) stops = absurd stops
+page-stops file eof root (Refused (refusals.Gate len)) stops = absurd stops
+page-stops file eof root (Refused (refusals.Short len)) stops = absurd stops
+page-stops file eof root (Refused (refusals.Header refusal)) stops = absurd stops
+page-stops file eof root (Refused (refusals.Truncated len end)) stops = absurd stops
+page-stops file eof root (Refused (refusals.Large end)) stops = absurd stops
+page-stops file eof root (Refused (refusals.Missing bid)) stops = absurd stops
+page-stops file eof root (Refused (refusals.Overlap ib)) stops = absurd stops
+page-stops file eof root (Refused (refusals.Node nid fault)) stops = absurd stops
 
 pub blocks-stops : (header : Header) (file : List ℕ) (stop : OpenStop) → StopsBlocks stop file header.eof header.bbt → StopsTrees stop header file
 blocks-stops header file Memory stops = tt
 blocks-stops header file Fault stops = tt
 blocks-stops header file (Changed ib stored computed) stops = stops
 blocks-stops header file (Refused (refusals.Page ib fault)) stops = (inl stops, λ m lays. stops.none lays.blocks lays.block_pages)
-blocks-stops header file (Refused (refusals.Block ib Form)) stops = absurd (no-form file header.eof (blocks_in stops.0) ib stops.2)
-blocks-stops header file (Refused (refusals.Block ib Length)) stops = (record { blocks = stops.0; pages = stops.1; first = stops.2 }, none-by-block header file stops.0 ib Length stops.1 stops.2)
-blocks-stops header file (Refused (refusals.Block ib Outside)) stops = (record { blocks = stops.0; pages = stops.1; first = stops.2 }, none-by-block header file stops.0 ib Outside stops.1 stops.2)
-blocks-stops header file (Refused (refusals.Block ib (Faulty fault))) stops =
-    (record { blocks = stops.0; pages = stops.1; first = stops.2 }, none-by-block header file stops.0 ib (Faulty fault) stops.1 stops.2)
+blocks-stops header file (Refused (refusals.Block ib Form)) stops = absurd (no-form-at file header.eof (block_of stops.entry) stops.bad)
+blocks-stops header file (Refused (refusals.Block ib Length)) stops = (stops, none-by-block header file ib Length stops)
+blocks-stops header file (Refused (refusals.Block ib Outside)) stops = (stops, none-by-block header file ib Outside stops)
+blocks-stops header file (Refused (refusals.Block ib (Faulty fault))) stops = (stops, none-by-block header file ib (Faulty fault) stops)
 blocks-stops header file (Refused refusals.Empty) stops = absurd stops
 blocks-stops header file (Refused (refusals.Gate len)) stops = absurd stops
 blocks-stops header file (Refused (refusals.Short len)) stops = absurd stops
@@ -260,10 +313,10 @@ places-stops header file blocks nodes (Refused (refusals.Node nid fault)) holdin
 
 -- ---- a whole file
 
-pub lays-lines : (header : Header) (file : List ℕ) (blocks nodes : Found) (lines : List NodeLine) → Holding header file blocks nodes → header.eof ≤ length file → header.eof ≤ LARGEST
+pub lays-these : (header : Header) (file : List ℕ) (blocks nodes : Found) (lines : List NodeLine) (slots : List Bool) → Holding header file blocks nodes → header.eof ≤ length file → header.eof ≤ LARGEST
     → AreLines (found_in file (blocks_in blocks)) header.eof (nodes_in nodes) lines → ((slot : ℕ) → IsMeeting (standing (places_of blocks nodes) (regions_to header.eof)) slot → ⊥)
-    → LaysLines header file lines
-lays-lines header file blocks nodes lines holding whole small are apart = record {
+    → IsCovered (occupied (places_of blocks nodes) (regions_to header.eof)) slots → LaysThese header file (blocks_in blocks) (blocks.pages ++ nodes.pages) lines slots
+lays-these header file blocks nodes lines slots holding whole small are apart used = record {
   nodes = record { counters = header.indexes; nodes = are.nodes };
   lays = record {
     long_enough = whole;
@@ -278,6 +331,9 @@ lays-lines header file blocks nodes lines holding whole small are apart = record
     counters = refl;
   };
   lines_are = are.lines_are;
+  blocks_are = refl;
+  pages_are = refl;
+  used = used;
 }
 
 -- the trees' stops are the scan's
@@ -285,79 +341,76 @@ pub trees-stops : (image : Image) (header : Header) (stop : OpenStop) → openin
 trees-stops image header Memory opened stops = tt
 trees-stops image header Fault opened stops = tt
 trees-stops image header (Changed ib stored computed) opened stops = stops
-trees-stops image header (Refused (refusals.Page ib fault)) opened stops = record { header = header; opened = opened; fault = stops.0; none = stops.1 }
-trees-stops image header (Refused (refusals.Block ib Form)) opened stops = record { header = header; opened = opened; fault = stops.0; none = stops.1 }
-trees-stops image header (Refused (refusals.Block ib Length)) opened stops = record { header = header; opened = opened; fault = stops.0; none = stops.1 }
-trees-stops image header (Refused (refusals.Block ib Outside)) opened stops = record { header = header; opened = opened; fault = stops.0; none = stops.1 }
-trees-stops image header (Refused (refusals.Block ib (Faulty fault))) opened stops = record { header = header; opened = opened; fault = stops.0; none = stops.1 }
-trees-stops image header (Refused (refusals.Missing bid)) opened stops = record { header = header; opened = opened; fault = stops.0; none = stops.1 }
-trees-stops image header (Refused (refusals.Overlap ib)) opened stops = record { header = header; opened = opened; fault = stops.0; none = stops.1 }
-trees-stops image header (Refused (refusals.Node nid fault)) opened stops = record { header = header; opened = opened; fault = stops.0; none = stops.1 }
-trees-stops image header (Refused refusals.Empty) opened stops = absurd stops.0
-trees-stops image header (Refused (refusals.Gate len)) opened stops = absurd stops.0
-trees-stops image header (Refused (refusals.Short len)) opened stops = absurd stops.0
-trees-stops image header (Refused (refusals.Header refusal)) opened stops = absurd stops.0
-trees-stops image header (Refused (refusals.Truncated len eof)) opened stops = absurd stops.0
-trees-stops image header (Refused (refusals.Large eof)) opened stops = absurd stops.0
+trees-stops image header (Refused refusal) opened stops = inr (record { header = header; opened = opened; fault = stops.0; none = stops.1 })
 
 -- ---- what the calls gave
 
-pub record Gathered (header : Header) (file : List ℕ) (blocks : List BlockEntry) (nodes : List NodeEntry) (places : List Place) : Type 0 where
+pub record Gathered (header : Header) (file : List ℕ) (blocks : List BlockEntry) (nodes : List NodeEntry) (pages : List Bref) : Type 0 where
   pub block_found : Found
   pub node_found : Found
   pub holding : Holding header file block_found node_found
   pub blocks_are : blocks ≡ blocks_in block_found
   pub nodes_are : nodes ≡ nodes_in node_found
-  pub places_are : places ≡ block_found.places ++ node_found.places
+  pub pages_are : pages ≡ block_found.pages ++ node_found.pages
 
-pub gathered : (header : Header) (first mid : Image) (blocks : List BlockEntry) (old nodes : List NodeEntry) (places all : List Place) → mid ≡ first → old ≡ []
-    → HasBlocks (file_of first) header.eof header.bbt blocks places → (found : Found) → IsWhole (node_tree (file_of mid) header.eof) header.nbt found → Adds node_of found old nodes places all
+pub gathered : (header : Header) (first mid : Image) (blocks : List BlockEntry) (old nodes : List NodeEntry) (pages all : List Bref) → mid ≡ first → old ≡ []
+    → HasBlocks (file_of first) header.eof header.bbt blocks pages → (found : Found) → IsWhole (node_tree (file_of mid) header.eof) header.nbt found → Adds node_of found old nodes pages all
     → Gathered header (file_of mid) blocks nodes all
-gathered header first mid blocks old nodes places all same none has found pages adds = record {
+gathered header first mid blocks old nodes pages all same none has found whole adds = record {
   block_found = has.found;
   node_found = found;
   holding = record {
-    block_pages = subst (λ (i : Image). IsWhole (block_tree (file_of i) header.eof) header.bbt has.found) (sym same) has.pages;
+    block_pages = subst (λ (i : Image). IsWhole (block_tree (file_of i) header.eof) header.bbt has.found) (sym same) has.whole;
     stand = subst (λ (i : Image). AllStand (file_of i) header.eof (blocks_in has.found)) (sym same) (subst (AllStand (file_of first) header.eof) has.blocks_are has.stand);
-    node_pages = pages;
+    node_pages = whole;
   };
   blocks_are = has.blocks_are;
   nodes_are = adds.entries ∙ ap (λ (es : List NodeEntry). es ++ nodes_in found) none;
-  places_are = adds.places ∙ ap (λ (ps : List Place). ps ++ found.places) has.places_are;
+  pages_are = adds.pages ∙ ap (λ (ps : List Bref). ps ++ found.pages) has.pages_are;
 }
 
-holds-gathered : (header : Header) (world : World) (blocks : List BlockEntry) (nodes : List NodeEntry) (places : List Place) → Tells world header.eof
-    → (all : Gathered header (file_of world.here) blocks nodes places) → Holds world header.eof (blocks_in all.block_found) (found_in (file_of world.here) (blocks_in all.block_found))
-holds-gathered header world blocks nodes places told all = holds-found world header.eof header.bbt all.block_found told all.holding.block_pages all.holding.stand
+holds-gathered : (header : Header) (world : World) (blocks : List BlockEntry) (nodes : List NodeEntry) (pages : List Bref) → Tells world header.eof
+    → (all : Gathered header (file_of world.here) blocks nodes pages) → Holds world header.eof (blocks_in all.block_found) (found_in (file_of world.here) (blocks_in all.block_found))
+holds-gathered header world blocks nodes pages told all = holds-found world header.eof header.bbt all.block_found told all.holding.block_pages all.holding.stand
 
-pub lines-stopped : (header : Header) (world : World) (blocks : List BlockEntry) (nodes : List NodeEntry) (places : List Place) → Tells world header.eof → Gathered header (file_of world.here) blocks nodes places
-    → (stop : OpenStop) → StopsAtNodes stop world header.eof blocks nodes → StopsTrees stop header (file_of world.here)
-lines-stopped header world blocks nodes places told all stop stops =
-    lines-stops header (file_of world.here) world all.block_found all.node_found stop all.holding (holds-gathered header world blocks nodes places told all)
-    (subst (λ (bs : List BlockEntry). StopsAtNodes stop world header.eof bs (nodes_in all.node_found)) all.blocks_are
-    (subst (λ (ns : List NodeEntry). StopsAtNodes stop world header.eof blocks ns) all.nodes_are stops))
+-- (the calls got slices of the lists)
+pub lines-stopped : (header : Header) (world : World) (blocks bs : List BlockEntry) (nodes ns : List NodeEntry) (pages : List Bref) → Tells world header.eof → Gathered header (file_of world.here) blocks nodes pages
+    → bs ≡ blocks → ns ≡ nodes → (stop : OpenStop) → StopsAtNodes stop world header.eof bs ns → StopsTrees stop header (file_of world.here)
+lines-stopped header world blocks bs nodes ns pages told all one two stop stops =
+    lines-stops header (file_of world.here) world all.block_found all.node_found stop all.holding (holds-gathered header world blocks nodes pages told all)
+    (subst (λ (es : List BlockEntry). StopsAtNodes stop world header.eof es (nodes_in all.node_found)) (one ∙ all.blocks_are)
+    (subst (λ (es : List NodeEntry). StopsAtNodes stop world header.eof bs es) (two ∙ all.nodes_are) stops))
 
-pub places-stopped : (header : Header) (file : List ℕ) (blocks : List BlockEntry) (nodes : List NodeEntry) (places : List Place) → Gathered header file blocks nodes places
-    → (stop : OpenStop) → StopsAtMeeting stop (places ++ map place_of blocks) (regions_to header.eof) → StopsTrees stop header file
-places-stopped header file blocks nodes places all stop stops =
+pub places-stopped : (header : Header) (file : List ℕ) (blocks bs : List BlockEntry) (nodes : List NodeEntry) (pages ps : List Bref) → Gathered header file blocks nodes pages → bs ≡ blocks → ps ≡ pages
+    → (stop : OpenStop) → StopsAtMeeting stop (map page_place ps ++ map place_of bs) (regions_to header.eof) → StopsTrees stop header file
+places-stopped header file blocks bs nodes pages ps all one two stop stops =
     places-stops header file all.block_found all.node_found stop all.holding
-    (subst (λ (ps : List Place). StopsAtMeeting stop (ps ++ map place_of (blocks_in all.block_found)) (regions_to header.eof)) all.places_are
-    (subst (λ (bs : List BlockEntry). StopsAtMeeting stop (places ++ map place_of bs) (regions_to header.eof)) all.blocks_are stops))
+    (subst (λ (es : List Bref). StopsAtMeeting stop (map page_place es ++ map place_of (blocks_in all.block_found)) (regions_to header.eof)) (two ∙ all.pages_are)
+    (subst (λ (es : List BlockEntry). StopsAtMeeting stop (map page_place ps ++ map place_of es) (regions_to header.eof)) (one ∙ all.blocks_are) stops))
 
-pub lines-laid : (header : Header) (world : World) (blocks : List BlockEntry) (nodes : List NodeEntry) (places : List Place) (lines : List NodeLine) → Tells world header.eof
-    → Gathered header (file_of world.here) blocks nodes places → header.eof ≤ LARGEST → ((find : ℕ → Option (List ℕ)) → Holds world header.eof blocks find → AreLines find header.eof nodes lines)
-    → ((slot : ℕ) → IsMeeting (standing (places ++ map place_of blocks) (regions_to header.eof)) slot → ⊥) → LaysLines header (file_of world.here) lines
-lines-laid header world blocks nodes places lines told all small are apart =
+pub lines-laid : (header : Header) (world : World) (blocks bs more : List BlockEntry) (nodes ns : List NodeEntry) (pages ps : List Bref) (lines : List NodeLine) (slots : List Bool) → Tells world header.eof
+    → Gathered header (file_of world.here) blocks nodes pages → bs ≡ blocks → more ≡ blocks → ns ≡ nodes → ps ≡ pages → header.eof ≤ LARGEST
+    → ((find : ℕ → Option (List ℕ)) → Holds world header.eof bs find → AreLines find header.eof ns lines)
+    → ((slot : ℕ) → IsMeeting (standing (map page_place ps ++ map place_of more) (regions_to header.eof)) slot → ⊥)
+    → IsCovered (occupied (map page_place ps ++ map place_of more) (regions_to header.eof)) slots → LaysThese header (file_of world.here) blocks pages lines slots
+lines-laid header world blocks bs more nodes ns pages ps lines slots told all one other two three small are apart used =
     let file = file_of world.here in
-    let find = found_in file (blocks_in all.block_found) in
+    let regions = regions_to header.eof in
+    let B = all.block_found in
+    let N = all.node_found in
+    let find = found_in file (blocks_in B) in
     let long = no_shorter world.here.main world.here.side in
     let whole = told.whole in
-    lays-lines header file all.block_found all.node_found lines all.holding (omega (arith, whole, long)) small
-    (subst (λ (ns : List NodeEntry). AreLines find header.eof ns lines) all.nodes_are
-    (are find (subst (λ (bs : List BlockEntry). Holds world header.eof bs find) (sym all.blocks_are) (holds-gathered header world blocks nodes places told all))))
-    (λ slot meets. apart slot
-    (subst (λ (ps : List Place). IsMeeting (standing (ps ++ map place_of blocks) (regions_to header.eof)) slot) (sym all.places_are)
-    (subst (λ (bs : List BlockEntry). IsMeeting (standing ((all.block_found.places ++ all.node_found.places) ++ map place_of bs) (regions_to header.eof)) slot) (sym all.blocks_are) meets)))
+    let laid : LaysThese header file (blocks_in B) (B.pages ++ N.pages) lines slots =
+    lays-these header file B N lines slots all.holding (omega (arith, whole, long)) small
+    (subst (λ (es : List NodeEntry). AreLines find header.eof es lines) (two ∙ all.nodes_are)
+    (are find (subst (λ (es : List BlockEntry). Holds world header.eof es find) (sym (one ∙ all.blocks_are)) (holds-gathered header world blocks nodes pages told all))))
+    (subst (λ (es : List Bref). (slot : ℕ) → IsMeeting (standing (map page_place es ++ map place_of (blocks_in B)) regions) slot → ⊥) (three ∙ all.pages_are)
+    (subst (λ (es : List BlockEntry). (slot : ℕ) → IsMeeting (standing (map page_place ps ++ map place_of es) regions) slot → ⊥) (other ∙ all.blocks_are) apart))
+    (subst (λ (es : List Bref). IsCovered (occupied (map page_place es ++ map place_of (blocks_in B)) regions) slots) (three ∙ all.pages_are)
+    (subst (λ (es : List BlockEntry). IsCovered (occupied (map page_place ps ++ map place_of es) regions) slots) (other ∙ all.blocks_are) used)) in
+    subst (λ (es : List BlockEntry). LaysThese header file es pages lines slots) (sym all.blocks_are)
+    (subst (λ (es : List Bref). LaysThese header file (blocks_in B) es lines slots) (sym all.pages_are) laid)
 
 -- ---- the header's end
 
@@ -370,7 +423,7 @@ eof-stops image header (Refused (refusals.Truncated len eof)) opened stops =
     let one = stops.0 in
     let two = stops.1 in
     let long = same_length image.main image.side (opened-long image.main image.side header opened) in
-    record { header = header; opened = opened; fault = (one, two, omega (arith, one, two, less)); none = λ m lays. let h = lays.long_enough in never-less (length image.main) header.eof (length (file_of image)) less long h }
+    inr (record { header = header; opened = opened; fault = (omega (arith, one, long), two, omega (arith, one, two, less)); none = λ m lays. let h = lays.long_enough in never-less (length image.main) header.eof (length (file_of image)) less long h })
   where
     never-less : (a b c : ℕ) → a < b → c ≡ a → b ≤ c → ⊥
     never-less a b c p q r = omega (arith, p, q, r)
@@ -378,7 +431,8 @@ eof-stops image header (Refused (refusals.Large eof)) opened stops =
     let end = stops.0 in
     let within = stops.1 in
     let over = stops.2 in
-    record { header = header; opened = opened; fault = (end, omega (arith, end, within), omega (arith, end, over)); none = λ m lays. let h = lays.small_enough in never-both (header.eof) LARGEST over h }
+    let long = same_length image.main image.side (opened-long image.main image.side header opened) in
+    inr (record { header = header; opened = opened; fault = (end, omega (arith, end, within, long), omega (arith, end, over)); none = λ m lays. let h = lays.small_enough in never-both (header.eof) LARGEST over h })
   where
     never-both : (a b : ℕ) → b < a → a ≤ b → ⊥
     never-both a b p q = omega (arith, p, q)
@@ -392,17 +446,12 @@ eof-stops image header (Refused (refusals.Missing bid)) opened stops = absurd st
 eof-stops image header (Refused (refusals.Overlap ib)) opened stops = absurd stops
 eof-stops image header (Refused (refusals.Node nid fault)) opened stops = absurd stops
 
-pub scans-of : (image : Image) (header : Header) (lines : List NodeLine) → opening image.main image.side ≡ Ok header → LaysLines header (file_of image) lines → Scans image lines
-scans-of image header lines opened laid = record { header = header; opened = opened; nodes = laid.nodes; lays = laid.lays; listed = laid.lines_are }
+pub scans-of : (image : Image) (header : Header) (blocks : List BlockEntry) (pages : List Bref) (lines : List NodeLine) (slots : List Bool) → opening image.main image.side ≡ Ok header
+    → LaysThese header (file_of image) blocks pages lines slots → Scans image lines
+scans-of image header blocks pages lines slots opened laid = record { header = header; opened = opened; nodes = laid.nodes; lays = laid.lays; listed = laid.lines_are }
 
-pub scans-once : (image : Image) (header other : Header) (lines : List NodeLine) (m : NodeMap) → opening image.main image.side ≡ Ok header → LaysLines header (file_of image) lines
-    → opening image.main image.side ≡ Ok other → Lays other (file_of image) m → lines ≡ lines_of m
-scans-once image header other lines m opened laid opens lays =
+pub scans-once : (image : Image) (header other : Header) (blocks : List BlockEntry) (pages : List Bref) (lines : List NodeLine) (slots : List Bool) (m : NodeMap) → opening image.main image.side ≡ Ok header
+    → LaysThese header (file_of image) blocks pages lines slots → opening image.main image.side ≡ Ok other → Lays other (file_of image) m → lines ≡ lines_of m
+scans-once image header other blocks pages lines slots m opened laid opens lays =
     let same : other ≡ header = ok_same {E = OpenRefusal} other header (sym opens ∙ opened) in
     laid.lines_are ∙ ap lines_of (lays-once header (file_of image) laid.nodes m laid.lays (subst (λ (h : Header). Lays h (file_of image) m) same lays))
-
--- the same of slices of the lists
-pub regathered : (header : Header) (file : List ℕ) (blocks bs : List BlockEntry) (nodes ns : List NodeEntry) (places : List Place) → bs ≡ blocks → ns ≡ nodes
-    → Gathered header file blocks nodes places → Gathered header file bs ns places
-regathered header file blocks bs nodes ns places one two all =
-    record { block_found = all.block_found; node_found = all.node_found; holding = all.holding; blocks_are = one ∙ all.blocks_are; nodes_are = two ∙ all.nodes_are; places_are = all.places_are }

@@ -1,5 +1,5 @@
 -- What the parts of a scan answer.
-use Rattle.std.specs.Prelude.{◌≡◌, ◌⊎◌, ◌≤◌, ◌<◌, ℕ, ◌+◌, ◌%◌, List, [], ◌∷◌, map, Option, Result, Ok, Err}
+use Rattle.std.specs.Prelude.{◌≡◌, ◌≤◌, ◌<◌, ℕ, Bool, List, [], ◌∷◌, ◌++◌, map, Option, Result, Ok, Err}
 use Rattle.pst_base.specs.declared.ids.Bref.{Bref}
 use Rattle.pst_base.specs.declared.ids.Nid.{Nid}
 use Rattle.pst_base.specs.declared.places.Place.{Place}
@@ -9,7 +9,7 @@ use Rattle.pst_base.specs.declared.stops.SourceStop.TheVariants as sources
 use Rattle.pst_base.specs.Ids.{key_of}
 use Rattle.pst_outside.specs.World.{World}
 use Rattle.pst_outside.specs.Calls.{Untouched}
-use Rattle.alloc_map.specs.Standing.{standing, IsOverlap}
+use Rattle.alloc_map.specs.Standing.{standing, occupied, IsCovered, IsOverlap}
 use Rattle.btree_pages.specs.declared.entry.BlockEntry.{BlockEntry}
 use Rattle.btree_pages.specs.declared.entry.NodeEntry.{NodeEntry}
 use Rattle.data_tree.specs.declared.source.TreeStop.{TreeStop}
@@ -23,10 +23,9 @@ use Rattle.file_layout.specs.declared.stops.OpenRefusal.TheVariants as refusals
 use Rattle.file_layout.specs.declared.stops.OpenStop.{OpenStop}
 use Rattle.file_layout.specs.declared.stops.OpenStop.TheVariants.{Refused, Fault, Changed, Memory}
 use Rattle.pst_header.specs.declared.header.Header.{Header}
-use Rattle.file_layout.specs.declared.stops.OpenRefusal.{OpenRefusal}
-use Rattle.file_layout.specs.Nodes.{Node, NodeMap, node_at, AreNodes, block_tree, node_tree, blocks_in, LARGEST, Lays}
+use Rattle.file_layout.specs.Nodes.{Node, NodeMap, node_at, AreNodes, block_tree, blocks_in, places_of, regions_to, LARGEST, Lays}
 use Rattle.file_scan.specs.Lines.{line_of, lines_of}
-use Rattle.file_scan.specs.Scan.{IsFirstBad, IsFirstStop, ib_of, HasBadBlock, HasBadNode, HasBadForm, HasMeeting, stop_of}
+use Rattle.file_scan.specs.Scan.{IsFirstBad, IsFirstStop, ib_of, HasBadBlock, IsFault}
 use Rattle.file_layout.specs.Trees.{Found, IsWhole}
 use Rattle.file_layout.specs.Walk.{IsBadPage}
 
@@ -127,33 +126,23 @@ AllShort (e ∷ es) = (e.cb ≤ 8176) × AllShort es
 
 -- ---- the trees
 
--- the block tree of a root is whole, its entries and its pages' places are these, and each entry names a whole block
-pub record HasBlocks (file : List ℕ) (eof : ℕ) (root : Bref) (blocks : List BlockEntry) (places : List Place) : Type 0 where
+-- the block tree of a root is whole, its entries and its pages are these, and each entry names a whole block
+pub record HasBlocks (file : List ℕ) (eof : ℕ) (root : Bref) (blocks : List BlockEntry) (pages : List Bref) : Type 0 where
   pub found : Found
-  pub pages : IsWhole (block_tree file eof) root found
+  pub whole : IsWhole (block_tree file eof) root found
   pub blocks_are : blocks ≡ blocks_in found
-  pub places_are : places ≡ found.places
+  pub pages_are : pages ≡ found.pages
   pub stand : AllStand file eof blocks
 
--- a stop at the block tree: at a page, or at the first block that isn't whole
+-- a stop at the block tree: at a page, or at a block, each of them reached
 abbrev pub StopsBlocks : OpenStop → List ℕ → ℕ → Bref → Type 0
 StopsBlocks Memory file eof root = Unit {0}
 StopsBlocks Fault file eof root = Unit {0}
 StopsBlocks (Refused (refusals.Page ib fault)) file eof root = IsBadPage (block_tree file eof) root ib fault
-StopsBlocks (Refused (refusals.Block ib fault)) file eof root = (found : Found) × IsWhole (block_tree file eof) root found × IsFirstBad file eof (blocks_in found) ib fault
+StopsBlocks (Refused (refusals.Block ib fault)) file eof root = HasBadBlock file eof root ib fault
 StopsBlocks stop file eof root = ⊥
 
 -- ---- both trees
-
--- what a refusal names is at fault
-abbrev pub IsFault : Header → List ℕ → OpenRefusal → Type 0
-IsFault header file (refusals.Page ib fault) = IsBadPage (block_tree file header.eof) header.bbt ib fault ⊎ IsBadPage (node_tree file header.eof) header.nbt ib fault
-IsFault header file (refusals.Block ib Form) = HasBadForm header file ib
-IsFault header file (refusals.Block ib fault) = HasBadBlock header file ib fault
-IsFault header file (refusals.Missing bid) = (nid : ℕ) × HasBadNode header file nid (tree_stops.Missing bid)
-IsFault header file (refusals.Overlap ib) = HasMeeting header file ib
-IsFault header file (refusals.Node nid fault) = HasBadNode header file nid.bits (stop_of fault)
-IsFault header file refusal = ⊥
 
 -- a stop at the trees of a header: a refusal names what is at fault, and the file lays no node map
 abbrev pub StopsTrees : OpenStop → Header → List ℕ → Type 0
@@ -162,8 +151,11 @@ StopsTrees Fault header file = Unit {0}
 StopsTrees (Changed ib stored computed) header file = ⊥
 StopsTrees (Refused refusal) header file = IsFault header file refusal × ((m : NodeMap) → Lays header file m → ⊥)
 
--- the file lays a node map of these lines
-pub record LaysLines (header : Header) (file : List ℕ) (lines : List NodeLine) : Type 0 where
+-- the file with this header lays a node map of these lines, its trees have these blocks and pages, and just their slots and those of the fixed pages are used
+pub record LaysThese (header : Header) (file : List ℕ) (blocks : List BlockEntry) (pages : List Bref) (lines : List NodeLine) (slots : List Bool) : Type 0 where
   pub nodes : NodeMap
   pub lays : Lays header file nodes
   pub lines_are : lines ≡ lines_of nodes
+  pub blocks_are : blocks ≡ blocks_in lays.blocks
+  pub pages_are : pages ≡ lays.blocks.pages ++ lays.nodes.pages
+  pub used : IsCovered (occupied (places_of lays.blocks lays.nodes) (regions_to header.eof)) slots

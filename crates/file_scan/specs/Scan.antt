@@ -1,12 +1,14 @@
 -- What a scan of a file answers: the lines of the nodes that the file lays, or why it lays none.
 use Rattle.std.specs.Prelude.{◌≡◌, ◌⊎◌, ◌≤◌, ◌<◌, ℕ, List, [], ◌∷◌, length, Option, Some, None, Ok, Err}
 use Rattle.pst_base.specs.declared.ids.Bid.{Bid}
+use Rattle.pst_base.specs.declared.ids.Bref.{Bref}
 use Rattle.pst_base.specs.Ids.{key_of}
 use Rattle.pst_outside.specs.World.{Image}
 use Rattle.pst_header.specs.declared.header.Header.{Header}
 use Rattle.alloc_map.specs.Standing.{standing, IsOverlap}
 use Rattle.btree_pages.specs.declared.entry.BlockEntry.{BlockEntry}
 use Rattle.btree_pages.specs.declared.entry.NodeEntry.{NodeEntry}
+use Rattle.btree_pages.specs.Entries.{block_of}
 use Rattle.data_tree.specs.declared.source.TreeStop.{TreeStop}
 use Rattle.data_tree.specs.declared.source.TreeStop.TheVariants as tree_stops
 use Rattle.file_blocks.specs.declared.check.BlockRefusal.{BlockRefusal}
@@ -22,8 +24,8 @@ use Rattle.file_layout.specs.declared.stops.OpenStop.TheVariants.{Refused, Fault
 use Rattle.file_layout.specs.Nodes.{Node, NodeMap, block_tree, node_tree, blocks_in, nodes_in, node_at, places_of, LARGEST, regions_to, Lays}
 use Rattle.file_scan.specs.Lines.{lines_of}
 use Rattle.file_layout.specs.Opening.{opening}
-use Rattle.file_layout.specs.Trees.{file_of, Found, IsWhole}
-use Rattle.file_layout.specs.Walk.{IsBadPage}
+use Rattle.file_layout.specs.Trees.{file_of, Found, root_seat, IsWhole}
+use Rattle.file_layout.specs.Walk.{IsBadPage, IsReached}
 
 -- the files open with a header, and the store's file lays a node map of these lines
 pub record Scans (image : Image) (lines : List NodeLine) : Type 0 where
@@ -33,13 +35,6 @@ pub record Scans (image : Image) (lines : List NodeLine) : Type 0 where
   pub lays : Lays header (file_of image) nodes
   pub listed : lines ≡ lines_of nodes
 
--- the files open with a header, and something is so by which the store's file lays no node map
-pub record IsFaulty (image : Image) (P : Header → List ℕ → Type 0) : Type 0 where
-  pub header : Header
-  pub opened : opening image.main image.side ≡ Ok header
-  pub fault : P header (file_of image)
-  pub none : (nodes : NodeMap) → Lays header (file_of image) nodes → ⊥
-
 -- ---- the blocks
 
 -- the first of these entries that names no whole block names one at ib, with this fault
@@ -48,11 +43,12 @@ IsFirstBad file eof [] ib fault = ⊥
 IsFirstBad file eof (e ∷ es) ib fault =
     ((e.at.ib ≡ ib) × (data_at file eof e ≡ Err fault)) ⊎ (Stands file eof e × IsFirstBad file eof es ib fault)
 
--- the block tree is whole, and the first block that isn't stands at ib
-pub record HasBadBlock (header : Header) (file : List ℕ) (ib : ℕ) (fault : BlockRefusal) : Type 0 where
-  pub blocks : Found
-  pub pages : IsWhole (block_tree file header.eof) header.bbt blocks
-  pub first : IsFirstBad file header.eof (blocks_in blocks) ib fault
+-- an entry that is reached from the root of the block tree names a block at ib, with this fault
+pub record HasBadBlock (file : List ℕ) (eof : ℕ) (root : Bref) (ib : ℕ) (fault : BlockRefusal) : Type 0 where
+  pub entry : List ℕ
+  pub reached : IsReached (block_tree file eof) (root_seat root) entry
+  pub place : (block_of entry).at.ib ≡ ib
+  pub bad : data_at file eof (block_of entry) ≡ Err fault
 
 -- ---- the nodes
 
@@ -90,7 +86,7 @@ stop_of faults.Long = tree_stops.Long
 
 -- ---- the places
 
--- both trees are whole, and of the places of their pages and blocks, or of the fixed pages, two meet: the least later start is ib
+-- both trees are whole, and of the places of their pages and blocks, or of the AMap pages, two meet: the least later start is ib
 pub record HasMeeting (header : Header) (file : List ℕ) (ib : ℕ) : Type 0 where
   pub blocks : Found
   pub block_pages : IsWhole (block_tree file header.eof) header.bbt blocks
@@ -100,18 +96,28 @@ pub record HasMeeting (header : Header) (file : List ℕ) (ib : ℕ) : Type 0 wh
 
 -- ---- the answers
 
--- what a refusal says of the files
+-- what a refusal names is at fault in the file with this header
+abbrev pub IsFault : Header → List ℕ → OpenRefusal → Type 0
+IsFault header file (refusals.Truncated len eof) = (len ≡ length file) × (eof ≡ header.eof) × (len < eof)
+IsFault header file (refusals.Large eof) = (eof ≡ header.eof) × (eof ≤ length file) × (LARGEST < eof)
+IsFault header file (refusals.Page ib fault) = IsBadPage (block_tree file header.eof) header.bbt ib fault ⊎ IsBadPage (node_tree file header.eof) header.nbt ib fault
+IsFault header file (refusals.Block ib Form) = HasBadForm header file ib
+IsFault header file (refusals.Block ib fault) = HasBadBlock file header.eof header.bbt ib fault
+IsFault header file (refusals.Missing bid) = (nid : ℕ) × HasBadNode header file nid (tree_stops.Missing bid)
+IsFault header file (refusals.Overlap ib) = HasMeeting header file ib
+IsFault header file (refusals.Node nid fault) = HasBadNode header file nid.bits (stop_of fault)
+IsFault header file refusal = ⊥
+
+-- the files open with a header, what the refusal names is at fault, and the store's file lays no node map
+pub record IsFaulty (image : Image) (refusal : OpenRefusal) : Type 0 where
+  pub header : Header
+  pub opened : opening image.main image.side ≡ Ok header
+  pub fault : IsFault header (file_of image) refusal
+  pub none : (nodes : NodeMap) → Lays header (file_of image) nodes → ⊥
+
+-- what a refusal says of the files: no header counts, or one does and what is named is at fault
 abbrev pub IsRefused : Image → OpenRefusal → Type 0
-IsRefused image (refusals.Truncated len eof) = IsFaulty image (λ header file. (len ≡ length image.main) × (eof ≡ header.eof) × (len < eof))
-IsRefused image (refusals.Large eof) = IsFaulty image (λ header file. (eof ≡ header.eof) × (eof ≤ length image.main) × (LARGEST < eof))
-IsRefused image (refusals.Page ib fault) =
-    IsFaulty image (λ header file. IsBadPage (block_tree file header.eof) header.bbt ib fault ⊎ IsBadPage (node_tree file header.eof) header.nbt ib fault)
-IsRefused image (refusals.Block ib Form) = IsFaulty image (λ header file. HasBadForm header file ib)
-IsRefused image (refusals.Block ib fault) = IsFaulty image (λ header file. HasBadBlock header file ib fault)
-IsRefused image (refusals.Missing bid) = IsFaulty image (λ header file. (nid : ℕ) × HasBadNode header file nid (tree_stops.Missing bid))
-IsRefused image (refusals.Overlap ib) = IsFaulty image (λ header file. HasMeeting header file ib)
-IsRefused image (refusals.Node nid fault) = IsFaulty image (λ header file. HasBadNode header file nid.bits (stop_of fault))
-IsRefused image refusal = opening image.main image.side ≡ Err refusal
+IsRefused image refusal = (opening image.main image.side ≡ Err refusal) ⊎ IsFaulty image refusal
 
 -- what a stop says of files whose bytes are told: what has passed its check never changes there
 abbrev pub StopsScan : OpenStop → Image → Type 0

@@ -2,14 +2,14 @@
 ghost use Rattle.std.specs.Prelude.{◌≡◌, ◌≤◌, Err, length, IfOk, OnOk, IfErr};
 ghost use Rattle.pst_outside.specs.Calls.{Rose, Untouched};
 ghost use Rattle.file_blocks.specs.Blocks.{file_of, AllStand};
-ghost use Rattle.file_layout.specs.Trees.{AllPlaces};
+ghost use Rattle.file_layout.specs.Trees.{AllPages};
 ghost use Rattle.file_scan.specs.Parts.{StopsEof, StopsAtBlock, AllPlaced, HasBlocks, StopsBlocks};
 ghost use Rattle.file_layout.specs.Nodes.{LARGEST};
 
 use btree_pages::BlockEntry;
 use file_blocks::{BlockStop, check_block};
 use file_layout::{OpenRefusal, OpenStop, read_tree};
-use pst_base::{Bref, Place};
+use pst_base::Bref;
 use pst_outside::{Outside, Part};
 use std::alloc::Global;
 
@@ -18,6 +18,9 @@ const BLOCK_TREE: u8 = 0x80;
 
 /// The most bytes that a file may have: those before the first region, and 8192 regions.
 const LARGEST: u64 = 0x4400 + 253_952 * 8192;
+
+/// The most bytes that a block takes in the file.
+const BUFFER: usize = 8192;
 
 /// Refuses a file that is shorter than its header says, or whose header names an end past the last region that may be.
 pub(crate) fn check_eof<W: Outside>(w: &mut W, eof: u64) -> Result<(), OpenStop>
@@ -50,8 +53,9 @@ pub(crate) fn check_blocks<W: Outside>(
     ensures fault { result ≡ Err OpenStop.Fault → Rose (W.view w.old).disk_faults (W.view w.new).disk_faults }
     ensures same { Untouched (W.view w.old) (W.view w.new) }
 {
+    let mut buffer = [0; BUFFER];
     for entry in blocks {
-        match check_block(w, eof, *entry) {
+        match check_block(w, eof, *entry, &mut buffer) {
             Ok(()) => {}
             Err(BlockStop::Failed) => return Err(OpenStop::Fault),
             Err(BlockStop::Refused(fault)) => {
@@ -65,24 +69,31 @@ pub(crate) fn check_blocks<W: Outside>(
     Ok(())
 }
 
-/// The entries of the block tree of a root, each of which names a whole block, and the places of the tree's pages.
+/// The entries of the block tree of a root, each of which names a whole block, and the tree's pages. A block is looked at when its leaf is reached, so before the pages behind that leaf.
 pub(crate) fn read_blocks<W: Outside>(
     alloc: Global,
     w: &mut W,
     eof: u64,
     root: Bref,
-) -> Result<(Vec<BlockEntry>, Vec<Place>), OpenStop>
+) -> Result<(Vec<BlockEntry>, Vec<Bref>), OpenStop>
     requires { (W.view w.old).tells → eof ≤ length (W.view w.old).here.main }
     ensures blocks { IfOk result (λ read. (W.view w.new).tells → HasBlocks (file_of (W.view w.new).here) eof root read.0.items read.1.items) }
     ensures placed { IfOk result (λ read. AllPlaced eof read.0.items) }
-    ensures pages { IfOk result (λ read. AllPlaces eof read.1.items) }
+    ensures pages { IfOk result (λ read. AllPages eof read.1.items) }
     ensures refused { IfErr result (λ stop. (W.view w.new).tells → StopsBlocks stop (file_of (W.view w.new).here) eof root) }
     ensures fault { result ≡ Err OpenStop.Fault → Rose (W.view w.old).disk_faults (W.view w.new).disk_faults }
     ensures same { Untouched (W.view w.old) (W.view w.new) }
 {
     let mut blocks = Vec::new(alloc);
-    let mut places = Vec::new(alloc);
-    read_tree(w, BLOCK_TREE, eof, root, &mut blocks, &mut places)?;
+    let mut pages = Vec::new(alloc);
+    match read_tree(w, BLOCK_TREE, eof, root, &mut blocks, &mut pages) {
+        Ok(()) => {}
+        Err(OpenStop::Refused(page)) => {
+            check_blocks(w, eof, blocks.as_slice())?;
+            return Err(OpenStop::Refused(page));
+        }
+        Err(stop) => return Err(stop),
+    }
     check_blocks(w, eof, blocks.as_slice())?;
-    Ok((blocks, places))
+    Ok((blocks, pages))
 }

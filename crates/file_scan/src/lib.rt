@@ -1,18 +1,17 @@
-//! The scan of a whole file: the lines of its nodes, or why it is refused.
+//! The scan of a whole file: its nodes, and what a keeper needs of it, or why it is refused.
 //!
-//! Promises: `scan_nodes` gives the lines of the node map that the bytes lay (`Lays`) exactly where they lay one, and a refusal names what is at fault and excludes every node map. Over any world that tells what it holds; it writes nothing, and a device's failure and want of memory are its only other answers.
+//! Promises: `scan_nodes` gives the lines of the node map that the bytes lay (`Lays`) exactly where they lay one, and `scan_file` the used slots, the number of pages and both next numbers of such a file (`IsFound`). A refusal names what is at fault and excludes every node map. Over any world that tells what it holds; both write nothing, and a device's failure and want of memory are their only other answers.
 //!
 //! Leaves to others: how refusals are printed.
 #![tactic(auto)]
 
 mod blocks;
+mod next;
 mod nodes;
 mod places;
 mod scan;
 #[cfg(test)]
-mod scan_tests;
-#[cfg(test)]
 mod tests;
 
 pub use nodes::NodeLine;
-pub use scan::scan_nodes;
+pub use scan::{FoundFile, scan_file, scan_nodes};

@@ -1,15 +1,15 @@
 //! The places of a file's pages and blocks.
-ghost use Rattle.std.specs.Prelude.{◌≡◌, ◌≤◌, ℕ, ◌++◌, map, OnOk, IfErr};
-ghost use Rattle.alloc_map.specs.Standing.{standing, IsMeeting};
+ghost use Rattle.std.specs.Prelude.{◌≡◌, ◌≤◌, ◌*◌, ℕ, ◌++◌, map, length, OnOk, IfOk, IfErr};
+ghost use Rattle.alloc_map.specs.Standing.{standing, occupied, IsCovered, IsMeeting};
 ghost use Rattle.file_layout.specs.Nodes.{LARGEST, regions_to, place_of};
-ghost use Rattle.file_layout.specs.Trees.{AllPlaces};
+ghost use Rattle.file_layout.specs.Trees.{AllPages, page_place};
 ghost use Rattle.file_scan.specs.Parts.{AllPlaced, AllShort, StopsAtMeeting};
 
 use alloc_map::Slots;
 use block_frame::disk_size;
 use btree_pages::BlockEntry;
 use file_layout::{OpenRefusal, OpenStop};
-use pst_base::{MemOr, Place};
+use pst_base::{Bref, MemOr, Place};
 use std::alloc::{AllocError, Global};
 
 /// Where the first region begins.
@@ -18,6 +18,9 @@ const FIRST: u64 = 0x4400;
 /// The length of a region, in bytes.
 const REGION: u64 = 253_952;
 
+/// The length of a page, in bytes.
+const PAGE: u64 = 512;
+
 /// How many regions a file of `eof` bytes has, of which the last may be cut short; at least one.
 fn regions_to(eof: u64) -> u32
     requires { eof ≤ LARGEST }
@@ -25,6 +28,19 @@ fn regions_to(eof: u64) -> u32
     ensures few { result ≤ 8192 }
 {
     ((eof.saturating_sub(FIRST) + (REGION - 1)) / REGION).max(1) as u32
+}
+
+/// Puts the places of pages behind those that are there.
+fn push_pages(places: &mut Vec<Place>, pages: &[Bref]) -> Result<(), AllocError>
+    ensures { OnOk result (places.new.items ≡ places.old.items ++ map page_place pages.now) }
+{
+    for page in pages {
+        places.push(Place {
+            ib: page.ib,
+            len: PAGE,
+        })?;
+    }
+    Ok(())
 }
 
 /// Puts the places of blocks behind those that are there.
@@ -41,22 +57,26 @@ fn push_blocks(places: &mut Vec<Place>, blocks: &[BlockEntry]) -> Result<(), All
     Ok(())
 }
 
-/// Checks that of these places, those of blocks and the fixed pages no two meet.
-pub(crate) fn check_places(
+/// The slots on which these pages, these blocks and the fixed pages of a file stand, where no two of the pages, the blocks and the AMap pages meet.
+pub(crate) fn used_slots(
     alloc: Global,
     eof: u64,
-    mut places: Vec<Place>,
+    pages: &[Bref],
     blocks: &[BlockEntry],
-) -> Result<(), OpenStop>
+) -> Result<Slots, OpenStop>
     requires small { eof ≤ LARGEST }
-    requires pages { AllPlaces eof places.items }
+    requires pages { AllPages eof pages.now }
     requires placed { AllPlaced eof blocks.now }
-    ensures apart { OnOk result ((slot : ℕ) → IsMeeting (standing (places.items ++ map place_of blocks.now) (regions_to eof)) slot → ⊥) }
-    ensures overlap { IfErr result (λ stop. StopsAtMeeting stop (places.items ++ map place_of blocks.now) (regions_to eof)) }
+    ensures size { IfOk result (λ slots. length slots ≡ 3968 * regions_to eof) }
+    ensures used { IfOk result (IsCovered (occupied (map page_place pages.now ++ map place_of blocks.now) (regions_to eof))) }
+    ensures apart { IfOk result (λ _. (slot : ℕ) → IsMeeting (standing (map page_place pages.now ++ map place_of blocks.now) (regions_to eof)) slot → ⊥) }
+    ensures overlap { IfErr result (λ stop. StopsAtMeeting stop (map page_place pages.now ++ map place_of blocks.now) (regions_to eof)) }
 {
+    let mut places = Vec::new(alloc);
+    push_pages(&mut places, pages)?;
     push_blocks(&mut places, blocks)?;
     match Slots::rebuild(alloc, places.as_slice(), regions_to(eof)) {
-        Ok(_) => Ok(()),
+        Ok(slots) => Ok(slots),
         Err(MemOr::Memory) => Err(OpenStop::Memory),
         Err(MemOr::Refused(overlap)) => {
             Err(OpenStop::Refused(OpenRefusal::Overlap { ib: overlap.ib }))

@@ -1,17 +1,22 @@
 //! A scan of a whole file.
-ghost use Rattle.std.specs.Prelude.{◌≡◌, ◌≤◌, length, Ok, Err, IfOk, IfErr};
+ghost use Rattle.std.specs.Prelude.{◌≡◌, ◌≤◌, ◌*◌, length, Ok, Err, IfOk, IfErr};
 ghost use Rattle.pst_outside.specs.Calls.{Rose, Untouched};
-ghost use Rattle.file_layout.specs.Nodes.{NodeMap, Lays, LARGEST};
-ghost use Rattle.file_scan.specs.Lines.{lines_of};
+ghost use Rattle.file_layout.specs.Nodes.{NodeMap, Lays, LARGEST, regions_to};
 ghost use Rattle.file_layout.specs.Opening.{opening};
-ghost use Rattle.file_scan.specs.Parts.{LaysLines, StopsTrees};
-ghost use Rattle.file_scan.specs.Scan.{Scans, StopsScan};
 ghost use Rattle.file_layout.specs.Trees.{file_of};
+ghost use Rattle.file_scan.specs.Found.{IsFound};
+ghost use Rattle.file_scan.specs.Lines.{lines_of};
+ghost use Rattle.file_scan.specs.Parts.{LaysThese, StopsTrees};
+ghost use Rattle.file_scan.specs.Scan.{Scans, StopsScan};
 
 use crate::blocks::{check_eof, read_blocks};
+use crate::next::{next_block, next_page};
 use crate::nodes::{NodeLine, node_lines};
-use crate::places::check_places;
+use crate::places::used_slots;
+use alloc_map::Slots;
+use btree_pages::BlockEntry;
 use file_layout::{OpenStop, open_header, read_tree};
+use pst_base::Bref;
 use pst_header::Header;
 use pst_outside::Outside;
 use std::alloc::Global;
@@ -19,12 +24,71 @@ use std::alloc::Global;
 /// The kind of the node tree's pages.
 const NODE_TREE: u8 = 0x81;
 
+/// What a scan found in a file, for a keeper of it.
+#[derive(Drop)]
+pub struct FoundFile {
+    /// The header that counts.
+    pub header: Header,
+    /// The slots on which a block, a page of a tree or a fixed page stands.
+    pub slots: Slots,
+    /// How many pages both trees have.
+    pub pages: u64,
+    /// The number of the next block.
+    pub next_block: u64,
+    /// The number of the next page.
+    pub next_page: u64,
+}
+
+/// What a scan found.
+#[derive(Drop)]
+struct Scanned {
+    header: Header,
+    /// The entries of the block tree.
+    blocks: Vec<BlockEntry>,
+    /// The pages of the block tree, and then those of the node tree.
+    pages: Vec<Bref>,
+    /// What is told of the nodes.
+    lines: Vec<NodeLine>,
+    /// The used slots.
+    slots: Slots,
+}
+
 /// The nodes of a file, ascending by id, with the sizes of what each leads to. It reads the pages of both trees, each block once and those that name or list others once more, and writes nothing.
 ///
-/// `Refused` names the first thing that is wrong: with the header, the file's length, the block tree's pages in the order of their keys, then its blocks, the node tree's pages, each node's data and subnodes, and last the places of all pages and blocks. `Fault` comes only where the disk failed; `Changed` only where a block fails a check that it passed, never over a world that tells.
+/// `Refused` names the first thing that is wrong: with the header, the file's length, the block tree's pages in the order of their keys, with the blocks of each leaf before the next page, the node tree's pages, each node's data and subnodes, and last the places of all pages and blocks. `Fault` comes only where the disk failed; `Changed` only where a block fails a check that it passed, never over a world that tells.
 pub fn scan_nodes<W: Outside>(alloc: Global, w: &mut W) -> Result<Vec<NodeLine>, OpenStop>
     ensures lays { IfOk result (λ lines. (W.view w.new).tells → Scans (W.view w.new).here lines.items) }
     ensures only { IfOk result (λ lines. (W.view w.new).tells → (header : Header) (nodes : NodeMap) → opening (W.view w.new).here.main (W.view w.new).here.side ≡ Ok header → Lays header (file_of (W.view w.new).here) nodes → lines.items ≡ lines_of nodes) }
+    ensures refused { IfErr result (λ stop. (W.view w.new).tells → StopsScan stop (W.view w.new).here) }
+    ensures fault { result ≡ Err OpenStop.Fault → Rose (W.view w.old).disk_faults (W.view w.new).disk_faults }
+    ensures same { Untouched (W.view w.old) (W.view w.new) }
+{
+    let scanned = scan(alloc, w)?;
+    Ok(scanned.lines)
+}
+
+/// What a keeper of a file needs of it, found by the same scan as `scan_nodes` does, with the same stops. Both next numbers stay at the greatest of 64 bits, where a file's ids leave none behind them.
+pub fn scan_file<W: Outside>(alloc: Global, w: &mut W) -> Result<FoundFile, OpenStop>
+    ensures found { IfOk result (λ found. (W.view w.new).tells → IsFound (W.view w.new).here found) }
+    ensures refused { IfErr result (λ stop. (W.view w.new).tells → StopsScan stop (W.view w.new).here) }
+    ensures fault { result ≡ Err OpenStop.Fault → Rose (W.view w.old).disk_faults (W.view w.new).disk_faults }
+    ensures same { Untouched (W.view w.old) (W.view w.new) }
+{
+    let scanned = scan(alloc, w)?;
+    Ok(FoundFile {
+        header: scanned.header,
+        pages: scanned.pages.len() as u64,
+        next_block: next_block(&scanned.header, scanned.blocks.as_slice()),
+        next_page: next_page(&scanned.header, scanned.pages.as_slice()),
+        slots: scanned.slots,
+    })
+}
+
+/// What is found of a file.
+fn scan<W: Outside>(alloc: Global, w: &mut W) -> Result<Scanned, OpenStop>
+    ensures opened { IfOk result (λ scanned. (W.view w.new).tells → opening (W.view w.new).here.main (W.view w.new).here.side ≡ Ok scanned.header) }
+    ensures lays { IfOk result (λ scanned. (W.view w.new).tells → LaysThese scanned.header (file_of (W.view w.new).here) scanned.blocks.items scanned.pages.items scanned.lines.items scanned.slots) }
+    ensures size { IfOk result (λ scanned. length scanned.slots ≡ 3968 * regions_to scanned.header.eof) }
     ensures refused { IfErr result (λ stop. (W.view w.new).tells → StopsScan stop (W.view w.new).here) }
     ensures fault { result ≡ Err OpenStop.Fault → Rose (W.view w.old).disk_faults (W.view w.new).disk_faults }
     ensures same { Untouched (W.view w.old) (W.view w.new) }
@@ -34,24 +98,28 @@ pub fn scan_nodes<W: Outside>(alloc: Global, w: &mut W) -> Result<Vec<NodeLine>,
     scan_trees(alloc, w, &opened.header)
 }
 
-/// The nodes of a file whose header is known and whose end is in the file.
-fn scan_trees<W: Outside>(
-    alloc: Global,
-    w: &mut W,
-    header: &Header,
-) -> Result<Vec<NodeLine>, OpenStop>
+/// What is found of a file whose header is known and whose end is in the file.
+fn scan_trees<W: Outside>(alloc: Global, w: &mut W, header: &Header) -> Result<Scanned, OpenStop>
     requires whole { (W.view w.old).tells → header.now.eof ≤ length (W.view w.old).here.main }
     requires small { header.now.eof ≤ LARGEST }
-    ensures lays { IfOk result (λ lines. (W.view w.new).tells → LaysLines header.now (file_of (W.view w.new).here) lines.items) }
+    ensures lays { IfOk result (λ scanned. (W.view w.new).tells → LaysThese header.now (file_of (W.view w.new).here) scanned.blocks.items scanned.pages.items scanned.lines.items scanned.slots) }
+    ensures header { IfOk result (λ scanned. scanned.header ≡ header.now) }
+    ensures size { IfOk result (λ scanned. length scanned.slots ≡ 3968 * regions_to header.now.eof) }
     ensures refused { IfErr result (λ stop. (W.view w.new).tells → StopsTrees stop header.now (file_of (W.view w.new).here)) }
     ensures fault { result ≡ Err OpenStop.Fault → Rose (W.view w.old).disk_faults (W.view w.new).disk_faults }
     ensures same { Untouched (W.view w.old) (W.view w.new) }
 {
     let eof = header.eof;
-    let (blocks, mut places) = read_blocks(alloc, w, eof, header.bbt)?;
+    let (blocks, mut pages) = read_blocks(alloc, w, eof, header.bbt)?;
     let mut nodes = Vec::new(alloc);
-    read_tree(w, NODE_TREE, eof, header.nbt, &mut nodes, &mut places)?;
+    read_tree(w, NODE_TREE, eof, header.nbt, &mut nodes, &mut pages)?;
     let lines = node_lines(alloc, w, eof, blocks.as_slice(), nodes.as_slice())?;
-    check_places(alloc, eof, places, blocks.as_slice())?;
-    Ok(lines)
+    let slots = used_slots(alloc, eof, pages.as_slice(), blocks.as_slice())?;
+    Ok(Scanned {
+        header: *header,
+        blocks,
+        pages,
+        lines,
+        slots,
+    })
 }

@@ -1,310 +1,77 @@
-//! Files that are laid here page by page, with a tree of each shape, and one fault of each kind.
-use btree_pages::{BlockEntry, Entry, Inner, NodeEntry, write_inner, write_leaf};
-use file_layout::{OpenRefusal, OpenStop, PageRefusal, read_tree};
+//! A file of two empty trees, laid by [MS-PST] 2.2.2.6 and 2.2.2.7, over a disk that fails.
+use crate::{scan_file, scan_nodes};
+use file_layout::OpenStop;
 use page_frame::seal;
-use pst_base::{Bid, Bref, Bytes, Nid, PageFault, Place};
+use pst_base::{Bid, Bref, Bytes, crc, put_u8, put_u16, put_u32, put_u64};
 use pst_outside::{FailPlan, MemWorld};
-use std::alloc::{AllocError, Global};
+use std::alloc::Global;
 use std::test::Fail;
 
-const BLOCKS: u8 = 0x80;
-
-const EMPTY: [u8; 512] = [0; 512];
-
-/// The page at a place. Its id is the place's number of slots.
-fn at(ib: u64) -> Bref {
-    Bref {
-        bid: Bid { bits: ib / 64 },
-        ib,
-    }
-}
-
-const A: BlockEntry = BlockEntry {
-    at: Bref {
-        bid: Bid { bits: 4 },
-        ib: 0x8000,
-    },
-    cb: 100,
-    refs: 2,
+/// The root of the block tree.
+const BLOCKS: Bref = Bref {
+    bid: Bid { bits: 0x31 },
+    ib: 0x4c00,
 };
 
-const B: BlockEntry = BlockEntry {
-    at: Bref {
-        bid: Bid { bits: 8 },
-        ib: 0x8000,
-    },
-    cb: 100,
-    refs: 2,
+/// The root of the node tree.
+const NODES: Bref = Bref {
+    bid: Bid { bits: 0x32 },
+    ib: 0x5000,
 };
 
-const C: BlockEntry = BlockEntry {
-    at: Bref {
-        bid: Bid { bits: 12 },
-        ib: 0x8000,
-    },
-    cb: 100,
-    refs: 2,
-};
-
-/// The page of `A` and `B`.
-const FIRST: Inner = Inner {
-    key: 4,
-    page: Bref {
-        bid: Bid { bits: 0x110 },
-        ib: 0x4400,
-    },
-};
-
-/// The page of `C`.
-const LATER: Inner = Inner {
-    key: 12,
-    page: Bref {
-        bid: Bid { bits: 0x118 },
-        ib: 0x4600,
-    },
-};
-
-/// What reading a tree gave.
-#[derive(Debug, Drop)]
-struct Seen<E> {
-    stop: Option<OpenStop>,
-    entries: Vec<E>,
-    places: Vec<Place>,
+/// A header that names both roots.
+fn header() -> [u8; 564] {
+    let mut b = [0; 564];
+    put_u32(&mut b, 0, 0x4e44_4221);
+    put_u16(&mut b, 8, 0x4d53);
+    put_u16(&mut b, 10, 23);
+    put_u64(&mut b, 32, 0x20);
+    put_u64(&mut b, 184, 0x5200);
+    put_u64(&mut b, 216, NODES.bid.bits);
+    put_u64(&mut b, 224, NODES.ib);
+    put_u64(&mut b, 232, BLOCKS.bid.bits);
+    put_u64(&mut b, 240, BLOCKS.ib);
+    put_u64(&mut b, 516, 0x27);
+    let partial = crc(&b[8..479]);
+    put_u32(&mut b, 4, partial);
+    let full = crc(&b[8..524]);
+    put_u32(&mut b, 524, full);
+    b
 }
 
-/// Reads a tree in a file of three pages, which ends `cut` bytes before the end of the third.
-fn read<E: Entry>(
-    rt: &HostRuntime,
-    pages: [[u8; 512]; 3],
-    kind: u8,
-    cut: u64,
-    root: Bref,
-) -> Result<Seen<E>, Fail> {
-    read_failing(rt, pages, kind, cut, root, FailPlan::none(rt.alloc()))
+/// A leaf without entries.
+fn leaf(size: u8) -> [u8; 496] {
+    let mut body = [0; 496];
+    put_u8(&mut body, 490, size);
+    body
 }
 
-/// Zeros up to the first place of a page.
-fn zeros(alloc: Global, n: usize) -> Result<Vec<u8>, AllocError> {
-    vec![in alloc; 0u8; n]
+/// The file, over a disk that is dead from a call on.
+fn world(alloc: Global, dead_from: u64) -> Result<MemWorld, Fail> {
+    let mut main = Vec::new(alloc);
+    main.extend_from_slice(&header())?;
+    main.extend_from_slice(&[0; 0x4c00 - 564])?;
+    main.extend_from_slice(&seal(&leaf(24), 0x80, BLOCKS))?;
+    main.extend_from_slice(&[0; 512])?;
+    main.extend_from_slice(&seal(&leaf(32), 0x81, NODES))?;
+    let mut fails = FailPlan::none(alloc);
+    fails.dead_from = Some(dead_from);
+    let (input, side, copy) = (Bytes::new(alloc), Bytes::new(alloc), Bytes::new(alloc));
+    let world = MemWorld::new(alloc, input, Bytes::from_vec(main), side, copy, fails)?;
+    Ok(world)
 }
 
-/// A file of these pages from 4400h on.
-fn file(alloc: Global, pages: &[[u8; 512]]) -> Result<Bytes, AllocError> {
-    let mut main = zeros(alloc, 0x4400)?;
-    for page in pages {
-        main.extend_from_slice(page.as_slice())?;
+#[test]
+fn a_disk_that_dies_is_a_fault(rt: HostRuntime) -> Result<(), Fail> {
+    let alloc = rt.alloc();
+    for call in 0..6 {
+        let stop = scan_nodes(alloc, &mut world(alloc, call)?).err();
+        assert_eq!(rt; stop, Some(OpenStop::Fault), "{call}");
     }
-    Ok(Bytes::from_vec(main))
-}
-
-/// The same where some calls fail.
-fn read_failing<E: Entry>(
-    rt: &HostRuntime,
-    pages: [[u8; 512]; 3],
-    kind: u8,
-    cut: u64,
-    root: Bref,
-    fails: FailPlan,
-) -> Result<Seen<E>, Fail> {
-    let main = file(rt.alloc(), &pages)?;
-    let eof = (main.len() as u64).saturating_sub(cut);
-    let none = Bytes::new(rt.alloc());
-    let side = Bytes::new(rt.alloc());
-    let copy = Bytes::new(rt.alloc());
-    let mut w = MemWorld::new(rt.alloc(), none, main, side, copy, fails)?;
-    let mut entries = Vec::new(rt.alloc());
-    let mut places = Vec::new(rt.alloc());
-    let stop = read_tree(&mut w, kind, eof, root, &mut entries, &mut places).err();
-    Ok(Seen {
-        stop,
-        entries,
-        places,
-    })
-}
-
-/// The answer that names a page.
-fn page(ib: u64, fault: PageRefusal) -> Option<OpenStop> {
-    Some(OpenStop::Refused(OpenRefusal::Page { ib, fault }))
-}
-
-fn faulty(ib: u64, fault: PageFault) -> Option<OpenStop> {
-    page(ib, PageRefusal::Faulty(fault))
-}
-
-/// What is wrong with the content or the frame of the page that is named.
-fn fault_of(stop: Option<OpenStop>) -> Option<PageFault> {
-    match stop {
-        Some(
-            OpenStop::Refused(
-                OpenRefusal::Page {
-                    fault: PageRefusal::Faulty(fault),
-                    ..
-                },
-            ),
-        ) => Some(fault),
-        _ => None,
-    }
-}
-
-#[test]
-fn a_leaf_and_a_tree_of_two_levels_give_their_entries(rt: HostRuntime) -> Result<(), Fail> {
-    let first = seal(&write_leaf(&[A, B]), BLOCKS, at(0x4400));
-    let second = seal(&write_leaf(&[C]), BLOCKS, at(0x4600));
-    let root = write_inner::<BlockEntry>(1, &[FIRST, LATER]);
-    let root = seal(&root, BLOCKS, at(0x4800));
-    let pages = [first, second, root];
-    let seen = read(&rt, pages, BLOCKS, 0, at(0x4400))?;
-    assert_eq!(rt; seen.stop, None);
-    assert_eq!(rt; seen.entries.as_slice(), &[A, B][..]);
-    assert_eq!(rt;
-        seen.places.as_slice(),
-        &[Place {
-            ib: 0x4400,
-            len: 512
-        }][..]
-    );
-    let seen = read(&rt, pages, BLOCKS, 0, at(0x4800))?;
-    assert_eq!(rt; seen.stop, None);
-    assert_eq!(rt; seen.entries.as_slice(), &[A, B, C][..]);
-    let places = [0x4800, 0x4400, 0x4600].map(|ib| Place { ib, len: 512 });
-    assert_eq!(rt; seen.places.as_slice(), &places[..]);
-    Ok(())
-}
-
-#[test]
-fn a_leaf_of_nodes_gives_its_entries(rt: HostRuntime) -> Result<(), Fail> {
-    let node = NodeEntry {
-        nid: Nid { bits: 0x122 },
-        content: Bid { bits: 4 },
-        subnodes: Bid { bits: 0 },
-        parent: Nid { bits: 0x122 },
-    };
-    let leaf = seal(&write_leaf(&[node]), 0x81, at(0x4400));
-    let seen = read(&rt, [leaf, EMPTY, EMPTY], 0x81, 0, at(0x4400))?;
-    assert_eq!(rt; seen.stop, None);
-    assert_eq!(rt; seen.entries.as_slice(), &[node][..]);
-    Ok(())
-}
-
-#[test]
-fn an_empty_root_is_a_tree(rt: HostRuntime) -> Result<(), Fail> {
-    let leaf = seal(&write_leaf::<BlockEntry>(&[]), BLOCKS, at(0x4400));
-    let seen = read::<BlockEntry>(&rt, [leaf, EMPTY, EMPTY], BLOCKS, 0, at(0x4400))?;
-    assert_eq!(rt; seen.stop, None);
-    assert_eq!(rt; (seen.entries.len(), seen.places.len()), (0, 1));
-    Ok(())
-}
-
-/// What reading a tree of these two leaves and this root stops with.
-fn stop_of(
-    rt: &HostRuntime,
-    first: [u8; 496],
-    second: [u8; 496],
-    root: [u8; 496],
-) -> Result<Option<OpenStop>, Fail> {
-    let pages = [
-        seal(&first, BLOCKS, at(0x4400)),
-        seal(&second, BLOCKS, at(0x4600)),
-        seal(&root, BLOCKS, at(0x4800)),
-    ];
-    let seen = read::<BlockEntry>(rt, pages, BLOCKS, 0, at(0x4800))?;
-    Ok(seen.stop)
-}
-
-#[test]
-fn a_child_owes_its_level_and_its_count(rt: HostRuntime) -> Result<(), Fail> {
-    let full = write_leaf(&[A, B]);
-    let later = write_leaf(&[C]);
-    let empty = write_leaf::<BlockEntry>(&[]);
-    let inner = write_inner::<BlockEntry>(1, &[FIRST, LATER]);
-    let mut deep = inner;
-    deep[491] = 8;
-    let itself = Inner {
-        page: at(0x4800),
-        ..FIRST
-    };
-    let itself = write_inner::<BlockEntry>(1, &[itself]);
-    let level = PageFault::Level;
-    let count = PageFault::Count;
-    for (name, second, root, wanted) in [
-        ("whole", later, inner, None),
-        ("deep root", later, deep, faulty(0x4800, level)),
-        ("root below itself", later, itself, faulty(0x4800, level)),
-        ("inner child", inner, inner, faulty(0x4600, level)),
-        ("empty child", empty, inner, faulty(0x4600, count)),
-    ] {
-        let stop = stop_of(&rt, full, second, root)?;
-        assert_eq!(rt; stop, wanted, "{name}");
-    }
-    Ok(())
-}
-
-#[test]
-fn keys_ascend_within_the_span_of_their_page(rt: HostRuntime) -> Result<(), Fail> {
-    let full = write_leaf(&[A, B]);
-    let later = write_leaf(&[C]);
-    let inner = write_inner::<BlockEntry>(1, &[FIRST, LATER]);
-    let mut twice = full;
-    twice[24] = 5;
-    let high = write_inner::<BlockEntry>(1, &[Inner { key: 6, ..FIRST }, LATER]);
-    let low = write_inner::<BlockEntry>(1, &[FIRST, Inner { key: 8, ..LATER }]);
-    for (name, first, root, wanted) in [
-        ("whole", full, inner, None),
-        ("equal keys", twice, inner, faulty(0x4400, PageFault::Key)),
-        ("below its span", full, high, faulty(0x4400, PageFault::Key)),
-        ("above its span", full, low, faulty(0x4400, PageFault::Key)),
-    ] {
-        let stop = stop_of(&rt, first, later, root)?;
-        assert_eq!(rt; stop, wanted, "{name}");
-    }
-    Ok(())
-}
-
-#[test]
-fn a_page_stands_within_the_file_in_its_frame(rt: HostRuntime) -> Result<(), Fail> {
-    let leaf = seal(&write_leaf(&[A]), BLOCKS, at(0x4800));
-    let outside = PageRefusal::Outside;
-    for (root, cut, wanted) in [
-        (at(0x4800), 0, None),
-        (at(0x4800), 1, page(0x4800, outside)),
-        (at(0x4200), 0, page(0x4200, outside)),
-        (at(0x4810), 0, page(0x4810, outside)),
-        (at(0x4a00), 0, page(0x4a00, outside)),
-    ] {
-        let seen = read::<BlockEntry>(&rt, [EMPTY, EMPTY, leaf], BLOCKS, cut, root)?;
-        assert_eq!(rt; seen.stop, wanted, "{root:?} {cut}");
-    }
-    let other = Bref {
-        bid: Bid { bits: 1 },
-        ib: 0x4800,
-    };
-    let seen = read::<BlockEntry>(&rt, [EMPTY, EMPTY, leaf], BLOCKS, 0, other)?;
-    let bid = PageFault::Bid {
-        stored: 0x120,
-        computed: 1,
-    };
-    assert_eq!(rt; seen.stop, faulty(0x4800, bid));
-    let seen = read::<BlockEntry>(&rt, [EMPTY, EMPTY, leaf], 0x81, 0, at(0x4800))?;
-    let kind = PageFault::Kind {
-        stored: 0x80,
-        computed: 0x81,
-    };
-    assert_eq!(rt; seen.stop, faulty(0x4800, kind));
-    let mut torn = leaf;
-    torn[100] = 1;
-    let seen = read::<BlockEntry>(&rt, [EMPTY, EMPTY, torn], BLOCKS, 0, at(0x4800))?;
-    assert!(rt; matches!(fault_of(seen.stop), Some(PageFault::Crc { .. })));
-    let seen = read::<BlockEntry>(&rt, [EMPTY, leaf, EMPTY], BLOCKS, 0, at(0x4600))?;
-    assert!(rt; matches!(fault_of(seen.stop), Some(PageFault::Sig { .. })));
-    Ok(())
-}
-
-#[test]
-fn a_dead_disk_is_a_fault(rt: HostRuntime) -> Result<(), Fail> {
-    let leaf = seal(&write_leaf(&[A]), BLOCKS, at(0x4400));
-    let mut fails = FailPlan::none(rt.alloc());
-    fails.dead_from = Some(0);
-    let seen = read_failing::<BlockEntry>(&rt, [leaf, EMPTY, EMPTY], BLOCKS, 0, at(0x4400), fails)?;
-    assert_eq!(rt; seen.stop, Some(OpenStop::Fault));
+    let nodes = scan_nodes(alloc, &mut world(alloc, 6)?);
+    assert_eq!(rt; nodes.map(|lines| lines.len()), Ok(0));
+    let found = scan_file(alloc, &mut world(alloc, 6)?);
+    let found = found.map(|found| (found.pages, found.next_block, found.next_page));
+    assert_eq!(rt; found, Ok((2, 0x24, 0x33)));
     Ok(())
 }

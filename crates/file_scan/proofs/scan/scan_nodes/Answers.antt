@@ -1,53 +1,10 @@
-use Rattle.std.proofs.Common.{◌≡◌, Ok, sym, subst}
-use Rattle.std.proofs.lemmas.Result.{err_from_is_err_and, IfOk-weaker, IfErr-weaker}
-use Rattle.pst_outside.specs.World.{Image}
-use Rattle.file_layout.specs.Opening.{opening}
-use Rattle.file_scan.proofs.OpeningLaws.{opening-stops}
-use Rattle.file_scan.proofs.ScanLaws.{eof-stops, trees-stops, scans-of, scans-once}
-use Rattle.file_layout.proofs.Underway.{untouched_then}
+use Rattle.file_scan.proofs.ScanLaws.{scans-of, scans-once}
 use Rattle.file_scan.proofs.scan.scan_nodes.Goals as goal
 
-pub returns-in_err-opened-clause-refused : goal.returns-in_err-opened-clause-refused
-returns-in_err-opened-clause-refused g c =
-    let p = err_from_is_err_and c.from_residual.result c.from_residual.ensures.1 in
-    rw (p.1, p.2) (λ told. opening-stops (g.W.Outside.view c.open_header.new.w).here c.in_err-opened.field-0.0 (c.in_err-opened.ensures.opens told))
-
-pub returns-in_err-check_eof-clause-refused : goal.returns-in_err-check_eof-clause-refused
-returns-in_err-check_eof-clause-refused g c =
-    let p = err_from_is_err_and c.from_residual-in_err-check_eof.result c.from_residual-in_err-check_eof.ensures.1 in
-    let header = c.in_ok-opened.opened.header in
-    rw (p.1, p.2) (λ told.
-    let same = c.in_err-check_eof.ensures.same.stays in
-    let opened = (c.in_ok-opened.ensures.opens (same.told told)).0 in
-    eof-stops (g.W.Outside.view c.check_eof.new.w).here header c.in_err-check_eof.field-0.0
-    (subst (λ (i : Image). opening i.main i.side ≡ Ok header) (sym (same.here told)) opened) (c.in_err-check_eof.ensures.refused told))
-
 pub returns-clause-lays : goal.returns-clause-lays
-returns-clause-lays g c =
-    let header = c.in_ok-opened.opened.header in
-    IfOk-weaker c.scan_trees.result _ _
-    (λ lines laid told.
-    let same = (untouched_then c.in_ok-check_eof.ensures.same c.scan_trees.ensures.same).stays in
-    let opened = (c.in_ok-opened.ensures.opens (same.told told)).0 in
-    scans-of (g.W.Outside.view c.scan_trees.new.w).here header lines.items (subst (λ (i : Image). opening i.main i.side ≡ Ok header) (sym (same.here told)) opened) (laid told))
-    c.scan_trees.ensures.lays
+returns-clause-lays g c = λ told.
+    scans-of (g.W.Outside.view c.scan.new.w).here c.in_ok-scanned.scanned.header _ _ c.in_ok-scanned.scanned.lines.items _ (c.in_ok-scanned.ensures.opened told) (c.in_ok-scanned.ensures.lays told)
 
 pub returns-clause-only : goal.returns-clause-only
-returns-clause-only g c =
-    let header = c.in_ok-opened.opened.header in
-    IfOk-weaker c.scan_trees.result _ _
-    (λ lines laid told other nodes opens lays.
-    let same = (untouched_then c.in_ok-check_eof.ensures.same c.scan_trees.ensures.same).stays in
-    let opened = (c.in_ok-opened.ensures.opens (same.told told)).0 in
-    scans-once (g.W.Outside.view c.scan_trees.new.w).here header other lines.items nodes (subst (λ (i : Image). opening i.main i.side ≡ Ok header) (sym (same.here told)) opened) (laid told) opens lays)
-    c.scan_trees.ensures.lays
-
-pub returns-clause-refused : goal.returns-clause-refused
-returns-clause-refused g c =
-    let header = c.in_ok-opened.opened.header in
-    IfErr-weaker c.scan_trees.result _ _
-    (λ stop stops told.
-    let same = (untouched_then c.in_ok-check_eof.ensures.same c.scan_trees.ensures.same).stays in
-    let opened = (c.in_ok-opened.ensures.opens (same.told told)).0 in
-    trees-stops (g.W.Outside.view c.scan_trees.new.w).here header stop (subst (λ (i : Image). opening i.main i.side ≡ Ok header) (sym (same.here told)) opened) (stops told))
-    c.scan_trees.ensures.refused
+returns-clause-only g c = λ told other nodes opens lays.
+    scans-once (g.W.Outside.view c.scan.new.w).here c.in_ok-scanned.scanned.header other _ _ c.in_ok-scanned.scanned.lines.items _ nodes (c.in_ok-scanned.ensures.opened told) (c.in_ok-scanned.ensures.lays told) opens lays
