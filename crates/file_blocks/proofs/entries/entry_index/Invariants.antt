@@ -1,7 +1,7 @@
 use Rattle.std.proofs.Common.{◌-◌, ◌≡◌, true, ◌≤◌, length}
 use Rattle.file_blocks.specs.Blocks.{rise_from}
 use Rattle.file_blocks.proofs.EntryLaws.{Between}
-use Rattle.file_blocks.proofs.entries.find_entry.Given as goal
+use Rattle.file_blocks.proofs.entries.entry_index.Given as goal
 
 abbrev pub invariant-loop-low : goal.invariant-loop-low
 invariant-loop-low l = (l.high ≤ length l.entries) × (rise_from 0 l.entries ≡ true → Between l.entries l.key l.low l.high)
