@@ -14,8 +14,6 @@ mod listing;
 mod measure;
 mod memory;
 mod plan;
-#[cfg(test)]
-mod plan_tests;
 mod source;
 #[cfg(test)]
 mod tests;

@@ -1,8 +1,10 @@
+pub mod BidSteps
 pub mod CountLaws
 pub mod FormLaws
 pub mod GrownLaws
 pub mod ListLaws
 pub mod MadeLaws
+pub mod PairLaws
 pub mod PartSteps
 pub mod RowSteps
 pub mod SubPlanLaws
