@@ -11,3 +11,4 @@ pub mod SubPlanLaws
 pub mod SubSteps
 pub mod TableLaws
 pub mod TableSteps
+pub mod WalkLaws

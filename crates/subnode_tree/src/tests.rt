@@ -3,7 +3,7 @@ ghost use Rattle.std.specs.Prelude.{◌≡◌, ◌≤◌, ◌<◌, ◌+◌, ◌*
 ghost use Rattle.data_tree.specs.Plan.{MayKeep};
 ghost use Rattle.subnode_tree.specs.Plan.{IsForm};
 
-use crate::{Kept, count_subs, plan_subs, plan_subs_keep, read_sub_bids, read_subs};
+use crate::{Kept, count_subs, plan_subs, plan_subs_keep, read_sub_bids, read_sub_keys, read_subs};
 use data_tree::{BlockList, TreeStop};
 use pst_base::{Bid, Blocks, Bytes, MemOr, Nid, Sub, Subs};
 use std::alloc::{AllocError, Global};
@@ -88,6 +88,7 @@ fn subnodes_have_a_root_and_read_back(rt: HostRuntime) -> Result<(), MemOr<TreeS
         assert_eq!(rt; counted, u64::from(count));
         let bids = read_sub_bids(rt.alloc(), plan.bid, &mut s)?;
         assert_eq!(rt; bids.len(), count as usize);
+        assert_eq!(rt; read_sub_keys(rt.alloc(), plan.bid, &mut s)?.len(), blocks);
     }
     Ok(())
 }
