@@ -21,7 +21,7 @@ mod tree;
 
 pub use data::read_data;
 pub use keys::read_data_keys;
-pub use law::stays_read;
+pub use law::{bids_name_data, stays_read};
 pub use measure::measure_data;
 pub use memory::BlockList;
 pub use plan::{DataPlan, last_id, plan_data, plan_data_keep};
