@@ -4,6 +4,7 @@ pub mod FormLaws
 pub mod GrownLaws
 pub mod ListLaws
 pub mod MadeLaws
+pub mod NamedLaws
 pub mod PairLaws
 pub mod PartSteps
 pub mod RowSteps

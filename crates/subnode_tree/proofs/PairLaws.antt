@@ -1,17 +1,17 @@
 -- What is kept of subnodes, one subnode more.
-use Rattle.std.proofs.Common.{◌≡◌, ℕ, zero, suc, ◌+◌, ◌*◌, ◌/◌, ◌%◌, ◌<◌, ◌≤◌, List, [], ◌∷◌, ◌++◌, length, map, drop, take, get_or, Option, Some, None, refl, sym, ap, subst, ◌∙◌, arith, append_assoc, append-nil, length-append, length-drop}
-use Rattle.std.specs.List.{All, flat_map}
+use Rattle.std.proofs.Common.{◌≡◌, ℕ, zero, suc, ◌+◌, ◌<◌, ◌≤◌, List, [], ◌∷◌, ◌++◌, length, map, drop, take, get_or, Option, Some, None, refl, sym, ap, subst, ◌∙◌, arith, append_assoc, length-append, length-drop}
+use Rattle.std.specs.List.{flat_map}
 use Rattle.std.proofs.lemmas.List.{drop-drop, length-map}
 use Rattle.pst_base.specs.declared.ids.Bid.{Bid}
 use Rattle.pst_base.specs.declared.subs.Sub.{Sub}
 use Rattle.pst_base.specs.Flat.{Flat}
 use Rattle.pst_base.specs.Subs.{flattened, one_deeper}
 use Rattle.data_tree.specs.Plan.{MayKeep, kept_bids, unkept}
-use Rattle.data_tree.proofs.PieceLaws.{Each, each-from_all, each-drop}
+use Rattle.data_tree.proofs.PieceLaws.{Each, each-drop}
 use Rattle.data_tree.proofs.KeepLaws.{unkept-none}
 use Rattle.subnode_tree.specs.Plan.{data_in, first_list, kept_in, nothing, paired, unkept_in}
 use Rattle.subnode_tree.proofs.FormLaws.{own, split-at}
-use Rattle.subnode_tree.proofs.SubSteps.{flattened-append, flattened-more}
+use Rattle.subnode_tree.proofs.SubSteps.{flattened-more}
 
 abbrev pub Keep : Type 0
 Keep = List (List (Option Bid))
@@ -19,14 +19,14 @@ Keep = List (List (Option Bid))
 abbrev pub Pair : Type 0
 Pair = List (Option Bid) × List (List ℕ)
 
-paired-append : (keep : Keep) (xs ys : List Flat) → paired keep (xs ++ ys) ≡ paired keep xs ++ paired (drop (length xs) keep) ys
+pub paired-append : (keep : Keep) (xs ys : List Flat) → paired keep (xs ++ ys) ≡ paired keep xs ++ paired (drop (length xs) keep) ys
 paired-append keep [] ys = refl
 paired-append keep (f ∷ xs) ys =
     let e : 1 + length xs ≡ suc (length xs) = omega arith in
     ap (λ (l : List Pair). (first_list keep, f.blocks) ∷ l) (paired-append (drop 1 keep) xs ys)
     ∙ ap (λ (k : Keep). (first_list keep, f.blocks) ∷ (paired (drop 1 keep) xs ++ paired k ys)) (drop-drop (length xs) 1 keep ∙ ap (λ (n : ℕ). drop n keep) e)
 
-paired-deeper : (keep : Keep) (flats : List Flat) → paired keep (map one_deeper flats) ≡ paired keep flats
+pub paired-deeper : (keep : Keep) (flats : List Flat) → paired keep (map one_deeper flats) ≡ paired keep flats
 paired-deeper keep [] = refl
 paired-deeper keep (f ∷ flats) = ap (λ (l : List Pair). (first_list keep, f.blocks) ∷ l) (paired-deeper (drop 1 keep) flats)
 

@@ -1,22 +1,21 @@
 -- The walk of all subnodes gives all keys that they reach.
-use Rattle.std.proofs.Common.{Bool, true, false, ◌≡◌, ◌∙◌, ℕ, zero, suc, ◌+◌, ◌-◌, ◌/◌, ◌<◌, ◌≤◌, inl, inr, eqb, List, [], ◌∷◌, ◌++◌, length, drop, get_or, map, Option, Some, None, Result, Ok, Err, refl, sym, ap, subst, arith, append_assoc, append-nil, if◌then◌else◌}
+use Rattle.std.proofs.Common.{false, ◌≡◌, ◌∙◌, ℕ, zero, suc, ◌+◌, ◌-◌, ◌/◌, ◌<◌, ◌≤◌, inl, inr, eqb, List, [], ◌∷◌, ◌++◌, length, drop, get_or, map, Option, Some, None, Result, Ok, Err, refl, sym, ap, subst, append_assoc, append-nil}
 use Rattle.std.proofs.lemmas.Bool.{cases_Bool, cases_eq, ne_eqb}
 use Rattle.std.proofs.lemmas.List.{drop_all}
 use Rattle.pst_base.specs.declared.ids.Bid.{Bid}
 use Rattle.pst_base.specs.Ids.{key_of}
 use Rattle.data_tree.specs.declared.source.TreeStop.{TreeStop}
-use Rattle.data_tree.specs.declared.source.TreeStop.TheVariants.{Deep, Many}
-use Rattle.data_tree.specs.Keys.{data_keys, data_keys_read}
-use Rattle.data_tree.specs.Tree.{and_then, bids_of, fetched, named}
+use Rattle.data_tree.specs.declared.source.TreeStop.TheVariants.{Deep}
+use Rattle.data_tree.specs.Keys.{data_keys}
+use Rattle.data_tree.specs.Tree.{and_then, bids_of, named}
 use Rattle.data_tree.proofs.ListingLaws.{drop-here}
 use Rattle.data_tree.proofs.Steps.{before}
 use Rattle.data_tree.proofs.PieceLaws.{Each, each-append}
 use Rattle.subnode_tree.specs.declared.blocks.SubEntry.{SubEntry}
-use Rattle.subnode_tree.specs.Bids.{bids_each, entry_bids, sub_bids_of}
+use Rattle.subnode_tree.specs.Bids.{bids_each, sub_bids_of}
 use Rattle.subnode_tree.specs.KeyReads.{list_keys, list_keys_read, entry_keys_read, entries_keys_read, walked_keys, sub_keys_read}
 use Rattle.subnode_tree.specs.Keys.{each_keys, listed_in, ok_entries, sub_keys, sub_keys_from}
 use Rattle.subnode_tree.specs.Subnodes.{branch, level_in, level_of, rows, tree_from, tree_of}
-use Rattle.subnode_tree.proofs.RowSteps.{row_of, tree-none, tree-some}
 
 -- ---- readings
 

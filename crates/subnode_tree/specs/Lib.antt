@@ -3,6 +3,7 @@ pub mod Counts
 pub mod Grown
 pub mod KeyReads
 pub mod Keys
+pub mod Named
 pub mod Plan
 pub mod Subnodes
 pub mod Tables

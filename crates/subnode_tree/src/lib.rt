@@ -23,6 +23,6 @@ pub use bids::read_sub_bids;
 pub use count::count_subs;
 pub use kept::Kept;
 pub use keys::read_sub_keys;
-pub use law::subs_stay_read;
+pub use law::{sub_bids_name_data, subs_stay_read};
 pub use plan::{SubPlan, plan_subs, plan_subs_keep};
 pub use subs::read_subs;

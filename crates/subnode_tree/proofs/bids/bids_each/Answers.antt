@@ -1,4 +1,4 @@
-use Rattle.std.proofs.Common.{◌≡◌, ℕ, ◌+◌, List, [], ◌∷◌, ◌++◌, Option, drop, get_or, sym, subst, arith}
+use Rattle.std.proofs.Common.{◌+◌, List, [], ◌∷◌, Option, drop, get_or, sym, subst}
 use Rattle.std.proofs.lemmas.Result.{err_from_is_err_and}
 use Rattle.pst_base.specs.declared.ids.Bid.{Bid}
 use Rattle.data_tree.proofs.Steps.{Along, along-next, along-stop}

@@ -1,18 +1,16 @@
-use Rattle.std.proofs.Common.{◌≡◌, ℕ, ◌+◌, ◌-◌, ◌*◌, ◌<◌, ◌≤◌, List, [], ◌++◌, Option, drop, take, length, get_or, refl, sym, ap, subst, ◌∙◌, arith, length-drop}
-use Rattle.std.specs.List.{All}
+use Rattle.std.proofs.Common.{◌≡◌, ℕ, ◌+◌, ◌*◌, ◌<◌, List, [], ◌++◌, Option, take, length, get_or, refl, sym, ap, subst, ◌∙◌, arith, length-drop}
 use Rattle.pst_base.specs.declared.ids.Bid.{Bid}
 use Rattle.pst_base.specs.declared.subs.Sub.{Sub}
 use Rattle.pst_base.specs.Flat.{Flat}
 use Rattle.pst_base.specs.Subs.{flattened}
 use Rattle.data_tree.specs.Plan.{IsContent, MayKeep, Reaches, ReadsKept, above_kept, fresh, kept_bids, last_id, unkept}
-use Rattle.data_tree.proofs.PieceLaws.{Each, all_from-each, each-from_all}
+use Rattle.data_tree.proofs.PieceLaws.{all_from-each, each-from_all}
 use Rattle.subnode_tree.specs.declared.tables.Row.{Row}
 use Rattle.subnode_tree.specs.Plan.{IsForm, Plans, first_list}
 use Rattle.subnode_tree.specs.Tables.{Fits, tables}
 use Rattle.subnode_tree.proofs.FormLaws.{fewer-inner, form-content, form-inner}
-use Rattle.subnode_tree.proofs.PairLaws.{Keep, all-may, first-may, may-rest, room-left}
+use Rattle.subnode_tree.proofs.PairLaws.{all-may, first-may, may-rest, room-left}
 use Rattle.subnode_tree.proofs.SubPlanLaws.{Planned, Underway, few-rows, underway-end, underway-next, underway-start, whole}
-use Rattle.subnode_tree.proofs.TableLaws.{last-high}
 use Rattle.subnode_tree.proofs.plan.+plan_from.Goals as goal
 
 along : (a b : List Flat) → a ≡ b → IsForm b → IsForm a

@@ -1,10 +1,10 @@
-use Rattle.std.proofs.Common.{◌≡◌, ◌≤◌, ◌+◌, ◌*◌, ℕ, List, [], length, sym, ap, subst, ◌∙◌, arith, Option}
+use Rattle.std.proofs.Common.{◌≡◌, ℕ, List, length, sym, ap, subst, ◌∙◌, arith}
 use Rattle.std.specs.List.{All}
 use Rattle.pst_base.specs.declared.ids.Bid.{Bid}
 use Rattle.pst_base.specs.Flat.{Flat}
 use Rattle.data_tree.specs.Plan.{MayKeep}
 use Rattle.data_tree.proofs.PieceLaws.{all_from-each}
-use Rattle.subnode_tree.specs.Plan.{AreAmong, Plans, SubsReach, SubsReadAs, data_in, nothing}
+use Rattle.subnode_tree.specs.Plan.{Plans, SubsReach, nothing}
 use Rattle.subnode_tree.proofs.PairLaws.{Keep, Pair, kept-nothing, length-nothing, may-nothing, nothing-paired, unkept-nothing}
 use Rattle.subnode_tree.proofs.SubPlanLaws.{PairAmong, plans-reach, plans-read}
 use Rattle.subnode_tree.proofs.plan.plan_subs.Goals as goal
