@@ -1,7 +1,7 @@
 use Rattle.std.proofs.Common.{◌≡◌, ◌≤◌, ◌*◌, length}
 use Rattle.std.specs.List.{All}
 use Rattle.data_tree.specs.Plan.{bytes_in}
-use Rattle.data_tree.proofs.plan_tests.content.Given as goal
+use Rattle.data_tree.proofs.tests.content.Given as goal
 
 abbrev pub invariant-loop-i : goal.invariant-loop-i
 invariant-loop-i l = record {

@@ -4,7 +4,7 @@ use Rattle.pst_base.specs.declared.subs.Sub.{Sub}
 use Rattle.pst_base.specs.Flat.{Flat}
 use Rattle.subnode_tree.specs.Plan.{IsForm}
 use Rattle.subnode_tree.proofs.MadeLaws.{Made, form-made, form-none, made-none, made-push, none-shallow, sub-fits}
-use Rattle.subnode_tree.proofs.plan_tests.flat.Goals as goal
+use Rattle.subnode_tree.proofs.tests.flat.Goals as goal
 
 pub loop-i-init : goal.loop-i-init
 loop-i-init c =
@@ -17,7 +17,7 @@ loop-i-preserved c =
     let xs = c.loop-i.subs.items in
     let x = c.in_ok-next.next in
     let nid = c.in_ok-next.ensures.nid in
-    let fits = sub-fits 0 (c.loop-i.i % 251) x [] c.in_ok-next.ensures.blocks (c.in_ok-next.ensures.subs ∙ c.new.ensures) form-none (none-shallow 0) in
+    let fits = sub-fits 0 (c.loop-i.i % 251) x [] c.in_ok-next.ensures.blocks c.in_ok-next.ensures.subs form-none (none-shallow 0) in
     let count = inv.count in
     let pushed = length_push xs x in
     record {
