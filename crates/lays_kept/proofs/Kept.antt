@@ -2,6 +2,7 @@
 use Rattle.std.proofs.Common.{Bool, true, false, ◌≡◌, ◌∙◌, ℕ, zero, suc, ◌+◌, ◌%◌, ◌≤◌, leb, eqb, ltb, ◌&&◌, List, [], ◌∷◌, ◌++◌, length, take, drop, map, Option, Some, None, Result, Ok, refl, sym, ap, subst, arith, if◌then◌else◌}
 use Rattle.std.proofs.lemmas.Bool.{and_parts, leb-true, le-leb}
 use Rattle.std.proofs.lemmas.List.{take-take}
+use Rattle.pst_base.specs.declared.ids.Bref.{Bref}
 use Rattle.pst_base.specs.declared.places.Place.{Place}
 use Rattle.page_frame.specs.Page.{IsPage}
 use Rattle.btree_pages.specs.Pages.{Page}
@@ -13,7 +14,7 @@ use Rattle.file_blocks.specs.declared.check.BlockRefusal.TheVariants.{Length, Ou
 use Rattle.file_blocks.specs.Blocks.{has_room, misplaced, faulty, unless, data_at, Stands, AllStand, entry_key, entry_with, data_of, found_in}
 use Rattle.pst_header.specs.declared.header.Header.{Header}
 use Rattle.file_layout.specs.declared.tree_pages.Seat.{Seat}
-use Rattle.file_layout.specs.Trees.{FileTree, IsTreePage, Found, both, page_alone, leaf_of, child_of, AreChildren, IsTree, root_seat}
+use Rattle.file_layout.specs.Trees.{FileTree, IsTreePage, Found, both, page_alone, leaf_of, child_of, AreChildren, IsTree, root_seat, page_place, page_places}
 use Rattle.file_layout.specs.Nodes.{NodeMap, AreNodes, Lays, block_tree, node_tree, blocks_in, nodes_in, place_of, places_of}
 use Rattle.lays_kept.specs.Kept.{Each, SameAt}
 use Rattle.lays_kept.specs.Moved.{moved}
@@ -32,6 +33,16 @@ pub each_weaker : (P Q : Place → Type 0) → ((p : Place) → P p → Q p) →
 each_weaker P Q f [] all = tt
 each_weaker P Q f (x ∷ xs) all = (f x all.0, each_weaker P Q f xs all.1)
 
+-- ---- places of pages
+
+pub pages_front : (P : Place → Type 0) (xs ys : List Bref) → Each P (map page_place (xs ++ ys)) → Each P (map page_place xs)
+pages_front P [] ys all = tt
+pages_front P (x ∷ xs) ys all = (all.0, pages_front P xs ys all.1)
+
+pub pages_back : (P : Place → Type 0) (xs ys : List Bref) → Each P (map page_place (xs ++ ys)) → Each P (map page_place ys)
+pages_back P [] ys all = all
+pages_back P (x ∷ xs) ys all = pages_back P xs ys all.1
+
 -- ---- trees of pages
 
 page_kept : (t : FileTree) (new : List ℕ) (eof : ℕ) (seat : Seat) (page : Page) → t.eof ≤ eof → SameAt t.file new (record { ib = seat.at.ib; len = 512 })
@@ -47,28 +58,28 @@ page_kept t new eof seat page longer same is = record {
   content = is.content;
 }
 
-children_kept : (P Q : Seat → Found → Type 0) (S : Place → Type 0) → ((seat : Seat) (found : Found) → Each S found.places → P seat found → Q seat found)
-    → (rule : ℕ → ℕ) (n high : ℕ) (entries : List (List ℕ)) (found : Found) → Each S found.places → AreChildren P rule n high entries found → AreChildren Q rule n high entries found
+children_kept : (P Q : Seat → Found → Type 0) (S : Place → Type 0) → ((seat : Seat) (found : Found) → Each S (page_places found) → P seat found → Q seat found)
+    → (rule : ℕ → ℕ) (n high : ℕ) (entries : List (List ℕ)) (found : Found) → Each S (page_places found) → AreChildren P rule n high entries found → AreChildren Q rule n high entries found
 children_kept P Q S step rule n high [] found all is = is
 children_kept P Q S step rule n high (entry ∷ rest) found all is =
     let first : Found = is.0 in
     let later : Found = is.1 in
-    let parts : Each S (first.places ++ later.places) = subst (λ (f : Found). Each S f.places) is.4 all in (
+    let parts : Each S (map page_place (first.pages ++ later.pages)) = subst (λ (f : Found). Each S (page_places f)) is.4 all in (
       first,
       later,
-      step (child_of rule n high entry rest) first (each_front S first.places later.places parts) is.2,
-      children_kept P Q S step rule n high rest later (each_back S first.places later.places parts) is.3,
+      step (child_of rule n high entry rest) first (pages_front S first.pages later.pages parts) is.2,
+      children_kept P Q S step rule n high rest later (pages_back S first.pages later.pages parts) is.3,
       is.4,
     )
 
 -- a tree stands in another file, and under a later end, where the bytes of its pages are the same
-pub tree_kept : (t : FileTree) (new : List ℕ) (eof : ℕ) → t.eof ≤ eof → (n : ℕ) (seat : Seat) (found : Found) → Each (SameAt t.file new) found.places
+pub tree_kept : (t : FileTree) (new : List ℕ) (eof : ℕ) → t.eof ≤ eof → (n : ℕ) (seat : Seat) (found : Found) → Each (SameAt t.file new) (page_places found)
     → IsTree t n seat found → IsTree (moved t new eof) n seat found
 tree_kept t new eof longer zero seat found same is =
-    let all : Each (SameAt t.file new) (both (page_alone seat) (leaf_of is.0.entries)).places = subst (λ (f : Found). Each (SameAt t.file new) f.places) is.3 same in
+    let all : Each (SameAt t.file new) (page_places (both (page_alone seat) (leaf_of is.0.entries))) = subst (λ (f : Found). Each (SameAt t.file new) (page_places f)) is.3 same in
     (is.0, page_kept t new eof seat is.0 longer all.0 is.1, is.2, is.3)
 tree_kept t new eof longer (suc n) seat found same is =
-    let all : Each (SameAt t.file new) (both (page_alone seat) is.1).places = subst (λ (f : Found). Each (SameAt t.file new) f.places) is.5 same in (
+    let all : Each (SameAt t.file new) (page_places (both (page_alone seat) is.1)) = subst (λ (f : Found). Each (SameAt t.file new) (page_places f)) is.5 same in (
       is.0,
       is.1,
       page_kept t new eof seat is.0 longer all.0 is.2,
@@ -133,8 +144,8 @@ lays_kept header old new m is long same =
     let blocks : Found = is.blocks in
     let nodes : Found = is.nodes in
     let S : Place → Type 0 = SameAt old new in
-    let pages : Each S (blocks.places ++ nodes.places) = each_front S (blocks.places ++ nodes.places) (map place_of (blocks_in blocks)) same in
-    let own : Each S (map place_of (blocks_in blocks)) = each_back S (blocks.places ++ nodes.places) (map place_of (blocks_in blocks)) same in
+    let pages : Each S (map page_place (blocks.pages ++ nodes.pages)) = each_front S (map page_place (blocks.pages ++ nodes.pages)) (map place_of (blocks_in blocks)) same in
+    let own : Each S (map place_of (blocks_in blocks)) = each_back S (map page_place (blocks.pages ++ nodes.pages)) (map place_of (blocks_in blocks)) same in
     let find : found_in new (blocks_in blocks) ≡ found_in old (blocks_in blocks) = λ i key. found_kept old new (blocks_in blocks) own key i in
     record {
       long_enough = long;
@@ -143,14 +154,14 @@ lays_kept header old new m is long same =
       block_pages = record {
         level = is.block_pages.level;
         low_enough = is.block_pages.low_enough;
-        tree = tree_kept (block_tree old header.eof) new header.eof (omega arith) is.block_pages.level (root_seat header.bbt) blocks (each_front S blocks.places nodes.places pages) is.block_pages.tree;
+        tree = tree_kept (block_tree old header.eof) new header.eof (omega arith) is.block_pages.level (root_seat header.bbt) blocks (pages_front S blocks.pages nodes.pages pages) is.block_pages.tree;
       };
       stand = all_kept old new header.eof header.eof (omega arith) (blocks_in blocks) own is.stand;
       nodes = nodes;
       node_pages = record {
         level = is.node_pages.level;
         low_enough = is.node_pages.low_enough;
-        tree = tree_kept (node_tree old header.eof) new header.eof (omega arith) is.node_pages.level (root_seat header.nbt) nodes (each_back S blocks.places nodes.places pages) is.node_pages.tree;
+        tree = tree_kept (node_tree old header.eof) new header.eof (omega arith) is.node_pages.level (root_seat header.nbt) nodes (pages_back S blocks.pages nodes.pages pages) is.node_pages.tree;
       };
       are = subst (λ f. AreNodes f header.eof (nodes_in nodes) m.nodes) (sym find) is.are;
       apart = is.apart;

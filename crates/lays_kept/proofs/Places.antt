@@ -1,6 +1,7 @@
 -- Where the pages and blocks of a file stand, and that writes beside them leave them.
 use Rattle.std.proofs.Common.{Bool, true, false, ◌≡◌, inl, inr, ℕ, zero, suc, ◌+◌, ◌%◌, ◌<◌, ◌≤◌, leb, eqb, ltb, ◌&&◌, List, [], ◌∷◌, ◌++◌, length, take, drop, map, Some, None, refl, sym, subst, arith, ⊎_elim, if◌then◌else◌}
 use Rattle.std.proofs.lemmas.Bool.{and_parts, leb-true, eqb-true, cases_eq}
+use Rattle.pst_base.specs.declared.ids.Bref.{Bref}
 use Rattle.pst_base.specs.declared.places.Place.{Place}
 use Rattle.block_frame.specs.Block.{reading}
 use Rattle.block_frame.specs.Size.{disk_size_of}
@@ -10,7 +11,7 @@ use Rattle.file_blocks.specs.declared.check.BlockRefusal.TheVariants.{Length, Ou
 use Rattle.file_blocks.specs.Blocks.{has_room, misplaced, faulty, data_at, Stands, AllStand}
 use Rattle.pst_header.specs.declared.header.Header.{Header}
 use Rattle.file_layout.specs.declared.tree_pages.Seat.{Seat}
-use Rattle.file_layout.specs.Trees.{IsPlace}
+use Rattle.file_layout.specs.Trees.{IsPlace, page_place, page_places}
 use Rattle.file_layout.specs.Trees.{FileTree, IsTreePage, Found, child_of, AreChildren, IsTree, root_seat}
 use Rattle.file_layout.specs.Nodes.{NodeMap, Lays, block_tree, node_tree, blocks_in, place_of, places_of}
 use Rattle.alloc_map.specs.Standing.{amap_place, amap_places}
@@ -24,34 +25,38 @@ pub each_append : (P : Place → Type 0) (xs ys : List Place) → Each P xs → 
 each_append P [] ys all more = more
 each_append P (x ∷ xs) ys all more = (all.0, each_append P xs ys all.1 more)
 
+pages_append : (P : Place → Type 0) (xs ys : List Bref) → Each P (map page_place xs) → Each P (map page_place ys) → Each P (map page_place (xs ++ ys))
+pages_append P [] ys all more = more
+pages_append P (x ∷ xs) ys all more = (all.0, pages_append P xs ys all.1 more)
+
 -- a page that stands is a place in the file
-page_place : (t : FileTree) (seat : Seat) (page : Page) → IsTreePage t seat page → IsPlace t.eof (record { ib = seat.at.ib; len = 512 })
-page_place t seat page is = record { above = is.stands.above; start = is.stands.multiple; whole = refl; before = is.stands.before }
+seat_place : (t : FileTree) (seat : Seat) (page : Page) → IsTreePage t seat page → IsPlace t.eof (record { ib = seat.at.ib; len = 512 })
+seat_place t seat page is = record { above = is.stands.above; start = is.stands.multiple; whole = refl; before = is.stands.before }
 
 -- and one of whole slots
-page_whole : (t : FileTree) (seat : Seat) (page : Page) → IsTreePage t seat page → IsWhole (record { ib = seat.at.ib; len = 512 })
-page_whole t seat page is = record { above = is.stands.above; start = is.stands.multiple; whole = refl; some = omega arith }
+seat_whole : (t : FileTree) (seat : Seat) (page : Page) → IsTreePage t seat page → IsWhole (record { ib = seat.at.ib; len = 512 })
+seat_whole t seat page is = record { above = is.stands.above; start = is.stands.multiple; whole = refl; some = omega arith }
 
-children_places : (P : Seat → Found → Type 0) (S : Place → Type 0) → ((seat : Seat) (found : Found) → P seat found → Each S found.places)
-    → (rule : ℕ → ℕ) (n high : ℕ) (entries : List (List ℕ)) (found : Found) → AreChildren P rule n high entries found → Each S found.places
-children_places P S step rule n high [] found is = subst (λ (f : Found). Each S f.places) (sym is) tt
+children_places : (P : Seat → Found → Type 0) (S : Place → Type 0) → ((seat : Seat) (found : Found) → P seat found → Each S (page_places found))
+    → (rule : ℕ → ℕ) (n high : ℕ) (entries : List (List ℕ)) (found : Found) → AreChildren P rule n high entries found → Each S (page_places found)
+children_places P S step rule n high [] found is = subst (λ (f : Found). Each S (page_places f)) (sym is) tt
 children_places P S step rule n high (entry ∷ rest) found is =
-    subst (λ (f : Found). Each S f.places) (sym is.4)
-    (each_append S is.0.places is.1.places (step (child_of rule n high entry rest) is.0 is.2) (children_places P S step rule n high rest is.1 is.3))
+    subst (λ (f : Found). Each S (page_places f)) (sym is.4)
+    (pages_append S is.0.pages is.1.pages (step (child_of rule n high entry rest) is.0 is.2) (children_places P S step rule n high rest is.1 is.3))
 
 -- all pages of a tree have what each page has that stands
 tree_each : (t : FileTree) (S : Place → Type 0) → ((seat : Seat) (page : Page) → IsTreePage t seat page → S (record { ib = seat.at.ib; len = 512 }))
-    → (n : ℕ) (seat : Seat) (found : Found) → IsTree t n seat found → Each S found.places
-tree_each t S own zero seat found is = subst (λ (f : Found). Each S f.places) (sym is.3) (own seat is.0 is.1, tt)
+    → (n : ℕ) (seat : Seat) (found : Found) → IsTree t n seat found → Each S (page_places found)
+tree_each t S own zero seat found is = subst (λ (f : Found). Each S (page_places f)) (sym is.3) (own seat is.0 is.1, tt)
 tree_each t S own (suc n) seat found is =
-    subst (λ (f : Found). Each S f.places) (sym is.5) (own seat is.0 is.2, children_places (IsTree t n) S (tree_each t S own n) t.rule n seat.high is.0.entries is.1 is.4)
+    subst (λ (f : Found). Each S (page_places f)) (sym is.5) (own seat is.0 is.2, children_places (IsTree t n) S (tree_each t S own n) t.rule n seat.high is.0.entries is.1 is.4)
 
 -- the pages of a tree are places in the file
-pub tree_places : (t : FileTree) (n : ℕ) (seat : Seat) (found : Found) → IsTree t n seat found → Each (IsPlace t.eof) found.places
-tree_places t n seat found is = tree_each t (IsPlace t.eof) (page_place t) n seat found is
+pub tree_places : (t : FileTree) (n : ℕ) (seat : Seat) (found : Found) → IsTree t n seat found → Each (IsPlace t.eof) (page_places found)
+tree_places t n seat found is = tree_each t (IsPlace t.eof) (seat_place t) n seat found is
 
-tree_wholes : (t : FileTree) (n : ℕ) (seat : Seat) (found : Found) → IsTree t n seat found → Each IsWhole found.places
-tree_wholes t n seat found is = tree_each t IsWhole (page_whole t) n seat found is
+tree_wholes : (t : FileTree) (n : ℕ) (seat : Seat) (found : Found) → IsTree t n seat found → Each IsWhole (page_places found)
+tree_wholes t n seat found is = tree_each t IsWhole (seat_whole t) n seat found is
 
 -- and so are the blocks
 room_place : (eof cb ib : ℕ) → has_room eof (disk_size_of cb) ib ≡ true → IsPlace eof (record { ib = ib; len = disk_size_of cb })
@@ -78,8 +83,8 @@ blocks_places file eof (e ∷ es) all = (block_place file eof e all.0, blocks_pl
 -- all places of a file that lays nodes
 pub lays_places : (header : Header) (file : List ℕ) (m : NodeMap) (is : Lays header file m) → Each (IsPlace header.eof) (places_of is.blocks is.nodes)
 lays_places header file m is =
-    each_append (IsPlace header.eof) (is.blocks.places ++ is.nodes.places) (map place_of (blocks_in is.blocks))
-    (each_append (IsPlace header.eof) is.blocks.places is.nodes.places
+    each_append (IsPlace header.eof) (map page_place (is.blocks.pages ++ is.nodes.pages)) (map place_of (blocks_in is.blocks))
+    (pages_append (IsPlace header.eof) is.blocks.pages is.nodes.pages
     (tree_places (block_tree file header.eof) is.block_pages.level (root_seat header.bbt) is.blocks is.block_pages.tree)
     (tree_places (node_tree file header.eof) is.node_pages.level (root_seat header.nbt) is.nodes is.node_pages.tree))
     (blocks_places file header.eof (blocks_in is.blocks) is.stand)
@@ -93,8 +98,8 @@ blocks_wholes file eof (e ∷ es) all =
 -- and each is of whole slots
 pub lays_wholes : (header : Header) (file : List ℕ) (m : NodeMap) (is : Lays header file m) → Each IsWhole (places_of is.blocks is.nodes)
 lays_wholes header file m is =
-    each_append IsWhole (is.blocks.places ++ is.nodes.places) (map place_of (blocks_in is.blocks))
-    (each_append IsWhole is.blocks.places is.nodes.places
+    each_append IsWhole (map page_place (is.blocks.pages ++ is.nodes.pages)) (map place_of (blocks_in is.blocks))
+    (pages_append IsWhole is.blocks.pages is.nodes.pages
     (tree_wholes (block_tree file header.eof) is.block_pages.level (root_seat header.bbt) is.blocks is.block_pages.tree)
     (tree_wholes (node_tree file header.eof) is.node_pages.level (root_seat header.nbt) is.nodes is.node_pages.tree))
     (blocks_wholes file header.eof (blocks_in is.blocks) is.stand)

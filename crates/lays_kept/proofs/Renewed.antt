@@ -13,13 +13,13 @@ use Rattle.file_blocks.specs.Blocks.{has_room, misplaced, faulty, data_at, Stand
 use Rattle.pst_header.specs.declared.header.Header.{Header}
 use Rattle.file_layout.specs.declared.tree_pages.Seat.{Seat}
 use Rattle.file_layout.specs.Trees.{IsPlace}
-use Rattle.file_layout.specs.Trees.{FileTree, IsTreePage, page_in, Found, IsWhole, root_seat}
+use Rattle.file_layout.specs.Trees.{FileTree, IsTreePage, page_in, Found, IsWhole, root_seat, page_place}
 use Rattle.file_layout.specs.Nodes.{NodeMap, Node, Lays, block_tree, node_tree, blocks_in, nodes_in, place_of, places_of, node_at, regions_to, LARGEST}
 use Rattle.alloc_map.specs.Standing.{standing, IsMeeting}
 use Rattle.lays_kept.specs.Kept.{Each, SameAt}
 use Rattle.lays_kept.specs.Saved.{SameTrees}
 use Rattle.lays_kept.specs.Grown.{FindsAll, restricted, NeedsOnly}
-use Rattle.lays_kept.proofs.Kept.{each_front, each_back, tree_kept, all_kept, found_kept}
+use Rattle.lays_kept.proofs.Kept.{each_front, each_back, pages_front, pages_back, tree_kept, all_kept, found_kept}
 use Rattle.lays_kept.proofs.Places.{lays_places}
 use Rattle.lays_kept.proofs.Grown.{node_gives, nodes_give}
 
@@ -84,8 +84,8 @@ lays_under old new header file m is same longer within small regions size long =
     let nodes : Found = is.nodes in
     let S : Place → Type 0 = SameAt file whole in
     let all : Each S (places_of blocks nodes) = behind_all header file old.eof size (places_of blocks nodes) (lays_places old file m is) in
-    let pages : Each S (blocks.places ++ nodes.places) = each_front S (blocks.places ++ nodes.places) (map place_of (blocks_in blocks)) all in
-    let own : Each S (map place_of (blocks_in blocks)) = each_back S (blocks.places ++ nodes.places) (map place_of (blocks_in blocks)) all in
+    let pages : Each S (map page_place (blocks.pages ++ nodes.pages)) = each_front S (map page_place (blocks.pages ++ nodes.pages)) (map place_of (blocks_in blocks)) all in
+    let own : Each S (map place_of (blocks_in blocks)) = each_back S (map page_place (blocks.pages ++ nodes.pages)) (map place_of (blocks_in blocks)) all in
     record {
       long_enough = omega (arith, within, len);
       small_enough = small;
@@ -93,14 +93,14 @@ lays_under old new header file m is same longer within small regions size long =
       block_pages = subst (λ r. IsWhole (block_tree whole new.eof) r blocks) (sym same.bbt) (record {
         level = is.block_pages.level;
         low_enough = is.block_pages.low_enough;
-        tree = tree_kept (block_tree file old.eof) whole new.eof longer is.block_pages.level (root_seat old.bbt) blocks (each_front S blocks.places nodes.places pages) is.block_pages.tree;
+        tree = tree_kept (block_tree file old.eof) whole new.eof longer is.block_pages.level (root_seat old.bbt) blocks (pages_front S blocks.pages nodes.pages pages) is.block_pages.tree;
       });
       stand = all_kept file whole old.eof new.eof longer (blocks_in blocks) own is.stand;
       nodes = nodes;
       node_pages = subst (λ r. IsWhole (node_tree whole new.eof) r nodes) (sym same.nbt) (record {
         level = is.node_pages.level;
         low_enough = is.node_pages.low_enough;
-        tree = tree_kept (node_tree file old.eof) whole new.eof longer is.node_pages.level (root_seat old.nbt) nodes (each_back S blocks.places nodes.places pages) is.node_pages.tree;
+        tree = tree_kept (node_tree file old.eof) whole new.eof longer is.node_pages.level (root_seat old.nbt) nodes (pages_back S blocks.pages nodes.pages pages) is.node_pages.tree;
       });
       are = nodes_give (found_in file (blocks_in blocks)) (found_in whole (blocks_in blocks)) (λ key b h. found_kept file whole (blocks_in blocks) own key ∙ h) old.eof new.eof longer (nodes_in nodes) m.nodes is.are;
       apart = subst (λ n. (slot : ℕ) → IsMeeting (standing (places_of blocks nodes) n) slot → ⊥) (sym regions) is.apart;

@@ -24,6 +24,11 @@ use Rattle.mail_draft.proofs.FitLaws.{no-entries}
 use Rattle.mail_draft.proofs.Looking.{shown_still}
 use Rattle.mail_store.specs.Planning.{Carries, IsHindered, Plans, ShowsTree, StandsFor, Stores, UnlessFault}
 
+-- what follows of what holds where a call succeeds
+pub on_ok : {A E P Q : Type 0} (r : Result A E) → OnOk r P → (P → Q) → OnOk r Q
+on_ok (Ok x) holds follows = follows holds
+on_ok (Err e) holds follows = tt
+
 -- changes that were applied make the nodes show the tree after them
 pub applied : {R A E : Type 0} (r : Result A E) (holds holds' : Nodes → Type 0) (last last' : List ℕ) (fits : R → List ℕ → List (Nid × Option NodeRec) → Type 0) (ready : R) (rests told : Type 0)
     → OnOk r ((n : List ℕ) (cs : List (Nid × Option NodeRec)) → fits ready n cs → rests → told → (N : Nodes) → holds N → holds' (changed N cs))

@@ -38,7 +38,7 @@ pub record IsMeasured (header : Header) (blocks nodes : Found) (used : List Bool
   pub size : length used ≡ 3968 * 8192
   pub covered : IsCovered (occupied (places_of blocks nodes) 8192) used
   pub free : cells.0 ≡ free_cells_of used
-  pub pages : cells.1 ≡ length blocks.places + length nodes.places
+  pub pages : cells.1 ≡ length blocks.pages + length nodes.pages
   pub spent : cells.2 ≡ (nat_le (2 ^ 61) header.next_block || nat_le (2 ^ 61) header.next_page)
 
 -- the file of an image has this room

@@ -10,6 +10,8 @@ mod keeper;
 mod opening;
 mod save;
 mod store;
+#[cfg(test)]
+mod tests;
 mod writes;
 
 pub use apply::apply_pieces;

@@ -5,7 +5,7 @@ use Rattle.mail_tree.specs.Step.{after}
 use Rattle.mail_store.specs.Planning.{StandsFor, Carries}
 use Rattle.node_port.specs.Nodes.{Nodes}
 use Rattle.command_text.specs.declared.reply.Reply.{Reply}
-use Rattle.mail_store.proofs.StoreLaws.{applied, applied_stands, shown_stands}
+use Rattle.mail_store.proofs.StoreLaws.{applied, applied_stands, on_ok, shown_stands}
 use Rattle.mail_store.proofs.store.apply_change.Goals as goal
 
 pub returns-in-Some-clause-made : goal.returns-in-Some-clause-made
@@ -34,3 +34,8 @@ returns-in-None-clause-any_moment g c = λ T o s carries settled rests.
     let P : Image → Type 0 = λ i. (i.said ≡ w.here.said) × (StandsFor (S i) T ⊎ StandsFor (S i) (after T o)) in
     let here : P w.here = (refl, inl (shown_stands (S w.here) (g.K.NodeReader.last k) T s (g.met.K.Keeper.held_stands k c.args.w.now s.nodes s.held))) in
     started w P (λ told. here) (λ i left. subst P (sym (settled i left)) here)
+
+pub returns-in-Some-clause-applied : goal.returns-in-Some-clause-applied
+returns-in-Some-clause-applied g c =
+    let is = c.in-Some.is in
+    rw is (on_ok c.apply.result c.apply.ensures.applied (λ alters T s rests told. alters s.nodes s.held rests told))
