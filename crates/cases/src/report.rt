@@ -1,4 +1,6 @@
 //! Prints what differs, and counts it.
+ghost use Rattle.std.specs.Prelude.{◌≡◌, ◌<◌, ◌+◌, ◌-◌, ◌^◌, min, OnOk};
+
 use crate::case::Case;
 use crate::running::{Outcome, first_difference};
 use std::{io, str};
@@ -27,7 +29,11 @@ impl<R: Print + AllocGlobal> Report<'_, R> {
     }
 
     /// Prints where what came of a case isn't what must.
-    pub fn compare(&mut self, case: &Case, outcome: &Outcome) -> io::Result<()> {
+    pub fn compare(&mut self, case: &Case, outcome: &Outcome) -> io::Result<()>
+        // A case that raises no count was answered by what it says, with the status that it says.
+        ensures said { OnOk result (self.old.tally.differ < 2 ^ 64 - 1 → self.new.tally.differ ≡ self.old.tally.differ → case.now.said.items ≡ outcome.now.said.items) }
+        ensures exit { OnOk result (self.old.tally.differ < 2 ^ 64 - 1 → self.new.tally.differ ≡ self.old.tally.differ → case.now.exit ≡ outcome.now.exit) }
+    {
         if case.said.as_slice() != outcome.said.as_slice() {
             let at = first_difference(case.said.as_slice(), outcome.said.as_slice());
             self.reply(case, at.number, at.wanted, at.got)?;
@@ -46,13 +52,17 @@ impl<R: Print + AllocGlobal> Report<'_, R> {
     }
 
     /// Counts a difference, and prints where it is.
-    fn begin(&mut self, case: &Case) -> io::Result<()> {
+    fn begin(&mut self, case: &Case) -> io::Result<()>
+        ensures { self.new.tally.differ ≡ min (self.old.tally.differ + 1) (2 ^ 64 - 1) }
+    {
         self.tally.differ = self.tally.differ.saturating_add(1);
         print!(self.rt; "{}:{}: case {}: ", self.file, case.line, case.name)
     }
 
     /// Prints that a line was to be said and another one was.
-    fn reply(&mut self, case: &Case, number: u64, wanted: &[u8], got: &[u8]) -> io::Result<()> {
+    fn reply(&mut self, case: &Case, number: u64, wanted: &[u8], got: &[u8]) -> io::Result<()>
+        ensures { self.new.tally.differ ≡ min (self.old.tally.differ + 1) (2 ^ 64 - 1) }
+    {
         self.begin(case)?;
         print!(self.rt; "line {number} of what is said: wanted ")?;
         self.show(wanted)?;
