@@ -1,12 +1,10 @@
 //! Commands over nodes of which some were laid by hand: what the store doesn't know, and what no command makes yet.
-use crate::{Store, do_command, open, plan};
-use command_text::{CommandRefusal, LastLine, Reply, read_line, reply_text};
+use crate::{Store, do_command, open};
+use command_text::{LastLine, Reply, read_line, reply_text};
 use mail_draft::{Stop, put_text};
-use mail_objects::{
-    Context, Object, TableNode, object_fits, read_context, read_table, write_object,
-};
+use mail_objects::{Context, Object, TableNode, object_fits, read_table, write_object};
 use mail_tree::{FolderPlace, Sort};
-use mapi_values::{Column, Props, Table, Tag, Units, Value, fits, is_layout, put_row};
+use mapi_values::{Column, Props, Table, Tag, Units, Value, fits, is_layout};
 use new_store::new_store;
 use node_port::{Changes, Counts, Keeper, MapKeeper, NodeReader, NodeRec};
 use pst_base::{Blocks, Bytes, Nid, Sub, Subs};
@@ -272,40 +270,6 @@ fn begun(rt: &(impl Abort + AllocGlobal)) -> Result<Lab, Fail> {
 const DETAILS: &str =
     "- 0x001a001f 16\n- 0x0037001f 10\n- 0x0e070003 4\n- 0x0e080003 4\n- 0x30070040 8\n- 0x30080040 8\n- 0x300b0102 16\n- rcpt 0 0 \"\" \"\u{4141}\u{4141}\u{4141}\"\n- rcpt 1 0 \"\" \"\u{4141}\u{4141}\u{4141}\"\n- attach 0x8025 3 \"\u{4141}\"\n- attach 0x8045 3581 \"\u{4141}\"\nok 11\n";
 
-#[test]
-fn a_copy_has_all_that_the_message_has(rt: HostRuntime) -> Result<(), Fail> {
-    let mut lab = begun(&rt)?;
-    let table = [
-        ("props 0x200024", DETAILS),
-        ("cp 0x200024 0x8062", "ok 0x200044\n"),
-        ("props 0x200044", DETAILS),
-        ("mv 0x200024 0x8062", "ok\n"),
-        ("props 0x200024", DETAILS),
-        (
-            "ls 0x8062",
-            "- 0x200024 message 62 \"Hello\"\n- 0x200044 message 62 \"Hello\"\nok 2\n",
-        ),
-    ];
-    let before = node(rt.alloc(), &mut lab, MESSAGE)?;
-    assert_answers(&rt, &mut lab, &table)?;
-    let moved = node(rt.alloc(), &mut lab, MESSAGE)?;
-    let copied = node(rt.alloc(), &mut lab, 0x20_0044)?;
-    let wanted = looks(rt.alloc(), &before)?;
-    assert_eq!(rt; looks(rt.alloc(), &copied)?.as_str(), wanted.as_str());
-    assert_eq!(rt; looks(rt.alloc(), &moved)?.as_str(), wanted.as_str());
-    let ids = [0x21, 0x671, 0x692, 0x700, 0x8025, 0x8045, 0x9001];
-    assert!(rt;
-        copied
-            .subs
-            .as_slice()
-            .iter()
-            .map(|sub| sub.nid.bits)
-            .eq(ids)
-    );
-    assert!(rt; moved.parent.bits == 0x8062 && copied.parent.bits == 0x8062);
-    Ok(())
-}
-
 /// A row of this id in the table at that node, which names nothing that the store knows.
 fn add_row(alloc: Global, lab: &mut Lab, at: u32, id: u32) -> Result<(), Fail> {
     let before = node(alloc, lab, at)?;
@@ -352,97 +316,6 @@ fn unknown(alloc: Global, lab: &mut Lab) -> Result<String, Fail> {
     Ok(text)
 }
 
-#[test]
-fn what_is_not_known_outlives_every_command(rt: HostRuntime) -> Result<(), Fail> {
-    let mut lab = begun(&rt)?;
-    put_node(rt.alloc(), &mut lab, STRANGE, strange(rt.alloc(), 0x61)?)?;
-    add_row(rt.alloc(), &mut lab, 0x808D, 0x8084)?;
-    add_row(rt.alloc(), &mut lab, 0x808E, 0x8088)?;
-    for at in [0x8082, 0x808D, 0x808E] {
-        add_sub(rt.alloc(), &mut lab, at)?;
-    }
-    let before = unknown(rt.alloc(), &mut lab)?;
-    let table = [
-        ("mkdir 0x8082 Sent", "ok 0x80a2\n"),
-        ("rename 0x8082 Post", "ok\n"),
-        ("mvdir 0x80a2 0x8022", "ok\n"),
-        ("rmdir 0x80a2", "ok\n"),
-        ("new 0x8082 IPM.Note 1", "ok 0x200044\n"),
-        ("set 0x200044 0x0e070003 1", "ok\n"),
-        ("unset 0x200044 0x001a001f", "ok\n"),
-        ("get 0x200044 0x0e070003", "ok 1\n"),
-        ("set 0x200024 0x10000003 5", "ok\n"),
-        ("unset 0x200024 0x10000003", "ok\n"),
-        (
-            "ls 0x8082",
-            "- 0x200024 message 3662 \"Hello\"\n- 0x200044 message 36 \"\"\nok 2\n",
-        ),
-        ("mv 0x200044 0x8042", "ok\n"),
-        ("cp 0x200044 0x8082", "ok 0x200064\n"),
-        ("rm 0x200064", "ok\n"),
-        ("mv 0x200024 0x8042", "ok\n"),
-        ("mv 0x200024 0x8082", "ok\n"),
-        ("mvdir 0x8082 0x8042", "ok\n"),
-        ("rmdir 0x8082", "no not-empty\n"),
-        ("save", "ok\n"),
-    ];
-    assert_answers(&rt, &mut lab, &table)?;
-    assert_eq!(rt; unknown(rt.alloc(), &mut lab)?.as_str(), before.as_str());
-    Ok(())
-}
-
-/// The first byte of a number, if it is there, and else 255.
-fn number(props: &Props, id: u16) -> u8 {
-    match props.get(id) {
-        Some(value) => *value.bytes().first().unwrap_or(&255),
-        None => 255,
-    }
-}
-
-/// A folder's numbers of messages and of those that are unread, as text: of its values, and of its row in that table.
-fn counts(alloc: Global, lab: &mut Lab, folder: u32, listing: u32) -> Result<String, Fail> {
-    let own = node(alloc, lab, folder)?;
-    let Some(context) = read_context(alloc, &own)? else {
-        return Err(Fail::from("no folder"));
-    };
-    let above = node(alloc, lab, listing)?;
-    let Some(table) = read_table(alloc, &above)? else {
-        return Err(Fail::from("no table"));
-    };
-    let Some(row) = table.table().row(folder) else {
-        return Err(Fail::from("no row"));
-    };
-    let mut text = String::new(alloc);
-    write!(text, "{}", number(context.props(), 0x3602))?;
-    write!(text, " {}", number(context.props(), 0x3603))?;
-    write!(text, " {}", number(&row.1, 0x3602))?;
-    write!(text, " {}", number(&row.1, 0x3603))?;
-    Ok(text)
-}
-
-#[test]
-fn counts_follow_messages_and_their_flags(rt: HostRuntime) -> Result<(), Fail> {
-    let mut lab = begun(&rt)?;
-    let table = [
-        ("save", "ok\n", "1 1 1 1"),
-        ("set 0x200024 0x0e070003 1", "ok\n", "1 0 1 0"),
-        ("new 0x8082 IPM.Note 0", "ok 0x200044\n", "2 1 2 1"),
-        ("cp 0x200024 0x8082", "ok 0x200064\n", "3 1 3 1"),
-        ("set 0x200024 0x0e070003 2", "ok\n", "3 2 3 2"),
-        ("mv 0x200044 0x8042", "ok\n", "2 1 2 1"),
-        ("rm 0x200024", "ok\n", "1 0 1 0"),
-        ("rm 0x200064", "ok\n", "0 0 0 0"),
-    ];
-    for (line, wanted, after) in table {
-        assert_answers(&rt, &mut lab, &[(line, wanted)])?;
-        let now = counts(rt.alloc(), &mut lab, 0x8082, 0x802D)?;
-        assert_eq!(rt; now.as_str(), after, "{line}");
-    }
-    let other = counts(rt.alloc(), &mut lab, 0x8042, 0x12D)?;
-    assert_eq!(rt; other.as_str(), "1 1 1 1");
-    Ok(())
-}
-
 /// Puts the search folder into 0x8042, as another program would.
 fn add_search(alloc: Global, lab: &mut Lab) -> Result<(), Fail> {
     let mut letters = Vec::new(alloc);
@@ -470,49 +343,6 @@ fn add_search(alloc: Global, lab: &mut Lab) -> Result<(), Fail> {
         sort: Sort::Foreign,
     })?;
     Ok(())
-}
-
-#[test]
-fn each_refusal_comes_before_those_behind_it(rt: HostRuntime) -> Result<(), Fail> {
-    let mut lab = begun(&rt)?;
-    add_search(rt.alloc(), &mut lab)?;
-    let table = [
-        ("mkdir 0x8082 Sent", "ok 0x80a2\n"),
-        ("mkdir 0x80a2 Inbox", "ok 0x80c2\n"),
-        ("ls 0x8003", "ok 0\n"),
-        ("ls 0x8042", "- 0x8003 foreign \"Found\"\nok 1\n"),
-        // a search folder alone
-        ("new 0x8003 IPM.Note 0", "no reserved\n"),
-        ("mkdir 0x8003 A", "no reserved\n"),
-        ("rename 0x8003 A", "no reserved\n"),
-        ("rmdir 0x8003", "no reserved\n"),
-        ("mvdir 0x8003 0x8022", "no reserved\n"),
-        ("mv 0x200024 0x8003", "no reserved\n"),
-        ("cp 0x200024 0x8003", "no reserved\n"),
-        // nothing there, and a search folder
-        ("mv 0x999 0x8003", "no object\n"),
-        ("mvdir 0x8003 0x999", "no object\n"),
-        ("ls 0x200024", "no object\n"),
-        ("rm 0x8082", "no object\n"),
-        // a search folder, and one that may not be moved
-        ("mvdir 0x8022 0x8003", "no reserved\n"),
-        // one that may not be moved or removed, and what comes behind
-        ("mvdir 0x122 0x8022", "no protected\n"),
-        ("rmdir 0x8022", "no protected\n"),
-        ("rename 0x8062 Search Root", "no protected\n"),
-        ("unset 0x200024 0x300b001f", "no protected\n"),
-        // within itself, where one of its name stands
-        ("mvdir 0x8082 0x80a2", "no cycle\n"),
-        ("mvdir 0x80a2 0x80a2", "no cycle\n"),
-        ("rmdir 0x80a2", "no not-empty\n"),
-        ("set 0x200024 0x8000001f A", "no property\n"),
-        ("get 0x200024 0x0037001e", "no property\n"),
-        // names, whatever their case, of folders of both sorts
-        ("mkdir 0x8042 FOUND", "no name-taken\n"),
-        ("rename 0x80c2 inbox", "ok\n"),
-        ("mvdir 0x80c2 0x8022", "no name-taken\n"),
-    ];
-    assert_answers(&rt, &mut lab, &table)
 }
 
 /// Sets all counters to the last index.
@@ -545,30 +375,6 @@ fn put_crowded(alloc: Global, lab: &mut Lab, id: u32, count: u16) -> Result<(), 
     put_node(alloc, lab, id, node)
 }
 
-#[test]
-fn limits_come_before_ids(rt: HostRuntime) -> Result<(), Fail> {
-    let mut lab = begun(&rt)?;
-    put_crowded(rt.alloc(), &mut lab, MESSAGE, 996)?;
-    let table = [
-        ("set 0x200024 0x10000003 5", "ok\n"),
-        ("set 0x200024 0x10010003 5", "no limit properties\n"),
-        ("set 0x200024 0x80010003 5", "no property\n"),
-        ("set 0x200024 0x10000003 6", "ok\n"),
-        ("unset 0x200024 0x10000003", "ok\n"),
-    ];
-    assert_answers(&rt, &mut lab, &table)?;
-    put_crowded(rt.alloc(), &mut lab, MESSAGE, 1_005)?;
-    spend_ids(rt.alloc(), &mut lab)?;
-    let table = [
-        ("set 0x200024 0x40000003 6", "ok\n"),
-        ("cp 0x200024 0x8042", "no limit properties\n"),
-        ("mkdir 0x8022 INBOX", "no name-taken\n"),
-        ("mkdir 0x8022 Sent", "no ids\n"),
-        ("new 0x8082 IPM.Note 0", "no ids\n"),
-    ];
-    assert_answers(&rt, &mut lab, &table)
-}
-
 /// Puts so many rows that name nothing into the table at that node.
 fn fill_table(alloc: Global, lab: &mut Lab, at: u32, count: u32) -> Result<(), Fail> {
     let bare = node(alloc, lab, at)?;
@@ -583,31 +389,82 @@ fn fill_table(alloc: Global, lab: &mut Lab, at: u32, count: u32) -> Result<(), F
     put_node(alloc, lab, at, written(alloc, &Object::Table(table))?)
 }
 
-#[test]
-fn a_table_of_100_000_rows_takes_no_more(rt: HostRuntime) -> Result<(), Fail> {
-    let mut lab = begun(&rt)?;
-    fill_table(rt.alloc(), &mut lab, 0x806E, 99_999)?;
-    let table = [
-        ("new 0x8062 IPM.Note 0", "ok 0x200044\n"),
-        ("new 0x8062 IPM.Note 0", "no limit rows\n"),
-        ("mv 0x200024 0x8062", "no limit rows\n"),
-        ("set 0x200044 0x0037001f A", "ok\n"),
-        ("rm 0x200044", "ok\n"),
-        ("cp 0x200024 0x8062", "ok 0x200064\n"),
-    ];
-    assert_answers(&rt, &mut lab, &table)?;
-    spend_ids(rt.alloc(), &mut lab)?;
-    assert_answers(&rt, &mut lab, &[("cp 0x200024 0x8062", "no limit rows\n")])
+/// Lines over a copy, over what the store doesn't know, and over the search folder, each with its answer.
+const LINES: [(&str, &str); 31] = [
+    ("mv 0x200044 0x8022", "ok\n"),
+    ("rm 0x200044", "ok\n"),
+    ("set 0x200024 0x10000003 5", "ok\n"),
+    ("unset 0x200024 0x10000003", "ok\n"),
+    ("ls 0x8082", "- 0x200024 message 3662 \"Hello\"\nok 1\n"),
+    ("mkdir 0x8082 Sent", "ok 0x80a2\n"),
+    ("rename 0x8082 Post", "ok\n"),
+    ("mvdir 0x80a2 0x8022", "ok\n"),
+    ("rmdir 0x80a2", "ok\n"),
+    ("mv 0x200024 0x8042", "ok\n"),
+    ("mv 0x200024 0x8082", "ok\n"),
+    ("mvdir 0x8082 0x8042", "ok\n"),
+    ("rmdir 0x8082", "no not-empty\n"),
+    ("save", "ok\n"),
+    ("ls 0x8003", "ok 0\n"),
+    (
+        "ls 0x8042",
+        "- 0x8003 foreign \"Found\"\n- 0x8082 folder \"Post\"\nok 2\n",
+    ),
+    ("new 0x8003 IPM.Note 0", "no reserved\n"),
+    ("mkdir 0x8003 A", "no reserved\n"),
+    ("rename 0x8003 A", "no reserved\n"),
+    ("rmdir 0x8003", "no reserved\n"),
+    ("mvdir 0x8003 0x8022", "no reserved\n"),
+    ("mv 0x200024 0x8003", "no reserved\n"),
+    ("cp 0x200024 0x8003", "no reserved\n"),
+    // nothing there, before the search folder
+    ("mv 0x999 0x8003", "no object\n"),
+    ("mvdir 0x8003 0x999", "no object\n"),
+    // a search folder, before one that may not be moved
+    ("mvdir 0x8022 0x8003", "no reserved\n"),
+    // a name that the search folder has, whatever its case
+    ("mkdir 0x8042 FOUND", "no name-taken\n"),
+    ("rename 0x8082 FOUND", "no name-taken\n"),
+    ("mkdir 0x8022 Found", "ok 0x80c2\n"),
+    ("mvdir 0x80c2 0x8042", "no name-taken\n"),
+    ("rmdir 0x80c2", "ok\n"),
+];
+
+/// Lines where the table of 0x8062 has 99,999 rows, each with its answer.
+const CROWDED: [(&str, &str); 5] = [
+    ("new 0x8062 IPM.Note 0", "ok 0x200064\n"),
+    ("new 0x8062 IPM.Note 0", "no limit rows\n"),
+    ("mv 0x200024 0x8062", "no limit rows\n"),
+    ("rm 0x200064", "ok\n"),
+    ("cp 0x200024 0x8062", "ok 0x200084\n"),
+];
+
+/// Lines where no id is left and the message has 1,008 values, each with its answer.
+const SPENT: [(&str, &str); 6] = [
+    ("cp 0x200024 0x8062", "no limit rows\n"),
+    ("cp 0x200024 0x8022", "no limit properties\n"),
+    ("set 0x200024 0x40000003 6", "ok\n"),
+    ("mkdir 0x8042 FOUND", "no name-taken\n"),
+    ("mkdir 0x8042 A", "no ids\n"),
+    ("new 0x8022 IPM.Note 0", "no ids\n"),
+];
+
+/// A store with all that no line makes: recipients, attachments, a search folder, and what the store doesn't know.
+fn full(rt: &(impl Abort + AllocGlobal)) -> Result<Lab, Fail> {
+    let mut lab = begun(rt)?;
+    add_search(rt.alloc(), &mut lab)?;
+    put_node(rt.alloc(), &mut lab, STRANGE, strange(rt.alloc(), 0x61)?)?;
+    for (at, id) in [(0x808D, 0x8084), (0x808E, 0x8088), (0x804D, 0x8023)] {
+        add_row(rt.alloc(), &mut lab, at, id)?;
+    }
+    for at in [0x8082, 0x808D, 0x808E] {
+        add_sub(rt.alloc(), &mut lab, at)?;
+    }
+    Ok(lab)
 }
 
-#[test]
-fn a_store_opens_with_the_folders_that_its_tables_list(rt: HostRuntime) -> Result<(), Fail> {
-    let mut lab = begun(&rt)?;
-    add_search(rt.alloc(), &mut lab)?;
-    assert_answers(&rt, &mut lab, &[("mkdir 0x8082 Sent", "ok 0x80a2\n")])?;
-    // a search folder without a node, and a row that is no folder's
-    add_row(rt.alloc(), &mut lab, 0x804D, 0x8023)?;
-    add_row(rt.alloc(), &mut lab, 0x808D, 0x8084)?;
+/// The store that the nodes show has these folders.
+fn assert_opens(rt: &(impl Abort + AllocGlobal), lab: Lab) -> Result<(), Fail> {
     let Lab { store, mut world } = lab;
     let store = open(rt.alloc(), store.keeper, &mut world)?;
     let wanted = [
@@ -616,8 +473,7 @@ fn a_store_opens_with_the_folders_that_its_tables_list(rt: HostRuntime) -> Resul
         (0x8022, 0x122, Sort::Plain),
         (0x8042, 0x122, Sort::Plain),
         (0x8062, 0x122, Sort::Plain),
-        (0x8082, 0x8022, Sort::Plain),
-        (0x80A2, 0x8082, Sort::Plain),
+        (0x8082, 0x8042, Sort::Plain),
     ];
     let found = store.places.as_slice().iter();
     assert!(rt;
@@ -629,35 +485,24 @@ fn a_store_opens_with_the_folders_that_its_tables_list(rt: HostRuntime) -> Resul
 }
 
 #[test]
-fn nodes_without_a_root_open_as_no_store(rt: HostRuntime) -> Result<(), Fail> {
-    let Lab {
-        store: _,
-        mut world,
-    } = new_lab(rt.alloc())?;
-    let stop = match open(rt.alloc(), MapKeeper::new(rt.alloc()), &mut world) {
-        Ok(_) => None,
-        Err(stop) => Some(stop),
-    };
-    let wanted = Stop::Changed {
-        ib: 0,
-        stored: 13,
-        computed: 0,
-    };
-    assert!(rt; stop == Some(wanted));
-    Ok(())
-}
-
-#[test]
-fn a_plan_that_is_given_up_changes_nothing(rt: HostRuntime) -> Result<(), Fail> {
-    let mut lab = begun(&rt)?;
-    let Ok(command) = read_line(rt.alloc(), b"rm 0x200024") else {
-        return Err(Fail::from("no command"));
-    };
-    let planned = plan(rt.alloc(), &mut lab.store, &mut lab.world, &command)?;
-    assert_eq!(rt;
-        reply_text(rt.alloc(), &planned.reply)?.as_slice(),
-        "ok\n".as_bytes()
-    );
-    let wanted = "- 0x200024 message 62 \"Hello\"\nok 1\n";
-    assert_answers(&rt, &mut lab, &[("ls 0x8082", wanted)])
+fn what_no_line_makes_is_kept_and_refused(rt: HostRuntime) -> Result<(), Fail> {
+    let mut lab = full(&rt)?;
+    let before = unknown(rt.alloc(), &mut lab)?;
+    let copying = [
+        ("props 0x200024", DETAILS),
+        ("cp 0x200024 0x8062", "ok 0x200044\n"),
+        ("props 0x200044", DETAILS),
+    ];
+    assert_answers(&rt, &mut lab, &copying)?;
+    let message = looks(rt.alloc(), &node(rt.alloc(), &mut lab, MESSAGE)?)?;
+    let copied = looks(rt.alloc(), &node(rt.alloc(), &mut lab, 0x20_0044)?)?;
+    assert_eq!(rt; copied.as_str(), message.as_str());
+    assert_answers(&rt, &mut lab, &LINES)?;
+    assert_eq!(rt; unknown(rt.alloc(), &mut lab)?.as_str(), before.as_str());
+    fill_table(rt.alloc(), &mut lab, 0x806E, 99_999)?;
+    assert_answers(&rt, &mut lab, &CROWDED)?;
+    put_crowded(rt.alloc(), &mut lab, MESSAGE, 1_005)?;
+    spend_ids(rt.alloc(), &mut lab)?;
+    assert_answers(&rt, &mut lab, &SPENT)?;
+    assert_opens(&rt, lab)
 }
