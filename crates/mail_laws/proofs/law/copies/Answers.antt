@@ -7,7 +7,7 @@ use Rattle.mail_tree.specs.Folders.{nid}
 use Rattle.mail_tree.specs.Ids.{new_id}
 use Rattle.mail_tree.specs.Messages.{copy_of}
 use Rattle.mail_tree.specs.Step.{outcome}
-use Rattle.mail_tree.proofs.law.copies.Goals as goal
+use Rattle.mail_laws.proofs.law.copies.Goals as goal
 
 pub returns : goal.returns
 unfolding outcome

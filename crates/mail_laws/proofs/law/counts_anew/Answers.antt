@@ -11,7 +11,7 @@ use Rattle.mail_laws.proofs.CountCommands.{Ends, Home, copies, makes, removes, s
 use Rattle.mail_laws.proofs.Keeping.{if_weaker}
 use Rattle.mail_laws.proofs.LawSteps.{before, was_message}
 use Rattle.mail_laws.proofs.MessageSteps.{Before}
-use Rattle.mail_tree.proofs.law.counts_anew.Goals as goal
+use Rattle.mail_laws.proofs.law.counts_anew.Goals as goal
 
 -- whatever the counts were
 any : (T : Tree) → AreCountedBut (λ x. Unit {0}) T.places (now_at T nothing)

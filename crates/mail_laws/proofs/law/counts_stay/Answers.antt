@@ -6,7 +6,7 @@ use Rattle.mail_tree.proofs.AfterTree.{after_now, now_nothing}
 use Rattle.mail_laws.proofs.CountCommands.{counted_after}
 use Rattle.mail_laws.proofs.Keeping.{if_weaker}
 use Rattle.mail_laws.proofs.LawSteps.{before}
-use Rattle.mail_tree.proofs.law.counts_stay.Goals as goal
+use Rattle.mail_laws.proofs.law.counts_stay.Goals as goal
 
 pub returns : goal.returns
 returns c T command w s =

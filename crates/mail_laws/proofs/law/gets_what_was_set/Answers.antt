@@ -6,7 +6,7 @@ use Rattle.mail_laws.proofs.LawSteps.{before, both_hold}
 use Rattle.mail_laws.proofs.LawSteps.{gets}
 use Rattle.mail_tree.specs.Step.{outcome}
 use Rattle.mail_tree.specs.Values.{with_props}
-use Rattle.mail_tree.proofs.law.gets_what_was_set.Goals as goal
+use Rattle.mail_laws.proofs.law.gets_what_was_set.Goals as goal
 
 pub returns : goal.returns
 unfolding outcome

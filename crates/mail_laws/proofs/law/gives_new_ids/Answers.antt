@@ -1,5 +1,5 @@
 use Rattle.mail_laws.proofs.GivenIds.{gives_new}
-use Rattle.mail_tree.proofs.law.gives_new_ids.Goals as goal
+use Rattle.mail_laws.proofs.law.gives_new_ids.Goals as goal
 
 pub returns : goal.returns
 returns c T command = gives_new T command

@@ -1,5 +1,5 @@
 use Rattle.mail_laws.proofs.KeptLaws.{keeps_nodes}
-use Rattle.mail_tree.proofs.law.keeps_nodes.Goals as goal
+use Rattle.mail_laws.proofs.law.keeps_nodes.Goals as goal
 
 pub returns : goal.returns
 returns c = keeps_nodes

@@ -4,7 +4,7 @@ use Rattle.mail_laws.proofs.LawSteps.{before, both_hold, named, was_nothing}
 use Rattle.mail_laws.proofs.PlaceEffects.{MadeFolder, makes_folder, only_place}
 use Rattle.mail_tree.specs.Folders.{nid, place}
 use Rattle.mail_tree.specs.Step.{outcome}
-use Rattle.mail_tree.proofs.law.makes_folder.Goals as goal
+use Rattle.mail_laws.proofs.law.makes_folder.Goals as goal
 
 pub returns : goal.returns
 unfolding outcome

@@ -6,7 +6,7 @@ use Rattle.mail_laws.proofs.LawSteps.{was_nothing}
 use Rattle.mail_tree.specs.Folders.{nid}
 use Rattle.mail_tree.specs.Ids.{new_id}
 use Rattle.mail_tree.specs.Step.{outcome}
-use Rattle.mail_tree.proofs.law.makes_message.Goals as goal
+use Rattle.mail_laws.proofs.law.makes_message.Goals as goal
 
 pub returns : goal.returns
 unfolding outcome

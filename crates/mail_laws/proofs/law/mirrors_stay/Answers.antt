@@ -7,7 +7,7 @@ use Rattle.mail_laws.proofs.Keeping.{if_weaker}
 use Rattle.mail_laws.proofs.LawSteps.{before}
 use Rattle.mail_laws.proofs.MirrorCommands.{mirrored_after}
 use Rattle.mail_laws.proofs.MirrorPuts.{AreShownBut, all_shown, shown_but}
-use Rattle.mail_tree.proofs.law.mirrors_stay.Goals as goal
+use Rattle.mail_laws.proofs.law.mirrors_stay.Goals as goal
 
 pub returns : goal.returns
 returns c T command w s =

@@ -4,7 +4,7 @@ use Rattle.mail_laws.proofs.Effects.{Moved, moves, only_message}
 use Rattle.mail_laws.proofs.LawSteps.{before, both_hold, was_message}
 use Rattle.mail_tree.specs.Messages.{in_folder}
 use Rattle.mail_tree.specs.Step.{outcome}
-use Rattle.mail_tree.proofs.law.moves.Goals as goal
+use Rattle.mail_laws.proofs.law.moves.Goals as goal
 
 pub returns : goal.returns
 unfolding outcome

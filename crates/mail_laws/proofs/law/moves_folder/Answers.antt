@@ -4,7 +4,7 @@ use Rattle.mail_laws.proofs.LawSteps.{before, both_hold}
 use Rattle.mail_laws.proofs.PlaceEffects.{Placed, moves_folder, only_place}
 use Rattle.mail_tree.specs.Folders.{place}
 use Rattle.mail_tree.specs.Step.{outcome}
-use Rattle.mail_tree.proofs.law.moves_folder.Goals as goal
+use Rattle.mail_laws.proofs.law.moves_folder.Goals as goal
 
 pub returns : goal.returns
 unfolding outcome

@@ -1,5 +1,5 @@
 use Rattle.mail_laws.proofs.LawSteps.{reads_only}
-use Rattle.mail_tree.proofs.law.reads.Goals as goal
+use Rattle.mail_laws.proofs.law.reads.Goals as goal
 
 pub returns : goal.returns
 returns c T command reads = reads_only T command reads

@@ -3,7 +3,7 @@ use Rattle.command_text.specs.declared.command.Command.TheVariants.{RemoveMessag
 use Rattle.mail_laws.proofs.Effects.{Changes, only_message, removes}
 use Rattle.mail_laws.proofs.LawSteps.{before, both_hold}
 use Rattle.mail_tree.specs.Step.{outcome}
-use Rattle.mail_tree.proofs.law.removes.Goals as goal
+use Rattle.mail_laws.proofs.law.removes.Goals as goal
 
 pub returns : goal.returns
 unfolding outcome

@@ -3,7 +3,7 @@ use Rattle.command_text.specs.declared.command.Command.TheVariants.{RemoveFolder
 use Rattle.mail_laws.proofs.LawSteps.{before, both_hold}
 use Rattle.mail_laws.proofs.PlaceEffects.{Placed, only_place, removes_folder}
 use Rattle.mail_tree.specs.Step.{outcome}
-use Rattle.mail_tree.proofs.law.removes_folder.Goals as goal
+use Rattle.mail_laws.proofs.law.removes_folder.Goals as goal
 
 pub returns : goal.returns
 unfolding outcome

@@ -3,7 +3,7 @@ use Rattle.command_text.specs.declared.command.Command.TheVariants.{RenameFolder
 use Rattle.mail_laws.proofs.LawSteps.{before, both_hold, named}
 use Rattle.mail_laws.proofs.PlaceEffects.{Renamed, only_place, renames_folder}
 use Rattle.mail_tree.specs.Step.{outcome}
-use Rattle.mail_tree.proofs.law.renames_folder.Goals as goal
+use Rattle.mail_laws.proofs.law.renames_folder.Goals as goal
 
 pub returns : goal.returns
 unfolding outcome

@@ -5,7 +5,7 @@ use Rattle.mail_tree.proofs.KeyedFinds.{find-put_other, find-put_same}
 use Rattle.mail_laws.proofs.LawSteps.{before, both_hold, was_message}
 use Rattle.mail_tree.specs.Step.{outcome}
 use Rattle.mail_tree.specs.Values.{with_props}
-use Rattle.mail_tree.proofs.law.sets.Goals as goal
+use Rattle.mail_laws.proofs.law.sets.Goals as goal
 
 pub returns : goal.returns
 unfolding outcome

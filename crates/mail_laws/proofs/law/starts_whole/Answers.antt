@@ -1,5 +1,5 @@
 use Rattle.mail_laws.proofs.Starting.{starts_whole}
-use Rattle.mail_tree.proofs.law.starts_whole.Goals as goal
+use Rattle.mail_laws.proofs.law.starts_whole.Goals as goal
 
 pub returns : goal.returns
 returns c = starts_whole

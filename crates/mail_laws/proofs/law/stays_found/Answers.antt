@@ -1,6 +1,6 @@
 use Rattle.mail_laws.proofs.FoundCommands.{stays_found}
 use Rattle.mail_laws.proofs.FoundStart.{starts_found}
-use Rattle.mail_tree.proofs.law.stays_found.Goals as goal
+use Rattle.mail_laws.proofs.law.stays_found.Goals as goal
 
 pub returns : goal.returns
 returns c = record { starts = starts_found; stays = stays_found }
