@@ -10,6 +10,7 @@
 mod bits;
 mod bounds;
 mod cells;
+mod count;
 mod cover;
 mod ends;
 mod law;

@@ -1,5 +1,5 @@
 //! The used slots of a file's regions.
-ghost use Rattle.std.specs.Prelude.{◌≡◌, ◌<◌, ◌≤◌, ◌*◌, ◌/◌, ◌%◌, ◌+◌, ℕ, List, true, false, length, slice_index, All, IfOk, IfErr, IfSome, IfNone};
+ghost use Rattle.std.specs.Prelude.{◌≡◌, ◌<◌, ◌≤◌, ◌*◌, ◌/◌, ◌%◌, ◌+◌, ℕ, List, true, false, not, length, slice_index, count_by, take, All, IfOk, IfErr, IfSome, IfNone};
 ghost use Rattle.alloc_map.specs.Slots.{AreAll, Becomes, BeginsLeast, IsLaid, IsPageRoom, IsRoom, Unites, regions_of, slot_of, slots_in};
 ghost use Rattle.alloc_map.specs.Cells.{free_cells_of, page_rooms};
 ghost use Rattle.alloc_map.specs.Ends.{free_slots_of};
@@ -9,6 +9,7 @@ ghost use Rattle.alloc_map.specs.Standing.{IsCovered, IsMeeting, StopsAtOverlap,
 use crate::bits::Bits;
 use crate::bounds::Bounds;
 use crate::cells::Cells;
+use crate::count::count_clear;
 use crate::cover::{cover_all, fill_fixed, slot_of, slots_in, start_of};
 use crate::overlap::Overlap;
 use crate::search::{REGION, find_block, find_page};
@@ -143,6 +144,14 @@ impl Slots {
         ensures pages { 16 * result ≤ page_rooms self.now }
     {
         self.used.free()
+    }
+
+    /// How many bytes the free slots of the first regions have.
+    pub fn free_bytes(&self, regions: u32) -> u64
+        requires { regions ≤ regions_of self.now }
+        ensures { result ≡ 64 * count_by not (take (3968 * regions) self.now) }
+    {
+        64 * count_clear(self.used.bits(), REGION * regions as usize) as u64
     }
 
     /// How many free slots begin below a file's end, in bytes. 64 times as many is what a header counts as free ([MS-PST] 2.2.2.5, `cbAMapFree`).

@@ -23,7 +23,7 @@ leaves-ok bid b here e = elim (cases_Bool (are_data (names_of b))) [
   | inr isnt ↦ let same = rw isnt at e in absurd cc
 ]
 
-fetched-ok : (find : Finder) (bid : Bid) (r : Option (List ℕ)) (b : List ℕ) → named bid r ≡ Ok b → r ≡ Some b
+pub fetched-ok : (find : Finder) (bid : Bid) (r : Option (List ℕ)) (b : List ℕ) → named bid r ≡ Ok b → r ≡ Some b
 fetched-ok find bid None b e = absurd cc
 fetched-ok find bid (Some x) b e = let same : x ≡ b = cc in ap Some same
 

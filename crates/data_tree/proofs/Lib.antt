@@ -6,6 +6,7 @@ pub mod KeepSteps
 pub mod KeyLaws
 pub mod KeySteps
 pub mod ListingLaws
+pub mod NamedLaws
 pub mod PieceLaws
 pub mod PlanLaws
 pub mod PlanSteps

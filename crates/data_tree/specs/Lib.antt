@@ -2,6 +2,7 @@ pub mod Grown
 pub mod Keys
 pub mod Listed
 pub mod Measure
+pub mod Named
 pub mod Plan
 pub mod Source
 pub mod Stops

@@ -14,8 +14,6 @@ mod listing;
 mod measure;
 mod memory;
 mod plan;
-#[cfg(test)]
-mod plan_tests;
 mod source;
 #[cfg(test)]
 mod tests;
@@ -23,7 +21,7 @@ mod tree;
 
 pub use data::read_data;
 pub use keys::read_data_keys;
-pub use law::stays_read;
+pub use law::{bids_name_data, stays_read};
 pub use measure::measure_data;
 pub use memory::BlockList;
 pub use plan::{DataPlan, last_id, plan_data, plan_data_keep};

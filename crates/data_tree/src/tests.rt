@@ -1,151 +1,97 @@
 //! Trees of blocks by the layout of [MS-PST] 2.2.2.8.3.2.
-use crate::{BlockList, BlockSource, TreeStop, measure_data, read_bids, read_data};
-use pst_base::{Bid, Bytes, MemOr, SourceStop};
-use std::alloc::{AllocError, Global};
-use std::test::Fail;
+ghost use Rattle.std.specs.Prelude.{◌≡◌, ◌≤◌, length, IfOk};
+ghost use Rattle.data_tree.specs.Plan.{IsContent};
 
-/// Three data blocks of 1, 2 and 3 bytes, and blocks that name others: of level 1 and 2, and some at fault.
-const BLOCKS: [(u64, &[u8]); 9] = [
-    (4, &[1]),
-    (9, &[2, 2]),
-    (12, &[3, 3, 3]),
-    (
-        18,
-        &[
-            1, 1, 2, 0, 3, 0, 0, 0, 4, 0, 0, 0, 0, 0, 0, 0, 8, 0, 0, 0, 0, 0, 0, 0,
-        ],
-    ),
-    (22, &[1, 1, 1, 0, 3, 0, 0, 0, 13, 0, 0, 0, 0, 0, 0, 0]),
-    (
-        26,
-        &[
-            1, 2, 2, 0, 6, 0, 0, 0, 18, 0, 0, 0, 0, 0, 0, 0, 22, 0, 0, 0, 0, 0, 0, 0,
-        ],
-    ),
-    (30, &[1, 2, 1, 0, 6, 0, 0, 0, 30, 0, 0, 0, 0, 0, 0, 0]),
-    (34, &[1, 1, 1, 0, 6, 0, 0, 0, 22, 0, 0, 0, 0, 0, 0, 0]),
-    (38, &[1, 1, 1, 0, 3, 0, 0, 0, 4, 0, 0, 0, 0, 0, 0, 0, 0]),
+use crate::{
+    BlockList, TreeStop, measure_data, plan_data, plan_data_keep, read_bids, read_data,
+    read_data_keys,
+};
+use pst_base::{Bid, Bytes, MemOr};
+use std::alloc::{AllocError, Global};
+
+/// How many blocks some data has, how long the last is, and how many bytes they are; how many blocks its tree has from the id 4 on, the id of its root, and the number of the next block.
+const TREES: [(usize, usize, u64, usize, u64, u64); 7] = [
+    (0, 0, 0, 0, 0, 4),
+    (1, 48, 48, 1, 4, 8),
+    (1, 49, 49, 1, 4, 8),
+    (1, 8176, 8176, 1, 4, 8),
+    (2, 1, 8177, 3, 14, 16),
+    (1021, 1, 8_339_521, 1022, 4090, 4092),
+    (1022, 1, 8_347_697, 1025, 4102, 4104),
 ];
 
-fn source(alloc: Global, limit: u64) -> Result<BlockList, AllocError> {
+/// A block of so many equal bytes.
+fn block(alloc: Global, byte: u8, size: usize) -> Result<Bytes, AllocError>
+    ensures { IfOk result (λ b. length b ≡ size) }
+{
+    let mut bytes = Vec::new(alloc);
+    bytes.resize(size, byte)?;
+    Ok(Bytes::from_vec(bytes))
+}
+
+/// How many bytes a block has.
+fn size(is_last: bool, last: usize) -> usize
+    requires { last ≤ 8176 }
+    ensures { result ≤ 8176 }
+{
+    if is_last { last } else { 8176 }
+}
+
+/// So many blocks of 8176 bytes, of which the last has others.
+fn content(alloc: Global, count: usize, last: usize) -> Result<Vec<Bytes>, AllocError>
+    requires few { count ≤ 1022 }
+    requires small { last ≤ 8176 }
+    ensures { IfOk result (λ blocks. IsContent blocks.items) }
+{
     let mut blocks = Vec::new(alloc);
-    for (bits, bytes) in BLOCKS {
-        blocks.push((Bid { bits }, Bytes::from_slice(alloc, bytes)?))?;
+    for i in 0..count {
+        blocks.push(block(alloc, (i % 251) as u8, size(i + 1 == count, last))?)?;
     }
-    Ok(BlockList { blocks, limit })
+    Ok(blocks)
 }
 
-/// What a tree's data is together, or why there is none.
-fn data(alloc: Global, bits: u64, limit: u64) -> Result<Bytes, MemOr<TreeStop>> {
-    let mut s = source(alloc, limit)?;
-    let mut all = Vec::new(alloc);
-    for block in read_data(alloc, Bid { bits }, &mut s)?.as_slice() {
-        all.extend_from_slice(block.as_slice())?;
-    }
-    Ok(Bytes::from_vec(all))
-}
-
-/// How long a tree's data is, or why there is none.
-fn length(alloc: Global, bits: u64, limit: u64) -> Result<u64, MemOr<TreeStop>> {
-    let mut s = source(alloc, limit)?;
-    measure_data(alloc, Bid { bits }, &mut s)
+/// Whether the lists have the same bytes.
+fn same(a: &[Bytes], b: &[Bytes]) -> bool {
+    a.len() == b.len() && a.iter().zip(b).all(|(x, y)| x.as_slice() == y.as_slice())
 }
 
 #[test]
-fn trees_give_their_data_in_order(rt: HostRuntime) -> Result<(), MemOr<TreeStop>> {
-    let all: [u8; 6] = [1, 2, 2, 3, 3, 3];
-    for (bits, count, len) in [(0, 0, 0), (5, 1, 1), (18, 3, 3), (19, 3, 3), (26, 6, 6)] {
-        let found = data(rt.alloc(), bits, 6)?;
-        assert!(rt; all.get(..count) == Some(found.as_slice()), "at {bits}");
-        assert_eq!(rt; length(rt.alloc(), bits, 6), Ok(len), "at {bits}");
+fn trees_have_a_root_and_read_back(rt: HostRuntime) -> Result<(), MemOr<TreeStop>> {
+    for (count, last, bytes, blocks, root, next) in TREES {
+        let data = content(rt.alloc(), count, last.min(8176))?;
+        let plan = plan_data(rt.alloc(), data.as_slice(), 4)?;
+        assert_eq!(rt; plan.blocks.len(), blocks);
+        assert_eq!(rt; plan.bid, Bid { bits: root });
+        assert_eq!(rt; plan.next, next);
+        let mut s = BlockList {
+            blocks: plan.blocks,
+            limit: bytes,
+        };
+        let read = read_data(rt.alloc(), plan.bid, &mut s)?;
+        assert!(rt; same(read.as_slice(), data.as_slice()), "{count} blocks");
+        assert_eq!(rt; measure_data(rt.alloc(), plan.bid, &mut s)?, bytes);
+        assert_eq!(rt; read_bids(rt.alloc(), plan.bid, &mut s)?.len(), count);
+        assert_eq!(rt; read_data_keys(rt.alloc(), plan.bid, &mut s)?.len(), blocks);
     }
-    let mut s = source(rt.alloc(), 0)?;
-    let bids = read_bids(rt.alloc(), Bid { bits: 26 }, &mut s)?;
-    assert_eq!(rt;
-        bids.as_slice(),
-        [Bid { bits: 4 }, Bid { bits: 8 }, Bid { bits: 13 }].as_slice()
-    );
     Ok(())
 }
 
 #[test]
-fn faults_name_their_block(rt: HostRuntime) {
-    let form = |bits| TreeStop::Form { bid: Bid { bits } };
-    for (bits, limit, want) in [
-        (
-            1,
-            6,
-            TreeStop::Missing {
-                bid: Bid { bits: 1 },
-            },
-        ),
-        (
-            16,
-            6,
-            TreeStop::Missing {
-                bid: Bid { bits: 16 },
-            },
-        ),
-        (
-            42,
-            6,
-            TreeStop::Missing {
-                bid: Bid { bits: 42 },
-            },
-        ),
-        (30, 6, form(30)),
-        (34, 6, form(34)),
-        (38, 6, form(38)),
-        (26, 5, TreeStop::Long),
-        (12, 2, TreeStop::Long),
-    ] {
-        assert!(rt;
-            data(rt.alloc(), bits, limit).err() == Some(MemOr::Refused(want)),
-            "at {bits}"
-        );
-        assert!(rt;
-            length(rt.alloc(), bits, limit) == Err(MemOr::Refused(want)),
-            "at {bits}"
-        );
-    }
-}
-
-/// A device that fails at each reading, and knows that each block is empty.
-#[derive(Drop)]
-struct Broken {
-    fails: u64,
-}
-
-impl BlockSource for Broken {
-    ghost use Rattle.std.specs.Prelude.{◌≤◌};
-
-    ghost view = { λ s. record { holds = λ find. ⊥; fails = s.fails; changes = 0; eof = 0; since = λ first. first.fails ≤ s.fails } };
-
-    fn block(&mut self, _: Global, _: Bid) -> Result<Option<Bytes>, MemOr<SourceStop>> {
-        self.fails = self.fails.saturating_add(1);
-        Err(MemOr::Refused(SourceStop::Failed))
-    }
-
-    fn size(&self, _: Bid) -> Option<u64> {
-        Some(0)
-    }
-
-    fn limit(&self) -> u64 {
-        0
-    }
-}
-
-#[test]
-fn a_device_that_fails_is_named(rt: HostRuntime) {
-    let mut s = Broken { fails: 0 };
-    let stop = read_bids(rt.alloc(), Bid { bits: 2 }, &mut s).err();
-    assert!(rt; stop == Some(MemOr::Refused(TreeStop::Source(SourceStop::Failed))));
-    assert_eq!(rt; s.fails, 1);
-}
-
-#[test]
-fn a_length_is_known_without_the_data(rt: HostRuntime) {
-    let mut s = Broken { fails: 0 };
-    assert_eq!(rt; measure_data(rt.alloc(), Bid { bits: 4 }, &mut s), Ok(0));
-    assert_eq!(rt; s.fails, 0);
+fn a_kept_block_is_named_and_not_written(rt: HostRuntime) -> Result<(), AllocError> {
+    let list: [u8; 24] = [
+        1, 1, 2, 0, 0xf1, 0x1f, 0, 0, 8, 0, 0, 0, 0, 0, 0, 0, 4, 0, 0, 0, 0, 0, 0, 0,
+    ];
+    let data = content(rt.alloc(), 2, 1)?;
+    let keep = [None, Some(Bid { bits: 4 })];
+    let plan = plan_data_keep(rt.alloc(), data.as_slice(), &keep, 8)?;
+    assert_eq!(rt; plan.bid, Bid { bits: 14 });
+    assert_eq!(rt; plan.next, 16);
+    let [first, second] = plan.blocks.as_slice() else {
+        panic!(rt; "{} blocks", plan.blocks.len());
+    };
+    assert_eq!(rt; first.0, Bid { bits: 8 });
+    assert_eq!(rt; first.1.len(), 8176);
+    assert_eq!(rt; second.0, plan.bid);
+    assert_eq!(rt; second.1.as_slice(), list.as_slice());
+    Ok(())
 }

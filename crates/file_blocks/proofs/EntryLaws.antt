@@ -121,6 +121,3 @@ go-down es key low high middle d0 rise between within above i d there same =
         | inr after ↦ let h : entry_key (get_or es middle d0) ≤ entry_key (get_or es i d0) = at-most es middle i d0 rise after there in omega (arith, h, here, above)
       ],
     )
-
-pub gone : (es : List BlockEntry) (key low high : ℕ) → Between es key low high → high ≤ low → entry_with key es ≡ None
-gone es key low high between none = none-with es key (λ i d there same. let old = between i d there same in let a = old.0 in let b = old.1 in omega (arith, a, b, none))

@@ -12,5 +12,5 @@ mod source;
 mod tests;
 
 pub use check::{BlockRefusal, BlockStop, check_block, has_room, read_block};
-pub use entries::find_entry;
+pub use entries::{entry_index, find_entry};
 pub use source::FileBlocks;

@@ -46,7 +46,7 @@ pub enum OpenRefusal {
     Block { ib: u64, fault: BlockRefusal },
     /// A block that is named isn't in the block tree.
     Missing { bid: Bid },
-    /// A block or a page of a tree meets another, or a fixed page: the least start of the later of such two.
+    /// A block or a page of a tree meets another, or an AMap page: the least start of the later of such two.
     Overlap { ib: u64 },
     /// What a node leads to is at fault.
     Node { nid: Nid, fault: NodeFault },

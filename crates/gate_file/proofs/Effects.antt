@@ -27,18 +27,20 @@ pub effective_shut : (main side : List ℕ) → is_open side ≡ false → effec
 effective_shut main side shut = ap (λ (b : Bool). cond b (drop 16 side ++ drop 564 main) main) shut
 
 -- two images whose gates are closed, with the same bytes in Main
-pub both_shut : {a b : Image} → is_open a.side ≡ false → is_open b.side ≡ false → b.main ≡ a.main → b.copy ≡ a.copy → b.said ≡ a.said → SameStore a b
-both_shut {a} {b} one two main copy said = record {
+pub both_shut : {a b : Image} → is_open a.side ≡ false → is_open b.side ≡ false → b.main ≡ a.main → b.copy ≡ a.copy → b.said ≡ a.said → (length a.side ≤ 580 → length b.side ≤ 580) → SameStore a b
+both_shut {a} {b} one two main copy said side = record {
   store = effective_shut b.main b.side two ∙ main ∙ sym (effective_shut a.main a.side one);
+  main = ap length main;
+  side = side;
   copy = copy;
   said = said;
 }
 
 pub same_store : {a b c : Image} → SameStore a b → SameStore b c → SameStore a c
-same_store first then = record { store = then.store ∙ first.store; copy = then.copy ∙ first.copy; said = then.said ∙ first.said }
+same_store first then = record { store = then.store ∙ first.store; main = then.main ∙ first.main; side = λ short. then.side (first.side short); copy = then.copy ∙ first.copy; said = then.said ∙ first.said }
 
 pub same_as : {a b : Image} → b ≡ a → SameStore a b
-same_as e = record { store = ap (λ (i : Image). effective i.main i.side) e; copy = ap (λ (i : Image). i.copy) e; said = ap (λ (i : Image). i.said) e }
+same_as {a} {b} e = record { store = ap (λ (i : Image). effective i.main i.side) e; main = ap (λ (i : Image). length i.main) e; side = λ short. omega (arith, short, ap (λ (i : Image). length i.side) e); copy = ap (λ (i : Image). i.copy) e; said = ap (λ (i : Image). i.said) e }
 
 -- arm: the gate's byte stays, and the length
 pub arm_closed : {n : ℕ} {old new : Image} → n ≡ 579 → IsClosed old.side → TornAt Side 1 n old new → IsClosed new.side
@@ -49,7 +51,7 @@ arm_closed {n} {old} {new} count closed torn = record {
 
 pub arm_same : {n : ℕ} {old new : Image} → n ≡ 579 → IsClosed old.side → TornAt Side 1 n old new → SameStore old new
 arm_same {n} {old} {new} count closed torn =
-    both_shut (shut_by_byte old.side closed.shut) (shut_by_byte new.side (arm_closed count closed torn).shut) torn.others.0 torn.others.1 torn.others.2
+    both_shut (shut_by_byte old.side closed.shut) (shut_by_byte new.side (arm_closed count closed torn).shut) torn.others.0 torn.others.1 torn.others.2 (λ short. omega (arith, (arm_closed count closed torn).size))
 
 -- the header behind the gate
 module _ (old header : List ℕ) (long : length header ≡ 564) where
@@ -110,7 +112,7 @@ gate_same {n} {old} {new} count size twice torn =
     (λ (gate : get_or old.side 0 0 ≡ 1). effective_open old.main old.side (opened old.side size gate) ∙ twice)
     (λ (shut : get_or old.side 0 0 ≢ 1). effective_shut old.main old.side (shut_by_byte old.side shut))
     (cases_eq (get_or old.side 0 0) 1) in
-    record { store = now ∙ sym before; copy = either.copy; said = either.said }
+    record { store = now ∙ sym before; main = ap length torn.others.0; side = λ short. omega (arith, size, count, torn.torn.no_longer); copy = either.copy; said = either.said }
 
 pub opened_now : (old : List ℕ) → length old ≡ 580 → IsOpen (drop 16 old) (1 ∷ drop 1 old)
 opened_now old size = record {
@@ -132,6 +134,8 @@ settle_same {n} {h} {old} {new} count opens long torn =
           ∙ ap (λ l. drop 16 l ++ drop 564 new.main) torn.others.0
           ∙ ap (λ l. drop 16 old.side ++ l) rest
           ∙ sym (effective_open old.main old.side (opened old.side opens.size opens.gate));
+      main = torn_length torn.torn (omega (arith, count, long));
+      side = λ short. omega (arith, after.size);
       copy = torn.others.1;
       said = torn.others.2;
     }
@@ -146,13 +150,13 @@ short_same {n} {old} {new} count short torn =
     both_shut
     (shut_by_size old.side (λ size. omega (arith, short, size)))
     (shut_by_size new.side (λ size. omega (arith, short, size, count, torn.torn.no_longer)))
-    torn.others.0 torn.others.1 torn.others.2
+    torn.others.0 torn.others.1 torn.others.2 (λ small. omega (arith, short, count, torn.torn.no_longer))
 
 -- behind a first byte that is 0 anything may be written
-pub zero_same : {n : ℕ} {old new : Image} → 0 < length old.side → get_or old.side 0 0 ≡ 0 → TornAt Side 1 n old new → SameStore old new
-zero_same {n} {old} {new} some zero torn =
+pub zero_same : {n : ℕ} {old new : Image} → n ≤ 579 → 0 < length old.side → get_or old.side 0 0 ≡ 0 → TornAt Side 1 n old new → SameStore old new
+zero_same {n} {old} {new} most some zero torn =
     let now : get_or new.side 0 0 ≡ 0 = torn.torn.below 0 some (omega arith) ∙ zero in
-    both_shut (shut_by_byte old.side (λ one. omega (arith, zero, one))) (shut_by_byte new.side (λ one. omega (arith, now, one))) torn.others.0 torn.others.1 torn.others.2
+    both_shut (shut_by_byte old.side (λ one. omega (arith, zero, one))) (shut_by_byte new.side (λ one. omega (arith, now, one))) torn.others.0 torn.others.1 torn.others.2 (λ small. omega (arith, small, most, torn.torn.no_longer))
 
 -- after settle, Main has the header that Side has
 pub settled_twice : {h : List ℕ} (old new : Image) → IsOpen h old.side → length h ≡ 564 → new.side ≡ old.side → new.main ≡ h ++ drop 564 old.main → drop 16 new.side ++ drop 564 new.main ≡ new.main

@@ -22,6 +22,8 @@ pub fn recover_gate<W: Outside>(w: &mut W, side_len: u64) -> Result<(), Failed>
     ensures store { (W.view w.new).tells → SameStore (W.view w.old).here (W.view w.new).here }
     ensures settled { Settled (W.view w.old) → OnOk result (Settled (W.view w.new)) }
     ensures any_moment { Settled (W.view w.old) → LeavesOnly (W.view w.old) (W.view w.new) (SameStore (W.view w.old).here) }
+    // A gate that is shut already costs no write.
+    ensures idle { (W.view w.new).tells → IsShut (W.view w.old).here.side → Untouched (W.view w.old) (W.view w.new) }
 {
     if side_len < SIDE_LEN {
         return lay_gate(w);

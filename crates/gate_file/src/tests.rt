@@ -36,13 +36,6 @@ fn world(rt: &HostRuntime, side: &[u8], stop: u64) -> Result<MemWorld, Fail> {
     Ok(MemWorld::new(rt.alloc(), input, main, side, copy, fails)?)
 }
 
-fn commit(w: &mut MemWorld) -> Result<(), Failed> {
-    arm(w, &NEW_HEADER)?;
-    fire(w)?;
-    settle(w, &NEW_HEADER)?;
-    disarm(w)
-}
-
 fn recover(w: &mut MemWorld) -> Result<(), Failed> {
     let main_len = w.len(Part::Main)?;
     let side_len = w.len(Part::Side)?;
@@ -99,7 +92,7 @@ fn a_stop_in_a_commit_leaves_the_old_file_or_the_new(rt: HostRuntime) -> Result<
         (8, (false, true)),
     ] {
         let mut w = world(&rt, &[0; 580], stop)?;
-        let result = commit(&mut w);
+        let result = commit_header(&mut w, &NEW_HEADER);
         assert_eq!(rt; result.is_ok(), stop == 8);
         assert_eq!(rt; met(&rt, &w, &OLD, &new)?, wanted, "{stop}");
     }

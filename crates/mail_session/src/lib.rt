@@ -6,8 +6,6 @@
 #![tactic(auto)]
 
 mod answers;
-#[cfg(test)]
-mod byte_world;
 mod call;
 mod exit;
 mod info;
@@ -17,10 +15,6 @@ mod mailbox;
 mod nodes;
 mod nowhere;
 mod session;
-#[cfg(test)]
-mod tests;
-#[cfg(test)]
-mod text_tests;
 mod texts;
 mod turns;
 mod words;

@@ -1,5 +1,5 @@
 -- What a store plans and commits.
-use Rattle.std.proofs.Common.{◌≡◌, ℕ, Bool, true, false, List, Option, None, Some, Result, Ok, Err, sym, subst, ◌∙◌}
+use Rattle.std.proofs.Common.{◌≡◌, ◌⊎◌, inl, inr, refl, ℕ, Bool, true, false, List, Option, None, Some, Result, Ok, Err, sym, subst, ◌∙◌}
 use Rattle.std.specs.Bool.{OnTrue}
 use Rattle.std.specs.Result.{OnOk}
 use Rattle.std.specs.FinMap as map
@@ -22,20 +22,25 @@ use Rattle.mail_draft.specs.declared.stop.Stop.{Stop}
 use Rattle.mail_draft.specs.declared.stop.Stop.TheVariants.{Refused, Fault, Changed, Memory}
 use Rattle.mail_draft.proofs.FitLaws.{no-entries}
 use Rattle.mail_draft.proofs.Looking.{shown_still}
-use Rattle.mail_store.specs.Planning.{Carries, IsHindered, Plans, Stores, UnlessFault}
+use Rattle.mail_store.specs.Planning.{Carries, IsHindered, Plans, ShowsTree, StandsFor, Stores, UnlessFault}
+
+-- what follows of what holds where a call succeeds
+pub on_ok : {A E P Q : Type 0} (r : Result A E) → OnOk r P → (P → Q) → OnOk r Q
+on_ok (Ok x) holds follows = follows holds
+on_ok (Err e) holds follows = tt
 
 -- changes that were applied make the nodes show the tree after them
-pub applied : {R A E : Type 0} (r : Result A E) (holds holds' : Nodes → Type 0) (last last' : List ℕ) (fits : R → List ℕ → List (Nid × Option NodeRec) → Type 0) (ready : R) (told : Type 0)
-    → OnOk r ((n : List ℕ) (cs : List (Nid × Option NodeRec)) → fits ready n cs → told → (N : Nodes) → holds N → holds' (changed N cs))
+pub applied : {R A E : Type 0} (r : Result A E) (holds holds' : Nodes → Type 0) (last last' : List ℕ) (fits : R → List ℕ → List (Nid × Option NodeRec) → Type 0) (ready : R) (rests told : Type 0)
+    → OnOk r ((n : List ℕ) (cs : List (Nid × Option NodeRec)) → fits ready n cs → rests → told → (N : Nodes) → holds N → holds' (changed N cs))
     → OnOk r ((n : List ℕ) (cs : List (Nid × Option NodeRec)) → fits ready n cs → last' ≡ n)
-    → OnOk r ((T : Tree) (o : Outcome) → Shown holds last T → Carries fits T o (Some ready) → told → Shown holds' last' (after T o))
-applied (Ok u) holds holds' last last' fits ready told made kept = λ T o s carries is_told. record {
+    → OnOk r ((T : Tree) (o : Outcome) → Shown holds last T → Carries fits T o (Some ready) → rests → told → Shown holds' last' (after T o))
+applied (Ok u) holds holds' last last' fits ready rests told made kept = λ T o s carries at_rest is_told. record {
   nodes = changed s.nodes carries.0;
-  held = made o.last carries.0 carries.1 is_told s.nodes s.held;
+  held = made o.last carries.0 carries.1 at_rest is_told s.nodes s.held;
   at = carries.2 s.nodes s.at;
   counters = sym (kept o.last carries.0 carries.1);
 }
-applied (Err e) holds holds' last last' fits ready told made kept = tt
+applied (Err e) holds holds' last last' fits ready rests told made kept = tt
 
 -- a command that only replies leaves the tree
 pub quiet : (oc : Coming) → oc.places ≡ None → oc.last ≡ None → (changed_of oc.draft).objects ≡ map.empty → (T : Tree) → after T (outcome_of T oc) ≡ T
@@ -82,3 +87,23 @@ unless_fault Memory p = p
 pub stores_still : {holds holds' : Nodes → Type 0} {last last' : List ℕ} {room room' : Room} {v w : World} (places places' : List FolderPlace) (T : Tree)
     → Looks holds holds' last last' room room' v w → places' ≡ places → Stores holds last places T → Stores holds' last' places' T
 stores_still places places' T looks e s = record { shown = shown_still T looks s.shown; where_is = s.where_is ∙ sym e }
+
+-- what stands for nodes that show a tree stands for the tree
+pub shown_stands : {holds : Nodes → Type 0} (stands : Nodes → List ℕ → Type 0) (last : List ℕ) (T : Tree) (s : Shown holds last T) → stands s.nodes last → StandsFor stands T
+shown_stands stands last T s is = record {
+  nodes = s.nodes;
+  held = subst (λ l. stands s.nodes l) (sym s.counters) is;
+  at = s.at;
+  counters = refl;
+}
+
+-- before a change or after it
+pub applied_stands : {holds : Nodes → Type 0} (stands : Nodes → List ℕ → Type 0) (last : List ℕ) (T : Tree) (o : Outcome) (s : Shown holds last T) (cs : List (Nid × Option NodeRec))
+    → ((N : Nodes) → ShowsTree N T → ShowsTree (changed N cs) (after T o)) → stands s.nodes last ⊎ stands (changed s.nodes cs) o.last → StandsFor stands T ⊎ StandsFor stands (after T o)
+applied_stands stands last T o s cs shows (inl is) = inl (shown_stands stands last T s is)
+applied_stands stands last T o s cs shows (inr is) = inr (record {
+  nodes = changed s.nodes cs;
+  held = is;
+  at = shows s.nodes s.at;
+  counters = refl;
+})

@@ -1,6 +1,7 @@
 -- What a store stands for, and what it plans.
 use Rattle.std.specs.Prelude.{◌≡◌, ◌<◌, ℕ, true, List, Option, None, Some, Result, Ok, Err}
 use Rattle.pst_base.specs.declared.ids.Nid.{Nid}
+use Rattle.pst_outside.specs.World.{Image}
 use Rattle.command_text.specs.declared.reply.CommandRefusal.TheVariants as refusals
 use Rattle.command_text.specs.declared.reply.Reply.{Reply}
 use Rattle.node_port.specs.Nodes.{Nodes, changed, node_at}
@@ -21,6 +22,10 @@ pub record Stores (holds : Nodes → Type 0) (last : List ℕ) (places : List Fo
   pub shown : Shown holds last T
   pub where_is : T.places ≡ places
 
+-- an image that stands for nodes and counters stands for the tree that they show
+abbrev pub StandsFor : (Nodes → List ℕ → Type 0) → Tree → Type 0
+StandsFor stands T = Shown (λ N. stands N T.last) T.last T
+
 -- nodes show a tree
 abbrev pub ShowsTree : Nodes → Tree → Type 0
 ShowsTree N T = (q : ℕ) → StandsAt q (node_at N q) (object_at T q) (node_at T.others q)
@@ -29,6 +34,16 @@ ShowsTree N T = (q : ℕ) → StandsAt q (node_at N q) (object_at T q) (node_at 
 abbrev pub Carries : {R : Type 0} → (R → List ℕ → List (Nid × Option NodeRec) → Type 0) → Tree → Outcome → Option R → Type 0
 Carries fits T o None = after T o ≡ T
 Carries fits T o (Some ready) = (cs : List (Nid × Option NodeRec)) × fits ready o.last cs × ((N : Nodes) → ShowsTree N T → ShowsTree (changed N cs) (after T o))
+
+-- what carrying out a plan does to the disk: what its keeper does, or nothing where there is nothing to change
+abbrev pub Alters : {R : Type 0} → (Image → Image → Type 0) → Option R → Image → Image → Type 0
+Alters applied None old new = new ≡ old
+Alters applied (Some ready) old new = applied old new
+
+-- how many bytes carrying out a plan writes at most
+abbrev pub cost_of : {R : Type 0} → (R → ℕ) → Option R → ℕ
+cost_of cost None = 0
+cost_of cost (Some ready) = cost ready
 
 -- what was planned comes to this: the reply, the places, and the changes
 pub record PlansTo {R : Type 0} (fits : R → List ℕ → List (Nid × Option NodeRec) → Type 0) (T : Tree) (o : Outcome) (change : Option R) (places : Option (List FolderPlace)) (reply : Reply) : Type 0 where

@@ -1,24 +1,24 @@
 //! The store over a keeper.
-ghost use Rattle.std.specs.Prelude.{◌≡◌, ℕ, List, Option, None, true, IfOk, IfErr, OnErr, OnOk};
+ghost use Rattle.std.specs.Prelude.{◌≡◌, ◌⊎◌, ◌≤◌, ◌+◌, ℕ, List, Option, None, true, IfOk, IfErr, OnErr, OnOk};
 ghost use Rattle.std.specs.Bool.{OnTrue};
 ghost use Rattle.std.specs.Option.{ForSome};
 ghost use Rattle.pst_base.specs.declared.ids.Nid.{Nid as Id};
 ghost use Rattle.node_port.specs.declared.node.NodeRec.{NodeRec as Rec};
-ghost use Rattle.pst_outside.specs.Calls.{NeverFall, Rose, Untouched};
+ghost use Rattle.pst_outside.specs.Calls.{NeverFall, Rose, Untouched, Settled, LeavesOnly};
 ghost use Rattle.mail_tree.specs.Step.{after, outcome};
 ghost use Rattle.mail_tree.specs.Tree.{Shown, Tree};
 ghost use Rattle.mail_tree.specs.Folders.{Outcome as Coming};
 ghost use Rattle.mail_draft.specs.Answers.{IsCaused, Looks};
 ghost use Rattle.mail_draft.specs.Drafts.{all_fit, changed_of};
 ghost use Rattle.mail_draft.specs.Outcomes.{last_after, outcome_of, places_after};
-ghost use Rattle.mail_store.specs.Planning.{Carries, Does, IsHindered, Plans, PlansTo, Stores, UnlessFault};
+ghost use Rattle.mail_store.specs.Planning.{Alters, Carries, cost_of, Does, IsHindered, Plans, PlansTo, StandsFor, Stores, UnlessFault};
 
 use crate::commands::outcome;
 use crate::planned::Planned;
 use command_text::{Command, Reply};
 use mail_draft::{Draft, Outcome, Stop, finish};
 use mail_tree::Places;
-use node_port::{Changes, Counts, Keeper};
+use node_port::{Changes, Counts, Keeper, Saver};
 use pst_outside::{Failed, Outside};
 use std::alloc::Global;
 
@@ -49,8 +49,8 @@ fn plan_changes<W: Outside, K: Keeper<W>>(
 ) -> Result<K::Ready, Stop>
     requires { all_fit (changed_of draft.now) ≡ true }
     ensures carries { IfOk result (λ ready. (T : Tree) (o : Coming) → Shown (K.holds keeper.old (W.view w.old)) (K.last keeper.old) T → o.changed ≡ changed_of draft.now → o.last ≡ last_after T.last last.now
-        → Carries (K.fits keeper.new) T o (Option.Some ready)) }
-    ensures fits { IfOk result (λ ready. (after : List ℕ) × (cs : List (Id × Option Rec)) × K.fits keeper.new ready after cs) }
+        → Carries (K.fits keeper.new (W.view w.new)) T o (Option.Some ready)) }
+    ensures fits { IfOk result (λ ready. (after : List ℕ) × (cs : List (Id × Option Rec)) × K.fits keeper.new (W.view w.new) ready after cs) }
     ensures hindered { IfErr result (λ stop. (T : Tree) → Shown (K.holds keeper.old (W.view w.old)) (K.last keeper.old) T → IsHindered (K.room keeper.old) stop) }
     ensures looks { Looks (K.holds keeper.old (W.view w.old)) (K.holds keeper.new (W.view w.new)) (K.last keeper.old) (K.last keeper.new) (K.room keeper.old) (K.room keeper.new) (W.view w.old) (W.view w.new) }
     ensures cause { IfErr result (IsCaused K.has_disk (W.view w.old).disk_faults (W.view w.new).disk_faults) }
@@ -85,8 +85,8 @@ fn plan_outcome<W: Outside, K: Keeper<W>>(
     w: &mut W,
     outcome: &Outcome,
 ) -> Result<Option<K::Ready>, Stop>
-    ensures carries { IfOk result (λ change. (T : Tree) → Shown (K.holds keeper.old (W.view w.old)) (K.last keeper.old) T → Carries (K.fits keeper.new) T (outcome_of T outcome.now) change) }
-    ensures fits { IfOk result (λ change. ForSome change (λ ready. (after : List ℕ) × (cs : List (Id × Option Rec)) × K.fits keeper.new ready after cs)) }
+    ensures carries { IfOk result (λ change. (T : Tree) → Shown (K.holds keeper.old (W.view w.old)) (K.last keeper.old) T → Carries (K.fits keeper.new (W.view w.new)) T (outcome_of T outcome.now) change) }
+    ensures fits { IfOk result (λ change. ForSome change (λ ready. (after : List ℕ) × (cs : List (Id × Option Rec)) × K.fits keeper.new (W.view w.new) ready after cs)) }
     ensures hindered { IfErr result (λ stop. (T : Tree) → Shown (K.holds keeper.old (W.view w.old)) (K.last keeper.old) T → IsHindered (K.room keeper.old) stop) }
     ensures looks { Looks (K.holds keeper.old (W.view w.old)) (K.holds keeper.new (W.view w.new)) (K.last keeper.old) (K.last keeper.new) (K.room keeper.old) (K.room keeper.new) (W.view w.old) (W.view w.new) }
     ensures cause { IfErr result (IsCaused K.has_disk (W.view w.old).disk_faults (W.view w.new).disk_faults) }
@@ -106,8 +106,8 @@ pub fn plan<W: Outside, K: Keeper<W>>(
     command: &Command,
 ) -> Result<Planned<K::Ready>, Stop>
     ensures answer { (T : Tree) → Stores (K.holds store.old.keeper (W.view w.old)) (K.last store.old.keeper) store.old.places T
-        → Plans (K.room store.old.keeper) (λ o planned. PlansTo (K.fits store.new.keeper) T o planned.change planned.places planned.reply) (outcome T command.now) result }
-    ensures fits { IfOk result (λ planned. ForSome planned.change (λ ready. (after : List ℕ) × (cs : List (Id × Option Rec)) × K.fits store.new.keeper ready after cs)) }
+        → Plans (K.room store.old.keeper) (λ o planned. PlansTo (K.fits store.new.keeper (W.view w.new)) T o planned.change planned.places planned.reply) (outcome T command.now) result }
+    ensures fits { IfOk result (λ planned. ForSome planned.change (λ ready. (after : List ℕ) × (cs : List (Id × Option Rec)) × K.fits store.new.keeper (W.view w.new) ready after cs)) }
     ensures places { store.new.places ≡ store.old.places }
     ensures looks { Looks (K.holds store.old.keeper (W.view w.old)) (K.holds store.new.keeper (W.view w.new)) (K.last store.old.keeper) (K.last store.new.keeper) (K.room store.old.keeper) (K.room store.new.keeper) (W.view w.old) (W.view w.new) }
     ensures cause { IfErr result (IsCaused K.has_disk (W.view w.old).disk_faults (W.view w.new).disk_faults) }
@@ -129,10 +129,19 @@ fn apply_change<W: Outside, K: Keeper<W>>(
     w: &mut W,
     change: Option<K::Ready>,
 ) -> Result<(), Failed>
-    requires { ForSome change (λ ready. (after : List ℕ) × (cs : List (Id × Option Rec)) × K.fits keeper.old ready after cs) }
-    ensures made { OnOk result ((T : Tree) (o : Coming) → Shown (K.holds keeper.old (W.view w.old)) (K.last keeper.old) T → Carries (K.fits keeper.old) T o change → (K.has_disk ≡ true → (W.view w.new).tells)
+    requires { ForSome change (λ ready. (after : List ℕ) × (cs : List (Id × Option Rec)) × K.fits keeper.old (W.view w.old) ready after cs) }
+    ensures made { OnOk result ((T : Tree) (o : Coming) → Shown (K.holds keeper.old (W.view w.old)) (K.last keeper.old) T → Carries (K.fits keeper.old (W.view w.old)) T o change → ((W.view w.old).tells → K.rests (W.view w.old).here) → (K.has_disk ≡ true → (W.view w.new).tells)
         → Shown (K.holds keeper.new (W.view w.new)) (K.last keeper.new) (after T o)) }
     ensures cause { OnErr result (Rose (W.view w.old).disk_faults (W.view w.new).disk_faults × (K.has_disk ≡ true)) }
+    ensures rests { Settled (W.view w.old) → ((W.view w.old).tells → K.rests (W.view w.old).here) → OnOk result (Settled (W.view w.new) × ((W.view w.new).tells → K.rests (W.view w.new).here)) }
+    ensures any_moment { (T : Tree) (o : Coming) → Shown (K.holds keeper.old (W.view w.old)) (K.last keeper.old) T → Carries (K.fits keeper.old (W.view w.old)) T o change
+        → Settled (W.view w.old) → ((W.view w.old).tells → K.rests (W.view w.old).here)
+        → LeavesOnly (W.view w.old) (W.view w.new) (λ c. (c.said ≡ (W.view w.old).here.said) × (StandsFor (K.stands (K.room keeper.old).found c) T ⊎ StandsFor (K.stands (K.room keeper.old).found c) (after T o))) }
+    ensures applied { OnOk result ((T : Tree) → Shown (K.holds keeper.old (W.view w.old)) (K.last keeper.old) T → ((W.view w.old).tells → K.rests (W.view w.old).here) → (W.view w.new).tells → Alters K.applied change (W.view w.old).here (W.view w.new).here) }
+    ensures found { (K.room keeper.new).found ≡ (K.room keeper.old).found }
+    ensures written { (W.view w.new).written ≤ (W.view w.old).written + cost_of K.cost change }
+    ensures told { (W.view w.new).tells → (W.view w.old).tells }
+    ensures input { (W.view w.new).tells → (W.view w.new).input ≡ (W.view w.old).input }
     ensures counts { NeverFall (W.view w.old) (W.view w.new) }
 {
     match change {
@@ -157,12 +166,22 @@ pub fn commit<W: Outside, K: Keeper<W>>(
     w: &mut W,
     planned: Planned<K::Ready>,
 ) -> Result<Reply, Failed>
-    requires { ForSome planned.change (λ ready. (after : List ℕ) × (cs : List (Id × Option Rec)) × K.fits store.old.keeper ready after cs) }
+    requires { ForSome planned.change (λ ready. (after : List ℕ) × (cs : List (Id × Option Rec)) × K.fits store.old.keeper (W.view w.old) ready after cs) }
     ensures made { OnOk result ((T : Tree) (o : Coming) → Stores (K.holds store.old.keeper (W.view w.old)) (K.last store.old.keeper) store.old.places T
-        → PlansTo (K.fits store.old.keeper) T o planned.change planned.places planned.reply → (K.has_disk ≡ true → (W.view w.new).tells)
+        → PlansTo (K.fits store.old.keeper (W.view w.old)) T o planned.change planned.places planned.reply → ((W.view w.old).tells → K.rests (W.view w.old).here) → (K.has_disk ≡ true → (W.view w.new).tells)
         → Stores (K.holds store.new.keeper (W.view w.new)) (K.last store.new.keeper) store.new.places (after T o)) }
     ensures reply { IfOk result (λ reply. reply ≡ planned.reply) }
     ensures cause { OnErr result (Rose (W.view w.old).disk_faults (W.view w.new).disk_faults × (K.has_disk ≡ true)) }
+    ensures rests { Settled (W.view w.old) → ((W.view w.old).tells → K.rests (W.view w.old).here) → OnOk result (Settled (W.view w.new) × ((W.view w.new).tells → K.rests (W.view w.new).here)) }
+    // A crash at any moment leaves the tree from before or that after.
+    ensures any_moment { (T : Tree) (o : Coming) → Stores (K.holds store.old.keeper (W.view w.old)) (K.last store.old.keeper) store.old.places T → PlansTo (K.fits store.old.keeper (W.view w.old)) T o planned.change planned.places planned.reply
+        → Settled (W.view w.old) → ((W.view w.old).tells → K.rests (W.view w.old).here)
+        → LeavesOnly (W.view w.old) (W.view w.new) (λ c. (c.said ≡ (W.view w.old).here.said) × (StandsFor (K.stands (K.room store.old.keeper).found c) T ⊎ StandsFor (K.stands (K.room store.old.keeper).found c) (after T o))) }
+    ensures applied { OnOk result ((T : Tree) → Stores (K.holds store.old.keeper (W.view w.old)) (K.last store.old.keeper) store.old.places T → ((W.view w.old).tells → K.rests (W.view w.old).here) → (W.view w.new).tells → Alters K.applied planned.change (W.view w.old).here (W.view w.new).here) }
+    ensures found { (K.room store.new.keeper).found ≡ (K.room store.old.keeper).found }
+    ensures written { (W.view w.new).written ≤ (W.view w.old).written + cost_of K.cost planned.change }
+    ensures told { (W.view w.new).tells → (W.view w.old).tells }
+    ensures input { (W.view w.new).tells → (W.view w.new).input ≡ (W.view w.old).input }
     ensures counts { NeverFall (W.view w.old) (W.view w.new) }
 {
     let Planned {
@@ -175,6 +194,25 @@ pub fn commit<W: Outside, K: Keeper<W>>(
     Ok(reply)
 }
 
+/// Saves what the keeper knows beside the nodes. The tree stays. It fails only where the disk failed. Takes no memory.
+pub fn save<W: Outside, K: Saver<W>>(store: &mut Store<K>, w: &mut W) -> Result<(), Failed>
+    ensures same { OnOk result ((T : Tree) → Stores (K.holds store.old.keeper (W.view w.old)) (K.last store.old.keeper) store.old.places T → ((W.view w.old).tells → K.rests (W.view w.old).here) → (K.has_disk ≡ true → (W.view w.new).tells)
+        → Stores (K.holds store.new.keeper (W.view w.new)) (K.last store.new.keeper) store.new.places T) }
+    ensures room { K.room store.new.keeper ≡ K.room store.old.keeper }
+    ensures saved { OnOk result ((T : Tree) → Stores (K.holds store.old.keeper (W.view w.old)) (K.last store.old.keeper) store.old.places T → ((W.view w.old).tells → K.rests (W.view w.old).here) → (W.view w.new).tells → K.saved (W.view w.old).here (W.view w.new).here) }
+    ensures rests { Settled (W.view w.old) → ((W.view w.old).tells → K.rests (W.view w.old).here) → OnOk result (Settled (W.view w.new) × ((W.view w.new).tells → K.rests (W.view w.new).here)) }
+    // A crash at any moment leaves the same tree.
+    ensures any_moment { (T : Tree) → Stores (K.holds store.old.keeper (W.view w.old)) (K.last store.old.keeper) store.old.places T → Settled (W.view w.old) → ((W.view w.old).tells → K.rests (W.view w.old).here)
+        → LeavesOnly (W.view w.old) (W.view w.new) (λ c. (c.said ≡ (W.view w.old).here.said) × StandsFor (K.stands (K.room store.old.keeper).found c) T) }
+    ensures written { (W.view w.new).written ≤ (W.view w.old).written + K.save_cost store.old.keeper }
+    ensures told { (W.view w.new).tells → (W.view w.old).tells }
+    ensures input { (W.view w.new).tells → (W.view w.new).input ≡ (W.view w.old).input }
+    ensures cause { OnErr result (Rose (W.view w.old).disk_faults (W.view w.new).disk_faults × (K.has_disk ≡ true)) }
+    ensures counts { NeverFall (W.view w.old) (W.view w.new) }
+{
+    store.keeper.save(w)
+}
+
 /// Carries out a command: plans it, makes its changes, and gives its reply. Refused as the command is refused, and where the file has no room (`Full`) or no numbers (`Ids`) left. `Fault` comes where the disk failed, `Memory` where there was no memory, and `Changed` where something isn't as it was found before. An `Err` changes nothing, but for a `Fault`, after which the nodes may be those before or after the command, or neither.
 pub fn do_command<W: Outside, K: Keeper<W>>(
     alloc: Global,
@@ -183,7 +221,7 @@ pub fn do_command<W: Outside, K: Keeper<W>>(
     command: &Command,
 ) -> Result<Reply, Stop>
     ensures answer { (T : Tree) → Stores (K.holds store.old.keeper (W.view w.old)) (K.last store.old.keeper) store.old.places T
-        → Plans (K.room store.old.keeper) (Does (Stores (K.holds store.new.keeper (W.view w.new)) (K.last store.new.keeper) store.new.places) (K.has_disk ≡ true → (W.view w.new).tells) T) (outcome T command.now) result }
+        → Plans (K.room store.old.keeper) (Does (Stores (K.holds store.new.keeper (W.view w.new)) (K.last store.new.keeper) store.new.places) (((W.view w.old).tells → K.rests (W.view w.old).here) × (K.has_disk ≡ true → (W.view w.new).tells)) T) (outcome T command.now) result }
     ensures stays { IfErr result (UnlessFault ((T : Tree) → Stores (K.holds store.old.keeper (W.view w.old)) (K.last store.old.keeper) store.old.places T
         → Stores (K.holds store.new.keeper (W.view w.new)) (K.last store.new.keeper) store.new.places T)) }
     ensures untouched { IfErr result (UnlessFault (Untouched (W.view w.old) (W.view w.new))) }

@@ -1,6 +1,10 @@
 //! A message laid out by hand, as another writer may do it, and one mistake after the other in it.
-use crate::{MessageFault, is_formed, read_message, write_message};
-use mapi_values::{Column, Message, Part, Props, Table, Tag, Value, fits, is_layout, put_row};
+use crate::{MessageFault, read_message};
+use mapi_values::tags::{
+    PID_TAG_ATTACH_DATA_BINARY, PID_TAG_ATTACH_METHOD, PID_TAG_BODY, PID_TAG_DISPLAY_NAME,
+    PID_TAG_LTP_ROW_ID, PID_TAG_LTP_ROW_VER, PID_TAG_SUBJECT,
+};
+use mapi_values::{Column, Props, Table, Tag, Value, fits, is_layout, put_row};
 use node_port::NodeRec;
 use node_values::ids_ascend;
 use property_context::write_pc;
@@ -8,7 +12,7 @@ use pst_base::{Blocks, Bytes, MemOr, Nid, Sub, Subs};
 use std::alloc::Global;
 use std::test::Fail;
 use table_writer::write_tc;
-use write_limits::{message_fits, props_fit, table_fits};
+use write_limits::{props_fit, table_fits};
 
 /// A change of a node that was laid out: a subnode is gone, has bytes that are nothing, or has another id.
 #[derive(Clone, Copy, PartialEq, Eq)]
@@ -19,25 +23,23 @@ enum Change {
 }
 
 /// The columns of a table: a name, and the id and the version of the row.
-const COLUMNS: [(u16, u16, u16, u8, u8); 3] = [
-    (0x3001, 0x001F, 8, 4, 2),
-    (0x67F2, 0x0003, 0, 4, 0),
-    (0x67F3, 0x0003, 4, 4, 1),
+const COLUMNS: [(Tag, u16, u8, u8); 3] = [
+    (PID_TAG_DISPLAY_NAME, 8, 4, 2),
+    (PID_TAG_LTP_ROW_ID, 0, 4, 0),
+    (PID_TAG_LTP_ROW_VER, 4, 4, 1),
 ];
 
-/// The properties of these ids, kinds and lengths.
-fn make_props(alloc: Global, values: &[(u16, u16, usize)]) -> Result<Props, Fail> {
+/// The properties of these tags and lengths.
+fn make_props(alloc: Global, values: &[(Tag, usize)]) -> Result<Props, Fail> {
     let mut props = Props::new(alloc);
-    for (id, kind, len) in values {
+    for (tag, len) in values {
         let mut bytes = Vec::new(alloc);
         bytes.resize(*len, 7)?;
-        if !fits(*kind, bytes.len()) {
+        let kind = tag.kind;
+        if !fits(kind, bytes.len()) {
             return Err(Fail::from("a length that the kind hasn't"));
         }
-        let tag = Tag {
-            id: *id,
-            kind: *kind,
-        };
+        let tag = Tag { id: tag.id, kind };
         props.put(Value::new(tag, Bytes::from_vec(bytes)))?;
     }
     Ok(props)
@@ -71,7 +73,13 @@ fn context(alloc: Global, props: &Props, rest: Subs) -> Result<(Blocks, Subs), F
 
 /// The subnode of an attachment with a value of so many bytes, and an unknown subnode below.
 fn attachment(alloc: Global, bits: u32, len: usize) -> Result<Sub, Fail> {
-    let props = make_props(alloc, &[(0x3701, 0x0102, len), (0x3705, 0x0003, 4)])?;
+    let props = make_props(
+        alloc,
+        &[
+            (PID_TAG_ATTACH_DATA_BINARY, len),
+            (PID_TAG_ATTACH_METHOD, 4),
+        ],
+    )?;
     let mut below = Vec::new(alloc);
     below.push(unknown(alloc, 0x41, Subs::new(alloc))?)?;
     let (blocks, subs) = context(alloc, &props, Subs::from_vec(below))?;
@@ -85,8 +93,7 @@ fn attachment(alloc: Global, bits: u32, len: usize) -> Result<Sub, Fail> {
 /// The subnode of a table with these rows.
 fn table(alloc: Global, bits: u32, rows: &[u32]) -> Result<Sub, Fail> {
     let mut columns = Vec::new(alloc);
-    for (id, kind, at, width, bit) in COLUMNS {
-        let tag = Tag { id, kind };
+    for (tag, at, width, bit) in COLUMNS {
         columns.push(Column {
             tag,
             at,
@@ -98,7 +105,7 @@ fn table(alloc: Global, bits: u32, rows: &[u32]) -> Result<Sub, Fail> {
         return Err(Fail::from("no layout"));
     }
     let mut table = Table::new(alloc, columns, [12, 12, 12, 13]);
-    let name = make_props(alloc, &[(0x3001, 0x001F, 6)])?;
+    let name = make_props(alloc, &[(PID_TAG_DISPLAY_NAME, 6)])?;
     for id in rows {
         put_row(alloc, &mut table, *id, &name)?;
     }
@@ -135,7 +142,7 @@ fn laid(alloc: Global, rows: &[u32]) -> Result<NodeRec, Fail> {
     for bits in REST {
         rest.push(piece(alloc, bits, rows)?)?;
     }
-    let props = make_props(alloc, &[(0x0037, 0x001F, 8), (0x1000, 0x001F, 3582)])?;
+    let props = make_props(alloc, &[(PID_TAG_SUBJECT, 8), (PID_TAG_BODY, 3582)])?;
     let (blocks, subs) = context(alloc, &props, Subs::from_vec(rest))?;
     Ok(NodeRec {
         parent: Nid { bits: 0x8022 },
@@ -175,93 +182,6 @@ fn changed(alloc: Global, id: u32, change: Change) -> Result<NodeRec, Fail> {
     })
 }
 
-/// The id of each subnode directly in a list, and how many stand directly in it.
-fn kept(alloc: Global, subs: &Subs) -> Result<Vec<(u32, usize)>, Fail> {
-    let mut kept = Vec::new(alloc);
-    for sub in subs.as_slice() {
-        kept.push((sub.nid.bits, sub.subs.as_slice().len()))?;
-    }
-    Ok(kept)
-}
-
-/// The length of a value, if it is there.
-fn length(props: &Props, id: u16) -> Option<usize> {
-    match props.get(id) {
-        Some(value) => Some(value.len()),
-        None => None,
-    }
-}
-
-/// Of each attachment the id, the length of its data, and how many subnodes it keeps.
-fn parts(alloc: Global, list: &[Part]) -> Result<Vec<(u32, Option<usize>, usize)>, Fail> {
-    let mut parts = Vec::new(alloc);
-    for part in list {
-        let below = part.kept.as_slice().len();
-        parts.push((part.nid.bits, length(&part.props, 0x3701), below))?;
-    }
-    Ok(parts)
-}
-
-/// How many rows a table has, if it is there.
-fn count(table: &Option<Table>) -> Option<usize> {
-    match table {
-        Some(table) => Some(table.rows().len()),
-        None => None,
-    }
-}
-
-/// The message that a node is, if it is one.
-fn read(alloc: Global, node: &NodeRec) -> Result<Message, Fail> {
-    match read_message(alloc, Nid { bits: 0x20_0024 }, node) {
-        Ok(message) => Ok(message),
-        Err(_) => Err(Fail::from("no message")),
-    }
-}
-
-/// The node that is written of the message that a node is.
-fn written(alloc: Global, node: &NodeRec) -> Result<NodeRec, Fail> {
-    let message = read(alloc, node)?;
-    if !message_fits(&message) || !is_formed(&message) {
-        return Err(Fail::from("no message to write"));
-    }
-    Ok(write_message(alloc, &message)?)
-}
-
-#[test]
-fn a_message_comes_back(rt: HostRuntime) -> Result<(), Fail> {
-    let node = written(rt.alloc(), &laid(rt.alloc(), &[0x8025, 0x8045])?)?;
-    let ids = [0x21, 0x3F, 0x671, 0x692, 0x700, 0x8025, 0x8045, 0x9001];
-    assert!(rt; node.subs.as_slice().iter().map(|sub| sub.nid.bits).eq(ids));
-    let message = read(rt.alloc(), &node)?;
-    assert!(rt; node.parent.bits == 0x8022 && message.folder.bits == 0x8022);
-    assert!(rt; message.nid.bits == 0x20_0024 && message.props.len() == 2);
-    assert!(rt; length(&message.props, 0x1000) == Some(3582));
-    assert!(rt; count(&message.recipients) == Some(2));
-    assert!(rt; count(&message.attachments) == Some(2));
-    let others = [(0x21, 0), (0x700, 1), (0x9001, 1)];
-    assert!(rt; kept(rt.alloc(), &message.kept)?.as_slice() == others.as_slice());
-    let both = [(0x8025, Some(3580), 1), (0x8045, Some(3581), 1)];
-    assert!(rt; parts(rt.alloc(), message.parts.as_slice())?.as_slice() == both.as_slice());
-    Ok(())
-}
-
-#[test]
-fn tables_may_be_absent(rt: HostRuntime) -> Result<(), Fail> {
-    let cases: [(u32, Option<usize>, Option<usize>, usize); 2] = [
-        (0x692, None, Some(2), 3),
-        (0x671, Some(2), None, 5),
-    ];
-    for (id, recipients, attachments, others) in cases {
-        let node = written(rt.alloc(), &changed(rt.alloc(), id, Change::Gone)?)?;
-        let message = read(rt.alloc(), &node)?;
-        assert!(rt; count(&message.recipients) == recipients, "{id}");
-        assert!(rt; count(&message.attachments) == attachments, "{id}");
-        assert!(rt; message.parts.len() == attachments.unwrap_or(0), "{id}");
-        assert!(rt; message.kept.as_slice().len() == others, "{id}");
-    }
-    Ok(())
-}
-
 /// What is wrong with a node, if anything is.
 fn fault(alloc: Global, node: &NodeRec) -> Option<MessageFault> {
     match read_message(alloc, Nid { bits: 0x20_0024 }, node) {
@@ -294,15 +214,5 @@ fn what_is_wrong_is_named(rt: HostRuntime) -> Result<(), Fail> {
     assert!(rt; fault(rt.alloc(), &bare) == Some(MessageFault::Heap));
     let named_table = laid(rt.alloc(), &[0x692])?;
     assert!(rt; fault(rt.alloc(), &named_table) == Some(MessageFault::Attach));
-    Ok(())
-}
-
-#[test]
-fn a_message_out_of_order_is_not_formed(rt: HostRuntime) -> Result<(), Fail> {
-    let message = read(
-        rt.alloc(),
-        &changed(rt.alloc(), 0x700, Change::Moved(0x10))?,
-    )?;
-    assert!(rt; message_fits(&message) && !is_formed(&message));
     Ok(())
 }

@@ -17,6 +17,11 @@ no_nodes = map.empty
 abbrev pub node_at : Nodes → ℕ → Option NodeRec
 node_at N nid = map.get N nid
 
+-- a node without its subnodes
+abbrev pub content_of : Option NodeRec → Option NodeRec
+content_of None = None
+content_of (Some node) = Some (record { parent = node.parent; blocks = node.blocks; subs = [] })
+
 -- the nodes with this one put, or removed
 abbrev pub set_at : Nodes → ℕ → Option NodeRec → Nodes
 set_at N nid None = map.remove N nid

@@ -28,15 +28,16 @@ PrepareStops disk before after held prepare.Memory = Unit {0}
 PrepareStops disk before after held (prepare.Full free need) = Unit {0}
 PrepareStops disk before after held prepare.IdsSpent = Unit {0}
 
--- the free cells, the pages of the file's trees, and whether a next number is used up
+-- the free cells, the pages of the file's trees, whether a next number is used up, and the header that was found at the opening
 pub record Room : Type 0 where
   pub free : ℕ
   pub pages : ℕ
   pub spent : Bool
+  pub found : List ℕ
 
 -- more than any change needs
 abbrev pub ample : Room
-ample = record { free = 2 ^ 64; pages = 0; spent = false }
+ample = record { free = 2 ^ 64; pages = 0; spent = false; found = [] }
 
 -- how many subnodes there are, and how many data blocks in them
 abbrev pub subs_size : List Flat → ℕ

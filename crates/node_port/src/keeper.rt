@@ -1,14 +1,14 @@
 //! What the store asks of what keeps its nodes.
-ghost use Rattle.std.specs.Prelude.{◌≡◌, ◌≤◌, ◌^◌, ℕ, List, Option, Bool, true, IfOk, IfErr, OnOk, OnErr, IsTrue};
+ghost use Rattle.std.specs.Prelude.{◌≡◌, ◌⊎◌, ◌≤◌, ◌+◌, ◌^◌, ℕ, List, Option, Bool, true, IfOk, IfErr, OnOk, OnErr, IsTrue};
 ghost use Rattle.pst_base.specs.declared.ids.Nid.{Nid as Id};
-ghost use Rattle.pst_outside.specs.World.{World};
-ghost use Rattle.pst_outside.specs.Calls.{NeverFall, Rose, Untouched};
+ghost use Rattle.pst_outside.specs.World.{Image, World, SameDisk};
+ghost use Rattle.pst_outside.specs.Calls.{NeverFall, Rose, Untouched, Settled, LeavesOnly};
 ghost use Rattle.node_port.specs.declared.node.NodeRec.{NodeRec as Rec};
-ghost use Rattle.node_port.specs.Nodes.{Nodes, ascend, changed, IsNext, node_at};
+ghost use Rattle.node_port.specs.Nodes.{Nodes, ascend, changed, content_of, IsNext, node_at};
 ghost use Rattle.node_port.specs.Stops.{KeepStops, PrepareStops, Room, RoomDecides, Tells};
 
 use crate::node::{Changes, Counts, NodeRec};
-use pst_base::Nid;
+use pst_base::{Nid, Subs};
 use pst_outside::{Failed, Outside};
 use std::alloc::{AllocError, AllocFailed, Global};
 
@@ -91,6 +91,33 @@ pub trait NodeReader<W: Outside> {
         ensures last { last self.new ≡ last self.old }
         ensures room { room self.new ≡ room self.old }
         ensures untouched { Untouched (W.view w.old) (W.view w.new) };
+
+    /// The same without its subnodes: those of the record are none. It stops as `get`.
+    fn get_content(
+        &mut self,
+        alloc: Global,
+        w: &mut W,
+        nid: Nid,
+    ) -> Result<Option<NodeRec>, KeepStop>
+        ensures node { IfOk result (λ node. Tells (holds self.old (W.view w.old)) (λ N. node ≡ content_of (node_at N nid.bits))) }
+        ensures stops { IfErr result (KeepStops has_disk (W.view w.old).disk_faults (W.view w.new).disk_faults (holds self.old (W.view w.old))) }
+        ensures stays { Tells (holds self.old (W.view w.old)) (holds self.new (W.view w.new)) }
+        ensures last { last self.new ≡ last self.old }
+        ensures room { room self.new ≡ room self.old }
+        ensures untouched { Untouched (W.view w.old) (W.view w.new) }
+    {
+        match self.get(alloc, w, nid)? {
+            Some(node) => Ok(Some(NodeRec {
+                parent: node.parent,
+                blocks: node.blocks,
+                subs: Subs::new(alloc),
+            })),
+            None => Ok(None),
+        }
+    }
+
+    // What it holds depends on what the world tells of the disk alone, and without a disk on nothing of the world.
+    ghost holds_on: { (k : Self) (v w : W) → (has_disk ≡ true → (W.view w).tells × SameDisk (W.view v).here (W.view w).here) → (N : Nodes) → holds k (W.view v) N → holds k (W.view w) N };
 }
 
 /// What keeps nodes. A change is made in two steps: `prepare` finds whether it can be made, and takes what it needs; `apply` makes it. A plan may be given up: then nothing has changed.
@@ -98,11 +125,23 @@ pub trait Keeper<W: Outside>: NodeReader<W> {
     /// Changes that can be made.
     type Ready: Drop;
 
-    /// That a plan is of the latest `prepare`, with these counters and these changes, and may be applied.
-    ghost fits: { Self → Self.Ready → List ℕ → List (Id × Option Rec) → Type 0 };
+    /// That a plan is of the latest `prepare` over this world, with these counters and these changes, and may be applied.
+    ghost fits: { Self → World → Self.Ready → List ℕ → List (Id × Option Rec) → Type 0 };
 
-    /// What `apply` does to what the world holds, where it succeeds.
-    ghost applied: { World → World → Type 0 };
+    /// An image of the disk stands for nodes and counters. The first is the header that the keeper was opened on, as bytes.
+    ghost stands: { List ℕ → Image → Nodes → List ℕ → Type 0 };
+
+    /// The disk is as a commit needs it at its start.
+    ghost rests: { Image → Type 0 };
+
+    /// What `apply` does to the disk, where it succeeds.
+    ghost applied: { Image → Image → Type 0 };
+
+    /// What room the disk has.
+    ghost measures: { Image → Room → Type 0 };
+
+    /// How many bytes `apply` of a plan writes at most.
+    ghost cost: { Self.Ready → ℕ };
 
     /// The counters of indices. Takes no memory.
     fn counts(&self) -> Counts
@@ -119,7 +158,7 @@ pub trait Keeper<W: Outside>: NodeReader<W> {
     ) -> Result<Self::Ready, PrepareStop>
         requires order { IsTrue (ascend 0 changes.nodes.items) }
         requires room { changes.room ≤ 2 ^ 60 }
-        ensures fits { IfOk result (λ ready. fits self.new ready changes.counts.last changes.nodes.items) }
+        ensures fits { IfOk result (λ ready. fits self.new (W.view w.new) ready changes.counts.last changes.nodes.items) }
         ensures full { Tells (Self.holds self.old (W.view w.old)) (λ N. RoomDecides (Self.room self.old) changes.room changes.nodes.items result) }
         ensures stops { IfErr result (PrepareStops Self.has_disk (W.view w.old).disk_faults (W.view w.new).disk_faults (Self.holds self.old (W.view w.old))) }
         ensures stays { Tells (Self.holds self.old (W.view w.old)) (Self.holds self.new (W.view w.new)) }
@@ -127,13 +166,59 @@ pub trait Keeper<W: Outside>: NodeReader<W> {
         ensures room { Self.room self.new ≡ Self.room self.old }
         ensures untouched { Untouched (W.view w.old) (W.view w.new) };
 
-    /// Makes the changes of the latest plan. It fails only where the disk failed. Takes no memory.
+    /// Makes the changes of the latest plan. It fails only where the disk failed; then nothing is said of the keeper, and each image stands for the nodes from before or those after. Takes no memory.
     fn apply(&mut self, w: &mut W, ready: Self::Ready) -> Result<(), Failed>
-        requires fits { (last : List ℕ) × (cs : List (Id × Option Rec)) × fits self.old ready last cs }
-        ensures made { OnOk result ((last : List ℕ) (cs : List (Id × Option Rec)) → fits self.old ready last cs → (Self.has_disk ≡ true → (W.view w.new).tells)
+        requires fits { (last : List ℕ) × (cs : List (Id × Option Rec)) × fits self.old (W.view w.old) ready last cs }
+        ensures made { OnOk result ((last : List ℕ) (cs : List (Id × Option Rec)) → fits self.old (W.view w.old) ready last cs → ((W.view w.old).tells → rests (W.view w.old).here) → (Self.has_disk ≡ true → (W.view w.new).tells)
             → (N : Nodes) → Self.holds self.old (W.view w.old) N → Self.holds self.new (W.view w.new) (changed N cs)) }
-        ensures last { OnOk result ((last : List ℕ) (cs : List (Id × Option Rec)) → fits self.old ready last cs → Self.last self.new ≡ last) }
-        ensures applied { OnOk result (applied (W.view w.old) (W.view w.new)) }
+        ensures last { OnOk result ((last : List ℕ) (cs : List (Id × Option Rec)) → fits self.old (W.view w.old) ready last cs → Self.last self.new ≡ last) }
+        ensures found { (Self.room self.new).found ≡ (Self.room self.old).found }
+        ensures applied { OnOk result ((N : Nodes) → Self.holds self.old (W.view w.old) N → ((W.view w.old).tells → rests (W.view w.old).here) → (W.view w.new).tells → applied (W.view w.old).here (W.view w.new).here) }
+        // Nothing is pending after it, and the disk is as the next commit needs it.
+        ensures rests { Settled (W.view w.old) → ((W.view w.old).tells → rests (W.view w.old).here) → OnOk result (Settled (W.view w.new) × ((W.view w.new).tells → rests (W.view w.new).here)) }
+        // A crash at any moment leaves the nodes from before or those after.
+        ensures any_moment { (last : List ℕ) (cs : List (Id × Option Rec)) → fits self.old (W.view w.old) ready last cs → (N : Nodes) → Self.holds self.old (W.view w.old) N
+            → Settled (W.view w.old) → ((W.view w.old).tells → rests (W.view w.old).here)
+            → LeavesOnly (W.view w.old) (W.view w.new) (λ c. (c.said ≡ (W.view w.old).here.said) × (stands (Self.room self.old).found c N (Self.last self.old) ⊎ stands (Self.room self.old).found c (changed N cs) last)) }
+        ensures written { (W.view w.new).written ≤ (W.view w.old).written + cost ready }
+        ensures told { (W.view w.new).tells → (W.view w.old).tells }
+        ensures input { (W.view w.new).tells → (W.view w.new).input ≡ (W.view w.old).input }
+        ensures cause { OnErr result (Rose (W.view w.old).disk_faults (W.view w.new).disk_faults × (Self.has_disk ≡ true)) }
+        ensures counts { NeverFall (W.view w.old) (W.view w.new) };
+
+    // The disk stands for the nodes that are held.
+    ghost held_stands: { (k : Self) (w : W) (N : Nodes) → Self.holds k (W.view w) N → stands (Self.room k).found (W.view w).here N (Self.last k) };
+
+    // The keeper's room is that of the disk.
+    ghost held_measures: { (k : Self) (w : W) (N : Nodes) → Self.holds k (W.view w) N → measures (W.view w).here (Self.room k) };
+
+    // What has been said doesn't matter.
+    ghost stands_on: { (found : List ℕ) (c d : Image) → SameDisk c d → (N : Nodes) (last : List ℕ) → stands found c N last → stands found d N last };
+
+    ghost rests_on: { (c d : Image) → SameDisk c d → rests c → rests d };
+}
+
+/// A keeper that can put on the disk what other readers look for beside the nodes: of a file the map of the places that are in use.
+pub trait Saver<W: Outside>: Keeper<W> {
+    /// What `save` does to the disk, where it succeeds.
+    ghost saved: { Image → Image → Type 0 };
+
+    /// How many bytes `save` writes at most.
+    ghost save_cost: { Self → ℕ };
+
+    /// Saves what is known beside the nodes. Nodes, counters and room stay. It fails only where the disk failed; then nothing is said of the keeper. A plan of an earlier `prepare` can't be applied any more. Takes no memory.
+    fn save(&mut self, w: &mut W) -> Result<(), Failed>
+        ensures same { OnOk result (((W.view w.old).tells → Self.rests (W.view w.old).here) → (Self.has_disk ≡ true → (W.view w.new).tells) → (N : Nodes) → Self.holds self.old (W.view w.old) N → Self.holds self.new (W.view w.new) N) }
+        ensures last { Self.last self.new ≡ Self.last self.old }
+        ensures room { Self.room self.new ≡ Self.room self.old }
+        ensures saved { OnOk result ((N : Nodes) → Self.holds self.old (W.view w.old) N → ((W.view w.old).tells → Self.rests (W.view w.old).here) → (W.view w.new).tells → saved (W.view w.old).here (W.view w.new).here) }
+        ensures rests { Settled (W.view w.old) → ((W.view w.old).tells → Self.rests (W.view w.old).here) → OnOk result (Settled (W.view w.new) × ((W.view w.new).tells → Self.rests (W.view w.new).here)) }
+        // A crash at any moment leaves the same nodes.
+        ensures any_moment { (N : Nodes) → Self.holds self.old (W.view w.old) N → Settled (W.view w.old) → ((W.view w.old).tells → Self.rests (W.view w.old).here)
+            → LeavesOnly (W.view w.old) (W.view w.new) (λ c. (c.said ≡ (W.view w.old).here.said) × Self.stands (Self.room self.old).found c N (Self.last self.old)) }
+        ensures written { (W.view w.new).written ≤ (W.view w.old).written + save_cost self.old }
+        ensures told { (W.view w.new).tells → (W.view w.old).tells }
+        ensures input { (W.view w.new).tells → (W.view w.new).input ≡ (W.view w.old).input }
         ensures cause { OnErr result (Rose (W.view w.old).disk_faults (W.view w.new).disk_faults × (Self.has_disk ≡ true)) }
         ensures counts { NeverFall (W.view w.old) (W.view w.new) };
 }

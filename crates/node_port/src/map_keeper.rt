@@ -3,7 +3,7 @@ ghost use Rattle.std.specs.Prelude.{◌≡◌, replicate};
 ghost use Rattle.node_port.specs.Nodes.{no_nodes};
 ghost use Rattle.node_port.specs.Slots.{Keeps};
 
-use crate::keeper::{KeepStop, Keeper, NodeReader, PrepareStop};
+use crate::keeper::{KeepStop, Keeper, NodeReader, PrepareStop, Saver};
 use crate::node::{Changes, Counts, NodeRec};
 use crate::slots::{Slots, fill_all, find, make_slots, next_kept};
 use pst_base::Nid;
@@ -51,6 +51,8 @@ impl<W: Outside> NodeReader<W> for MapKeeper {
 
     ghost has_disk = { false };
 
+    ghost holds_on = { λ k v w same N held. held };
+
     fn get(&mut self, alloc: Global, _w: &mut W, nid: Nid) -> Result<Option<NodeRec>, KeepStop> {
         match find(&self.nodes, nid.bits) {
             Some(node) => Ok(Some(node.copy(alloc)?)),
@@ -73,13 +75,29 @@ impl<W: Outside> NodeReader<W> for MapKeeper {
 impl<W: Outside> Keeper<W> for MapKeeper {
     type Ready = MapReady;
 
-    ghost use Rattle.std.specs.Prelude.{◌≡◌};
-    ghost use Rattle.pst_outside.specs.Calls.{Untouched};
+    ghost use Rattle.std.specs.Prelude.{◌≡◌, refl};
     ghost use Rattle.node_port.specs.Slots.{HasSlots};
+    ghost use Rattle.node_port.specs.Stops.{ample};
 
-    ghost fits = { λ k ready last cs. (ready.nodes.items ≡ cs) × (ready.counts.last ≡ last) × HasSlots k.nodes cs };
+    ghost fits = { λ k v ready last cs. (ready.nodes.items ≡ cs) × (ready.counts.last ≡ last) × HasSlots k.nodes cs };
 
-    ghost applied = { Untouched };
+    ghost stands = { λ found image N last. Unit {0} };
+
+    ghost rests = { λ image. Unit {0} };
+
+    ghost applied = { λ old new. new ≡ old };
+
+    ghost measures = { λ image room. room ≡ ample };
+
+    ghost cost = { λ ready. 0 };
+
+    ghost held_stands = { λ k w N held. tt };
+
+    ghost held_measures = { λ k w N held. refl };
+
+    ghost stands_on = { λ found c d same N last is. is };
+
+    ghost rests_on = { λ c d same is. is };
 
     fn counts(&self) -> Counts {
         self.counts
@@ -101,6 +119,18 @@ impl<W: Outside> Keeper<W> for MapKeeper {
     fn apply(&mut self, _w: &mut W, ready: MapReady) -> Result<(), Failed> {
         fill_all(&mut self.nodes, ready.nodes);
         self.counts = ready.counts;
+        Ok(())
+    }
+}
+
+impl<W: Outside> Saver<W> for MapKeeper {
+    ghost use Rattle.std.specs.Prelude.{◌≡◌};
+
+    ghost saved = { λ old new. new ≡ old };
+
+    ghost save_cost = { λ k. 0 };
+
+    fn save(&mut self, _w: &mut W) -> Result<(), Failed> {
         Ok(())
     }
 }

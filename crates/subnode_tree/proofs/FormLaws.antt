@@ -1,5 +1,5 @@
 -- What subnodes that can be written are one by one.
-use Rattle.std.proofs.Common.{true, false, ◌≡◌, ℕ, zero, suc, ◌+◌, ◌<◌, ◌≤◌, inl, inr, eqb, List, [], ◌∷◌, ◌++◌, length, map, take, drop, get_or, refl, sym, ap, subst, ◌∙◌, arith, length-append, append_assoc, append-nil}
+use Rattle.std.proofs.Common.{true, false, ◌≡◌, ℕ, suc, ◌+◌, ◌<◌, ◌≤◌, inl, inr, eqb, List, [], ◌∷◌, ◌++◌, length, map, take, drop, get_or, refl, sym, ap, subst, ◌∙◌, arith, length-append, append_assoc, append-nil}
 use Rattle.std.specs.List.{All}
 use Rattle.std.proofs.lemmas.Bool.{cases_eq, eq-eqb, ne_eqb, cases_Bool}
 use Rattle.std.proofs.lemmas.List.{length-map, map-append, take-append-drop, drop_more}
@@ -7,14 +7,9 @@ use Rattle.pst_base.specs.declared.subs.Sub.{Sub}
 use Rattle.pst_base.specs.Flat.{Flat}
 use Rattle.pst_base.specs.Subs.{flattened, one_deeper}
 use Rattle.data_tree.specs.Plan.{IsContent}
-use Rattle.data_tree.proofs.PieceLaws.{Each, each-from_all, each-left, each-right}
+use Rattle.data_tree.proofs.PieceLaws.{Each, all_from-each, each-from_all, each-left, each-right}
 use Rattle.subnode_tree.specs.Plan.{IsForm, ascending, data_in, nids_at}
 use Rattle.subnode_tree.proofs.SubSteps.{flattened-append}
-
-pub all_from-each : {X : Type 0} (P : X → Type 0) (xs : List X) → Each P xs → All P xs
-all_from-each P [] each k d h = absurd (omega arith)
-all_from-each P (x ∷ xs) each zero d h = each.0
-all_from-each P (x ∷ xs) each (suc k) d h = all_from-each P xs each.1 k d (omega arith)
 
 -- a fact of those below, one level deeper
 pub each-below : (P Q : Flat → Type 0) → ((f : Flat) → P (one_deeper f) → Q f) → (flats : List Flat) → Each P (map one_deeper flats) → Each Q flats

@@ -1,5 +1,5 @@
 -- Subnodes read the same where more blocks are found and the file is longer.
-use Rattle.std.proofs.Common.{Bool, true, false, ◌≡◌, ◌∙◌, ℕ, zero, suc, ◌+◌, ◌-◌, ◌/◌, ◌<◌, ◌≤◌, eqb, List, [], ◌∷◌, ◌++◌, length, map, Option, Some, None, Result, Ok, Err, sym, ap, refl, arith, ⊎_elim, if◌then◌else◌}
+use Rattle.std.proofs.Common.{Bool, ◌≡◌, ◌∙◌, ℕ, zero, suc, ◌-◌, ◌/◌, ◌≤◌, eqb, List, [], ◌∷◌, ◌++◌, length, map, Option, Result, Ok, Err, sym, ap, arith, ⊎_elim, if◌then◌else◌}
 use Rattle.std.proofs.lemmas.Bool.{cases_eq, eq-eqb, ne_eqb}
 use Rattle.pst_base.specs.declared.ids.Bid.{Bid}
 use Rattle.pst_base.specs.Flat.{Flat}
@@ -7,7 +7,7 @@ use Rattle.pst_base.specs.Subs.{one_deeper}
 use Rattle.data_tree.specs.declared.source.TreeStop.{TreeStop}
 use Rattle.data_tree.specs.declared.source.TreeStop.TheVariants.{Form, Deep, Many}
 use Rattle.data_tree.specs.Grown.{FindsAll, Gives}
-use Rattle.data_tree.specs.Tree.{and_then, fetched, blocks_of}
+use Rattle.data_tree.specs.Tree.{fetched, blocks_of}
 use Rattle.data_tree.proofs.GrownLaws.{and_then_gives, blocks_gives, fetched_gives, if_gives, same_gives}
 use Rattle.subnode_tree.specs.declared.blocks.SubEntry.{SubEntry}
 use Rattle.subnode_tree.specs.declared.blocks.Listed.{Listed}

@@ -1,11 +1,15 @@
+pub mod BidSteps
 pub mod CountLaws
 pub mod FormLaws
 pub mod GrownLaws
 pub mod ListLaws
 pub mod MadeLaws
+pub mod NamedLaws
+pub mod PairLaws
 pub mod PartSteps
 pub mod RowSteps
 pub mod SubPlanLaws
 pub mod SubSteps
 pub mod TableLaws
 pub mod TableSteps
+pub mod WalkLaws

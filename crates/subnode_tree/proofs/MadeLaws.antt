@@ -7,9 +7,9 @@ use Rattle.pst_base.specs.declared.subs.Sub.{Sub}
 use Rattle.pst_base.specs.Flat.{Flat}
 use Rattle.pst_base.specs.Subs.{flattened, one_deeper}
 use Rattle.data_tree.specs.Plan.{IsContent}
-use Rattle.data_tree.proofs.PieceLaws.{Each, each-append, each-from_all, each-right}
+use Rattle.data_tree.proofs.PieceLaws.{Each, all_from-each, each-append, each-from_all, each-right}
 use Rattle.subnode_tree.specs.Plan.{IsForm, ascending, nids_at, rise_from}
-use Rattle.subnode_tree.proofs.FormLaws.{all_from-each, each-below, nids-append, nids-deeper, nids-top, own, sub_nids}
+use Rattle.subnode_tree.proofs.FormLaws.{each-below, nids-append, nids-deeper, nids-top, own, sub_nids}
 use Rattle.subnode_tree.proofs.TableLaws.{ascending-left, ascending-right}
 
 -- a subnode that can stand in a node

@@ -10,12 +10,16 @@ use Rattle.pst_base.specs.Ids.{key_of}
 use Rattle.pst_base.proofs.Numbers.{number_at-first, number_at-next, number_at-behind}
 use Rattle.data_tree.specs.declared.source.TreeStop.{TreeStop}
 use Rattle.data_tree.specs.Tree.{and_then, named}
-use Rattle.data_tree.specs.Plan.{IsFound, Rise, cut, last_id, numbered, plain}
-use Rattle.data_tree.proofs.PieceLaws.{Each, each-left, each-right, joined, cut-one, length-cut, joined-cut, cut-short, cut-some, cut-each}
+use Rattle.data_tree.specs.Plan.{IsFound, Rise, bids_in, cut, last_id, numbered, plain}
+use Rattle.data_tree.specs.Keys.{count_of, keys_of}
+use Rattle.data_tree.proofs.KeyLaws.{count-blocks}
+use Rattle.data_tree.proofs.SizeLaws.{Short, Small, small-numbered}
+use Rattle.data_tree.proofs.PieceLaws.{Each, each-append, each-left, each-right, joined, cut-one, length-cut, joined-cut, cut-short, cut-some, cut-each}
 use Rattle.data_tree.proofs.PlanLaws.{last-append, length-numbered, plain-append, plain-marked, rise-append, rise-numbered}
 use Rattle.subnode_tree.specs.declared.blocks.Listed.{Listed}
 use Rattle.subnode_tree.specs.declared.blocks.SubEntry.{SubEntry}
 use Rattle.subnode_tree.specs.declared.tables.Row.{Row}
+use Rattle.subnode_tree.specs.Keys.{listed_in}
 use Rattle.subnode_tree.specs.Plan.{ascending, rise_from}
 use Rattle.subnode_tree.specs.Subnodes.{ascend, entries_from, entries_of, entry_at, is_inner, is_laid, is_leaf, level_in, level_of, listed_at, listed_from, listed_of, listed_ascend, listed_rise, ordered, part_in, part_of, parts_of, reach, rise_above}
 use Rattle.subnode_tree.specs.Tables.{Fits, first_nid, inner, leaf, leaves, listed_as, listed_bytes, rows_bytes, table, tables, top}
@@ -456,4 +460,95 @@ tables-read find level next rows high some few fits rise found =
           let all : Each (IsFound find) ((bid, leaf rows) ∷ []) = subst (λ (blocks : List (Bid × List ℕ)). Each (IsFound find) blocks) alone found in
           ap (λ (blocks : List (Bid × List ℕ)). level_of find level (record { bits = last_id blocks })) alone
           ∙ level_of-found find level bid (leaf rows) all.0 ∙ level_in-leaf find level bid rows short fits rise
+    ]
+
+-- ---- how many there are, and how large
+
+pub fewer-tables : (next : ℕ) (rows : List Row) → length (tables next rows) ≤ length rows
+unfolding tables
+fewer-tables next rows =
+    let ls = leaves next rows in
+    let listed = listed_as next (cut 340 rows) in
+    let at = next + 4 * length ls in
+    let both = length-append ls (top at listed) in
+    let count = length-leaves next rows in
+    let width = length-listed next rows in
+    elim (cases_lt 1 (length listed)) [
+      | inl more ↦ let one = few-top at listed in omega arith
+      | inr none ↦ let one = ap length (top-none at listed none) in omega arith
+    ]
+
+small-leaf : (rows : List Row) → length rows ≤ 340 → Short (leaf rows)
+small-leaf rows few = let whole = length-table 0 (length rows) (rows_bytes rows) in let size = length-rows_bytes rows in omega arith
+
+small-inner : (listed : List Listed) → length listed ≤ 510 → Short (inner listed)
+small-inner listed few = let whole = length-table 1 (length listed) (listed_bytes listed) in let size = length-listed_bytes listed in omega arith
+
+small-leaves : (parts : List (List Row)) → Each (λ (part : List Row). length part ≤ 340) parts → Each Short (map leaf parts)
+small-leaves [] all = tt
+small-leaves (part ∷ parts) all = (small-leaf part all.0, small-leaves parts all.1)
+
+small-top : (next : ℕ) (listed : List Listed) → length listed ≤ 510 → Each Small (top next listed)
+small-top next listed few = elim (cases_lt 1 (length listed)) [
+  | inl some ↦ rw (top-some next listed some) (small-numbered 2 next (inner listed ∷ []) (small-inner listed few, tt))
+  | inr none ↦ rw (top-none next listed none) tt
+]
+
+pub small-tables : (next : ℕ) (rows : List Row) → length rows ≤ 173400 → Each Small (tables next rows)
+unfolding tables
+small-tables next rows few =
+    let ls = leaves next rows in
+    let listed = listed_as next (cut 340 rows) in
+    let small : Each Small ls = subst (λ (l : List (Bid × List ℕ)). Each Small l) (sym (leaves-is next rows)) (small-numbered 2 next (map leaf (cut 340 rows)) (small-leaves (cut 340 rows) (cut-short 340 rows))) in
+    each-append Small ls (top (next + 4 * length ls) listed) small (small-top (next + 4 * length ls) listed (few-listed next rows few))
+
+-- ---- their keys
+
+listed-keys : (next : ℕ) (parts : List (List Row)) → map (λ (l : Listed). key_of (l.block).bits) (listed_as next parts) ≡ keys_of (bids_in (numbered 2 next (map leaf parts)))
+listed-keys next [] = refl
+listed-keys next (part ∷ parts) = ap (λ (ks : List ℕ). key_of (next + 2) ∷ ks) (listed-keys (next + 4) parts)
+
+in-leaf : (rows : List Row) → length rows ≤ 340 → listed_in (Some (leaf rows)) ≡ []
+in-leaf rows few = rw (is_leaf-leaf rows few) refl
+
+in-inner : (listed : List Listed) → length listed ≤ 510 → Each ListedFits listed → listed_in (Some (inner listed)) ≡ map (λ (l : Listed). key_of (l.block).bits) listed
+in-inner listed few fits = rw (is_leaf-inner listed, is_inner-inner listed few, listed_of-inner listed few fits) refl
+
+pub tables-keys : (find : ℕ → Option (List ℕ)) (key next bits : ℕ) (rows : List Row) → next ≤ 2 ^ 63 → 0 < length rows → length rows ≤ 173400 → Each Fits rows → bits ≡ last_id (tables next rows)
+    → Each (IsFound find) (tables next rows) → count_of key (key_of bits ∷ listed_in (find (key_of bits))) ≡ count_of key (keys_of (bids_in (tables next rows)))
+unfolding tables
+tables-keys find key next bits rows high some few fits is found =
+    let ls = leaves next rows in
+    let parts = cut 340 rows in
+    let listed = listed_as next parts in
+    let at = next + 4 * length ls in
+    let count = length-listed next rows in
+    let number = length-leaves next rows in
+    let made = length-cut 340 rows in
+    let least = length-listed_as next parts in
+    elim (cases_lt 1 (length listed)) [
+      | inl more ↦
+          let bid : Bid = record { bits = at + 2 } in
+          let over : top at listed ≡ (bid, inner listed) ∷ [] = top-some at listed more in
+          let all : Each (IsFound find) (ls ++ (bid, inner listed) ∷ []) = subst (λ (blocks : List (Bid × List ℕ)). Each (IsFound find) (ls ++ blocks)) over found in
+          let root : bits ≡ at + 2 = is ∙ ap (λ (blocks : List (Bid × List ℕ)). last_id (ls ++ blocks)) over ∙ last-append ls (bid, inner listed) [] in
+          let block : find (key_of bits) ≡ Some (inner listed) = ap (λ (n : ℕ). find (key_of n)) root ∙ (each-right (IsFound find) ls ((bid, inner listed) ∷ []) all).0 in
+          let names : listed_in (find (key_of bits)) ≡ keys_of (bids_in ls) =
+          ap listed_in block ∙ in-inner listed (omega arith) (listed-fit next parts (omega arith) (cut-each Fits 340 rows fits)) ∙ listed-keys next parts ∙ ap (λ (l : List (Bid × List ℕ)). keys_of (bids_in l)) (sym (leaves-is next rows)) in
+          let whole = ap (λ (ks : List ℕ). count_of key (key_of bits ∷ ks)) names in
+          let first = ap (λ (n : ℕ). count_of key (key_of n ∷ [])) root in
+          let both = count-blocks key ls ((bid, inner listed) ∷ []) in
+          let tops = ap (λ (l : List (Bid × List ℕ)). count_of key (keys_of (bids_in (ls ++ l)))) over in
+          omega (arith, whole, first, both, tops)
+      | inr one ↦
+          let bid : Bid = record { bits = next + 2 } in
+          let short : length rows ≤ 340 = omega arith in
+          let alone : ls ++ top at listed ≡ (bid, leaf rows) ∷ [] =
+          ap (λ (blocks : List (Bid × List ℕ)). ls ++ blocks) (top-none at listed one) ∙ append-nil ls ∙ leaves-is next rows
+          ∙ ap (λ (ps : List (List Row)). numbered 2 next (map leaf ps)) (cut-one 340 rows some short) in
+          let all : Each (IsFound find) ((bid, leaf rows) ∷ []) = subst (λ (blocks : List (Bid × List ℕ)). Each (IsFound find) blocks) alone found in
+          let root : bits ≡ next + 2 = is ∙ ap last_id alone in
+          let block : find (key_of bits) ≡ Some (leaf rows) = ap (λ (n : ℕ). find (key_of n)) root ∙ all.0 in
+          let names : listed_in (find (key_of bits)) ≡ [] = ap listed_in block ∙ in-leaf rows short in
+          ap (λ (ks : List ℕ). count_of key (key_of bits ∷ ks)) names ∙ ap (λ (n : ℕ). count_of key (key_of n ∷ [])) root ∙ ap (λ (l : List (Bid × List ℕ)). count_of key (keys_of (bids_in l))) (sym alone)
     ]

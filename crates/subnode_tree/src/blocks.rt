@@ -8,11 +8,11 @@ use std::alloc::{AllocError, Global};
 
 /// A subnode: the level at which it stands, from 1 to 8, its NID, the block of its data, and that of its own subnodes. A block of 0 is none.
 #[derive(Clone, Copy, Debug, PartialEq, Eq)]
-pub struct SubEntry {
-    pub level: u8,
-    pub nid: Nid,
-    pub content: Bid,
-    pub subnodes: Bid,
+pub(crate) struct SubEntry {
+    pub(crate) level: u8,
+    pub(crate) nid: Nid,
+    pub(crate) content: Bid,
+    pub(crate) subnodes: Bid,
 }
 
 /// A block of level 0 that one of level 1 lists, and a NID that none in it is below.

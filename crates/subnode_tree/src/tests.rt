@@ -1,205 +1,121 @@
 //! Subnodes by the layout of [MS-PST] 2.2.2.8.3.3.
-use crate::{SubEntry, count_subs, read_entries, read_subs};
-use data_tree::{BlockList, BlockSource, TreeStop};
-use pst_base::{Bid, Bytes, MemOr, Nid, SourceStop, Sub};
+ghost use Rattle.std.specs.Prelude.{◌≡◌, ◌≤◌, ◌<◌, ◌+◌, ◌*◌, [], ◌∷◌, length, IfOk};
+ghost use Rattle.data_tree.specs.Plan.{MayKeep};
+ghost use Rattle.subnode_tree.specs.Plan.{IsForm};
+
+use crate::{Kept, count_subs, plan_subs, plan_subs_keep, read_sub_bids, read_sub_keys, read_subs};
+use data_tree::{BlockList, TreeStop};
+use pst_base::{Bid, Blocks, Bytes, MemOr, Nid, Sub, Subs};
 use std::alloc::{AllocError, Global};
 
-/// Blocks by their 8-byte words. The first word of a block that lists subnodes is 2, its level, and the count of its entries. A data block has its own number.
-const BLOCKS: [(u64, &[u64]); 18] = [
-    (4, &[4]),
-    (8, &[8]),
-    (12, &[12]),
-    (16, &[16]),
-    (6, &[0x02_0002, 0x671, 4, 0, 0x692, 8, 10]),
-    (10, &[0x01_0002, 0xffff_ffff_0000_0021, 12, 0]),
-    (14, &[0x02_0102, 0x671, 6, 0x700, 19]),
-    (18, &[0x01_0002, 0x701, 16, 0]),
-    (22, &[0x01_0002, 0x21, 4, 22]),
-    (26, &[0x01_0102, 0x21, 26]),
-    (30, &[0x02_0002, 0x21, 4, 0, 0x21, 8, 0]),
-    (34, &[0x01_0002, 0x21, 4, 0, 0]),
-    (38, &[0x01_0102, 0x702, 18]),
-    (46, &[0x02_0002, 0x21, 52, 0, 0x41, 4, 42]),
-    (50, &[0x02_0002, 0x21, 52, 42, 0x41, 4, 42]),
-    (54, &[0x02_0002, 0x21, 4, 42, 0x41, 52, 0]),
-    (58, &[0x20_0004_0101, 4, 8, 12, 16]),
-    (62, &[0x01_0002, 0x21, 58, 0]),
+/// How many subnodes there are; how many blocks they have from the id 4 on, the id of the root, and the number of the next block.
+const LISTS: [(u32, usize, u64, u64); 4] = [
+    (0, 0, 0, 4),
+    (1, 2, 10, 12),
+    (340, 341, 1366, 1368),
+    (341, 344, 1378, 1380),
 ];
 
-fn source(alloc: Global, limit: u64) -> Result<BlockList, AllocError> {
-    let mut blocks = Vec::new(alloc);
-    for (bits, words) in BLOCKS {
-        let mut bytes = Vec::new(alloc);
-        for word in words {
-            bytes.extend_from_slice(&word.to_le_bytes())?;
-        }
-        blocks.push((Bid { bits }, Bytes::from_vec(bytes)))?;
-    }
-    Ok(BlockList { blocks, limit })
-}
-
-const fn entry(level: u8, nid: u32, content: u64, subnodes: u64) -> SubEntry {
-    SubEntry {
-        level,
+/// A subnode with a block of one byte, and with none below it.
+fn sub(alloc: Global, nid: u32, byte: u8) -> Result<Sub, AllocError>
+    ensures nid { IfOk result (λ s. s.nid.bits ≡ nid) }
+    ensures blocks { IfOk result (λ s. s.blocks ≡ (byte ∷ []) ∷ []) }
+    ensures subs { IfOk result (λ s. s.subs ≡ []) }
+{
+    let mut blocks = Blocks::new(alloc);
+    blocks.push(Bytes::from_slice(alloc, &[byte])?)?;
+    Ok(Sub {
         nid: Nid { bits: nid },
-        content: Bid { bits: content },
-        subnodes: Bid { bits: subnodes },
+        blocks,
+        subs: Subs::new(alloc),
+    })
+}
+
+/// So many subnodes.
+fn flat(alloc: Global, count: u32) -> Result<Subs, AllocError>
+    requires { count ≤ 341 }
+    ensures { IfOk result IsForm }
+{
+    let mut subs = Vec::new(alloc);
+    for i in 0..count {
+        let next = sub(alloc, 0x21 + 0x20 * i, (i % 251) as u8)?;
+        subs.push(next)?;
     }
+    Ok(Subs::from_vec(subs))
+}
+
+/// One subnode.
+fn single(alloc: Global, byte: u8) -> Result<Subs, AllocError>
+    ensures form { IfOk result IsForm }
+    ensures one { IfOk result (λ subs. length subs ≡ 1) }
+{
+    let mut all = Vec::new(alloc);
+    let alone = sub(alloc, 0x21, byte)?;
+    all.push(alone)?;
+    Ok(Subs::from_vec(all))
+}
+
+/// Whether the subnodes have the same ids and data, and none below them.
+fn same(a: &[Sub], b: &[Sub]) -> bool {
+    a.len() == b.len()
+        && a.iter().zip(b).all(|(x, y)| {
+            x.nid == y.nid
+                && x.subs.as_slice().len() == 0
+                && x.blocks.len() == y.blocks.len()
+                && x.blocks
+                    .as_slice()
+                    .iter()
+                    .zip(y.blocks.as_slice())
+                    .all(|(p, q)| p.as_slice() == q.as_slice())
+        })
 }
 
 #[test]
-fn each_subnode_comes_before_those_below_it(rt: HostRuntime) -> Result<(), MemOr<TreeStop>> {
-    let all = [
-        entry(1, 0x671, 4, 0),
-        entry(1, 0x692, 8, 10),
-        entry(2, 0x21, 12, 0),
-        entry(1, 0x701, 16, 0),
+fn subnodes_have_a_root_and_read_back(rt: HostRuntime) -> Result<(), MemOr<TreeStop>> {
+    for (count, blocks, root, next) in LISTS {
+        let subs = flat(rt.alloc(), count.min(341))?;
+        let plan = plan_subs(rt.alloc(), &subs, 4)?;
+        assert_eq!(rt; plan.blocks.len(), blocks);
+        assert_eq!(rt; plan.bid, Bid { bits: root });
+        assert_eq!(rt; plan.next, next);
+        let mut s = BlockList {
+            blocks: plan.blocks,
+            limit: 24 * u64::from(count),
+        };
+        let read = read_subs(rt.alloc(), plan.bid, &mut s)?;
+        assert!(rt; same(read.as_slice(), subs.as_slice()), "{count} subnodes");
+        let counted = count_subs(rt.alloc(), plan.bid, &mut s)?;
+        assert_eq!(rt; counted, u64::from(count));
+        let bids = read_sub_bids(rt.alloc(), plan.bid, &mut s)?;
+        assert_eq!(rt; bids.len(), count as usize);
+        assert_eq!(rt; read_sub_keys(rt.alloc(), plan.bid, &mut s)?.len(), blocks);
+    }
+    Ok(())
+}
+
+#[test]
+fn a_kept_block_is_named_and_not_written(rt: HostRuntime) -> Result<(), AllocError> {
+    let list: [u8; 32] = [
+        2, 0, 1, 0, 0, 0, 0, 0, 0x21, 0, 0, 0, 0, 0, 0, 0, 4, 0, 0, 0, 0, 0, 0, 0, 0, 0, 0, 0, 0,
+        0, 0, 0,
     ];
-    for (bits, count) in [(0, 0), (6, 3), (7, 3), (14, 4)] {
-        let mut s = source(rt.alloc(), 96)?;
-        let found = read_entries(rt.alloc(), Bid { bits }, &mut s)?;
-        assert!(rt; all.get(..count) == Some(found.as_slice()), "at {bits}");
-    }
-    Ok(())
-}
-
-#[test]
-fn faults_name_their_block(rt: HostRuntime) -> Result<(), AllocError> {
-    let form = |bits| TreeStop::Form { bid: Bid { bits } };
-    for (bits, limit, want) in [
-        (
-            42,
-            480,
-            TreeStop::Missing {
-                bid: Bid { bits: 42 },
-            },
-        ),
-        (
-            1,
-            480,
-            TreeStop::Missing {
-                bid: Bid { bits: 1 },
-            },
-        ),
-        (22, 480, TreeStop::Deep),
-        (26, 480, form(26)),
-        (30, 480, form(30)),
-        (34, 480, form(34)),
-        (38, 480, form(18)),
-        (6, 71, TreeStop::Many),
-    ] {
-        let mut s = source(rt.alloc(), limit)?;
-        let stop = read_entries(rt.alloc(), Bid { bits }, &mut s).err();
-        assert!(rt; stop == Some(MemOr::Refused(want)), "at {bits}");
-    }
-    Ok(())
-}
-
-/// Whether a subnode has this id, one data block with this number, and so many subnodes directly in it.
-fn is(sub: &Sub, nid: u32, data: u64, below: usize) -> bool {
-    let blocks = sub.blocks.as_slice();
-    sub.nid == Nid { bits: nid }
-        && blocks.len() == 1
-        && blocks[0].as_slice() == data.to_le_bytes().as_slice()
-        && sub.subs.as_slice().len() == below
-}
-
-#[test]
-fn subnodes_come_with_their_data(rt: HostRuntime) -> Result<(), MemOr<TreeStop>> {
-    for (bits, count) in [(0, 0), (6, 2), (7, 2), (14, 3)] {
-        let mut s = source(rt.alloc(), 96)?;
-        let subs = read_subs(rt.alloc(), Bid { bits }, &mut s)?;
-        assert_eq!(rt; subs.as_slice().len(), count, "at {bits}");
-        let counted = count_subs(rt.alloc(), Bid { bits }, &mut s)?;
-        assert_eq!(rt; counted, count as u64, "at {bits}");
-    }
-    let mut s = source(rt.alloc(), 96)?;
-    let subs = read_subs(rt.alloc(), Bid { bits: 14 }, &mut s)?;
-    let [first, second, third] = subs.as_slice() else {
-        assert!(rt; false);
-        return Ok(());
+    let subs = single(rt.alloc(), 7)?;
+    let keep = [kept(rt.alloc())?];
+    let plan = plan_subs_keep(rt.alloc(), &subs, &keep, 8)?;
+    assert_eq!(rt; plan.next, 12);
+    let [block] = plan.blocks.as_slice() else {
+        panic!(rt; "{} blocks", plan.blocks.len());
     };
-    assert!(rt; is(first, 0x671, 4, 0));
-    assert!(rt; is(second, 0x692, 8, 1));
-    assert!(rt; is(third, 0x701, 16, 0));
-    for below in second.subs.as_slice() {
-        assert!(rt; is(below, 0x21, 12, 0));
-    }
+    assert_eq!(rt; block.0, Bid { bits: 10 });
+    assert_eq!(rt; block.1.as_slice(), list.as_slice());
     Ok(())
 }
 
-#[test]
-fn the_first_fault_is_named(rt: HostRuntime) -> Result<(), AllocError> {
-    let missing = |bits| TreeStop::Missing { bid: Bid { bits } };
-    for (bits, limit, want) in [
-        (42, 480, missing(42)),
-        (22, 480, TreeStop::Deep),
-        (22, 191, TreeStop::Many),
-        (6, 71, TreeStop::Many),
-        (
-            38,
-            480,
-            TreeStop::Form {
-                bid: Bid { bits: 18 },
-            },
-        ),
-        (46, 480, missing(52)),
-        (50, 480, missing(52)),
-        (54, 480, missing(42)),
-        (62, 31, TreeStop::Long),
-    ] {
-        let mut s = source(rt.alloc(), limit)?;
-        let stop = read_subs(rt.alloc(), Bid { bits }, &mut s).err();
-        assert!(rt; stop == Some(MemOr::Refused(want)), "at {bits}");
-        let stop = count_subs(rt.alloc(), Bid { bits }, &mut s).err();
-        assert!(rt;
-            stop == Some(MemOr::Refused(want)),
-            "at {bits} when counted"
-        );
-    }
-    Ok(())
-}
-
-/// Blocks of which no data block can be read.
-#[derive(Drop)]
-struct Listings {
-    all: BlockList,
-    fails: u64,
-}
-
-impl BlockSource for Listings {
-    ghost use Rattle.std.specs.Prelude.{◌≤◌};
-
-    ghost view = { λ s. record { holds = λ find. ⊥; fails = s.fails; changes = 0; eof = s.all.limit; since = λ first. first.fails ≤ s.fails } };
-
-    fn block(&mut self, alloc: Global, bid: Bid) -> Result<Option<Bytes>, MemOr<SourceStop>> {
-        if !bid.internal() {
-            self.fails = self.fails.saturating_add(1);
-            return Err(MemOr::Refused(SourceStop::Failed));
-        }
-        match self.all.block(alloc, bid) {
-            Ok(found) => Ok(found),
-            Err(_) => Err(MemOr::Memory),
-        }
-    }
-
-    fn size(&self, bid: Bid) -> Option<u64> {
-        self.all.size(bid)
-    }
-
-    fn limit(&self) -> u64 {
-        self.all.limit
-    }
-}
-
-#[test]
-fn subnodes_are_counted_without_their_data(rt: HostRuntime) -> Result<(), MemOr<TreeStop>> {
-    let all = source(rt.alloc(), 96)?;
-    let mut s = Listings { all, fails: 0 };
-    assert_eq!(rt; count_subs(rt.alloc(), Bid { bits: 14 }, &mut s)?, 3);
-    assert_eq!(rt; s.fails, 0);
-    let stop = read_subs(rt.alloc(), Bid { bits: 14 }, &mut s).err();
-    assert!(rt; stop == Some(MemOr::Refused(TreeStop::Source(SourceStop::Failed))));
-    assert_eq!(rt; s.fails, 1);
-    Ok(())
+/// That the block 4 is kept.
+fn kept(alloc: Global) -> Result<Kept, AllocError>
+    ensures { IfOk result (MayKeep 8) }
+{
+    let mut bids = Vec::new(alloc);
+    bids.push(Some(Bid { bits: 4 }))?;
+    Ok(Kept::from_vec(bids))
 }

@@ -48,7 +48,7 @@ fn tree_from<S: BlockSource>(
 ///
 /// `Missing` where there is no block with an id that it reads; `Form` of a block that isn't of its layout, or whose NIDs don't ascend, or reach below the one that it is listed with; `Deep` where a subnode stands below level 8; `Many` where there are more than one for each 24 bytes of the file; `Source` by the source.
 #[tactic(auto, unfolding(crate::specs::Subnodes::tree_of))]
-pub fn read_entries<S: BlockSource>(
+pub(crate) fn read_entries<S: BlockSource>(
     alloc: Global,
     bid: Bid,
     s: &mut S,

@@ -3,7 +3,8 @@ ghost use Rattle.std.specs.Prelude.{◌≤◌, ◌<◌, ◌+◌, length, OnOk};
 
 use crate::{TcFault, read_tc};
 use heap_on_node::HeapMaker;
-use mapi_values::Table;
+use mapi_values::tags::{PID_TAG_DISPLAY_NAME, PID_TAG_MESSAGE_FLAGS};
+use mapi_values::{Table, Tag};
 use pst_base::{Blocks, Bytes, MemOr, Nid, Sub, Subs};
 use std::alloc::{AllocError, Global};
 use std::test::Fail;
@@ -96,77 +97,58 @@ fn read(
     Ok(read_tc(alloc, blocks.as_slice(), &subs))
 }
 
-#[test]
-fn a_found_layout_is_read(rt: HostRuntime) -> Result<(), Fail> {
-    let table = read(rt.alloc(), 0x7C, &[])?.expect(&rt, "a table");
-    assert!(rt; table.ends() == [20, 20, 21, 22] && table.columns().len() == 5);
-    assert!(rt; table.rows().len() == 2);
-    let values: [(u32, u16, Option<&[u8]>); 7] = [
-        (5, 0x0E07, None),
-        (5, 0x3001, Some(&[0x42, 0, 0x43, 0])),
-        (5, 0x67F3, None),
-        (9, 0x0E07, Some(&[1, 2, 3, 4])),
-        (9, 0x3001, Some(&[0x41, 0])),
-        (9, 0x360A, Some(&[1])),
-        (9, 0x67F3, Some(&[7, 0, 0, 0])),
-    ];
-    for (row, id, bytes) in values {
-        let cells = &table.row(row).expect(&rt, "a row").1;
-        assert!(rt;
-            cells.get(id).map(|value| value.bytes()) == bytes,
-            "{row} {id}"
-        );
-        assert!(rt; cells.get(0x67F2).is_none());
+/// How many bytes a cell has, or 99 where there is none.
+fn length(table: &Table, row: u32, tag: Tag) -> usize {
+    match table.row(row).and_then(|row| row.1.get(tag.id)) {
+        Some(value) => value.len(),
+        None => 99,
     }
-    let kept = table.kept().as_slice();
-    assert!(rt; kept.len() == 2);
-    assert!(rt; kept.first().map(|sub| sub.nid.bits) == Some(0x41));
-    let last = kept.get(1).expect(&rt, "a subnode");
-    assert!(rt; last.nid.bits == 0x5F && last.subs.as_slice().len() == 1);
-    assert!(rt; last.subs.as_slice().first().map(|sub| sub.nid.bits) == Some(0x3F));
-    Ok(())
+}
+
+/// The lengths of both names and of the flags of row 9, or what is wrong.
+fn lengths(alloc: Global, client: u8, edits: &[Edit]) -> Result<Result<[usize; 3], TcFault>, Fail> {
+    match read(alloc, client, edits)? {
+        Ok(table) => Ok(Ok([
+            length(&table, 5, PID_TAG_DISPLAY_NAME),
+            length(&table, 9, PID_TAG_DISPLAY_NAME),
+            length(&table, 9, PID_TAG_MESSAGE_FLAGS),
+        ])),
+        Err(MemOr::Refused(fault)) => Ok(Err(fault)),
+        Err(MemOr::Memory) => Err(Fail::from("no memory")),
+    }
 }
 
 #[test]
-fn the_first_mistake_is_named(rt: HostRuntime) -> Result<(), Fail> {
-    let rows: [(u8, &[Edit], TcFault); 17] = [
-        (0xBC, &[], TcFault::Heap),
-        (0xBC, &[(0, 0, 0xB6)], TcFault::Heap),
-        (0x7C, &[(4, 0, 0x7D)], TcFault::Tc),
-        (0x7C, &[(0, 0, 0xB6), (4, 0, 0x7D)], TcFault::Tc),
-        (0x7C, &[(0, 0, 0xB6)], TcFault::Bth),
-        (0x7C, &[(0, 0, 0xB6), (4, 1, 4)], TcFault::Bth),
-        (0x7C, &[(1, 8, 5)], TcFault::Bth),
-        (0x7C, &[(4, 1, 4)], TcFault::Tc),
-        (0x7C, &[(4, 2, 21)], TcFault::Tc),
-        (0x7C, &[(4, 29, 2)], TcFault::Tc),
-        (0x7C, &[(1, 4, 3)], TcFault::Tc),
-        (0x7C, &[(3, 44, 6)], TcFault::Tc),
-        (0x7C, &[(3, 8, 0xC0)], TcFault::Tc),
-        (0x7C, &[(3, 52, 0x7F)], TcFault::Tc),
-        (0x7C, &[(4, 14, 0xC0)], TcFault::Tc),
-        (0x7C, &[(4, 14, 0x41)], TcFault::Tc),
-        (0x7C, &[(4, 14, 0)], TcFault::Tc),
+fn each_edit_has_its_lengths_or_its_fault(rt: HostRuntime) -> Result<(), Fail> {
+    let rows: [(u8, &[Edit], Result<[usize; 3], TcFault>); 23] = [
+        // as it was laid out, and bytes that nothing asks for
+        (0x7C, &[], Ok([4, 2, 4])),
+        (0x7C, &[(3, 22, 0)], Ok([4, 2, 4])),
+        (0x7C, &[(3, 21, 0x74)], Ok([4, 2, 4])),
+        (0x7C, &[(3, 8, 0)], Ok([4, 0, 4])),
+        (0x7C, &[(3, 8, 0xC0), (3, 21, 0xD4)], Ok([4, 99, 4])),
+        (0x7C, &[(4, 18, 0xC0)], Ok([4, 2, 4])),
+        // the heap comes before the index, and the index before the rest
+        (0xBC, &[], Err(TcFault::Heap)),
+        (0xBC, &[(0, 0, 0xB6)], Err(TcFault::Heap)),
+        (0x7C, &[(4, 0, 0x7D)], Err(TcFault::Tc)),
+        (0x7C, &[(0, 0, 0xB6), (4, 0, 0x7D)], Err(TcFault::Tc)),
+        (0x7C, &[(0, 0, 0xB6)], Err(TcFault::Bth)),
+        (0x7C, &[(0, 0, 0xB6), (4, 1, 4)], Err(TcFault::Bth)),
+        (0x7C, &[(1, 8, 5)], Err(TcFault::Bth)),
+        (0x7C, &[(4, 1, 4)], Err(TcFault::Tc)),
+        (0x7C, &[(4, 2, 21)], Err(TcFault::Tc)),
+        (0x7C, &[(4, 29, 2)], Err(TcFault::Tc)),
+        (0x7C, &[(1, 4, 3)], Err(TcFault::Tc)),
+        (0x7C, &[(3, 44, 6)], Err(TcFault::Tc)),
+        (0x7C, &[(3, 8, 0xC0)], Err(TcFault::Tc)),
+        (0x7C, &[(3, 52, 0x7F)], Err(TcFault::Tc)),
+        (0x7C, &[(4, 14, 0xC0)], Err(TcFault::Tc)),
+        (0x7C, &[(4, 14, 0x41)], Err(TcFault::Tc)),
+        (0x7C, &[(4, 14, 0)], Err(TcFault::Tc)),
     ];
-    for (client, edits, fault) in rows {
-        let read = read(rt.alloc(), client, edits)?;
-        assert!(rt; matches!(read, Err(MemOr::Refused(found)) if found == fault));
-    }
-    Ok(())
-}
-
-#[test]
-fn what_nothing_asks_for_is_not_read(rt: HostRuntime) -> Result<(), Fail> {
-    let rows: [&[Edit]; 5] = [
-        &[(3, 22, 0)],
-        &[(3, 21, 0x74)],
-        &[(3, 8, 0)],
-        &[(3, 8, 0xC0), (3, 21, 0xD4)],
-        &[(4, 18, 0xC0)],
-    ];
-    for edits in rows {
-        let table = read(rt.alloc(), 0x7C, edits)?.expect(&rt, "a table");
-        assert!(rt; table.rows().len() == 2 && table.kept().as_slice().len() == 2);
+    for (client, edits, expected) in rows {
+        assert!(rt; lengths(rt.alloc(), client, edits)? == expected);
     }
     Ok(())
 }

@@ -6,6 +6,7 @@
 #![tactic(auto)]
 
 mod descent;
+mod edits;
 mod look;
 mod merge;
 mod pack;
@@ -13,7 +14,10 @@ mod page;
 mod plan;
 mod root;
 mod source;
+#[cfg(test)]
+mod tests;
 
+pub use edits::are_edits;
 pub use look::look_up;
 pub use plan::{Child, Plan, PlanPage};
 pub use root::change;

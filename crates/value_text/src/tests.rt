@@ -1,7 +1,7 @@
-//! Values of each kind, read and printed at the edges of their forms.
-use crate::{BadValue, parse_value, value_text};
+//! The bytes of numbers, and values that no line gives yet.
+use crate::{parse_value, value_text};
 use mapi_values::{Tag, Value, fits};
-use pst_base::{Bytes, MemOr};
+use pst_base::Bytes;
 use std::alloc::Global;
 use std::test::Fail;
 
@@ -49,74 +49,6 @@ fn numbers_stand_in_two_complement(rt: HostRuntime) -> Result<(), Fail> {
         assert_eq!(rt; own.as_str(), printed, "{text}");
     }
     Ok(())
-}
-
-#[test]
-fn words_and_texts_are_read(rt: HostRuntime) -> Result<(), Fail> {
-    let known: [(u16, &str, &[u8], &str); 8] = [
-        (0x000B, "true", &[1], "true"),
-        (0x000B, "false", &[0], "false"),
-        (0x001F, "", &[], "\"\""),
-        (0x001F, "a \\u00E9", &[0x61, 0, 0x20, 0, 0xE9, 0], "\"a é\""),
-        (
-            0x001F,
-            "😀\\uD83d",
-            &[0x3D, 0xD8, 0x00, 0xDE, 0x3D, 0xD8],
-            "\"😀\\ud83d\"",
-        ),
-        (0x0102, "-", &[], "-"),
-        (0x0102, "00fFa9", &[0x00, 0xFF, 0xA9], "00ffa9"),
-        (
-            0x0048,
-            "00000000000000000000000000000046",
-            &[0, 0, 0, 0, 0, 0, 0, 0, 0, 0, 0, 0, 0, 0, 0, 0x46],
-            "00000000000000000000000000000046",
-        ),
-    ];
-    for (kind, text, bytes, printed) in known {
-        let (value, own) = read_and_print(rt.alloc(), kind, text)?;
-        assert_eq!(rt; value.tag(), Tag { id: 0x37, kind });
-        assert_eq!(rt; value.bytes(), bytes, "{text}");
-        assert_eq!(rt; own.as_str(), printed, "{text}");
-    }
-    Ok(())
-}
-
-#[test]
-fn other_texts_are_no_values(rt: HostRuntime) {
-    let bad: [(u16, &str); 27] = [
-        (0x0002, ""),
-        (0x0002, "-"),
-        (0x0002, "+1"),
-        (0x0002, "1 "),
-        (0x0002, "32768"),
-        (0x0002, "-32769"),
-        (0x0003, "2147483648"),
-        (0x0003, "-2147483649"),
-        (0x0003, "\\u0031"),
-        (0x0014, "9223372036854775808"),
-        (0x0014, "-9223372036854775809"),
-        (0x0040, "18446744073709551616"),
-        (0x0040, "-1"),
-        (0x0040, "--0"),
-        (0x000B, "True"),
-        (0x000B, "1"),
-        (0x000B, ""),
-        (0x001F, "\\"),
-        (0x001F, "\\u00g0"),
-        (0x0102, ""),
-        (0x0102, "0"),
-        (0x0102, "0g"),
-        (0x0102, "--"),
-        (0x0048, "-"),
-        (0x0048, "0011"),
-        (0x0005, "0"),
-        (0x101F, "-"),
-    ];
-    for (kind, text) in bad {
-        let read = parse_value(rt.alloc(), Tag { id: 0x37, kind }, text);
-        assert_eq!(rt; read.err(), Some(MemOr::Refused(BadValue)), "{text}");
-    }
 }
 
 #[test]

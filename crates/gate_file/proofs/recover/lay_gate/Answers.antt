@@ -32,7 +32,7 @@ returns-in_err-arm-clause-keeps g c =
     let side : last.tells → last.here.side ≡ 0 ∷ drop 1 mid.here.side = c.in_ok-disarm.ensures.closed in
     let some : last.tells → 0 < length last.here.side = λ told. subst (λ l. 0 < length l) (sym (side told)) (omega arith) in
     let zero : last.tells → get_or last.here.side 0 0 ≡ 0 = λ told. ap (λ l. get_or l 0 0) (side told) in
-    keeps_on zeroed (λ s. c.in_ok-disarm.ensures.settled (quiet s)) (tears_keep c.arm.ensures.counts c.arm.ensures.content c.arm.ensures.any_moment (λ i told torn. zero_same (some told) (zero told) torn))
+    keeps_on zeroed (λ s. c.in_ok-disarm.ensures.settled (quiet s)) (tears_keep c.arm.ensures.counts c.arm.ensures.content c.arm.ensures.any_moment (λ i told torn. zero_same (omega arith) (some told) (zero told) torn))
 
 pub returns-clause-keeps : goal.returns-clause-keeps
 returns-clause-keeps g c =
@@ -46,7 +46,7 @@ returns-clause-keeps g c =
     let side : last.tells → last.here.side ≡ 0 ∷ drop 1 mid.here.side = c.in_ok-disarm.ensures.closed in
     let some : last.tells → 0 < length last.here.side = λ told. subst (λ l. 0 < length l) (sym (side told)) (omega arith) in
     let zero : last.tells → get_or last.here.side 0 0 ≡ 0 = λ told. ap (λ l. get_or l 0 0) (side told) in
-    keeps_on zeroed (λ s. c.in_ok-disarm.ensures.settled (quiet s)) (tears_keep c.arm.ensures.counts c.arm.ensures.content c.arm.ensures.any_moment (λ i told torn. zero_same (some told) (zero told) torn))
+    keeps_on zeroed (λ s. c.in_ok-disarm.ensures.settled (quiet s)) (tears_keep c.arm.ensures.counts c.arm.ensures.content c.arm.ensures.any_moment (λ i told torn. zero_same (omega arith) (some told) (zero told) torn))
 
 pub returns-clause-shut : goal.returns-clause-shut
 returns-clause-shut g c =

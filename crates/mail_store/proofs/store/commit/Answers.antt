@@ -3,7 +3,10 @@ use Rattle.mail_draft.specs.Outcomes.{places_after}
 use Rattle.mail_store.proofs.store.commit.Goals as goal
 
 pub returns-clause-made : goal.returns-clause-made
-returns-clause-made g c = λ T o s p told. record {
-  shown = c.in_ok-apply_change.ensures.made T o s.shown p.carries told;
+returns-clause-made g c = λ T o s p rests told. record {
+  shown = c.in_ok-apply_change.ensures.made T o s.shown p.carries rests told;
   where_is = p.places_are ∙ ap (λ x. places_after x c.args.planned.places) s.where_is ∙ sym c.settle_places.ensures;
 }
+
+pub returns-clause-applied : goal.returns-clause-applied
+returns-clause-applied g c = λ T s rests told. c.in_ok-apply_change.ensures.applied T s.shown rests told

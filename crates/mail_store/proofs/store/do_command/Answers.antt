@@ -1,4 +1,4 @@
-use Rattle.std.proofs.Common.{◌∙◌}
+use Rattle.std.proofs.Common.{◌≡◌, ◌∙◌, sym, subst}
 use Rattle.std.proofs.lemmas.Result.{err_from_is_err_and}
 use Rattle.mail_tree.specs.Step.{outcome}
 use Rattle.mail_store.proofs.StoreLaws.{does_planned, stores_still, unless_fault}
@@ -14,5 +14,5 @@ returns-in-Ok-clause-answer g c = λ T s.
     does_planned (g.K.NodeReader.room c.args.store.now.keeper) _ _ (outcome T c.args.command.now) c.in_ok-planned.planned c.in-Ok.reply (c.in_ok-planned.ensures.answer T s)
     (λ o p. record {
       reply_is = c.in-Ok.ensures.reply ∙ p.reply_is;
-      stands = λ told. c.in-Ok.ensures.made T o (stores_still _ _ T c.in_ok-planned.ensures.looks c.in_ok-planned.ensures.places s) p told;
+      stands = λ told. c.in-Ok.ensures.made T o (stores_still _ _ T c.in_ok-planned.ensures.looks c.in_ok-planned.ensures.places s) p (λ t. subst g.K.Keeper.rests (sym (c.in_ok-planned.ensures.looks.world.stays.here t)) (told.0 (c.in_ok-planned.ensures.looks.world.stays.told t))) told.1;
     })

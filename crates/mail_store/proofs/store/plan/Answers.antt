@@ -8,12 +8,12 @@ use Rattle.mail_store.proofs.store.plan.Goals as goal
 
 pub returns-in-Ok-clause-answer : goal.returns-in-Ok-clause-answer
 returns-in-Ok-clause-answer g c = λ T s.
-    plans_made (outcome_of T) (g.K.NodeReader.room c.args.store.now.keeper) (λ o planned. PlansTo (g.K.Keeper.fits c.plan_outcome.new.keeper) T o planned.change planned.places planned.reply) (outcome T c.args.command.now)
+    plans_made (outcome_of T) (g.K.NodeReader.room c.args.store.now.keeper) (λ o planned. PlansTo (g.K.Keeper.fits c.plan_outcome.new.keeper (g.W.Outside.view c.plan_outcome.new.w)) T o planned.change planned.places planned.reply) (outcome T c.args.command.now)
     c.in_ok-outcome.outcome _ (c.in_ok-outcome.ensures.answer T s.shown s.where_is)
     (record { reply_is = refl; places_are = refl; carries = c.in-Ok.ensures.carries T (shown_still T c.in_ok-outcome.ensures.looks s.shown) })
 
 pub returns-in-Err-clause-answer : goal.returns-in-Err-clause-answer
 returns-in-Err-clause-answer g c = λ T s.
-    plans_hindered (outcome_of T) (g.K.NodeReader.room c.args.store.now.keeper) (λ o planned. PlansTo (g.K.Keeper.fits c.plan_outcome.new.keeper) T o planned.change planned.places planned.reply) (outcome T c.args.command.now)
+    plans_hindered (outcome_of T) (g.K.NodeReader.room c.args.store.now.keeper) (λ o planned. PlansTo (g.K.Keeper.fits c.plan_outcome.new.keeper (g.W.Outside.view c.plan_outcome.new.w)) T o planned.change planned.places planned.reply) (outcome T c.args.command.now)
     c.in_ok-outcome.outcome _ (c.in_ok-outcome.ensures.answer T s.shown s.where_is)
     (subst (λ room. IsHindered room c.in-Err.stop) c.in_ok-outcome.ensures.looks.space (c.in-Err.ensures.hindered T (shown_still T c.in_ok-outcome.ensures.looks s.shown)))

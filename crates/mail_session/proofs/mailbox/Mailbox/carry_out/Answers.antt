@@ -31,7 +31,7 @@ invariant_of-self-2 c =
       has_tree = ∥∥₁_map c.args.self.now.has_tree (λ h.
           let next = does c.args.self.now.store c.commit.new.store c.args.command.now c.in-Ok.planned _ (text c.in-Ok.planned.reply) c.in-Ok.ensures.answer
           (λ T o p. ap text p.reply_is)
-          (λ T o s p. done T o (stays_stored c.args.self.now.store c.plan.new.store c.plan.ensures.looks c.plan.ensures.places T s) p (λ no. absurd (false≢true no))) h.0 h.1 in
+          (λ T o s p. done T o (stays_stored c.args.self.now.store c.plan.new.store c.plan.ensures.looks c.plan.ensures.places T s) p (λ told. tt) (λ no. absurd (false≢true no))) h.0 h.1 in
           (next.0, next.2));
     }
 
@@ -39,4 +39,4 @@ pub returns-in-Ok-commit-clause-ok : goal.returns-in-Ok-commit-clause-ok
 returns-in-Ok-commit-clause-ok c =
     does c.args.self.now.store c.commit.new.store c.args.command.now c.in-Ok.planned _ _ c.in-Ok.ensures.answer
     (λ T o p. c.in_ok-text.ensures ∙ ap text p.reply_is)
-    (λ T o s p. c.in-Ok-commit.ensures.made T o (stays_stored c.args.self.now.store c.plan.new.store c.plan.ensures.looks c.plan.ensures.places T s) p (λ no. absurd (false≢true no)))
+    (λ T o s p. c.in-Ok-commit.ensures.made T o (stays_stored c.args.self.now.store c.plan.new.store c.plan.ensures.looks c.plan.ensures.places T s) p (λ told. tt) (λ no. absurd (false≢true no)))

@@ -1,0 +1,5 @@
+use Rattle.cases.proofs.running.run_case.Given as goal
+
+-- the ledger of the steps is the one that is opened here
+abbrev pub ghosts-run_over : goal.ghosts-run_over
+ghosts-run_over a = record { name = a.blank.name; parts = a.blank.parts }

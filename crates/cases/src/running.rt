@@ -1,0 +1,116 @@
+//! Runs a case, and finds where what came of it isn't what must.
+ghost use Rattle.std.specs.Prelude.{◌≡◌};
+
+use crate::case::Case;
+use crate::world::{CaseWorld, Turn};
+use mail_session::{Exit, run};
+use pst_base::{Bytes, Ledger, Steps};
+use pst_outside::{FailPlan, MemWorld, Part};
+use std::alloc::{AllocError, Global};
+use std::marker::Brand;
+use std::sync::ledger::Blank;
+
+/// What came of a call.
+#[derive(Drop)]
+pub struct Outcome {
+    pub exit: Exit,
+    pub said: Vec<u8>,
+    pub main: Vec<u8>,
+    pub side: Vec<u8>,
+}
+
+/// The words of a command line.
+fn split(alloc: Global, line: &str) -> Result<Vec<String>, AllocError> {
+    let mut words = Vec::new(alloc);
+    if !line.is_empty() {
+        for word in line.split(' ') {
+            words.push(String::from_str(alloc, word)?)?;
+        }
+    }
+    Ok(words)
+}
+
+/// The world of a case.
+fn world(alloc: Global, case: &Case) -> Result<CaseWorld, AllocError> {
+    let turn = match &case.turn {
+        Some((at, mask)) => Some(Turn {
+            at: *at,
+            mask: Vec::from_slice(alloc, mask.as_slice())?,
+            readings: 0,
+        }),
+        None => None,
+    };
+    let fails = FailPlan {
+        takes: Vec::from_slice(alloc, case.fails.takes.as_slice())?,
+        says: Vec::from_slice(alloc, case.fails.says.as_slice())?,
+        disks: Vec::from_slice(alloc, case.fails.disks.as_slice())?,
+        dead_from: case.fails.dead_from,
+    };
+    let input = Bytes::from_slice(alloc, case.input.as_slice())?;
+    let main = Bytes::from_slice(alloc, case.main.as_slice())?;
+    let side = Bytes::from_slice(alloc, case.side.as_slice())?;
+    let copy = Bytes::new(alloc);
+    Ok(CaseWorld {
+        world: MemWorld::new(alloc, input, main, side, copy, fails)?,
+        take_at_most: case.take_at_most,
+        say_at_most: case.say_at_most,
+        turn,
+        in_faults: 0,
+        out_faults: 0,
+        disk_faults: 0,
+        written: 0,
+    })
+}
+
+fn run_over<L: Ledger>(alloc: Global, words: &[String], world: &mut CaseWorld, blank: Blank) -> Exit
+    requires name { blank.name ≡ L.name }
+    requires parts { blank.parts ≡ L.parts }
+    requires some { blank.parts ≡ 1 }
+{
+    let (book, share) = blank.open::<L>();
+    let mut steps = Steps::new(book, share);
+    run(alloc, words, world, &mut steps)
+}
+
+/// Runs a case whose words are these.
+pub fn run_case(alloc: Global, case: &Case, line: &str) -> Result<Outcome, AllocError> {
+    let words = split(alloc, line)?;
+    let mut world = world(alloc, case)?;
+    let exit = run_over::<Brand>(alloc, words.as_slice(), &mut world, Blank::new(1));
+    Ok(Outcome {
+        exit,
+        said: Vec::from_slice(alloc, world.world.said())?,
+        main: Vec::from_slice(alloc, world.world.content(Part::Main))?,
+        side: Vec::from_slice(alloc, world.world.content(Part::Side))?,
+    })
+}
+
+/// The first line in which two texts differ: its number from 1 on, and the line in each.
+#[derive(Clone, Copy, Debug)]
+pub struct LineDifference<'a> {
+    pub number: u64,
+    pub wanted: &'a [u8],
+    pub got: &'a [u8],
+}
+
+/// Where two texts that aren't the same differ first.
+pub fn first_difference<'a>(wanted: &'a [u8], got: &'a [u8]) -> LineDifference<'a> {
+    let mut others = got.split(|byte| *byte == b'\n');
+    let mut number = 1u64;
+    for line in wanted.split(|byte| *byte == b'\n') {
+        let other = others.next().unwrap_or(&[]);
+        if other != line {
+            return LineDifference {
+                number,
+                wanted: line,
+                got: other,
+            };
+        }
+        number = number.saturating_add(1);
+    }
+    LineDifference {
+        number,
+        wanted: &[],
+        got: others.next().unwrap_or(&[]),
+    }
+}

@@ -1,0 +1,16 @@
+pub mod Kept
+pub mod Places
+pub mod Gates
+pub mod Grown
+pub mod Renewed
+pub mod Beside
+pub mod Rows
+pub mod Packing
+pub mod Once
+pub mod Placing
+pub mod Tally
+pub mod Plans
+pub mod Renewing
+pub mod Opened
+pub mod MapPages
+pub mod Saving

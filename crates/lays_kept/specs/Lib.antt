@@ -1,0 +1,10 @@
+pub mod Kept
+pub mod Moved
+pub mod Grown
+pub mod Rows
+pub mod Packing
+pub mod Once
+pub mod Tally
+pub mod Stands
+pub mod Renewed
+pub mod Saved

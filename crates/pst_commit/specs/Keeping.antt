@@ -1,0 +1,102 @@
+-- What a keeper of a file's nodes holds, and what a plan of it comes to.
+use Rattle.std.specs.Prelude.{◌≡◌, ℕ, ◌+◌, ◌*◌, ◌^◌, ◌||◌, nat_le, Bool, List, ◌++◌, length, take, drop, Option, Ok}
+use Rattle.pst_base.specs.declared.ids.Nid.{Nid}
+use Rattle.pst_outside.specs.World.{Image, World}
+use Rattle.pst_outside.specs.Calls.{Untouched}
+use Rattle.pst_header.specs.declared.header.Header.{Header}
+use Rattle.pst_header.specs.Format.{reading}
+use Rattle.alloc_map.specs.Cells.{free_cells_of}
+use Rattle.alloc_map.specs.Standing.{occupied, IsCovered}
+use Rattle.gate_file.specs.Gate.{IsShut}
+use Rattle.file_blocks.specs.Blocks.{file_of}
+use Rattle.file_layout.specs.Trees.{Found}
+use Rattle.file_layout.specs.Nodes.{NodeMap, Lays, places_of, regions_to}
+use Rattle.node_port.specs.declared.node.NodeRec.{NodeRec}
+use Rattle.node_port.specs.Nodes.{Nodes, changed}
+use Rattle.node_port.specs.Stops.{Room}
+use Rattle.lays_kept.specs.declared.Piece.{Piece}
+use Rattle.lays_kept.specs.Kept.{HoldsEach, Scattered}
+use Rattle.lays_kept.specs.Saved.{region_end, SameTrees, LaysSame, HasMaps}
+use Rattle.lays_kept.specs.Stands.{IsPlan, Stands}
+
+-- ---- what is held
+
+-- The two files of an image stand for nodes under this header, and what is known of files with a header holds of theirs. Nothing is said of the gate.
+pub record Keeps (knows : Header → List ℕ → Type 0) (found : List ℕ) (header : Header) (image : Image) (N : Nodes) : Type 0 where
+  pub stands : Stands found image N header.indexes
+  pub own : (stands.file).header ≡ header
+  pub known : knows header (file_of image)
+
+-- the same of a world that tells
+abbrev pub Holds : (Header → List ℕ → Type 0) → List ℕ → Header → World → Nodes → Type 0
+Holds knows found header world N = world.tells × Keeps knows found header world.here N
+
+-- ---- what room there is
+
+-- Just the slots of these trees' pages, of their blocks and of all fixed pages are used, among those of the most regions that a file may have. So many cells are free, so many pages the trees have, and so it is whether a next number is used up.
+pub record IsMeasured (header : Header) (blocks nodes : Found) (used : List Bool) (cells : ℕ × ℕ × Bool) : Type 0 where
+  pub size : length used ≡ 3968 * 8192
+  pub covered : IsCovered (occupied (places_of blocks nodes) 8192) used
+  pub free : cells.0 ≡ free_cells_of used
+  pub pages : cells.1 ≡ length blocks.pages + length nodes.pages
+  pub spent : cells.2 ≡ (nat_le (2 ^ 61) header.next_block || nat_le (2 ^ 61) header.next_page)
+
+-- the file of an image has this room
+pub record HasRoom (image : Image) (room : Room) : Type 0 where
+  pub header : Header
+  pub read : reading (take 564 (file_of image)) ≡ Ok header
+  pub m : NodeMap
+  pub lays : Lays header (file_of image) m
+  pub used : List Bool
+  pub measured : IsMeasured header lays.blocks lays.nodes used (room.free, room.pages, room.spent)
+
+-- what room there is, in a file that had this header when it was opened
+abbrev pub room_with : ℕ × ℕ × Bool → List ℕ → Room
+room_with cells found = record { free = cells.0; pages = cells.1; spent = cells.2; found = found }
+
+-- What is known of files with a header is right: it has the used slots and the room of each that lays nodes. It stays known of a file that lays the same nodes by the same trees.
+pub record IsKnowledge (knows : Header → List ℕ → Type 0) (used : List Bool) (cells : ℕ × ℕ × Bool) : Type 0 where
+  pub measured : (header : Header) (file : List ℕ) (m : NodeMap) (is : Lays header file m) → knows header file → IsMeasured header is.blocks is.nodes used cells
+  pub stays : (old new : Header) (file other : List ℕ) → LaysSame old new file other → knows old file → knows new other
+
+-- A call that only looks: what was known of files with the header is known still, the used slots and the room are the same, and the world is untouched.
+pub record LooksOn (knows knows' : Header → List ℕ → Type 0) (header : Header) (used used' : List Bool) (cells cells' : ℕ × ℕ × Bool) (old new : World) : Type 0 where
+  pub known : (file : List ℕ) → knows header file → knows' header file
+  pub slots : used' ≡ used
+  pub room : cells' ≡ cells
+  pub world : Untouched old new
+
+-- ---- a plan
+
+-- A plan for a file of these nodes: it can be committed, its header is this one, it comes to the changed nodes and the header's counters, and it makes of the file what is said of plans.
+pub record Comes (knows : Header → List ℕ → Type 0) (becomes : List ℕ → List ℕ → Type 0) (found bytes : List ℕ) (pieces : List Piece) (sealed : List ℕ) (header : Header) (cs : List (Nid × Option NodeRec)) (N : Nodes) (last : List ℕ) : Type 0 where
+  pub plan : IsPlan found bytes pieces sealed N last (changed N cs) header.indexes
+  pub read : reading sealed ≡ Ok header
+  pub known : (mid : List ℕ) → Scattered pieces bytes mid → HoldsEach mid pieces → knows header (sealed ++ drop 564 mid)
+  pub made : (mid : List ℕ) → Scattered pieces bytes mid → HoldsEach mid pieces → becomes bytes (sealed ++ drop 564 mid)
+
+-- whatever nodes a world's file stands for under the old header, the plan is one for it; `before` is known of the file, and `after` will be
+abbrev pub PlansFor : (before after : Header → List ℕ → Type 0) → (List ℕ → List ℕ → Type 0) → List ℕ → Header → World → List Piece → List ℕ → Header → List (Nid × Option NodeRec) → Type 0
+PlansFor before after becomes found old world pieces sealed header cs = (N : Nodes) → Holds before found old world N → Comes after becomes found (file_of world.here) pieces sealed header cs N old.indexes
+
+-- ---- a save
+
+-- The gate is shut, and the two files of an image stand for nodes under this header.
+pub record Rests (found : List ℕ) (header : Header) (image : Image) (N : Nodes) : Type 0 where
+  pub shut : IsShut image.side
+  pub stands : Stands found image N header.indexes
+  pub own : (stands.file).header ≡ header
+
+-- A save can go on from here, in a file that is to end there, with its last region.
+pub record CanSave (found : List ℕ) (header : Header) (end : ℕ) (world : World) (N : Nodes) : Type 0 where
+  pub rests : world.tells → Rests found header world.here N
+  pub regions : end ≡ region_end (regions_to header.eof)
+
+-- A save has left the trees and numbers as they were, under a header that vouches for the maps, which are right.
+pub record IsSaved (old new : Image) : Type 0 where
+  pub before : Header
+  pub was : reading (take 564 (file_of old)) ≡ Ok before
+  pub after : Header
+  pub is : reading (take 564 (file_of new)) ≡ Ok after
+  pub trees : SameTrees before after
+  pub maps : HasMaps after (file_of new)

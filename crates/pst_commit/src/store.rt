@@ -1,0 +1,109 @@
+//! What is asked of what reads a file's nodes and plans changes.
+ghost use Rattle.std.specs.Prelude.{◌≡◌, ◌≤◌, ◌^◌, ℕ, List, Bool, true, IfOk, IfErr, IsTrue};
+ghost use Rattle.pst_header.specs.declared.header.Header.{Header as Head};
+ghost use Rattle.pst_header.specs.Format.{IsWritable};
+ghost use Rattle.node_port.specs.Nodes.{Nodes, ascend, content_of, IsNext, node_at};
+ghost use Rattle.node_port.specs.Stops.{KeepStops, PrepareStops, RoomDecides, Tells};
+ghost use Rattle.pst_commit.specs.Keeping.{Holds, IsKnowledge, LooksOn, PlansFor, room_with};
+
+use alloc_map::Slots;
+use lays_kept::Piece;
+use node_port::{Changes, KeepStop, NodeRec, PrepareStop};
+use pst_base::Nid;
+use pst_header::Header;
+use pst_outside::Outside;
+use std::alloc::Global;
+
+/// A commit that was planned: the pieces to be written, the new header and its bytes, and what the planner knows after it.
+#[derive(Drop)]
+pub struct CommitPlan<A> {
+    pub pieces: Vec<Piece>,
+    pub sealed: [u8; 564],
+    pub header: Header,
+    pub adopts: A,
+    pub ghost writable: { IsWritable header },
+}
+
+/// What reads the nodes of a file with a header, and plans changes of them. It is used with one world, and with the header that it knows.
+///
+/// `Fault` comes where the disk failed, `Memory` where there was no memory, and `Changed` where something isn't as it was found before, so never where the file stands for nodes. No call but `adopt` changes what is known, and none writes.
+pub trait NodeStore<W: Outside> {
+    /// What the planner knows after a commit.
+    type Adopts: Drop;
+
+    /// Its used places, counts of references and cached pages are those of a file with a header.
+    ghost knows: { Self → Head → List ℕ → Type 0 };
+
+    /// What it will know once it has adopted a plan.
+    ghost knows_after: { Self → Self.Adopts → Head → List ℕ → Type 0 };
+
+    /// What a plan makes of a file beside its nodes: the header's numbers, the blocks that are freed, and the places that are taken.
+    ghost becomes: { List ℕ → List ℕ → Type 0 };
+
+    /// The slots that are used.
+    ghost used: { Self → List Bool };
+
+    /// The free cells, the pages of both trees, and whether a next number is used up.
+    ghost cells: { Self → ℕ × ℕ × Bool };
+
+    /// The node with this id, or `None` where there is none.
+    fn node(
+        &mut self,
+        alloc: Global,
+        w: &mut W,
+        header: &Header,
+        nid: Nid,
+    ) -> Result<Option<NodeRec>, KeepStop>
+        ensures node { (found : List ℕ) → IfOk result (λ node. Tells (Holds (knows self.old) found header.now (W.view w.old)) (λ N. node ≡ node_at N nid.bits)) }
+        ensures stops { (found : List ℕ) → IfErr result (KeepStops true (W.view w.old).disk_faults (W.view w.new).disk_faults (Holds (knows self.old) found header.now (W.view w.old))) }
+        ensures looks { LooksOn (knows self.old) (knows self.new) header.now (used self.old) (used self.new) (cells self.old) (cells self.new) (W.view w.old) (W.view w.new) };
+
+    /// The same without its subnodes.
+    fn content(
+        &mut self,
+        alloc: Global,
+        w: &mut W,
+        header: &Header,
+        nid: Nid,
+    ) -> Result<Option<NodeRec>, KeepStop>
+        ensures node { (found : List ℕ) → IfOk result (λ node. Tells (Holds (knows self.old) found header.now (W.view w.old)) (λ N. node ≡ content_of (node_at N nid.bits))) }
+        ensures stops { (found : List ℕ) → IfErr result (KeepStops true (W.view w.old).disk_faults (W.view w.new).disk_faults (Holds (knows self.old) found header.now (W.view w.old))) }
+        ensures looks { LooksOn (knows self.old) (knows self.new) header.now (used self.old) (used self.new) (cells self.old) (cells self.new) (W.view w.old) (W.view w.new) };
+
+    /// The least id of a node above this one, or the least of all for `None`; `None` where there is none. Takes no memory.
+    fn next(
+        &mut self,
+        w: &mut W,
+        header: &Header,
+        nid: Option<Nid>,
+    ) -> Result<Option<Nid>, KeepStop>
+        ensures next { (found : List ℕ) → IfOk result (λ next. Tells (Holds (knows self.old) found header.now (W.view w.old)) (λ N. IsNext N nid next)) }
+        ensures stops { (found : List ℕ) → IfErr result (KeepStops true (W.view w.old).disk_faults (W.view w.new).disk_faults (Holds (knows self.old) found header.now (W.view w.old))) }
+        ensures looks { LooksOn (knows self.old) (knows self.new) header.now (used self.old) (used self.new) (cells self.old) (cells self.new) (W.view w.old) (W.view w.new) };
+
+    /// Plans changes, of whose nodes the ids ascend strictly. `Full` comes just where too few cells are free, and `IdsSpent` just where a next number is used up. A plan that is given up leaves nothing: its places are free for the next, and aren't among the used slots.
+    fn plan(
+        &mut self,
+        alloc: Global,
+        w: &mut W,
+        header: &Header,
+        changes: Changes,
+    ) -> Result<CommitPlan<Self::Adopts>, PrepareStop>
+        requires order { IsTrue (ascend 0 changes.nodes.items) }
+        requires room { changes.room ≤ 2 ^ 60 }
+        ensures plan { (found : List ℕ) → IfOk result (λ p. (p.header.indexes ≡ changes.counts.last) × PlansFor (knows self.new) (knows_after self.new p.adopts) becomes found header.now (W.view w.new) p.pieces.items p.sealed p.header changes.nodes.items) }
+        ensures full { (found : List ℕ) → Tells (Holds (knows self.old) found header.now (W.view w.old)) (λ N. RoomDecides (room_with (cells self.old) found) changes.room changes.nodes.items result) }
+        ensures stops { (found : List ℕ) → IfErr result (PrepareStops true (W.view w.old).disk_faults (W.view w.new).disk_faults (Holds (knows self.old) found header.now (W.view w.old))) }
+        ensures looks { LooksOn (knows self.old) (knows self.new) header.now (used self.old) (used self.new) (cells self.old) (cells self.new) (W.view w.old) (W.view w.new) };
+
+    /// Knows a plan's file from now on. Takes no memory.
+    fn adopt(&mut self, adopts: Self::Adopts)
+        ensures { (header : Head) (file : List ℕ) → knows_after self.old adopts header file → knows self.new header file };
+
+    /// The used slots.
+    fn slots(&self) -> &Slots
+        ensures { result.now ≡ used self.now };
+
+    // What is known is right, and stays so where the trees stay.
+    ghost known_right: { (s : Self) → IsKnowledge (knows s) (used s) (cells s) };
+}
