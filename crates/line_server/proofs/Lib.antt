@@ -1,0 +1,11 @@
+pub mod Answered
+pub mod Cuts
+pub mod Feeds
+pub mod Hearing
+pub mod Inputs
+pub mod PieceLaws
+pub mod Quits
+pub mod Ranges
+pub mod ServerLaws
+pub mod StepLaws
+pub mod TurnLaws

@@ -1,0 +1,9 @@
+pub mod Fronts
+pub mod History
+pub mod Lines
+pub mod Server
+pub mod Spoken
+pub mod States
+pub mod Step
+pub mod Taking
+pub mod Worlds

@@ -1,0 +1,14 @@
+//! How a server of lines ends.
+
+/// Why a server of lines ended.
+#[derive(Clone, Copy, Debug, PartialEq, Eq, Drop)]
+pub enum ServerEnd {
+    /// The input was read to its end or to `quit`.
+    Done,
+    /// The input failed.
+    Input,
+    /// The output failed.
+    Output,
+    /// As many lines were taken as a server takes, 2^32.
+    Lines,
+}
