@@ -25,7 +25,12 @@ def look():
         except (OSError, IndexError):
             continue
         crate = words[words.index("--crate-name") + 1]
-        kind = "tests" if "--test" in words else "proofs" if "/crates/" in folder and os.getcwd() in folder else "edits"
+        if folder.startswith(f"{os.getcwd()}/crates/"):
+            kind = "tests" if "--test" in words else "proofs"
+        elif "/rt-edit" in folder:
+            kind = "edits"
+        else:
+            continue
         spent[pid, fields[19]] = crate, kind, (int(fields[11]) + int(fields[12])) / TICKS
 
 
