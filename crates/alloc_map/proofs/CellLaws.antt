@@ -1,12 +1,13 @@
 -- Cells counted one after another.
-use Rattle.std.proofs.Common.{◌≡◌, ◌<◌, ◌≤◌, ◌↔◌, ◌+◌, ◌-◌, ◌*◌, ◌/◌, ◌^◌, ℕ, zero, suc, refl, Bool, true, false, not, cond, List, length, get_or, take, drop, sym, ap, ◌∙◌, inl, inr, arith, length-drop}
-use Rattle.std.proofs.lemmas.Bool.{cases_Bool, not-true, not_from_false, false_from_ne_true, true≢false}
+use Rattle.std.proofs.Common.{◌≡◌, ◌<◌, ◌≤◌, ◌↔◌, ◌+◌, ◌-◌, ◌*◌, ◌/◌, ◌^◌, ℕ, zero, suc, refl, Bool, true, false, not, cond, ltb, min, List, length, get_or, take, drop, sym, ap, ◌∙◌, inl, inr, arith, length-drop}
+use Rattle.std.proofs.lemmas.Bool.{le-ltb, lt-ltb, cases_Bool, not-true, not_from_false, false_from_ne_true, true≢false}
 use Rattle.std.proofs.lemmas.List.{map-id, length-take-le, get_or-take, get_or-drop, get_or_default}
 use Rattle.std.proofs.lemmas.List.FromFn.{sum_by-map-range_with_len_more, length-range_with_len}
 use Rattle.std.proofs.lemmas.List.Sums.{count_by-le-length, AllPass-from_list_all, list_all-from_AllPass}
 use Rattle.std.specs.List.{count_by, range_with_len}
 use Rattle.alloc_map.specs.Cells.{are_free, cell_slot, cells_from, cells_until, free_below, free_cells_of, IsCounted}
-use Rattle.alloc_map.specs.Slots.{is_used, regions_of, AreAll, Becomes}
+use Rattle.alloc_map.specs.Ends.{free_slots_of, is_free_below}
+use Rattle.alloc_map.specs.Slots.{is_used, regions_of, start_of, AreAll, Becomes}
 
 pub count_more : (p : ℕ → Bool) (n : ℕ) → count_by p (range_with_len 0 (n + 1)) ≡ count_by p (range_with_len 0 n) + cond (p n) 1 0
 count_more p n =
@@ -181,3 +182,31 @@ module _ (old new : List Bool) (at n : ℕ) (v : Bool) (free before after : ℕ)
       let some = count_small (λ c. are_free new (cell_slot c) 128) (cells_from (at + n)) in
       let bound = cells.2 in
       (omega (arith, m, b), omega (arith, count, few, all, some, bound, a))
+
+-- ---- slots below an end
+
+pub clear-more : (used : List Bool) (at clear new : ℕ) (value : Bool) → value ≡ is_used used at → clear ≡ counted (λ (s : ℕ). not (is_used used s)) at → new ≡ clear + cond (not value) 1 0 → new ≡ counted (λ (s : ℕ). not (is_used used s)) (at + 1)
+clear-more used at clear new value is was step =
+    let one : ◌≡◌ {A = ℕ} (cond (not value) 1 0) (cond (not (is_used used at)) 1 0) = ap (λ (b : Bool). cond (not b) 1 0) is in
+    let a = count_more (λ (s : ℕ). not (is_used used s)) at in
+    omega (arith, one, was, step, a)
+
+none-beyond : (p : ℕ → Bool) (n k : ℕ) → ((c : ℕ) → n ≤ c → c < n + k → p c ≡ false) → counted p (n + k) ≡ counted p n
+none-beyond p n zero none = let e : n + 0 ≡ n = omega arith in ap (counted p) e
+none-beyond p n (suc k) none =
+    let rest = none-beyond p n k (λ c low lt. none c low (omega arith)) in
+    let e : n + suc k ≡ suc (n + k) = omega arith in
+    let one : ◌≡◌ {A = ℕ} (cond (p (n + k)) 1 0) 0 = ap (λ (b : Bool). cond b 1 0) (none (n + k) (omega arith) (omega arith)) in
+    let a : counted p (suc (n + k)) ≡ counted p (n + k) + cond (p (n + k)) 1 0 = more p (n + k) in
+    let c : counted p (n + suc k) ≡ counted p (suc (n + k)) = ap (counted p) e in
+    omega (arith, rest, one, a, c)
+
+-- the free slots that begin below an end are the free ones of the first slots
+pub free-slots : (used : List Bool) (eof k : ℕ) → k ≡ min ((eof - 17408 + 63) / 64) (length used) → counted (λ (s : ℕ). not (is_used used s)) k ≡ free_slots_of used eof
+unfolding free_slots_of
+free-slots used eof k is =
+    let P : ℕ → Bool = is_free_below used eof in
+    let first = same-count (λ (s : ℕ). not (is_used used s)) P k (λ c lt. let below : ltb (start_of c) eof ≡ true = lt-ltb (start_of c) eof (omega (arith, is, lt)) in rw below refl) in
+    let rest = none-beyond P k (length used - k) (λ c low lt. let past : ltb (start_of c) eof ≡ false = le-ltb (start_of c) eof (omega (arith, is, low, lt)) in rw past refl) in
+    let all : k + (length used - k) ≡ length used = omega (arith, is) in
+    first ∙ sym rest ∙ ap (counted P) all

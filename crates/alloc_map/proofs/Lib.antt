@@ -5,3 +5,6 @@ pub mod CoverLaws
 pub mod MapLaws
 pub mod RoomLaws
 pub mod SlotLaws
+pub mod TakeLaws
+pub mod TakenLaws
+pub mod TallyLaws

@@ -32,3 +32,11 @@ pub record IsCounted (used : List Bool) (free : ℕ) : Type 0 where
   pub whole : length used ≡ 3968 * regions_of used
   pub few : regions_of used ≤ 8192
   pub count : free ≡ free_cells_of used
+
+-- where the places for pages in cells begin: a cell has sixteen
+abbrev pub page_slot : ℕ → ℕ
+page_slot g = cell_slot (g / 16) + 8 * (g % 16)
+
+-- how many of them are free
+unfoldable pub page_rooms : List Bool → ℕ
+page_rooms used = count_by (λ g. are_free used (page_slot g) 8) (range_with_len 0 (16 * (30 * regions_of used)))

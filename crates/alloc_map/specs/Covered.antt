@@ -10,6 +10,10 @@ unfoldable pub IsTwice : List Place → ℕ → Type 0
 IsTwice [] slot = ⊥
 IsTwice (p ∷ ps) slot = (Covers p slot × SomeCovers ps slot) ⊎ IsTwice ps slot
 
+-- no slot is covered twice
+abbrev pub Once : List Place → Type 0
+Once places = (slot : ℕ) → IsTwice places slot → ⊥
+
 -- the slot is used, and one of n from a slot on
 pub record IsUsedIn (used : List Bool) (from n slot : ℕ) : Type 0 where
   pub low : from ≤ slot

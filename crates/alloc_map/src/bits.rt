@@ -1,5 +1,6 @@
 //! A list of bits, eight in a byte.
-ghost use Rattle.std.specs.Prelude.{◌≡◌, ◌<◌, ◌≤◌, ◌+◌, ◌*◌, ◌^◌, ◌↔◌, false, length, replicate, vec_len, take, drop, IfOk, IsTrue};
+ghost use Rattle.std.specs.Prelude.{◌≡◌, ◌<◌, ◌≤◌, ◌+◌, ◌*◌, ◌^◌, ◌↔◌, ℕ, false, not, count_by, length, replicate, vec_len, take, drop, IfOk, IsTrue};
+ghost use Rattle.std.specs.List.{range_with_len};
 ghost use Rattle.alloc_map.specs.Packed.{bits_of};
 ghost use Rattle.alloc_map.specs.Slots.{is_used, AreAll, Becomes, Unites};
 
@@ -94,6 +95,20 @@ impl Bits {
             }
         }
         true
+    }
+
+    /// How many of the first n bits are clear.
+    pub(crate) fn clear_before(&self, n: usize) -> u64
+        requires within { n ≤ length self.now }
+        ensures { result ≡ count_by (λ (at : ℕ). not (is_used self.now at)) (range_with_len 0 n) }
+    {
+        let mut clear = 0;
+        for at in 0..n {
+            if !self.get(at) {
+                clear += 1;
+            }
+        }
+        clear
     }
 
     /// The bytes of a region's bits.

@@ -9,11 +9,14 @@ mod bits;
 mod bounds;
 mod cells;
 mod cover;
+mod ends;
 mod overlap;
+mod placing;
 mod search;
 mod slots;
 #[cfg(test)]
 mod tests;
 
+pub use ends::end_for;
 pub use overlap::Overlap;
 pub use slots::Slots;

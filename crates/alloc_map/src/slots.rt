@@ -1,7 +1,8 @@
 //! The used slots of a file's regions.
 ghost use Rattle.std.specs.Prelude.{◌≡◌, ◌<◌, ◌≤◌, ◌*◌, ◌/◌, ◌%◌, ◌+◌, ℕ, List, true, false, length, slice_index, All, IfOk, IfErr, IfSome, IfNone};
 ghost use Rattle.alloc_map.specs.Slots.{AreAll, Becomes, BeginsLeast, IsLaid, IsPageRoom, IsRoom, Unites, regions_of, slot_of, slots_in};
-ghost use Rattle.alloc_map.specs.Cells.{free_cells_of};
+ghost use Rattle.alloc_map.specs.Cells.{free_cells_of, page_rooms};
+ghost use Rattle.alloc_map.specs.Ends.{free_slots_of};
 ghost use Rattle.alloc_map.specs.Maps.{IsMapPage};
 ghost use Rattle.alloc_map.specs.Standing.{IsCovered, IsMeeting, StopsAtOverlap, occupied, standing};
 
@@ -136,14 +137,24 @@ impl Slots {
         self.used.unite(&other.used);
     }
 
-    /// How many cells are free. A region has 30 cells of 8192 bytes, the first at its byte 2048.
+    /// How many cells are free. A region has 30 cells of 8192 bytes, the first at its byte 2048. Each free one has room for 16 pages.
     pub fn free_cells(&self) -> u64
-        ensures { result ≡ free_cells_of self.now }
+        ensures count { result ≡ free_cells_of self.now }
+        ensures pages { 16 * result ≤ page_rooms self.now }
     {
         self.used.free()
     }
 
-    /// Uses the least free place of a length, a multiple of 64 from 64 to 8192, that lies in one region outside of its first 2048 bytes. `None` where there is none.
+    /// How many free slots begin below a file's end, in bytes. 64 times as many is what a header counts as free ([MS-PST] 2.2.2.5, `cbAMapFree`).
+    pub fn free_slots_below(&self, eof: u64) -> u64
+        ensures { result ≡ free_slots_of self.now eof }
+    {
+        let below = (eof.saturating_sub(0x4400) + 63) / 64;
+        let slots = below.min((REGION * self.bounds.len()) as u64);
+        self.used.bits().clear_before(slots as usize)
+    }
+
+    /// Uses the least free place of a length, a multiple of 64 from 64 to 8192, that lies in one region outside of its first 2048 bytes. `None` where there is none: then no cell is free. It takes at most one free cell.
     pub fn place_block(&mut self, len: usize) -> Option<u64>
         requires whole { len % 64 ≡ 0 }
         requires low { 64 ≤ len }
@@ -152,6 +163,8 @@ impl Slots {
         ensures used { IfSome result (λ ib. Becomes self.old self.new (slot_of ib) (len / 64) true) }
         ensures none { IfNone result ((slot : ℕ) → IsRoom self.old (len / 64) slot → ⊥) }
         ensures same { IfNone result (self.new ≡ self.old) }
+        ensures full { IfNone result (free_cells_of self.old ≡ 0) }
+        ensures takes { free_cells_of self.old ≤ free_cells_of self.new + 1 }
     {
         let n = len / 64;
         let Some(slot) = find_block(self.used.bits(), &mut self.bounds, n as u8) else {
@@ -161,12 +174,14 @@ impl Slots {
         Some(start_of(slot))
     }
 
-    /// Uses the least free place of 512 bytes at a multiple of 512 that lies in one region outside of its first 2048 bytes. `None` where there is none.
+    /// Uses the least free place of 512 bytes at a multiple of 512 that lies in one region outside of its first 2048 bytes. `None` where there is none: then no cell has a free sixteenth. It takes at most one of those.
     pub fn place_page(&mut self) -> Option<u64>
         ensures least { IfSome result (BeginsLeast (IsPageRoom self.old)) }
         ensures used { IfSome result (λ ib. Becomes self.old self.new (slot_of ib) 8 true) }
         ensures none { IfNone result ((slot : ℕ) → IsPageRoom self.old slot → ⊥) }
         ensures same { IfNone result (self.new ≡ self.old) }
+        ensures full { IfNone result (page_rooms self.old ≡ 0) }
+        ensures takes { page_rooms self.old ≤ page_rooms self.new + 1 }
     {
         let Some(slot) = find_page(self.used.bits(), &mut self.pages) else {
             return None;
