@@ -1,7 +1,11 @@
 pub mod BlockSteps
 pub mod CountSteps
+pub mod KeepLaws
+pub mod KeepSteps
+pub mod KeyLaws
 pub mod ListingLaws
 pub mod PieceLaws
 pub mod PlanLaws
 pub mod PlanSteps
+pub mod SizeLaws
 pub mod Steps

@@ -15,6 +15,11 @@ pub each-from_all : {X : Type 0} (P : X → Type 0) (xs : List X) → All P xs �
 each-from_all P [] all = tt
 each-from_all P (x ∷ xs) all = (all 0 x (omega arith), each-from_all P xs (λ k d h. all (suc k) d (omega arith)))
 
+pub all_from-each : {X : Type 0} (P : X → Type 0) (xs : List X) → Each P xs → All P xs
+all_from-each P [] each k d h = absurd (omega arith)
+all_from-each P (x ∷ xs) each zero d h = each.0
+all_from-each P (x ∷ xs) each (suc k) d h = all_from-each P xs each.1 k d (omega arith)
+
 pub each-append : {X : Type 0} (P : X → Type 0) (xs ys : List X) → Each P xs → Each P ys → Each P (xs ++ ys)
 each-append P [] ys first later = later
 each-append P (x ∷ xs) ys first later = (first.0, each-append P xs ys first.1 later)
@@ -108,6 +113,22 @@ pieces-short size (suc n) xs = (let e = length-take size xs in omega arith, piec
 pub cut-short : {X : Type 0} (size : ℕ) (xs : List X) → Each (λ (piece : List X). length piece ≤ size) (cut size xs)
 unfolding cut
 cut-short size xs = pieces-short size ((length xs + (size - 1)) / size) xs
+
+pieces-some : {X : Type 0} (size n : ℕ) (xs : List X) → 0 < size → size * n < length xs + size → Each (λ (piece : List X). 0 < length piece) (pieces size n xs)
+pieces-some size zero xs low h = tt
+pieces-some size (suc n) xs low h =
+    let more = mul-suc size n in
+    let here = length-take size xs in
+    let left = length-drop size xs in
+    (omega arith, pieces-some size n (drop size xs) low (omega arith))
+
+-- no piece is empty
+pub cut-some : {X : Type 0} (size : ℕ) (xs : List X) → 0 < size → Each (λ (piece : List X). 0 < length piece) (cut size xs)
+unfolding cut
+cut-some size xs low =
+    let n = length xs + (size - 1) in
+    let whole : size * (n / size) + n % size ≡ n = div-add-mod n size in
+    pieces-some size (n / size) xs low (omega arith)
 
 pieces-each : {X : Type 0} (P : X → Type 0) (size n : ℕ) (xs : List X) → Each P xs → Each (Each P) (pieces size n xs)
 pieces-each P size zero xs all = tt

@@ -27,7 +27,7 @@ length-numbered mark next (b ∷ bs) = ap suc (length-numbered mark (next + 4) b
 
 -- the id fits its bytes, and names a data block
 abbrev pub IsData : Bid × List ℕ → Type 0
-IsData block = ((block.0).bits % 4 ≡ 0) × ((block.0).bits < 2 ^ 64)
+IsData block = ((block.0).bits / 2 % 2 ≡ 0) × ((block.0).bits < 2 ^ 64)
 
 pub data-numbered : (next : ℕ) (bs : List (List ℕ)) → next % 4 ≡ 0 → next + 4 * length bs ≤ 2 ^ 64 → Each IsData (numbered 0 next bs)
 data-numbered next [] apart room = tt
@@ -36,11 +36,11 @@ data-numbered next (b ∷ bs) apart room = ((omega arith, omega arith), data-num
 abbrev pub Fits64 : Bid → Type 0
 Fits64 bid = bid.bits < 2 ^ 64
 
-fit-data : (blocks : List (Bid × List ℕ)) → Each IsData blocks → Each Fits64 (bids_in blocks)
+pub fit-data : (blocks : List (Bid × List ℕ)) → Each IsData blocks → Each Fits64 (bids_in blocks)
 fit-data [] all = tt
 fit-data (block ∷ blocks) all = (all.0.1, fit-data blocks all.1)
 
-fit-numbered : (mark next : ℕ) (bs : List (List ℕ)) → next + 4 * length bs + mark ≤ 2 ^ 64 → Each Fits64 (bids_in (numbered mark next bs))
+pub fit-numbered : (mark next : ℕ) (bs : List (List ℕ)) → next + 4 * length bs + mark ≤ 2 ^ 64 → Each Fits64 (bids_in (numbered mark next bs))
 fit-numbered mark next [] room = tt
 fit-numbered mark next (b ∷ bs) room = (omega arith, fit-numbered mark (next + 4) bs (omega arith))
 
@@ -80,7 +80,7 @@ ids-spelled (bid ∷ bids) all =
     ap (λ (n : ℕ). record { bits = n } ∷ ids (length bids) (spelled bids)) (number_at-first 8 bid.bits (spelled bids) all.0)
     ∙ ap (λ (rest : List Bid). bid ∷ rest) (ids-spelled bids all.1)
 
-length-listing : (level total : ℕ) (bids : List Bid) → length (listing level total bids) ≡ 8 + 8 * length bids
+pub length-listing : (level total : ℕ) (bids : List Bid) → length (listing level total bids) ≡ 8 + 8 * length bids
 unfolding listing
 length-listing level total bids = let e = length-spelled bids in omega arith
 
@@ -139,13 +139,13 @@ leaves-xblock bid blocks few all =
     let plain = are_data-data blocks all in
     rw (names, plain) refl
 
-xblock-listing : (blocks : List (Bid × List ℕ)) → length blocks ≤ 1021 → is_listing 1 (xblock blocks) ≡ true
+pub xblock-listing : (blocks : List (Bid × List ℕ)) → length blocks ≤ 1021 → is_listing 1 (xblock blocks) ≡ true
 xblock-listing blocks few =
     let count = length-map blocks (λ (block : Bid × List ℕ). block.0) in
     is_listing-listing 1 (bytes_in (contents blocks)) (bids_in blocks) (omega arith)
 
 -- the id of a block that names others
-marked : (next : ℕ) → next % 4 ≡ 0 → is_internal (record { bits = next + 2 }) ≡ true
+pub marked : (next : ℕ) → next % 4 ≡ 0 → is_internal (record { bits = next + 2 }) ≡ true
 marked next apart = eq-eqb ((next + 2) / 2 % 2) 1 (omega arith)
 
 below-numbered : (find : ℕ → Option (List ℕ)) (parent : Bid) (parts : List (List (Bid × List ℕ))) (next : ℕ) → next % 4 ≡ 0
@@ -163,7 +163,7 @@ below-numbered find parent (part ∷ parts) next apart short plain found =
     ∙ ap Ok (sym (map-append ids_of part (joined parts)))
 
 -- the data of blocks that are found
-blocks-found : (find : ℕ → Option (List ℕ)) (eof before : ℕ) (blocks : List (Bid × List ℕ)) → Each (IsFound find) blocks → before + bytes_in (contents blocks) ≤ eof
+pub blocks-found : (find : ℕ → Option (List ℕ)) (eof before : ℕ) (blocks : List (Bid × List ℕ)) → Each (IsFound find) blocks → before + bytes_in (contents blocks) ≤ eof
     → blocks_from find eof before (bids_in blocks) ≡ Ok (contents blocks)
 blocks-found find eof before [] found room = refl
 blocks-found find eof before (block ∷ blocks) found room =
@@ -184,15 +184,15 @@ pub xblocks-none : (next : ℕ) (blocks : List (Bid × List ℕ)) → length blo
 unfolding xblocks
 xblocks-none next blocks few = rw (le-ltb 1 (length blocks) few) refl
 
-xxblock-some : (next total : ℕ) (xs : List (Bid × List ℕ)) → 1 < length xs → xxblock next total xs ≡ numbered 2 next (listing 2 total (bids_in xs) ∷ [])
+pub xxblock-some : (next total : ℕ) (xs : List (Bid × List ℕ)) → 1 < length xs → xxblock next total xs ≡ numbered 2 next (listing 2 total (bids_in xs) ∷ [])
 unfolding xxblock
 xxblock-some next total xs some = rw (lt-ltb 1 (length xs) some) refl
 
-xxblock-none : (next total : ℕ) (xs : List (Bid × List ℕ)) → length xs ≤ 1 → xxblock next total xs ≡ []
+pub xxblock-none : (next total : ℕ) (xs : List (Bid × List ℕ)) → length xs ≤ 1 → xxblock next total xs ≡ []
 unfolding xxblock
 xxblock-none next total xs few = rw (le-ltb 1 (length xs) few) refl
 
-length-map_cut : (blocks : List (Bid × List ℕ)) → length (map xblock (cut 1021 blocks)) ≡ (length blocks + 1020) / 1021
+pub length-map_cut : (blocks : List (Bid × List ℕ)) → length (map xblock (cut 1021 blocks)) ≡ (length blocks + 1020) / 1021
 length-map_cut blocks = length-map (cut 1021 blocks) xblock ∙ length-cut 1021 blocks
 
 -- how many blocks of level 1 there are
@@ -205,13 +205,13 @@ few-xblocks next blocks few = elim (cases_lt 1 (length blocks)) [
   | inr none ↦ let e = ap length (xblocks-none next blocks none) in omega arith
 ]
 
-few-xxblock : (next total : ℕ) (xs : List (Bid × List ℕ)) → length (xxblock next total xs) ≤ 1
+pub few-xxblock : (next total : ℕ) (xs : List (Bid × List ℕ)) → length (xxblock next total xs) ≤ 1
 few-xxblock next total xs = elim (cases_lt 1 (length xs)) [
   | inl some ↦ let e = ap length (xxblock-some next total xs some) in omega arith
   | inr none ↦ let e = ap length (xxblock-none next total xs none) in omega arith
 ]
 
-few-above : (next : ℕ) (blocks : List (Bid × List ℕ)) → length blocks ≤ 1042441 → length (above next blocks) ≤ 1022
+pub few-above : (next : ℕ) (blocks : List (Bid × List ℕ)) → length blocks ≤ 1042441 → length (above next blocks) ≤ 1022
 unfolding above
 few-above next blocks few =
     let xs = xblocks next blocks in
@@ -233,7 +233,7 @@ rise-xxblock next total xs = elim (cases_lt 1 (length xs)) [
   | inr none ↦ rw (xxblock-none next total xs none) tt
 ]
 
-rise-above : (next : ℕ) (blocks : List (Bid × List ℕ)) → Rise next (above next blocks)
+pub rise-above : (next : ℕ) (blocks : List (Bid × List ℕ)) → Rise next (above next blocks)
 unfolding above
 rise-above next blocks =
     let xs = xblocks next blocks in
@@ -242,7 +242,7 @@ rise-above next blocks =
 
 -- ---- the root
 
-not_zero : (n : ℕ) → 0 < n → eqb n 0 ≡ false
+pub not_zero : (n : ℕ) → 0 < n → eqb n 0 ≡ false
 not_zero n h = ne_eqb n 0 (λ e. omega arith)
 
 bids_of-marked : (find : ℕ → Option (List ℕ)) (next : ℕ) (b : List ℕ) → next % 4 ≡ 0 → find (key_of (next + 2)) ≡ Some b
@@ -284,7 +284,7 @@ many-root find next low total blocks apart below_apart room few plain found root
     ∙ ap (λ (all : List (Bid × List ℕ)). Ok (bids_in all)) (joined-cut 1021 blocks (omega arith))
 
 -- the last of the blocks above two data blocks or more
-above-root : (find : ℕ → Option (List ℕ)) (next : ℕ) (before blocks : List (Bid × List ℕ)) → next % 4 ≡ 0 → next + 4 * length blocks + 8192 ≤ 2 ^ 64 → 1 < length blocks → length blocks ≤ 1042441
+pub above-root : (find : ℕ → Option (List ℕ)) (next : ℕ) (before blocks : List (Bid × List ℕ)) → next % 4 ≡ 0 → next + 4 * length blocks + 8192 ≤ 2 ^ 64 → 1 < length blocks → length blocks ≤ 1042441
     → Each IsData blocks → Each (IsFound find) (above next blocks) → bids_of find (record { bits = last_id (before ++ above next blocks) }) ≡ Ok (bids_in blocks)
 unfolding above
 above-root find next before blocks apart room some few plain found =
@@ -318,6 +318,12 @@ above-root find next before blocks apart room some few plain found =
           ∙ ap (λ (n : ℕ). bids_of find (record { bits = n })) (last-append before (record { bits = next + 2 }, xblock blocks) [])
           ∙ one-root find next blocks apart short plain all.0
     ]
+
+pub above-none : (next : ℕ) (blocks : List (Bid × List ℕ)) → length blocks ≤ 1 → above next blocks ≡ []
+unfolding above
+above-none next blocks few =
+    let none : xblocks next blocks ≡ [] = xblocks-none next blocks few in
+    ap (λ (xs : List (Bid × List ℕ)). xs ++ xxblock (next + 4 * length xs) (bytes_in (contents blocks)) xs) none ∙ xxblock-none (next + 4 * 0) (bytes_in (contents blocks)) [] (omega arith)
 
 -- ---- the tree
 
@@ -437,7 +443,7 @@ plain-xxblock next total xs apart = elim (cases_lt 1 (length xs)) [
   | inr none ↦ rw (xxblock-none next total xs none) refl
 ]
 
-plain-above : (next : ℕ) (blocks : List (Bid × List ℕ)) → next % 4 ≡ 0 → plain (above next blocks) ≡ []
+pub plain-above : (next : ℕ) (blocks : List (Bid × List ℕ)) → next % 4 ≡ 0 → plain (above next blocks) ≡ []
 unfolding above
 plain-above next blocks apart =
     let xs = xblocks next blocks in

@@ -1,10 +1,11 @@
 -- The tree of blocks that is to hold some data, and the ids of its blocks.
-use Rattle.std.specs.Prelude.{◌≡◌, ℕ, zero, suc, ◌+◌, ◌-◌, ◌*◌, ◌/◌, ◌<◌, ◌≤◌, ◌^◌, ◌⊎◌, nat_lt, if◌then◌else◌, List, [], ◌∷◌, ◌++◌, map, take, drop, length, Option, Some, Ok}
+use Rattle.std.specs.Prelude.{◌≡◌, ℕ, zero, suc, ◌+◌, ◌-◌, ◌*◌, ◌/◌, ◌%◌, ◌<◌, ◌≤◌, ◌^◌, ◌⊎◌, nat_lt, if◌then◌else◌, List, [], ◌∷◌, ◌++◌, map, take, drop, length, Option, Some, None, Ok}
 use Rattle.std.specs.List.{All}
 use Rattle.byteorder.specs.Endian.{little_bytes}
 use Rattle.pst_base.specs.declared.ids.Bid.{Bid}
 use Rattle.pst_base.specs.Ids.{key_of}
-use Rattle.data_tree.specs.Tree.{blocks_of, is_internal}
+use Rattle.data_tree.specs.Keys.{AreSame, data_keys, keys_of}
+use Rattle.data_tree.specs.Tree.{bids_of, blocks_of, is_internal}
 
 -- ---- the data
 
@@ -101,3 +102,73 @@ IsFound find block = find (key_of (block.0).bits) ≡ Some block.1
 -- wherever the blocks are found, and the file is as long as the data, the tree under an id has just this data
 abbrev pub ReadsAs : List (Bid × List ℕ) → Bid → List (List ℕ) → Type 0
 ReadsAs blocks bid bs = (find : ℕ → Option (List ℕ)) → All (IsFound find) blocks → (eof : ℕ) → bytes_in bs ≤ eof → blocks_of find eof bid ≡ Ok bs
+
+-- no block has more than 8176 bytes
+abbrev pub AreSmall : List (Bid × List ℕ) → Type 0
+AreSmall blocks = All (λ block. length block.1 ≤ 8176) blocks
+
+-- wherever the blocks are found, the tree under an id reaches just them and those kept
+abbrev pub Reaches : List (Bid × List ℕ) → List Bid → Bid → Type 0
+Reaches blocks kept bid = (find : ℕ → Option (List ℕ)) → All (IsFound find) blocks → AreSame (data_keys find bid) (keys_of kept ++ keys_of (bids_in blocks))
+
+-- ---- data of which some blocks are kept
+
+-- the id that the first block keeps, if it keeps one; behind the list's end none is kept
+abbrev pub first_kept : List (Option Bid) → Option Bid
+first_kept [] = None
+first_kept (kept ∷ keep) = kept
+
+-- the data blocks with their ids: those kept have their own, the others ids from a number on, each 4 above the one before
+abbrev pub placed : ℕ → List (Option Bid) → List (List ℕ) → List (Bid × List ℕ)
+placed next keep [] = []
+placed next [] (b ∷ bs) = (record { bits = next }, b) ∷ placed (next + 4) [] bs
+placed next (Some bid ∷ keep) (b ∷ bs) = (bid, b) ∷ placed next keep bs
+placed next (None ∷ keep) (b ∷ bs) = (record { bits = next }, b) ∷ placed (next + 4) keep bs
+
+-- the data of the blocks that aren't kept
+abbrev pub unkept : List (Option Bid) → List (List ℕ) → List (List ℕ)
+unkept keep [] = []
+unkept [] (b ∷ bs) = b ∷ bs
+unkept (Some bid ∷ keep) (b ∷ bs) = unkept keep bs
+unkept (None ∷ keep) (b ∷ bs) = b ∷ unkept keep bs
+
+-- the ids of the blocks that are kept
+abbrev pub kept_bids : List (Option Bid) → List (List ℕ) → List Bid
+kept_bids keep [] = []
+kept_bids [] (b ∷ bs) = []
+kept_bids (Some bid ∷ keep) (b ∷ bs) = bid ∷ kept_bids keep bs
+kept_bids (None ∷ keep) (b ∷ bs) = kept_bids keep bs
+
+-- the bytes of the kept ones stand under their ids
+abbrev pub AreFound : (ℕ → Option (List ℕ)) → List (Option Bid) → List (List ℕ) → Type 0
+AreFound find keep [] = Unit {0}
+AreFound find [] (b ∷ bs) = Unit {0}
+AreFound find (Some bid ∷ keep) (b ∷ bs) = (find (key_of bid.bits) ≡ Some b) × AreFound find keep bs
+AreFound find (None ∷ keep) (b ∷ bs) = AreFound find keep bs
+
+-- ids that may be kept: of data blocks, with keys above 0 and below a number
+abbrev pub MayKeep : ℕ → List (Option Bid) → Type 0
+MayKeep next [] = Unit {0}
+MayKeep next (Some bid ∷ keep) = (bid.bits / 2 % 2 ≡ 0) × (2 ≤ bid.bits) × (bid.bits < next) × MayKeep next keep
+MayKeep next (None ∷ keep) = MayKeep next keep
+
+-- the new data blocks of some data
+abbrev pub fresh : ℕ → List (Option Bid) → List (List ℕ) → List (Bid × List ℕ)
+fresh next keep bs = numbered 0 next (unkept keep bs)
+
+-- the blocks above all data blocks, kept or new
+unfoldable pub above_kept : ℕ → List (Option Bid) → List (List ℕ) → List (Bid × List ℕ)
+above_kept next keep bs = above (next + 4 * length (fresh next keep bs)) (placed next keep bs)
+
+-- the id of the root
+abbrev pub root_kept : ℕ → List (Option Bid) → List (List ℕ) → ℕ
+root_kept next keep bs = last_id (placed next keep bs ++ above_kept next keep bs)
+
+-- wherever the new blocks are found, the tree under an id names each data block at its position: the kept ones by their own ids, the others by the new ones
+abbrev pub NamesKept : List (Bid × List ℕ) → ℕ → List (Option Bid) → Bid → List (List ℕ) → Type 0
+NamesKept blocks next keep bid bs = (find : ℕ → Option (List ℕ)) → All (IsFound find) blocks → bids_of find bid ≡ Ok (bids_in (placed next keep bs))
+
+-- wherever the new blocks are found, and under each id that is kept the bytes at its position, and the file is as long as the data, the tree under an id has just this data
+abbrev pub ReadsKept : List (Bid × List ℕ) → List (Option Bid) → Bid → List (List ℕ) → Type 0
+ReadsKept blocks keep bid bs =
+    (find : ℕ → Option (List ℕ)) → All (IsFound find) blocks → AreFound find keep bs → (eof : ℕ) → bytes_in bs ≤ eof → blocks_of find eof bid ≡ Ok bs

@@ -22,6 +22,6 @@ mod tree;
 pub use data::read_data;
 pub use measure::measure_data;
 pub use memory::BlockList;
-pub use plan::{DataPlan, last_id, plan_data};
+pub use plan::{DataPlan, last_id, plan_data, plan_data_keep};
 pub use source::{BlockSource, TreeStop, fetch};
 pub use tree::read_bids;

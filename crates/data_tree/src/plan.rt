@@ -1,6 +1,6 @@
 //! The blocks of a data tree that is to be written.
-ghost use Rattle.std.specs.Prelude.{◌≡◌, ◌≤◌, ◌<◌, ◌+◌, ◌*◌, ◌%◌, ◌^◌, length, map, IfOk};
-ghost use Rattle.data_tree.specs.Plan.{IsContent, ReadsAs, Rise, above, bids_in, bytes_in, contents, cut, last_id, listing, numbered, plain, planned, xblock, xblocks, xxblock};
+ghost use Rattle.std.specs.Prelude.{◌≡◌, ◌≤◌, ◌<◌, ◌+◌, ◌*◌, ◌%◌, ◌^◌, ◌++◌, [], drop, length, map, IfOk};
+ghost use Rattle.data_tree.specs.Plan.{AreSmall, IsContent, MayKeep, NamesKept, Reaches, ReadsAs, ReadsKept, Rise, above, above_kept, bids_in, bytes_in, contents, cut, first_kept, fresh, kept_bids, last_id, listing, numbered, placed, plain, planned, root_kept, unkept, xblock, xblocks, xxblock};
 
 use pst_base::{Bid, Bytes};
 use std::alloc::{AllocError, Global};
@@ -174,14 +174,124 @@ pub fn plan_data(alloc: Global, blocks: &[Bytes], next: u64) -> Result<DataPlan,
     ensures root { IfOk result (λ plan. plan.bid.bits ≡ last_id plan.blocks.items) }
     ensures after { IfOk result (λ plan. plan.next ≡ next + 4 * length plan.blocks.items) }
     ensures few { IfOk result (λ plan. length plan.blocks.items ≤ length blocks.now + 1022) }
+    ensures most { IfOk result (λ plan. 2 * length plan.blocks.items ≤ 3 * length blocks.now) }
+    ensures small { IfOk result (λ plan. AreSmall plan.blocks.items) }
     ensures numbered { IfOk result (λ plan. Rise next plan.blocks.items) }
     ensures marked { IfOk result (λ plan. plain plan.blocks.items ≡ blocks.now) }
     ensures reads { IfOk result (λ plan. ReadsAs plan.blocks.items plan.bid blocks.now) }
+    ensures reaches { IfOk result (λ plan. Reaches plan.blocks.items [] plan.bid) }
 {
     let blocks = planned(alloc, blocks, next)?;
     Ok(DataPlan {
         bid: last_id(blocks.as_slice()),
         next: next + 4 * blocks.len() as u64,
         blocks,
+    })
+}
+
+/// The id that the block at a position keeps, if it keeps one.
+fn kept_at(keep: &[Option<Bid>], position: usize) -> Option<Bid>
+    ensures { result ≡ first_kept (drop position keep.now) }
+{
+    if position < keep.len() {
+        keep[position]
+    } else {
+        None
+    }
+}
+
+/// The data blocks with their ids: those that are kept have their own, the others ids from `next` on.
+fn placed(
+    alloc: Global,
+    blocks: &[Bytes],
+    keep: &[Option<Bid>],
+    next: u64,
+) -> Result<Vec<(Bid, Bytes)>, AllocError>
+    requires { next + 4 * length blocks.now ≤ 2 ^ 63 + 2 ^ 62 }
+    ensures { IfOk result (λ out. out.items ≡ placed next keep.now blocks.now) }
+{
+    let mut out = Vec::with_capacity(alloc, blocks.len())?;
+    let mut free = next;
+    for (i, block) in blocks.iter().enumerate() {
+        let data = block.copy(alloc)?;
+        match kept_at(keep, i) {
+            Some(bid) => out.push((bid, data))?,
+            None => {
+                out.push((Bid { bits: free }, data))?;
+                free += 4;
+            }
+        }
+    }
+    Ok(out)
+}
+
+/// The data blocks that aren't kept, with ids from `next` on.
+fn fresh(
+    alloc: Global,
+    blocks: &[Bytes],
+    keep: &[Option<Bid>],
+    next: u64,
+) -> Result<Vec<(Bid, Bytes)>, AllocError>
+    requires { next + 4 * length blocks.now ≤ 2 ^ 63 + 2 ^ 62 }
+    ensures { IfOk result (λ out. out.items ≡ fresh next keep.now blocks.now) }
+{
+    let mut out = Vec::new(alloc);
+    let mut free = next;
+    for (i, block) in blocks.iter().enumerate() {
+        if kept_at(keep, i).is_none() {
+            let bid = Bid { bits: free };
+            out.push((bid, block.copy(alloc)?))?;
+            free += 4;
+        }
+    }
+    Ok(out)
+}
+
+/// The id of the root of a tree: the last block above its data blocks, or the data block that needs none.
+fn root(blocks: &[(Bid, Bytes)], above: &[(Bid, Bytes)]) -> Bid
+    ensures { result.bits ≡ last_id (blocks.now ++ above.now) }
+{
+    if above.len() > 0 {
+        last_id(above)
+    } else {
+        last_id(blocks)
+    }
+}
+
+/// The blocks that are to be written for some data of which some blocks stay where they are: the data blocks that aren't kept, and all that name others. `keep` has for each position the id of the block that is kept there; behind its end none is kept.
+///
+/// A kept id is that of a data block, with a key above 0 and below `next`. `next` is the number of the first new block, a multiple of 4 from 4 to 2^63; each next id is 4 above, and bit 1 marks blocks that name others. An `Err` comes only of want of memory.
+pub fn plan_data_keep(
+    alloc: Global,
+    blocks: &[Bytes],
+    keep: &[Option<Bid>],
+    next: u64,
+) -> Result<DataPlan, AllocError>
+    requires content { IsContent blocks.now }
+    requires may { MayKeep next keep.now }
+    requires low { 4 ≤ next }
+    requires high { next ≤ 2 ^ 63 }
+    requires apart { next % 4 ≡ 0 }
+    ensures laid { IfOk result (λ plan. plan.blocks.items ≡ fresh next keep.now blocks.now ++ above_kept next keep.now blocks.now) }
+    ensures root { IfOk result (λ plan. plan.bid.bits ≡ root_kept next keep.now blocks.now) }
+    ensures after { IfOk result (λ plan. plan.next ≡ next + 4 * length plan.blocks.items) }
+    ensures most { IfOk result (λ plan. 2 * length plan.blocks.items ≤ 2 * length (unkept keep.now blocks.now) + length blocks.now) }
+    ensures small { IfOk result (λ plan. AreSmall plan.blocks.items) }
+    ensures numbered { IfOk result (λ plan. Rise next plan.blocks.items) }
+    ensures marked { IfOk result (λ plan. plain plan.blocks.items ≡ unkept keep.now blocks.now) }
+    ensures names { IfOk result (λ plan. NamesKept plan.blocks.items next keep.now plan.bid blocks.now) }
+    ensures reads { IfOk result (λ plan. ReadsKept plan.blocks.items keep.now plan.bid blocks.now) }
+    ensures reaches { IfOk result (λ plan. Reaches plan.blocks.items (kept_bids keep.now blocks.now) plan.bid) }
+{
+    let mut out = fresh(alloc, blocks, keep, next)?;
+    let after = next + 4 * out.len() as u64;
+    let all = placed(alloc, blocks, keep, next)?;
+    let mut tops = above(alloc, all.as_slice(), after)?;
+    let bid = root(all.as_slice(), tops.as_slice());
+    out.append(&mut tops)?;
+    Ok(DataPlan {
+        bid,
+        next: next + 4 * out.len() as u64,
+        blocks: out,
     })
 }

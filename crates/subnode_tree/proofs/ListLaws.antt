@@ -6,7 +6,7 @@ use Rattle.pst_base.specs.Fields.{number_at}
 use Rattle.data_tree.proofs.ListingLaws.{drop-here}
 use Rattle.subnode_tree.specs.declared.blocks.SubEntry.{SubEntry}
 use Rattle.subnode_tree.specs.declared.blocks.Listed.{Listed}
-use Rattle.subnode_tree.specs.Subnodes.{is_laid, entry_at, entries_from, entries_of, listed_at, listed_from, listed_of, rise_above, ascend, reach}
+use Rattle.subnode_tree.specs.Subnodes.{is_laid, entry_at, entries_from, entries_of, listed_at, listed_from, listed_of, rise_above, ascend, reach, listed_rise, listed_ascend}
 
 pub record IsLaidOut (size : ℕ) (b : List ℕ) : Type 0 where
   pub begins : 8 ≤ length b
@@ -86,6 +86,24 @@ rise-stop last i es d h below =
 
 pub rise-end : (last i : ℕ) (es : List SubEntry) → length es ≤ i → rise_above last (drop i es) ≡ true
 rise-end last i es h = ap (rise_above last) (drop_all i es h)
+
+pub listed-first : (all : List Listed) (d : Listed) → 0 < length all → listed_ascend all ≡ listed_rise ((get_or all 0 d).nid).bits (drop 1 all)
+listed-first [] d h = absurd (omega arith)
+listed-first (one ∷ all) d h = refl
+
+pub listed-rise-next : (last i : ℕ) (all : List Listed) (d : Listed) → i < length all → last < ((get_or all i d).nid).bits
+    → listed_rise last (drop i all) ≡ listed_rise ((get_or all i d).nid).bits (drop (i + 1) all)
+listed-rise-next last i all d h above =
+    ap (listed_rise last) (drop-here all i d h)
+    ∙ ap (λ (t : Bool). t && listed_rise ((get_or all i d).nid).bits (drop (i + 1) all)) (lt-ltb last ((get_or all i d).nid).bits above)
+
+pub listed-rise-stop : (last i : ℕ) (all : List Listed) (d : Listed) → i < length all → ((get_or all i d).nid).bits ≤ last → listed_rise last (drop i all) ≡ false
+listed-rise-stop last i all d h below =
+    ap (listed_rise last) (drop-here all i d h)
+    ∙ ap (λ (t : Bool). t && listed_rise ((get_or all i d).nid).bits (drop (i + 1) all)) (le-ltb last ((get_or all i d).nid).bits below)
+
+pub listed-rise-end : (last i : ℕ) (all : List Listed) → length all ≤ i → listed_rise last (drop i all) ≡ true
+listed-rise-end last i all h = ap (listed_rise last) (drop_all i all h)
 
 pub reach-next : (low i : ℕ) (es : List SubEntry) (d : SubEntry) → i < length es → low ≤ ((get_or es i d).nid).bits → reach low (drop i es) ≡ reach low (drop (i + 1) es)
 reach-next low i es d h above =

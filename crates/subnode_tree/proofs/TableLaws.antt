@@ -11,13 +11,13 @@ use Rattle.pst_base.proofs.Numbers.{number_at-first, number_at-next, number_at-b
 use Rattle.data_tree.specs.declared.source.TreeStop.{TreeStop}
 use Rattle.data_tree.specs.Tree.{and_then, named}
 use Rattle.data_tree.specs.Plan.{IsFound, Rise, cut, last_id, numbered, plain}
-use Rattle.data_tree.proofs.PieceLaws.{Each, each-left, each-right, joined, cut-one, length-cut, joined-cut, cut-short, cut-each}
+use Rattle.data_tree.proofs.PieceLaws.{Each, each-left, each-right, joined, cut-one, length-cut, joined-cut, cut-short, cut-some, cut-each}
 use Rattle.data_tree.proofs.PlanLaws.{last-append, length-numbered, plain-append, plain-marked, rise-append, rise-numbered}
 use Rattle.subnode_tree.specs.declared.blocks.Listed.{Listed}
 use Rattle.subnode_tree.specs.declared.blocks.SubEntry.{SubEntry}
 use Rattle.subnode_tree.specs.declared.tables.Row.{Row}
 use Rattle.subnode_tree.specs.Plan.{ascending, rise_from}
-use Rattle.subnode_tree.specs.Subnodes.{ascend, entries_from, entries_of, entry_at, is_inner, is_laid, is_leaf, level_in, level_of, listed_at, listed_from, listed_of, ordered, part_in, part_of, parts_of, reach, rise_above}
+use Rattle.subnode_tree.specs.Subnodes.{ascend, entries_from, entries_of, entry_at, is_inner, is_laid, is_leaf, level_in, level_of, listed_at, listed_from, listed_of, listed_ascend, listed_rise, ordered, part_in, part_of, parts_of, reach, rise_above}
 use Rattle.subnode_tree.specs.Tables.{Fits, first_nid, inner, leaf, leaves, listed_as, listed_bytes, rows_bytes, table, tables, top}
 use Rattle.subnode_tree.proofs.TableSteps.{leaves-is}
 
@@ -214,6 +214,41 @@ pub ascending-right : (xs ys : List ℕ) → ascending (xs ++ ys) ≡ true → a
 ascending-right [] ys h = h
 ascending-right (x ∷ xs) ys h = rise-right x xs ys h
 
+rise-lower : (low last : ℕ) (xs : List ℕ) → low ≤ last → rise_from last xs ≡ true → rise_from low xs ≡ true
+rise-lower low last [] h rise = refl
+rise-lower low last (x ∷ xs) h rise =
+    let both = and_parts (ltb last x) (rise_from x xs) rise in
+    let above = ltb-true last x both.0 in
+    and_from (ltb low x) (rise_from x xs) (lt-ltb low x (omega arith)) both.1
+
+rise-behind : (last : ℕ) (xs ys : List ℕ) → rise_from last (xs ++ ys) ≡ true → rise_from last ys ≡ true
+rise-behind last [] ys rise = rise
+rise-behind last (x ∷ xs) ys rise =
+    let both = and_parts (ltb last x) (rise_from x (xs ++ ys)) rise in
+    let above = ltb-true last x both.0 in
+    rise-lower last x ys (omega arith) (rise-behind x xs ys both.1)
+
+-- the first NIDs of some parts ascend
+listed-rise-as : (last next : ℕ) (parts : List (List Row)) → Each (λ (part : List Row). 0 < length part) parts → rise_from last (row_nids (joined parts)) ≡ true → listed_rise last (listed_as next parts) ≡ true
+listed-rise-as last next [] some rise = refl
+listed-rise-as last next ([] ∷ parts) some rise = let none = some.0 in absurd (omega arith)
+listed-rise-as last next ((row ∷ rows) ∷ parts) some rise =
+    let nid_of = λ (row : Row). (row.nid).bits in
+    let nid = (row.nid).bits in
+    let both = and_parts (ltb last nid) (rise_from nid (row_nids (rows ++ joined parts))) rise in
+    let after : rise_from nid (row_nids rows ++ row_nids (joined parts)) ≡ true = ap (rise_from nid) (sym (map-append nid_of rows (joined parts))) ∙ both.1 in
+    and_from (ltb last nid) (listed_rise nid (listed_as (next + 4) parts)) both.0
+    (listed-rise-as nid (next + 4) parts some.1 (rise-behind nid (row_nids rows) (row_nids (joined parts)) after))
+
+listed-ascend-as : (next : ℕ) (parts : List (List Row)) → Each (λ (part : List Row). 0 < length part) parts → ascending (row_nids (joined parts)) ≡ true → listed_ascend (listed_as next parts) ≡ true
+listed-ascend-as next [] some rise = refl
+listed-ascend-as next ([] ∷ parts) some rise = let none = some.0 in absurd (omega arith)
+listed-ascend-as next ((row ∷ rows) ∷ parts) some rise =
+    let nid_of = λ (row : Row). (row.nid).bits in
+    let nid = (row.nid).bits in
+    let after : rise_from nid (row_nids rows ++ row_nids (joined parts)) ≡ true = ap (rise_from nid) (sym (map-append nid_of rows (joined parts))) ∙ rise in
+    listed-rise-as nid (next + 4) parts some.1 (rise-behind nid (row_nids rows) (row_nids (joined parts)) after)
+
 -- none is below the first
 reach-rise : (level low last : ℕ) (rows : List Row) → low ≤ last → rise_from last (row_nids rows) ≡ true → reach low (map (entry_as level) rows) ≡ true
 reach-rise level low last [] h rise = refl
@@ -266,13 +301,13 @@ level_in-leaf find level bid rows few fits rise =
     rw (laid, entries) (ordered-as level bid rows rise)
 
 level_in-inner : (find : ℕ → Option (List ℕ)) (level : ℕ) (bid : Bid) (listed : List Listed) (rows : List Row) → length listed ≤ 510 → Each ListedFits listed
-    → parts_of find level listed ≡ Ok (map (entry_as level) rows) → ascending (row_nids rows) ≡ true → level_in find level bid (inner listed) ≡ Ok (map (entry_as level) rows)
+    → listed_ascend listed ≡ true → parts_of find level listed ≡ Ok (map (entry_as level) rows) → ascending (row_nids rows) ≡ true → level_in find level bid (inner listed) ≡ Ok (map (entry_as level) rows)
 unfolding level_in
-level_in-inner find level bid listed rows few fits parts rise =
+level_in-inner find level bid listed rows few fits firsts parts rise =
     let other = is_leaf-inner listed in
     let laid = is_inner-inner listed few in
     let all = listed_of-inner listed few fits in
-    rw (other, laid, all, parts) (ordered-as level bid rows rise)
+    rw (other, laid, all, firsts, parts) (ordered-as level bid rows rise)
 
 -- ---- the blocks
 
@@ -411,7 +446,7 @@ tables-read find level next rows high some few fits rise found =
           ap (λ (blocks : List (Bid × List ℕ)). level_of find level (record { bits = last_id (ls ++ blocks) })) over
           ∙ ap (λ (n : ℕ). level_of find level (record { bits = n })) (last-append ls (bid, inner listed) [])
           ∙ level_of-found find level bid (inner listed) (each-right (IsFound find) ls ((bid, inner listed) ∷ []) all).0
-          ∙ level_in-inner find level bid listed rows (omega arith) (listed-fit next parts (omega arith) (cut-each Fits 340 rows fits)) read rise
+          ∙ level_in-inner find level bid listed rows (omega arith) (listed-fit next parts (omega arith) (cut-each Fits 340 rows fits)) (listed-ascend-as next parts (cut-some 340 rows (omega arith)) rising) read rise
       | inr one ↦
           let bid : Bid = record { bits = next + 2 } in
           let short : length rows ≤ 340 = omega arith in

@@ -59,6 +59,16 @@ abbrev pub ascend : List SubEntry → Bool
 ascend [] = true
 ascend (entry ∷ entries) = rise_above (entry.nid).bits entries
 
+-- the NIDs with which a block of level 1 lists others ascend strictly, and the first is above one that came before
+abbrev pub listed_rise : ℕ → List Listed → Bool
+listed_rise last [] = true
+listed_rise last (listed ∷ more) = nat_lt last (listed.nid).bits && listed_rise (listed.nid).bits more
+
+-- the NIDs with which a block of level 1 lists others ascend strictly
+abbrev pub listed_ascend : List Listed → Bool
+listed_ascend [] = true
+listed_ascend (listed ∷ more) = listed_rise (listed.nid).bits more
+
 -- no NID is below this one
 abbrev pub reach : ℕ → List SubEntry → Bool
 reach low [] = true
@@ -81,11 +91,15 @@ abbrev pub parts_of : (ℕ → Option (List ℕ)) → ℕ → List Listed → Re
 parts_of find level [] = Ok []
 parts_of find level (listed ∷ more) = and_then (part_of find level listed) (λ here. and_then (parts_of find level more) (λ rest. Ok (here ++ rest)))
 
--- the subnodes that a block lists, itself or by others: the fault of an order over the whole is its own
+-- the subnodes in all blocks that one of level 1 lists, whose own NIDs must ascend: the fault of an order over the whole is its own too
+abbrev pub inner_in : (ℕ → Option (List ℕ)) → ℕ → Bid → List Listed → Result (List SubEntry) TreeStop
+inner_in find level bid listed = if listed_ascend listed then and_then (parts_of find level listed) (ordered bid) else Err (Form bid)
+
+-- the subnodes that a block lists, itself or by others
 unfoldable pub level_in : (ℕ → Option (List ℕ)) → ℕ → Bid → List ℕ → Result (List SubEntry) TreeStop
 level_in find level bid b =
     if is_leaf b then ordered bid (entries_of level b)
-    else (if is_inner b then and_then (parts_of find level (listed_of b)) (ordered bid) else Err (Form bid))
+    else (if is_inner b then inner_in find level bid (listed_of b) else Err (Form bid))
 
 abbrev pub level_of : (ℕ → Option (List ℕ)) → ℕ → Bid → Result (List SubEntry) TreeStop
 level_of find level bid = and_then (fetched find bid) (level_in find level bid)

@@ -2,7 +2,7 @@
 ghost use Rattle.std.specs.Prelude.{◌≡◌, ◌<◌};
 ghost use Rattle.data_tree.specs.Source.{Later};
 ghost use Rattle.data_tree.specs.Stops.{Reads, ReadsAlone};
-ghost use Rattle.subnode_tree.specs.Subnodes.{ascend, reach, ordered, part_in, part_of, parts_of, level_in, level_of};
+ghost use Rattle.subnode_tree.specs.Subnodes.{ascend, reach, listed_ascend, ordered, part_in, part_of, parts_of, inner_in, level_in, level_of};
 
 use crate::blocks::{Listed, SubEntry, entries, is_inner, is_leaf, names};
 use data_tree::{BlockSource, TreeStop, fetch};
@@ -23,6 +23,24 @@ fn ascend(entries: &[SubEntry]) -> bool
             return false;
         }
         last = nid;
+    }
+    true
+}
+
+/// Whether the NIDs with which a block of level 1 lists others ascend strictly.
+fn listed_ascend(all: &[Listed]) -> bool
+    ensures { result ≡ listed_ascend all.now }
+{
+    if all.len() == 0 {
+        return true;
+    }
+    let mut last = all[0].nid.bits;
+    for i in 1..all.len() {
+        let first = all[i].nid.bits;
+        if first <= last {
+            return false;
+        }
+        last = first;
     }
     true
 }
@@ -105,6 +123,24 @@ fn parts_of<S: BlockSource>(
     Ok(found)
 }
 
+/// The subnodes in all blocks that one of level 1 lists: a lookup goes by the NIDs that it lists them with, so they must ascend.
+fn inner_in<S: BlockSource>(
+    alloc: Global,
+    level: u8,
+    bid: Bid,
+    all: &[Listed],
+    s: &mut S,
+) -> Result<Vec<SubEntry>, MemOr<TreeStop>>
+    ensures later { Later (S.view s.old) (S.view s.new) }
+    ensures reads { Reads (λ found. found.items) (S.view s.old) (S.view s.new) (λ find. inner_in find level bid all.now) result }
+{
+    if !listed_ascend(all) {
+        return Err(MemOr::Refused(TreeStop::Form { bid }));
+    }
+    let found = parts_of(alloc, level, all, s)?;
+    ordered(bid, found)
+}
+
 /// The subnodes that a block lists, itself or by others.
 #[tactic(auto, unfolding(crate::specs::Subnodes::level_in))]
 fn level_in<S: BlockSource>(
@@ -124,8 +160,7 @@ fn level_in<S: BlockSource>(
         return Err(MemOr::Refused(TreeStop::Form { bid }));
     }
     let all = names(alloc, b)?;
-    let found = parts_of(alloc, level, all.as_slice(), s)?;
-    ordered(bid, found)
+    inner_in(alloc, level, bid, all.as_slice(), s)
 }
 
 /// The subnodes that a block lists, which has to be fetched.

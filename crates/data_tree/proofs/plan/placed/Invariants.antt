@@ -1,0 +1,9 @@
+use Rattle.std.proofs.Common.{◌≡◌, ◌≤◌, ◌+◌, ◌*◌, ◌++◌, drop}
+use Rattle.data_tree.specs.Plan.{placed}
+use Rattle.data_tree.proofs.plan.placed.Given as goal
+
+abbrev pub invariant-loop-i : goal.invariant-loop-i
+invariant-loop-i l = record {
+  made : l.out.items ++ placed l.free (drop l.i l.keep) (drop l.i l.blocks) ≡ placed l.next l.keep l.blocks;
+  at : l.free ≤ l.next + 4 * l.i;
+}
