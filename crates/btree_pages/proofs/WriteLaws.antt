@@ -1,5 +1,6 @@
 -- A page that was written reads back.
-use Rattle.std.proofs.Common.{true, false, ◌≡◌, ℕ, suc, ◌+◌, ◌*◌, ◌/◌, ◌<◌, ◌≤◌, ltb, leb, eqb, List, [], ◌∷◌, ◌++◌, length, map, take, drop, get_or, Ok, refl, sym, ap, subst, ◌∙◌, arith, append_assoc, append-nil, length-append}
+use Rattle.std.proofs.Common.{true, false, ◌≡◌, ℕ, zero, suc, ◌+◌, ◌*◌, ◌/◌, ◌<◌, ◌≤◌, ltb, leb, eqb, List, [], ◌∷◌, ◌++◌, length, map, take, drop, get_or, Ok, refl, sym, ap, subst, ◌∙◌, arith, append_assoc, append-nil, length-append}
+use Rattle.std.specs.List.{All}
 use Rattle.std.proofs.lemmas.Bool.{eq-eqb, le-leb, le-ltb}
 use Rattle.std.proofs.lemmas.List.{drop-drop, drop_at, take_at, length-take-le, length-map, map_more, take_more, take_all}
 use Rattle.std.proofs.lemmas.Nat.{mul-le}
@@ -221,6 +222,17 @@ underway-bytes {X} bytes fits size level xs i b first page under last head =
     let count : length (map bytes xs) ≡ length xs = length-map xs bytes in
     under.written_so_far ∙ ap (λ (ys : List X). replaced 0 (joined (map bytes ys)) first) all
     ∙ ap (replaced 0 (joined (map bytes xs))) (head ∙ ap (λ (n : ℕ). with_head n size level b) (sym count))
+
+each-all : {X : Type 0} (P : X → Type 0) (xs : List X) → Each P xs → (k : ℕ) (d : X) → k < length xs → P (get_or xs k d)
+each-all P [] all k d h = absurd (omega (arith, h))
+each-all P (x ∷ xs) all zero d h = all.0
+each-all P (x ∷ xs) all (suc k) d h = each-all P xs all.1 k d (omega (arith, h))
+
+-- all entries were written: each fits
+pub underway-fits : {X : Type 0} (bytes : X → List ℕ) (fits : X → Type 0) (xs : List X) (i : ℕ) (first page : List ℕ) → Underway bytes fits xs i first page → i ≡ length xs → All fits xs
+underway-fits {X} bytes fits xs i first page under last =
+    let at : List X → Type 0 = λ ys. Each fits ys in
+    each-all fits xs (subst at (take_all i xs (omega arith)) under.fit)
 
 -- all entries were written: the page reads as them
 pub underway-end : {X : Type 0} (rule : ℕ → ℕ) (bytes : X → List ℕ) (key : X → ℕ) (fits : X → Type 0) (leaf size level : ℕ) (xs : List X) (i : ℕ) (b first page : List ℕ)

@@ -68,6 +68,20 @@ node_of-node_bytes e fits =
       fourth 4 8 8 8 e.parent.bits nid e.content.bits e.subnodes.bits (little_bytes 4 0) fits.parent,
     ) refl
 
+pub key-block_of : (b : List ℕ) → key_of (block_of b).at.bid.bits ≡ key_of (number_at 8 0 b)
+unfolding block_of
+key-block_of b = refl
+
+pub key-node_of : (b : List ℕ) → (node_of b).nid.bits ≡ node_key (number_at 8 0 b)
+unfolding node_of
+key-node_of b = refl
+
+pub key_of-key_of : (x : ℕ) → key_of (key_of x) ≡ key_of x
+key_of-key_of x = omega arith
+
+pub node_key-node_key : (x : ℕ) → node_key (node_key x) ≡ node_key x
+node_key-node_key x = omega arith
+
 pub length-inner_bytes : (e : Inner) → length (inner_bytes e) ≡ 24
 unfolding inner_bytes
 length-inner_bytes e = refl

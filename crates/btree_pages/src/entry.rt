@@ -36,7 +36,8 @@ pub trait Entry: Copy {
 
     /// The entry's key.
     fn key(self) -> u64
-        ensures { result ≡ key self };
+        ensures value { result ≡ key self }
+        ensures fits { fits self };
 
     /// Reads an entry's bytes.
     fn read(b: &[u8]) -> Self
@@ -57,6 +58,12 @@ pub trait Entry: Copy {
 
     /// The first 8 bytes give the key.
     ghost keyed: { (e : Self) → fits e → rule (number_at 8 0 (bytes e)) ≡ key e };
+
+    /// The key of what is read is the one that the bytes give.
+    ghost key_read: { (b : List ℕ) → key (entry_of b) ≡ rule (number_at 8 0 b) };
+
+    /// A key makes itself.
+    ghost steady: { (first : ℕ) → rule (rule first) ≡ rule first };
 }
 
 /// A block: its id and place, how many bytes its data has, and 1 more than the number of places that name it ([MS-PST] 2.2.2.7.7.3). No reader relies on `refs`.
@@ -70,7 +77,7 @@ pub struct BlockEntry {
 impl Entry for BlockEntry {
     ghost use Rattle.pst_base.specs.Ids.{key_of};
     ghost use Rattle.btree_pages.specs.Entries.{BlockFits, block_bytes, block_of};
-    ghost use Rattle.btree_pages.specs.EntryLaws.{length-block_bytes, block_of-block_bytes, key-block_bytes};
+    ghost use Rattle.btree_pages.specs.EntryLaws.{length-block_bytes, block_of-block_bytes, key-block_bytes, key-block_of, key_of-key_of};
 
     ghost size = { 24 };
 
@@ -89,6 +96,10 @@ impl Entry for BlockEntry {
     ghost reads_back = { block_of-block_bytes };
 
     ghost keyed = { key-block_bytes };
+
+    ghost key_read = { key-block_of };
+
+    ghost steady = { key_of-key_of };
 
     fn size() -> usize {
         24
@@ -134,7 +145,7 @@ pub struct NodeEntry {
 
 impl Entry for NodeEntry {
     ghost use Rattle.btree_pages.specs.Entries.{NodeFits, node_bytes, node_of, node_key};
-    ghost use Rattle.btree_pages.specs.EntryLaws.{length-node_bytes, node_of-node_bytes, key-node_bytes};
+    ghost use Rattle.btree_pages.specs.EntryLaws.{length-node_bytes, node_of-node_bytes, key-node_bytes, key-node_of, node_key-node_key};
 
     ghost size = { 32 };
 
@@ -153,6 +164,10 @@ impl Entry for NodeEntry {
     ghost reads_back = { node_of-node_bytes };
 
     ghost keyed = { key-node_bytes };
+
+    ghost key_read = { key-node_of };
+
+    ghost steady = { node_key-node_key };
 
     fn size() -> usize {
         32

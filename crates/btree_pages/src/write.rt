@@ -1,5 +1,6 @@
 //! Writing a tree page.
-ghost use Rattle.std.specs.Prelude.{◌≡◌, ◌≤◌, ◌<◌, ◌+◌, ◌*◌, ◌++◌, true, Ok, map, take, drop, length, replicate, All};
+ghost use Rattle.std.specs.Prelude.{◌≡◌, ◌≤◌, ◌<◌, ◌+◌, ◌*◌, ◌++◌, true, Ok, map, take, drop, length, replicate};
+ghost use Rattle.std.specs.List.{All};
 ghost use Rattle.pst_base.specs.Fields.{number_at, replaced};
 ghost use Rattle.btree_pages.specs.Entries.{inner_bytes, InnerFits};
 ghost use Rattle.btree_pages.specs.Pages.{Page, ascend, page_of, with_head, page_bytes};
@@ -9,12 +10,13 @@ use crate::inner::Inner;
 use crate::page::ENTRIES;
 use pst_base::put_u8;
 
-/// The content of a leaf with these entries, which ascend strictly by key.
+/// The content of a leaf with these entries, which ascend strictly by key. Each of them fits its bytes, so it reads back as itself.
 pub fn write_leaf<E: Entry>(entries: &[E]) -> [u8; 496]
     requires few { length entries.now * E.size ≤ 488 }
     requires ascend { ascend (map E.key entries.now) ≡ true }
     ensures bytes { result ≡ page_bytes E.size 0 (map E.bytes entries.now) }
     ensures reads_back { page_of E.rule E.size result ≡ Ok (record { level = 0; entries = map E.bytes entries.now }) }
+    ensures fits { All E.fits entries.now }
 {
     let mut page = [0; 496];
     put_head(&mut page, entries.len(), E::size(), 0);
@@ -32,6 +34,7 @@ pub fn write_inner<E: Entry>(level: u8, entries: &[Inner]) -> [u8; 496]
     requires ascend { ascend (map (λ e. E.rule e.key) entries.now) ≡ true }
     ensures bytes { result ≡ page_bytes 24 level (map inner_bytes entries.now) }
     ensures reads_back { page_of E.rule E.size result ≡ Ok (record { level = level; entries = map inner_bytes entries.now }) }
+    ensures fits { All InnerFits entries.now }
 {
     let mut page = [0; 496];
     put_head(&mut page, entries.len(), 24, level);

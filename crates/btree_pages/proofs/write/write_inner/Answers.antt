@@ -4,7 +4,7 @@ use Rattle.btree_pages.specs.declared.inner.Inner.{Inner}
 use Rattle.btree_pages.specs.Entries.{inner_bytes, InnerFits}
 use Rattle.btree_pages.specs.EntryLaws.{length-inner_bytes, key-inner_bytes}
 use Rattle.btree_pages.proofs.PageLaws.{piece_within, size_at-inner}
-use Rattle.btree_pages.proofs.WriteLaws.{underway-start, underway-next, underway-bytes, underway-end}
+use Rattle.btree_pages.proofs.WriteLaws.{underway-start, underway-next, underway-bytes, underway-end, underway-fits}
 use Rattle.btree_pages.proofs.write.write_inner.Goals as goal
 
 pub loop-i-init : goal.loop-i-init
@@ -35,3 +35,9 @@ returns-clause-bytes g c =
     let end = c.loop-i.auto.i-end in
     underway-bytes inner_bytes InnerFits 24 c.args.level c.args.entries.now c.loop-i.i (replicate 496 0) c.put_head.new.page c.loop-i.page
     c.loop-i.invariant (omega (arith, test, end)) c.put_head.ensures
+
+pub returns-clause-fits : goal.returns-clause-fits
+returns-clause-fits g c =
+    let test = c.loop-i-test.false in
+    let end = c.loop-i.auto.i-end in
+    underway-fits inner_bytes InnerFits c.args.entries.now c.loop-i.i c.put_head.new.page c.loop-i.page c.loop-i.invariant (omega (arith, test, end))

@@ -2,7 +2,7 @@ use Rattle.std.proofs.Common.{ℕ, ◌*◌, length, replicate, refl, ap, ◌∙�
 use Rattle.pst_base.specs.Fields.{replaced}
 use Rattle.btree_pages.specs.Pages.{with_head}
 use Rattle.btree_pages.proofs.PageLaws.{piece_within}
-use Rattle.btree_pages.proofs.WriteLaws.{underway-start, underway-next, underway-bytes, underway-end}
+use Rattle.btree_pages.proofs.WriteLaws.{underway-start, underway-next, underway-bytes, underway-end, underway-fits}
 use Rattle.btree_pages.proofs.write.write_leaf.Goals as goal
 
 pub loop-i-init : goal.loop-i-init
@@ -31,3 +31,9 @@ returns-clause-bytes g c =
     let end = c.loop-i.auto.i-end in
     underway-bytes g.E.Entry.bytes g.E.Entry.fits g.E.Entry.size 0 c.args.entries.now c.loop-i.i (replicate 496 0) c.put_head.new.page c.loop-i.page
     c.loop-i.invariant (omega (arith, test, end)) (c.put_head.ensures ∙ ap (λ (s : ℕ). with_head (length c.args.entries.now) s 0 (replicate 496 0)) c.size.ensures.value)
+
+pub returns-clause-fits : goal.returns-clause-fits
+returns-clause-fits g c =
+    let test = c.loop-i-test.false in
+    let end = c.loop-i.auto.i-end in
+    underway-fits g.E.Entry.bytes g.E.Entry.fits c.args.entries.now c.loop-i.i c.put_head.new.page c.loop-i.page c.loop-i.invariant (omega (arith, test, end))
