@@ -1,5 +1,5 @@
 //! Trees of blocks by the layout of [MS-PST] 2.2.2.8.3.2.
-use crate::{BlockList, BlockSource, TreeStop, measure_data, read_bids, read_data};
+use crate::{BlockList, BlockSizes, BlockSource, TreeStop, measure_data, read_bids, read_data};
 use pst_base::{Bid, Bytes, MemOr, SourceStop};
 use std::alloc::{AllocError, Global};
 use std::test::Fail;
@@ -126,12 +126,14 @@ impl BlockSource for Broken {
         Err(MemOr::Refused(SourceStop::Failed))
     }
 
-    fn size(&self, _: Bid) -> Option<u64> {
-        Some(0)
-    }
-
     fn limit(&self) -> u64 {
         0
+    }
+}
+
+impl BlockSizes for Broken {
+    fn size(&self, _: Bid) -> Option<u64> {
+        Some(0)
     }
 }
 

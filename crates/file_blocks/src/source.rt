@@ -5,7 +5,7 @@ use crate::check::{BlockRefusal, BlockStop, read_block};
 use crate::entries::find_entry;
 use block_frame::BlockFault;
 use btree_pages::BlockEntry;
-use data_tree::BlockSource;
+use data_tree::{BlockSizes, BlockSource};
 use pst_base::{Bid, Bytes, MemOr, SourceStop};
 use pst_outside::Outside;
 use std::alloc::Global;
@@ -44,13 +44,15 @@ impl<'a, W: Outside> BlockSource for FileBlocks<'a, W> {
         }
     }
 
+    fn limit(&self) -> u64 {
+        self.eof
+    }
+}
+
+impl<'a, W: Outside> BlockSizes for FileBlocks<'a, W> {
     fn size(&self, bid: Bid) -> Option<u64> {
         let entry = find_entry(self.entries, bid)?;
         Some(u64::from(entry.cb))
-    }
-
-    fn limit(&self) -> u64 {
-        self.eof
     }
 }
 

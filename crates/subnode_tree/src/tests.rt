@@ -1,6 +1,6 @@
 //! Subnodes by the layout of [MS-PST] 2.2.2.8.3.3.
 use crate::{SubEntry, count_subs, read_entries, read_subs};
-use data_tree::{BlockList, BlockSource, TreeStop};
+use data_tree::{BlockList, BlockSizes, BlockSource, TreeStop};
 use pst_base::{Bid, Bytes, MemOr, Nid, SourceStop, Sub};
 use std::alloc::{AllocError, Global};
 
@@ -183,12 +183,14 @@ impl BlockSource for Listings {
         }
     }
 
-    fn size(&self, bid: Bid) -> Option<u64> {
-        self.all.size(bid)
-    }
-
     fn limit(&self) -> u64 {
         self.all.limit
+    }
+}
+
+impl BlockSizes for Listings {
+    fn size(&self, bid: Bid) -> Option<u64> {
+        self.all.size(bid)
     }
 }
 
