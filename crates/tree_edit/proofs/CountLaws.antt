@@ -1,0 +1,171 @@
+-- How many pages and pieces there are.
+use Rattle.std.proofs.Common.{Bool, true, false, not, ◌≡◌, ◌⊎◌, inl, inr, ⊎_elim, ℕ, zero, suc, ◌+◌, ◌*◌, ◌-◌, ◌<◌, ◌≤◌, eqb, leb, ltb, ◌&&◌, if◌then◌else◌, List, [], ◌∷◌, ◌++◌, length, Option, Some, None, Ok, Err, refl, sym, ap, subst, ◌∙◌, arith, length-append}
+use Rattle.std.proofs.lemmas.Bool.{and_parts, leb-true, lt-ltb, le-ltb, cases_lt}
+use Rattle.std.proofs.lemmas.Nat.{mul-le}
+use Rattle.pst_base.specs.declared.stops.PageFault.TheVariants.{Count, Level, Key}
+use Rattle.pst_base.specs.Fields.{number_at}
+use Rattle.btree_pages.specs.Pages.{Page, pieces, size_at, is_counted, ascend, keys, page_of, page_with}
+use Rattle.btree_pages.proofs.PageLaws.{length-pieces, size_at-inner}
+use Rattle.tree_edit.specs.Edits.{under, over, given, edited}
+use Rattle.tree_edit.specs.Steps.{AreFew}
+
+-- ---- pieces of so many elements, of which `done` are in `out` pieces and `rest` are left
+pub record Full (most out done rest : ℕ) : Type 0 where
+  pub few : (out ≤ 1) ⊎ (most + out ≤ done + 1)
+  pub some : 1 ≤ done → 1 ≤ out
+  pub half : (out ≤ 1) ⊎ (2 * out ≤ done)
+  pub more : 1 ≤ rest → (out ≡ 0) ⊎ ((most + out ≤ done + 1) × (2 * out + 1 ≤ done))
+
+pub full-start : (most rest : ℕ) → Full most 0 0 rest
+full-start most rest = record { few = inl (omega arith); some = λ le. absurd (omega arith); half = inl (omega arith); more = λ some. inl refl }
+
+pub full-next : (most out done rest k : ℕ) → 3 ≤ most → Full most out done rest → 1 ≤ k → k ≤ rest → (k < rest → k ≡ most) → Full most (out + 1) (done + k) (rest - k)
+full-next most out done rest k big f some within whole =
+    let now = f.more (omega arith) in
+    record {
+      some = λ le. omega arith;
+      few = ⊎_elim (λ (z : out ≡ 0). inl (omega arith)) (λ (h : (most + out ≤ done + 1) × (2 * out + 1 ≤ done)). let a = h.0 in inr (omega arith)) now;
+      half = ⊎_elim (λ (z : out ≡ 0). inl (omega arith)) (λ (h : (most + out ≤ done + 1) × (2 * out + 1 ≤ done)). let a = h.1 in inr (omega arith)) now;
+      more = λ left. let e : k ≡ most = whole (omega arith) in
+          ⊎_elim (λ (z : out ≡ 0). inr (omega arith, omega arith)) (λ (h : (most + out ≤ done + 1) × (2 * out + 1 ≤ done)). let a = h.0 in let b = h.1 in inr (omega arith, omega arith)) now;
+    }
+
+pub full-few : (most out done rest e : ℕ) → Full most out done rest → done ≤ most + e → out ≤ 1 + e
+full-few most out done rest e f le = ⊎_elim (λ (a : out ≤ 1). let r : out ≤ 1 + e = omega arith in r) (λ (a : most + out ≤ done + 1). let r : out ≤ 1 + e = omega arith in r) f.few
+
+pub full-half : (most out done rest : ℕ) → Full most out done rest → 2 ≤ done → 2 * out ≤ done
+full-half most out done rest f le = ⊎_elim (λ (a : out ≤ 1). let r : 2 * out ≤ done = omega arith in r) (λ (a : 2 * out ≤ done). a) f.half
+
+-- ---- a page's entries fit
+
+with-fits : (rule : ℕ → ℕ) (size level : ℕ) (b : List ℕ) (page : Page) → page_with rule size level b ≡ Ok page → (length page.entries * size ≤ 488) × (page.level ≡ level)
+unfolding page_with is_counted
+with-fits rule size level b page e = by_cases (eqb (number_at 1 490 b) size && leb (number_at 1 488 b * size) 488) (ltb 7 level) (ascend (keys rule (pieces size (number_at 1 488 b) b))) refl e
+  where
+    held : Page
+    held = record { level = level; entries = pieces size (number_at 1 488 b) b }
+
+    by_cases : (counted deep rising : Bool) → (eqb (number_at 1 490 b) size && leb (number_at 1 488 b * size) 488) ≡ counted
+        → (if not counted then Err Count else (if deep then Err Level else (if not rising then Err Key else Ok held))) ≡ Ok page
+        → (length page.entries * size ≤ 488) × (page.level ≡ level)
+    by_cases false deep rising is e = absurd (cc)
+    by_cases true true rising is e = absurd (cc)
+    by_cases true false false is e = absurd (cc)
+    by_cases true false true is e =
+        let same : held ≡ page = cc in
+        let both = and_parts (eqb (number_at 1 490 b) size) (leb (number_at 1 488 b * size) 488) is in
+        let fits : number_at 1 488 b * size ≤ 488 = leb-true (number_at 1 488 b * size) 488 both.1 in
+        let all : (length held.entries * size ≤ 488) × (held.level ≡ level) = (subst (λ (n : ℕ). n * size ≤ 488) (sym (length-pieces size (number_at 1 488 b) b)) fits, refl) in
+        subst (λ (p : Page). (length p.entries * size ≤ 488) × (p.level ≡ level)) same all
+
+pub page-fits : (rule : ℕ → ℕ) (leaf : ℕ) (b : List ℕ) (page : Page) → page_of rule leaf b ≡ Ok page → length page.entries * size_at leaf page.level ≤ 488
+unfolding page_of
+page-fits rule leaf b page e =
+    let f = with-fits rule (size_at leaf (number_at 1 491 b)) (number_at 1 491 b) b page e in
+    subst (λ (n : ℕ). length page.entries * size_at leaf n ≤ 488) (sym f.1) f.0
+
+-- ---- edits of a list
+
+under-short : {E : Type 0} (key : E → ℕ) (k : ℕ) (es : List E) → length (under key k es) + length (over key k es) ≤ length es
+under-short key k [] = omega arith
+under-short key k (e ∷ es) = let h = under-short key k es in elim (cases_lt (key e) k) [
+  | inl a ↦ let b : key e ≤ k = omega arith in rw (lt-ltb _ _ a, le-ltb _ _ b) (omega arith)
+  | inr a ↦ elim (cases_lt k (key e)) [ inl b ↦ rw (le-ltb _ _ a, lt-ltb _ _ b) (omega arith) | inr b ↦ rw (le-ltb _ _ a, le-ltb _ _ b) (omega arith) ]
+]
+
+given-short : {E : Type 0} (o : Option E) → length (given o) ≤ 1
+given-short None = omega arith
+given-short (Some e) = omega arith
+
+pub edited-short : {E : Type 0} (key : E → ℕ) (es : List E) (ds : List (ℕ × Option E)) → length (edited key es ds) ≤ length es + length ds
+edited-short key es [] = omega arith
+edited-short key es (d ∷ ds) =
+    let a = under-short key d.0 es in
+    let b = given-short d.1 in
+    let c = edited-short key (over key d.0 es) ds in
+    let e = length-append (under key d.0 es) (given d.1 ++ edited key (over key d.0 es) ds) in
+    let f = length-append (given d.1) (edited key (over key d.0 es) ds) in
+    omega (arith, a, b, c, e, f)
+
+-- ---- products
+
+pub times-plus : (w a b : ℕ) → w * (a + b) ≡ w * a + w * b
+times-plus zero a b = let x : zero * (a + b) ≡ 0 = omega arith in let y : zero * a ≡ 0 = omega arith in let z : zero * b ≡ 0 = omega arith in omega (arith, x, y, z)
+times-plus (suc w) a b = let h = times-plus w a b in let x : suc w * (a + b) ≡ (a + b) + w * (a + b) = times-suc w (a + b) in let y = times-suc w a in let z = times-suc w b in omega (arith, h, x, y, z)
+  where
+    times-suc : (w n : ℕ) → suc w * n ≡ n + w * n
+    times-suc w n = omega arith
+
+pub times-one : (w e : ℕ) → 1 ≤ e → w ≤ w * e
+times-one w zero h = absurd (omega arith)
+times-one w (suc e) h = let x : suc e ≡ 1 + e = omega arith in let y : w * suc e ≡ w * 1 + w * e = ap (λ (n : ℕ). w * n) x ∙ times-plus w 1 e in omega (arith, y)
+
+pub full-same : (most a b c x y z : ℕ) → Full most a b c → x ≡ a → y ≡ b → z ≡ c → Full most x y z
+full-same most a b c x y z f p q r =
+    subst (λ (n : ℕ). Full most n y z) (sym p) (subst (λ (n : ℕ). Full most a n z) (sym q) (subst (λ (n : ℕ). Full most a b n) (sym r) f))
+
+pub plus-times : (a b w : ℕ) → (a + b) * w ≡ a * w + b * w
+plus-times a b zero = let x : (a + b) * zero ≡ 0 = omega arith in let y : a * zero ≡ 0 = omega arith in let z : b * zero ≡ 0 = omega arith in omega (arith, x, y, z)
+plus-times a b (suc w) =
+    let h = plus-times a b w in
+    let x : (a + b) * suc w ≡ (a + b) * w + (a + b) = omega arith in
+    let y : a * suc w ≡ a * w + a = omega arith in
+    let z : b * suc w ≡ b * w + b = omega arith in
+    omega (arith, h, x, y, z)
+
+pub loop-grows : (level here e r m q old pages new : ℕ) → 1 ≤ level → here ≡ level → r ≡ m + q → r ≤ e → pages ≤ old + (2 * level) * (e - r) → new ≤ pages + (2 * (here - 1) + 2) * m → new ≤ old + (2 * level) * (e - q)
+loop-grows level here e r m q old pages new some is cut within so_far more =
+    let w : 2 * (here - 1) + 2 ≡ 2 * level = omega arith in
+    let f : (2 * (here - 1) + 2) * m ≡ (2 * level) * m = ap (λ (n : ℕ). n * m) w in
+    let d : e - q ≡ (e - r) + m = omega arith in
+    let g : (2 * level) * (e - q) ≡ (2 * level) * (e - r) + (2 * level) * m = ap (λ (n : ℕ). (2 * level) * n) d ∙ times-plus (2 * level) (e - r) m in
+    omega (arith, f, g, so_far, more)
+
+pub grows-end : (level e r old new : ℕ) → new ≤ old + (2 * level) * (e - r) → new ≤ old + (2 * level) * e
+grows-end level e r old new so_far =
+    let f : (2 * level) * (e - r) ≤ (2 * level) * e = mul-le (2 * level) (e - r) (2 * level) e (omega arith) (omega arith) in omega (arith, f, so_far)
+
+pub leaf-grows : (level e cs old new : ℕ) → 1 ≤ e → cs ≤ 1 + e → new ≡ old + cs → new ≤ old + (2 * level + 2) * e
+leaf-grows level e cs old new some few is =
+    let f : 2 * e ≤ (2 * level + 2) * e = mul-le 2 e (2 * level + 2) e (omega arith) (omega arith) in omega (arith, f, some, few, is)
+
+pub inner-grows : (level here e cs old mid new : ℕ) → here ≡ level → 1 ≤ e → cs ≤ 1 + e → mid ≤ old + (2 * here) * e → new ≡ mid + cs → new ≤ old + (2 * level + 2) * e
+inner-grows level here e cs old mid new same some few below is =
+    let f : (2 * here) * e ≡ (2 * level) * e = ap (λ (n : ℕ). (2 * n) * e) same in
+    let g : (2 * level + 2) * e ≡ (2 * level) * e + 2 * e = plus-times (2 * level) 2 e in
+    omega (arith, f, g, some, few, below, is)
+
+pub inner-fits : (leaf level n : ℕ) → 1 ≤ level → n * size_at leaf level ≤ 488 → n ≤ 20
+inner-fits leaf level n some fits =
+    let e = size_at-inner leaf level some in
+    let f : n * 24 ≤ 488 = subst (λ (s : ℕ). n * s ≤ 488) e fits in omega (arith, f)
+
+-- ---- the whole
+
+pub lift-step : (fn_pages fn_cs pages cs e r : ℕ) → 2 ≤ cs → 2 * r ≤ cs → (cs ≤ 20 + e → r ≤ 1 + e) → fn_cs ≤ 20 + e → ((pages ≡ fn_pages) × (cs ≡ fn_cs)) ⊎ (pages + cs ≤ fn_pages + 2 + 2 * e)
+    → (((pages + r) ≡ fn_pages) × (r ≡ fn_cs)) ⊎ ((pages + r) + r ≤ fn_pages + 2 + 2 * e)
+lift-step fn_pages fn_cs pages cs e r two half few le so_far =
+    ⊎_elim (λ (a : (pages ≡ fn_pages) × (cs ≡ fn_cs)). let x = a.0 in let y = a.1 in let z : r ≤ 1 + e = few (omega arith) in inr (omega arith)) (λ (a : pages + cs ≤ fn_pages + 2 + 2 * e). inr (omega arith)) so_far
+
+pub lift-end : (fn_pages fn_cs pages cs e : ℕ) → (1 ≤ fn_cs → 1 ≤ cs) → (fn_cs ≤ 1 → pages ≤ fn_pages) → ((pages ≡ fn_pages) × (cs ≡ fn_cs)) ⊎ (pages + cs ≤ fn_pages + 2 + 2 * e) → pages ≤ fn_pages + 1 + 2 * e
+lift-end fn_pages fn_cs pages cs e some alone so_far =
+    ⊎_elim (λ (a : (pages ≡ fn_pages) × (cs ≡ fn_cs)). let x = a.0 in let r : pages ≤ fn_pages + 1 + 2 * e = omega arith in r)
+    (λ (a : pages + cs ≤ fn_pages + 2 + 2 * e).
+    let r : pages ≤ fn_pages + 1 + 2 * e = elim (cases_lt 0 fn_cs) [ inl h ↦ let s = some h in omega (arith, a, s) | inr h ↦ let s = alone (omega (arith, h)) in omega (arith, s) ] in r) so_far
+
+pub whole-count : (level e one two three cs ds : ℕ) → 1 ≤ e → AreFew level e 0 one cs → two + ds ≤ one + cs → (1 ≤ cs → 1 ≤ ds) → ((k : ℕ) → cs ≤ 20 + k → two ≤ one + 1 + 2 * k) → three + ds ≤ two + 1 → three ≤ (2 * (level + 2)) * e
+whole-count level e one two three cs ds some few plain left grown top =
+    let w : 2 * (level + 2) ≡ 2 * level + 4 = omega arith in
+    let f : (2 * (level + 2)) * e ≡ (2 * level) * e + 4 * e = ap (λ (n : ℕ). n * e) w ∙ plus-times (2 * level) 4 e in
+    let g : three ≤ (2 * level) * e + 4 * e =
+    ⊎_elim (λ (a : (cs ≤ 1 + e) × (one ≡ 0 + cs)).
+    let x = a.0 in
+    let y = a.1 in
+    let r : three ≤ (2 * level) * e + 4 * e = elim (cases_lt 0 cs) [ inl h ↦ let z = left h in omega (arith, x, y, z, plain, top, some) | inr h ↦ omega (arith, x, y, h, plain, top, some) ] in r)
+    (λ (a : (1 ≤ level) × (cs ≤ 20 + e) × (one ≤ 0 + (2 * level) * e)).
+    let x = a.1 in
+    let y = a.2 in
+    let v = grown e x in
+    let r : three ≤ (2 * level) * e + 4 * e = elim (cases_lt 0 cs) [ inl h ↦ let z = left h in omega (arith, y, z, v, top, some) | inr h ↦ omega (arith, y, h, plain, top, some) ] in r)
+    few in
+    omega (arith, f, g)

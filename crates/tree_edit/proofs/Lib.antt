@@ -1,0 +1,17 @@
+pub mod ShapeLaws
+pub mod EditLaws
+pub mod PutLaws
+pub mod MergeLaws
+pub mod PlanLaws
+pub mod PackLaws
+pub mod EachLaws
+pub mod SpanLaws
+pub mod CutLaws
+pub mod StepLaws
+pub mod LoopLaws
+pub mod RootLaws
+pub mod CountLaws
+pub mod SpareLaws
+pub mod StopLaws
+pub mod WriteLaws
+pub mod LookLaws

@@ -1,0 +1,102 @@
+use Rattle.std.proofs.Common.{◌≡◌, ◌≤◌, ◌+◌, ◌*◌, ◌^◌, ◌++◌, [], ◌∷◌, ℕ, List, length, subst, sym, ap, ◌∙◌, arith, ◌-◌, Option}
+use Rattle.pst_base.specs.declared.ids.Bref.{Bref as Brefs}
+use Rattle.tree_edit.specs.declared.plan.Child.{Child}
+use Rattle.tree_edit.specs.declared.plan.PlanPage.{PlanPage}
+use Rattle.tree_edit.specs.Edits.{edited, puts}
+use Rattle.tree_edit.specs.Plans.{AreWritable}
+use Rattle.tree_edit.specs.Steps.{AreSpare, TellsUnder, AreFew, Replaces, IsTop}
+use Rattle.tree_edit.specs.Pages.{shapes}
+use Rattle.tree_edit.specs.Source.{TellsWhole}
+use Rattle.tree_edit.proofs.LoopLaws.{later-then}
+use Rattle.tree_edit.proofs.RootLaws.{plan-nothing, plan-of, root-under, root-level}
+use Rattle.tree_edit.proofs.CountLaws.{whole-count}
+use Rattle.tree_edit.proofs.SpareLaws.{spare-whole}
+use Rattle.tree_edit.proofs.StopLaws.{stops-source, stops-then, stops-handed, stops-here, any-page, any-of-root}
+use Rattle.tree_edit.proofs.root.change.Goals as goal
+
+pub returns-then-edits-eq0-clause-plan : goal.returns-then-edits-eq0-clause-plan
+returns-then-edits-eq0-clause-plan g c = λ find told es ps whole.
+    plan-nothing (shapes g.E.Entry.rule g.E.Entry.size g.E.Entry.entry_of find) g.E.Entry.key c.new-pages.result.items c.new-freed.result.items c.args.root es ps c.args.edits.now c.if-edits-eq0.true c.new-pages.ensures.items c.new-freed.ensures.items whole
+
+pub returns-clause-later : goal.returns-clause-later
+returns-clause-later g c = later-then c.page.ensures.later c.edit_root.ensures.later
+
+pub returns-clause-plan : goal.returns-clause-plan
+returns-clause-plan g c = λ find told es ps whole.
+    let under = root-under g.E.Entry.rule g.E.Entry.size g.E.Entry.entry_of g.E.Entry.key find c.args.root c.in_ok-body.body c.in-Some.page es ps (c.in_ok-body.ensures.found find told) c.in-Some.ensures.page whole.level whole.tree in
+    let none : c.new-pages.result.items ≡ [] = c.new-pages.ensures.items in
+    let first : c.push.new.self.items ≡ c.args.root ∷ [] = c.in_ok-push.ensures.items ∙ ap (λ (l : List Brefs). l ++ (c.args.root ∷ [])) c.new-freed.ensures.items in
+    let replaces : Replaces (shapes g.E.Entry.rule g.E.Entry.size g.E.Entry.entry_of find) g.E.Entry.key c.in_ok-below.below.level (2 ^ 64) [] c.edit_root.new.pages.items c.push.new.self.items c.edit_root.new.freed.items c.in_ok-below.below.children.items (edited g.E.Entry.key es c.args.edits.now) under.0 =
+    subst (λ (l : List (PlanPage _)). Replaces (shapes g.E.Entry.rule g.E.Entry.size g.E.Entry.entry_of find) g.E.Entry.key c.in_ok-below.below.level (2 ^ 64) l c.edit_root.new.pages.items c.push.new.self.items c.edit_root.new.freed.items c.in_ok-below.below.children.items (edited g.E.Entry.key es c.args.edits.now) under.0) none
+    (c.in_ok-below.ensures.replaces find (c.page.ensures.later.told find told) es under.0 under.2) in
+    let top : IsTop c.lifted.new.pages.items c.root_of.new.pages.items c.in_ok-top.top.children.items c.in_ok-root.root =
+    subst (λ (l : List (ℕ × Child)). IsTop c.lifted.new.pages.items c.root_of.new.pages.items l c.in_ok-root.root) c.as_slice.ensures.value c.in_ok-root.ensures.top in
+    plan-of (shapes g.E.Entry.rule g.E.Entry.size g.E.Entry.entry_of find) g.E.Entry.key c.in_ok-below.below.level c.in_ok-top.top.level c.edit_root.new.pages.items c.lifted.new.pages.items c.root_of.new.pages.items
+    c.push.new.self.items c.edit_root.new.freed.items c.args.root c.in_ok-root.root c.in_ok-below.below.children.items c.in_ok-top.top.children.items (edited g.E.Entry.key es c.args.edits.now) ps under.0
+    c.in_ok-top.ensures.level under.1 first c.in_ok-below.ensures.rises c.in_ok-top.ensures.few replaces c.in_ok-top.ensures.lifts top
+
+pub returns-then-edits-eq0-clause-bound : goal.returns-then-edits-eq0-clause-bound
+returns-then-edits-eq0-clause-bound g c = λ find told es ps whole. let none = ap (λ (l : List (PlanPage _)). length l) c.new-pages.ensures.items in omega (arith, none)
+
+pub returns-clause-bound : goal.returns-clause-bound
+returns-clause-bound g c = λ find told es ps whole.
+    let level = root-level g.E.Entry.rule g.E.Entry.size g.E.Entry.entry_of g.E.Entry.key find c.args.root c.in_ok-body.body c.in-Some.page es ps (c.in_ok-body.ensures.found find told) c.in-Some.ensures.page whole.level whole.tree in
+    let none = ap (λ (l : List (PlanPage _)). length l) c.new-pages.ensures.items in
+    let some = c.if-edits-eq0.false in
+    let value = ap (λ (l : List (ℕ × Child)). length l) c.as_slice.ensures.value in
+    let grows = c.in_ok-root.ensures.grows in
+    subst (λ (n : ℕ). length c.root_of.new.pages.items ≤ (2 * (n + 2)) * length c.args.edits.now) level
+    (whole-count c.in-Some.page.level (length c.args.edits.now) (length c.edit_root.new.pages.items) (length c.lifted.new.pages.items) (length c.root_of.new.pages.items) (length c.in_ok-below.below.children.items) (length c.in_ok-top.top.children.items)
+    (omega arith) (subst (λ (n : ℕ). AreFew c.in-Some.page.level (length c.args.edits.now) n (length c.edit_root.new.pages.items) (length c.in_ok-below.below.children.items)) none c.in_ok-below.ensures.few)
+    c.in_ok-top.ensures.plain c.in_ok-top.ensures.some c.in_ok-top.ensures.grown (omega (arith, grows, value)))
+
+pub returns-then-edits-eq0-clause-writable : goal.returns-then-edits-eq0-clause-writable
+returns-then-edits-eq0-clause-writable g c = subst (AreWritable g.E.Entry.key g.E.Entry.rule g.E.Entry.size) (sym c.new-pages.ensures.items) tt
+
+pub returns-clause-writable : goal.returns-clause-writable
+returns-clause-writable g c =
+    c.in_ok-root.ensures.writable (c.in_ok-top.ensures.writable (c.in_ok-below.ensures.writable (subst (AreWritable g.E.Entry.key g.E.Entry.rule g.E.Entry.size) (sym c.new-pages.ensures.items) tt)))
+
+pub returns-then-edits-eq0-clause-spare : goal.returns-then-edits-eq0-clause-spare
+returns-then-edits-eq0-clause-spare g c = λ find told es ps whole. let none = ap (λ (l : List (PlanPage _)). length l) c.new-pages.ensures.items in omega (arith, none)
+
+pub returns-clause-spare : goal.returns-clause-spare
+returns-clause-spare g c = λ find told es ps whole.
+    let found = c.in_ok-body.ensures.found find told in
+    let level = root-level g.E.Entry.rule g.E.Entry.size g.E.Entry.entry_of g.E.Entry.key find c.args.root c.in_ok-body.body c.in-Some.page es ps found c.in-Some.ensures.page whole.level whole.tree in
+    let under = root-under g.E.Entry.rule g.E.Entry.size g.E.Entry.entry_of g.E.Entry.key find c.args.root c.in_ok-body.body c.in-Some.page es ps found c.in-Some.ensures.page whole.level whole.tree in
+    let none = ap (λ (l : List (PlanPage _)). length l) c.new-pages.ensures.items in
+    let one = ap (λ (l : List Brefs). length l) (c.in_ok-push.ensures.items ∙ ap (λ (l : List Brefs). l ++ (c.args.root ∷ [])) c.new-freed.ensures.items) in
+    let value = ap (λ (l : List (ℕ × Child)). length l) c.as_slice.ensures.value in
+    let grows = c.in_ok-root.ensures.grows in
+    subst (λ (n : ℕ). length c.root_of.new.pages.items ≤ length c.edit_root.new.freed.items + (n - 1 + 3) * puts g.E.Entry.key es c.args.edits.now) level
+    (spare-whole (c.in-Some.page.level - 1) (puts g.E.Entry.key es c.args.edits.now) (length c.edit_root.new.pages.items) (length c.lifted.new.pages.items) (length c.root_of.new.pages.items) (length c.push.new.self.items) (length c.edit_root.new.freed.items)
+    (length c.in_ok-below.below.children.items) (length c.in_ok-top.top.children.items)
+    (subst (λ (n : ℕ). AreSpare (c.in-Some.page.level - 1) (puts g.E.Entry.key es c.args.edits.now) n (length c.edit_root.new.pages.items) (length c.push.new.self.items) (length c.edit_root.new.freed.items) (length c.in_ok-below.below.children.items)) none
+    (c.in_ok-below.ensures.spare find (c.page.ensures.later.told find told) es under.0 under.2)) one c.in_ok-top.ensures.plain c.in_ok-top.ensures.some c.in_ok-top.ensures.grown (omega (arith, grows, value)))
+
+-- ---- stops
+
+pub returns-in_err-body-clause-stopped : goal.returns-in_err-body-clause-stopped
+returns-in_err-body-clause-stopped g c =
+    let Tells : (Brefs → Option (List ℕ)) → Type 0 = TellsWhole g.E.Entry.rule g.E.Entry.size g.E.Entry.entry_of g.E.Entry.key c.args.root in
+    stops-handed Tells (g.S.PageSource.view c.args.s.now) (g.S.PageSource.view c.page.new.self) c.in_err-body.field-0.0 c.from_residual.result c.from_residual.ensures.1
+    (stops-source Tells (g.S.PageSource.view c.args.s.now) (g.S.PageSource.view c.page.new.self) c.in_err-body.field-0.0 c.in_err-body.ensures.stopped)
+
+pub returns-in_default-clause-stopped : goal.returns-in_default-clause-stopped
+returns-in_default-clause-stopped g c =
+    let Tells : (Brefs → Option (List ℕ)) → Type 0 = TellsWhole g.E.Entry.rule g.E.Entry.size g.E.Entry.entry_of g.E.Entry.key c.args.root in
+    stops-here Tells (g.S.PageSource.view c.args.s.now) (g.S.PageSource.view c.page.new.self) c.changed.result c.args.root c.in_ok-body.body c.changed.ensures c.in_ok-body.ensures.found (λ find told found tells.
+    let whole = tells.2 in
+    let top = any-page g.E.Entry.rule g.E.Entry.size g.E.Entry.entry_of g.E.Entry.key g.met.E.Entry.key_read find c.args.root c.in_ok-body.body found whole.level 0 0 (2 ^ 64) tells.0 tells.1
+    (any-of-root (shapes g.E.Entry.rule g.E.Entry.size g.E.Entry.entry_of find) g.E.Entry.key whole.level 0 (2 ^ 64) c.args.root tells.0 tells.1 whole.tree) in
+    c.in_default.ensures.none top.page top.reads top.rises)
+
+pub returns-in_err-below-clause-stopped : goal.returns-in_err-below-clause-stopped
+returns-in_err-below-clause-stopped g c =
+    let Tells : (Brefs → Option (List ℕ)) → Type 0 = TellsWhole g.E.Entry.rule g.E.Entry.size g.E.Entry.entry_of g.E.Entry.key c.args.root in
+    let Under : (Brefs → Option (List ℕ)) → Type 0 = TellsUnder g.E.Entry.rule g.E.Entry.size g.E.Entry.entry_of g.E.Entry.key c.in-Some.page in
+    stops-handed Tells (g.S.PageSource.view c.args.s.now) (g.S.PageSource.view c.edit_root.new.s) c.in_err-below.field-0.0 c.from_residual-in_err-below.result c.from_residual-in_err-below.ensures.1
+    (stops-then Tells Under (g.S.PageSource.view c.args.s.now) (g.S.PageSource.view c.page.new.self) (g.S.PageSource.view c.edit_root.new.s) c.in_err-below.field-0.0 c.page.ensures.later (λ find told tells.
+    let under = root-under g.E.Entry.rule g.E.Entry.size g.E.Entry.entry_of g.E.Entry.key find c.args.root c.in_ok-body.body c.in-Some.page tells.0 tells.1 (c.in_ok-body.ensures.found find told) c.in-Some.ensures.page (tells.2).level (tells.2).tree in
+    (tells.0, under.0, under.2)) c.in_err-below.ensures.stopped)

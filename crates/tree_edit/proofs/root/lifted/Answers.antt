@@ -1,0 +1,63 @@
+use Rattle.std.proofs.Common.{◌≡◌, ◌⊎◌, inl, inr, ◌≤◌, ◌+◌, ◌*◌, ◌^◌, ℕ, suc, List, length, subst, sym, ap, refl, arith, rules}
+use Rattle.std.proofs.lemmas.Bool.{cases_lt}
+use Rattle.tree_edit.specs.declared.plan.Child.{Child}
+use Rattle.tree_edit.specs.Shapes.{RiseIn}
+use Rattle.tree_edit.specs.Plans.{AreKeys, keys_of}
+use Rattle.tree_edit.specs.Steps.{Lifts, Packs}
+use Rattle.tree_edit.proofs.CountLaws.{lift-step, lift-end}
+use Rattle.tree_edit.proofs.RootLaws.{lifts-same, lifts-then}
+use Rattle.tree_edit.proofs.root.lifted.Goals as goal
+
+pub up-init : goal.up-init
+up-init g c = record { lifts = lifts-same g.E.Entry.key c.args.level c.args.pages.now.items c.args.children.items; low = c.requires.level; rises = c.requires.rises; keys = c.requires.keys; writable = λ h. h; some = λ h. h; plain = omega arith; grown = λ e le. inl (refl, refl) }
+
+pub up-preserved : goal.up-preserved
+up-preserved g c =
+    let e : suc c.up.level ≡ c.up.level + 1 = omega arith in
+    let low = c.up.invariant.low in
+    let packs : Packs g.E.Entry.key c.up.level c.up.pages.items c.pack_inners.new.pages.items c.up.children.items c.in_ok-children.children.items =
+    subst (λ (l : List (ℕ × Child)). Packs g.E.Entry.key c.up.level c.up.pages.items c.pack_inners.new.pages.items l c.in_ok-children.children.items) c.as_slice.ensures.value (c.in_ok-children.ensures.packs c.up.level (omega arith)) in
+    let value = ap (λ (l : List (ℕ × Child)). length l) c.as_slice.ensures.value in
+    let number : c.len.result ≡ length c.up.children.items = search rules in
+    let test = c.up-test.true in
+    let two : 2 ≤ length c.up.children.items = omega (arith, number, test) in
+    let grows = c.in_ok-children.ensures.grows in
+    let half : 2 * length c.in_ok-children.children.items ≤ length c.up.children.items = let h = c.in_ok-children.ensures.half (omega (arith, two, value)) in omega (arith, h, value) in
+    let plain = c.up.invariant.plain in
+    let new_some = c.in_ok-children.ensures.some in
+    record {
+      lifts = subst (λ (m : ℕ). Lifts g.E.Entry.key c.args.level m c.args.pages.now.items c.pack_inners.new.pages.items c.args.children.items c.in_ok-children.children.items) e
+          (lifts-then g.E.Entry.key c.args.level c.up.level c.args.pages.now.items c.up.pages.items c.pack_inners.new.pages.items c.args.children.items c.up.children.items c.in_ok-children.children.items c.up.invariant.lifts packs);
+      low = omega arith;
+      rises = packs.rises 0 (2 ^ 64) c.up.invariant.rises;
+      keys = c.in_ok-children.ensures.keys;
+      writable = λ h. c.in_ok-children.ensures.writable (c.up.invariant.writable h);
+      some = λ h. new_some (let x = c.up.invariant.some h in omega (arith, x, value));
+      plain = omega (arith, plain, grows, half);
+      grown = λ e le.
+          let step = lift-step (length c.args.pages.now.items) (length c.args.children.items) (length c.up.pages.items) (length c.up.children.items) e (length c.in_ok-children.children.items) two half
+          (λ less. c.in_ok-children.ensures.few e (omega (arith, less, value))) le (c.up.invariant.grown e le) in
+          subst (λ (n : ℕ). ((n ≡ length c.args.pages.now.items) × (length c.in_ok-children.children.items ≡ length c.args.children.items)) ⊎ (n + length c.in_ok-children.children.items ≤ length c.args.pages.now.items + 2 + 2 * e)) (sym grows) step;
+    }
+
+pub returns-clause-plain : goal.returns-clause-plain
+returns-clause-plain g c = c.up.invariant.plain
+
+pub returns-clause-some : goal.returns-clause-some
+returns-clause-some g c = c.up.invariant.some
+
+pub returns-clause-grown : goal.returns-clause-grown
+returns-clause-grown g c = λ e le.
+    let plain = c.up.invariant.plain in
+    let some = c.up.invariant.some in
+    lift-end (length c.args.pages.now.items) (length c.args.children.items) (length c.up.pages.items) (length c.up.children.items) e some
+    (λ few. elim (cases_lt 0 (length c.args.children.items)) [ inl h ↦ let s = some h in omega (arith, plain, few, s) | inr h ↦ omega (arith, plain, h) ]) (c.up.invariant.grown e le)
+
+pub returns-clause-writable : goal.returns-clause-writable
+returns-clause-writable g c = c.up.invariant.writable
+
+pub pack_inners-requires-clause-rises : goal.pack_inners-requires-clause-rises
+pack_inners-requires-clause-rises g c = subst (λ (l : List (ℕ × Child)). RiseIn 0 (2 ^ 64) (keys_of l)) (sym c.as_slice.ensures.value) c.up.invariant.rises
+
+pub pack_inners-requires-clause-keys : goal.pack_inners-requires-clause-keys
+pack_inners-requires-clause-keys g c = subst (λ (l : List (ℕ × Child)). AreKeys g.E.Entry.rule (keys_of l)) (sym c.as_slice.ensures.value) c.up.invariant.keys

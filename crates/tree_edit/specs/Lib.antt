@@ -1,0 +1,6 @@
+pub mod Shapes
+pub mod Edits
+pub mod Plans
+pub mod Pages
+pub mod Source
+pub mod Steps

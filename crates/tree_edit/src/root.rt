@@ -1,0 +1,161 @@
+//! A tree after edits, from its root.
+ghost use Rattle.std.specs.Prelude.{◌≡◌, ◌≤◌, ◌<◌, ◌+◌, ◌-◌, ◌*◌, ◌^◌, ◌++◌, ℕ, List, Option, zero, suc, length, IfOk, IfErr};
+ghost use Rattle.pst_base.specs.declared.ids.Bref.{Bref as Brefs};
+ghost use Rattle.btree_pages.specs.Pages.{keys, size_at};
+ghost use Rattle.tree_edit.specs.Shapes.{RiseIn, IsWhole};
+ghost use Rattle.tree_edit.specs.Edits.{AreEdits, edited, puts};
+ghost use Rattle.tree_edit.specs.Plans.{AreKeys, AreWritable, IsPlan, keys_of};
+ghost use Rattle.tree_edit.specs.Steps.{AreFew, AreSpare, Lifts, IsTop, IsUnder, Replaces, TellsUnder};
+ghost use Rattle.tree_edit.specs.Pages.{shapes};
+ghost use Rattle.tree_edit.specs.Source.{Later, StopsOn, TellsWhole};
+
+use crate::descent::{changed, edit_children, edit_leaf};
+use crate::merge::given_entries;
+use crate::pack::{pack_inners, pack_leaves};
+use crate::page::page_within;
+use crate::plan::{Child, Plan, PlanPage};
+use crate::source::PageSource;
+use btree_pages::{Entry, TreePage};
+use pst_base::{Bref, MemOr, SourceStop};
+use std::alloc::{AllocError, Global};
+
+/// Pages of one level.
+#[derive(Drop)]
+struct Level {
+    level: u8,
+    children: Vec<(u64, Child)>,
+}
+
+/// What stands below a root after edits.
+fn edit_root<E: Entry, S: PageSource>(
+    alloc: Global,
+    page: &TreePage<E>,
+    edits: &[(u64, Option<E>)],
+    s: &mut S,
+    pages: &mut Vec<PlanPage<E>>,
+    freed: &mut Vec<Bref>,
+) -> Result<Level, MemOr<SourceStop>>
+    requires edits { AreEdits E.key 0 (2 ^ 64) edits.now }
+    requires rises { RiseIn 0 (2 ^ 64) (keys E.rule page.now.entries) }
+    requires fits { length page.now.entries * size_at E.size page.now.level ≤ 488 }
+    ensures writable { IfOk result (λ _. AreWritable E.key E.rule E.size pages.old.items → AreWritable E.key E.rule E.size pages.new.items) }
+    ensures later { Later (S.view s.old) (S.view s.new) }
+    ensures stopped { IfErr result (StopsOn (TellsUnder E.rule E.size E.entry_of E.key page.now) (S.view s.old) (S.view s.new)) }
+    ensures level { IfOk result (λ top. top.level ≤ 7) }
+    ensures keys { IfOk result (λ top. AreKeys E.rule (keys_of top.children.items)) }
+    ensures rises { IfOk result (λ top. RiseIn 0 (2 ^ 64) (keys_of top.children.items)) }
+    ensures few { IfOk result (λ top. AreFew page.now.level (length edits.now) (length pages.old.items) (length pages.new.items) (length top.children.items)) }
+    ensures replaces { IfOk result (λ top. (find : Brefs → Option (List ℕ)) → (S.view s.old).holds find → (es : List E) (ps : List Brefs)
+        → IsUnder (shapes E.rule E.size E.entry_of find) E.key E.rule E.entry_of page.now es ps
+        → Replaces (shapes E.rule E.size E.entry_of find) E.key top.level (2 ^ 64) pages.old.items pages.new.items freed.old.items freed.new.items top.children.items (edited E.key es edits.now) ps) }
+    ensures spare { IfOk result (λ top. (find : Brefs → Option (List ℕ)) → (S.view s.old).holds find → (es : List E) (ps : List Brefs)
+        → IsUnder (shapes E.rule E.size E.entry_of find) E.key E.rule E.entry_of page.now es ps
+        → AreSpare (page.now.level - 1) (puts E.key es edits.now) (length pages.old.items) (length pages.new.items) (length freed.old.items) (length freed.new.items) (length top.children.items)) }
+{
+    if page.level() == 0 {
+        let children = edit_leaf(alloc, page, edits, pages)?;
+        return Ok(Level { level: 0, children });
+    }
+    if page.count() == 0 {
+        let entries = given_entries(alloc, edits)?;
+        let children = pack_leaves(alloc, entries.as_slice(), pages)?;
+        return Ok(Level { level: 0, children });
+    }
+    let children = edit_children(alloc, page, 0, u64::MAX, edits, s, pages, freed)?;
+    Ok(Level {
+        level: page.level() - 1,
+        children,
+    })
+}
+
+/// Pages above some, of as many levels as it takes that at most one is left. It wants memory where that would pass level 7.
+fn lifted<E: Entry>(
+    alloc: Global,
+    level: u8,
+    children: Vec<(u64, Child)>,
+    pages: &mut Vec<PlanPage<E>>,
+) -> Result<Level, AllocError>
+    requires level { level ≤ 7 }
+    requires rises { RiseIn 0 (2 ^ 64) (keys_of children.items) }
+    requires keys { AreKeys E.rule (keys_of children.items) }
+    ensures writable { IfOk result (λ _. AreWritable E.key E.rule E.size pages.old.items → AreWritable E.key E.rule E.size pages.new.items) }
+    ensures lifts { IfOk result (λ top. Lifts E.key level top.level pages.old.items pages.new.items children.items top.children.items) }
+    ensures few { IfOk result (λ top. length top.children.items ≤ 1) }
+    ensures some { IfOk result (λ top. 1 ≤ length children.items → 1 ≤ length top.children.items) }
+    ensures plain { IfOk result (λ top. length pages.new.items + length top.children.items ≤ length pages.old.items + length children.items) }
+    ensures grown { IfOk result (λ _. (e : ℕ) → length children.items ≤ 20 + e → length pages.new.items ≤ length pages.old.items + 1 + 2 * e) }
+    ensures level { IfOk result (λ top. top.level ≤ 7) }
+{
+    let mut level = level;
+    let mut children = children;
+    'up: while children.len() > 1 {
+        if level == 7 {
+            return Err(AllocError);
+        }
+        children = pack_inners(alloc, level + 1, children.as_slice(), pages)?;
+        level += 1;
+    }
+    Ok(Level { level, children })
+}
+
+/// The root of at most one page, for which there is a leaf without entries where there is none.
+fn root_of<E: Entry>(
+    alloc: Global,
+    children: &[(u64, Child)],
+    pages: &mut Vec<PlanPage<E>>,
+) -> Result<Child, AllocError>
+    requires { length children.now ≤ 1 }
+    ensures writable { IfOk result (λ _. AreWritable E.key E.rule E.size pages.old.items → AreWritable E.key E.rule E.size pages.new.items) }
+    ensures top { IfOk result (λ root. IsTop pages.old.items pages.new.items children.now root) }
+    ensures grows { IfOk result (λ _. length pages.new.items + length children.now ≤ length pages.old.items + 1) }
+{
+    if children.len() > 0 {
+        return Ok(children[0].1);
+    }
+    let root = Child::New(pages.len());
+    pages.push(PlanPage::Leaf(Vec::new(alloc)))?;
+    Ok(root)
+}
+
+/// Plans the tree of a root after edits, whose keys ascend: new pages, the pages that are freed, and the new root. An edit puts its entry in its key's place, or takes the entry there away; `None` for a key that isn't there changes nothing. It reads the pages on the way to the edits alone, and copies each of them.
+///
+/// `Failed` and `Changed` are the source's own stops. `Changed` also comes at a page whose entries, level or keys aren't those of its place in the tree, with two zeros for its numbers. Memory is also wanted where the tree would pass level 7.
+///
+/// Of e edits of a tree whose root has level n come at most `2 * (n + 2) * e` new pages, and at most `n + 2` for each entry that is put under a new key (three in a leaf) beside as many as are freed.
+pub fn change<E: Entry, S: PageSource>(
+    alloc: Global,
+    root: Bref,
+    edits: &[(u64, Option<E>)],
+    s: &mut S,
+) -> Result<Plan<E>, MemOr<SourceStop>>
+    requires { AreEdits E.key 0 (2 ^ 64) edits.now }
+    ensures later { Later (S.view s.old) (S.view s.new) }
+    ensures stopped { IfErr result (StopsOn (TellsWhole E.rule E.size E.entry_of E.key root) (S.view s.old) (S.view s.new)) }
+    ensures plan { IfOk result (λ plan. (find : Brefs → Option (List ℕ)) → (S.view s.old).holds find → (es : List E) (ps : List Brefs)
+        → IsWhole (shapes E.rule E.size E.entry_of find) E.key root es ps
+        → IsPlan (shapes E.rule E.size E.entry_of find) E.key plan.pages.items plan.freed.items plan.root (edited E.key es edits.now) ps) }
+    ensures writable { IfOk result (λ plan. AreWritable E.key E.rule E.size plan.pages.items) }
+    ensures bound { IfOk result (λ plan. (find : Brefs → Option (List ℕ)) → (S.view s.old).holds find → (es : List E) (ps : List Brefs)
+        → (whole : IsWhole (shapes E.rule E.size E.entry_of find) E.key root es ps) → length plan.pages.items ≤ (2 * (whole.level + 2)) * length edits.now) }
+    ensures spare { IfOk result (λ plan. (find : Brefs → Option (List ℕ)) → (S.view s.old).holds find → (es : List E) (ps : List Brefs)
+        → (whole : IsWhole (shapes E.rule E.size E.entry_of find) E.key root es ps) → length plan.pages.items ≤ length plan.freed.items + (whole.level - 1 + 3) * puts E.key es edits.now) }
+{
+    let mut pages = Vec::new(alloc);
+    let mut freed = Vec::new(alloc);
+    if edits.len() == 0 {
+        return Ok(Plan {
+            pages,
+            freed,
+            root: Child::Old(root),
+        });
+    }
+    let body = s.page(root)?;
+    let Some(page) = page_within::<E>(&body, 0, u64::MAX) else {
+        return Err(changed(root));
+    };
+    freed.push(root)?;
+    let below = edit_root(alloc, &page, edits, s, &mut pages, &mut freed)?;
+    let top = lifted(alloc, below.level, below.children, &mut pages)?;
+    let root = root_of(alloc, top.children.as_slice(), &mut pages)?;
+    Ok(Plan { pages, freed, root })
+}
