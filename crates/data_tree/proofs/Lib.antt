@@ -1,8 +1,10 @@
 pub mod BlockSteps
 pub mod CountSteps
+pub mod GrownLaws
 pub mod KeepLaws
 pub mod KeepSteps
 pub mod KeyLaws
+pub mod KeySteps
 pub mod ListingLaws
 pub mod PieceLaws
 pub mod PlanLaws

@@ -3,7 +3,7 @@ use Rattle.std.specs.Prelude.{◌≡◌, ◌==◌, ℕ, ◌+◌, if◌then◌els
 use Rattle.pst_base.specs.declared.ids.Bid.{Bid}
 use Rattle.pst_base.specs.Ids.{key_of}
 use Rattle.data_tree.specs.declared.source.TreeStop.{TreeStop}
-use Rattle.data_tree.specs.Tree.{and_then, bids_of, is_internal, is_listing, names_of}
+use Rattle.data_tree.specs.Tree.{all_below, and_then, below, bids_of, fetched, is_internal, is_listing, leaves, listed, names_of}
 
 -- the keys of some ids
 abbrev pub keys_of : List Bid → List ℕ
@@ -28,7 +28,27 @@ led_from find (Some b) = if is_listing 1 b then keys_of (names_of b) else (if is
 unfoldable pub data_keys : (ℕ → Option (List ℕ)) → Bid → List ℕ
 data_keys find bid = if bid.bits == 0 then [] else key_of bid.bits ∷ (if is_internal bid then led_from find (find (key_of bid.bits)) else [])
 
--- the same as a reading: the fault of a block that names others, or all keys
+-- as readings, which have the faults of the ids' own: one of the blocks that one of level 2 names, with those that it names
+abbrev pub below_keys : (ℕ → Option (List ℕ)) → Bid → Bid → Result (List ℕ) TreeStop
+below_keys find parent bid = and_then (below find parent bid) (λ here. Ok (key_of bid.bits ∷ keys_of here))
+
+-- all that it names
+abbrev pub under_keys : (ℕ → Option (List ℕ)) → Bid → List Bid → Result (List ℕ) TreeStop
+under_keys find parent bids = and_then (all_below find parent bids) (λ here. Ok (under find bids))
+
+-- what a block of level 1 names
+abbrev pub leaf_keys : Bid → List ℕ → Result (List ℕ) TreeStop
+leaf_keys bid b = and_then (leaves bid b) (λ here. Ok (keys_of here))
+
+-- what a block of level 1 or 2 leads to
+unfoldable pub led_keys : (ℕ → Option (List ℕ)) → Bid → List ℕ → Result (List ℕ) TreeStop
+led_keys find bid b = and_then (listed find bid b) (λ here. Ok (led_from find (Some b)))
+
+-- such a block with what it leads to
+abbrev pub marked_keys : (ℕ → Option (List ℕ)) → Bid → Result (List ℕ) TreeStop
+marked_keys find bid = and_then (fetched find bid) (λ b. and_then (led_keys find bid b) (λ more. Ok (key_of bid.bits ∷ more)))
+
+-- the whole tree: the fault of a block that names others, or all keys
 abbrev pub data_keys_read : (ℕ → Option (List ℕ)) → Bid → Result (List ℕ) TreeStop
 data_keys_read find bid = and_then (bids_of find bid) (λ bids. Ok (data_keys find bid))
 

@@ -1,3 +1,4 @@
+pub mod Grown
 pub mod Keys
 pub mod Listed
 pub mod Measure

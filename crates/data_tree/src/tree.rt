@@ -11,7 +11,7 @@ use std::alloc::Global;
 
 /// The data blocks below a block that `parent`, a block of level 2, names.
 #[tactic(auto, unfolding(crate::specs::Tree::below))]
-fn below<S: BlockSource>(
+pub(crate) fn below<S: BlockSource>(
     alloc: Global,
     parent: Bid,
     bid: Bid,

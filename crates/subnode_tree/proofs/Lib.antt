@@ -1,5 +1,6 @@
 pub mod CountLaws
 pub mod FormLaws
+pub mod GrownLaws
 pub mod ListLaws
 pub mod MadeLaws
 pub mod PartSteps

@@ -1,4 +1,5 @@
 pub mod Counts
+pub mod Grown
 pub mod Plan
 pub mod Subnodes
 pub mod Tables

@@ -10,6 +10,7 @@
 mod blocks;
 mod count;
 mod entries;
+mod law;
 mod plan;
 #[cfg(test)]
 mod plan_tests;
@@ -21,6 +22,7 @@ mod walk;
 
 pub use blocks::SubEntry;
 pub use count::count_subs;
+pub use law::subs_stay_read;
 pub use plan::{SubPlan, plan_subs};
 pub use subs::read_subs;
 pub use walk::read_entries;
