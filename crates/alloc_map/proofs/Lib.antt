@@ -2,6 +2,7 @@ pub mod BitLaws
 pub mod CellLaws
 pub mod ChangeLaws
 pub mod CoverLaws
+pub mod FreeLaws
 pub mod MapLaws
 pub mod RoomLaws
 pub mod SlotLaws

@@ -238,3 +238,21 @@ taken-both before mid now ps qs one two = record {
   where
     clash : (slot : ℕ) → SomeCovers ps slot → SomeCovers qs slot → ⊥
     clash slot b a = true≢false (sym (one.covered slot b).0 ∙ (two.covered slot a).1)
+
+-- places taken beside those that stand are covered with them
+pub covered-beside : (ps qs : List Place) (used now : List Bool) → IsCovered ps used → Taken used now qs → IsCovered (qs ++ ps) now
+covered-beside ps qs used now covered taken slot below =
+    let size = taken.size in
+    let lt : slot < length used = omega (arith, size) in (
+      λ on. elim (cases_lt 0 (tally slot qs)) [
+        | inl some ↦ covers_first qs ps slot (tally_some qs slot (omega (arith, some)))
+        | inr none ↦ covers_last qs ps slot ((covered slot lt).0 (sym (taken.others slot (λ c. let one = some_tally qs slot c in omega (arith, one, none))) ∙ on))
+      ],
+      λ c. elim (covers_either qs ps slot c) [
+        | inl own ↦ (taken.covered slot own).0
+        | inr stood ↦ elim (cases_lt 0 (tally slot qs)) [
+          | inl some ↦ (taken.covered slot (tally_some qs slot (omega (arith, some)))).0
+          | inr none ↦ taken.others slot (λ c. let one = some_tally qs slot c in omega (arith, one, none)) ∙ (covered slot lt).1 stood
+        ]
+      ],
+    )

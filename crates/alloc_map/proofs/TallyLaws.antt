@@ -50,7 +50,7 @@ twice_tally [] slot twice = absurd twice
 twice_tally (p ∷ ps) slot (inl both) = omega (arith, covers_one p slot both.0, some_tally ps slot both.1)
 twice_tally (p ∷ ps) slot (inr twice) = let h = twice_tally ps slot twice in omega (arith, h)
 
-tally_twice : (ps : List Place) (slot : ℕ) → 2 ≤ tally slot ps → IsTwice ps slot
+pub tally_twice : (ps : List Place) (slot : ℕ) → 2 ≤ tally slot ps → IsTwice ps slot
 unfolding IsTwice
 tally_twice [] slot h = absurd (omega (arith, h))
 tally_twice (p ∷ ps) slot h = by (tally_twice ps slot) (one_at slot p) refl
