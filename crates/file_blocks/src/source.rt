@@ -56,8 +56,8 @@ impl<'a, W: Outside> BlockSizes for FileBlocks<'a, W> {
     }
 }
 
-/// What has changed of a block that was whole: the two numbers that its frame's check compared.
-fn changed(ib: u64, refusal: BlockRefusal) -> SourceStop
+/// What has changed of a block that was whole: the two numbers that its frame's check compared, or 10 and 0 where its frame holds.
+pub fn changed(ib: u64, refusal: BlockRefusal) -> SourceStop
     ensures { (stored : ℕ) × (computed : ℕ) × (result ≡ SourceStop.Changed ib stored computed) }
 {
     let (stored, computed) = match refusal {
