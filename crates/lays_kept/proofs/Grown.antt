@@ -10,7 +10,7 @@ use Rattle.data_tree.specs.declared.source.TreeStop.{TreeStop}
 use Rattle.data_tree.specs.declared.source.TreeStop.TheVariants.{Form, Long, Deep, Many}
 use Rattle.data_tree.specs.Tree.{and_then, named, fetched, is_internal, is_listing, names_of, leaves, below, all_below, listed, bids_of, blocks_from, blocks_of}
 use Rattle.subnode_tree.specs.declared.blocks.SubEntry.{SubEntry}
-use Rattle.subnode_tree.specs.Subnodes.{is_leaf, is_inner, entries_of, listed_of, ordered, part_in, part_of, parts_of, level_in, level_of, opened, rows, branch_with, subs_from, subs_of}
+use Rattle.subnode_tree.specs.Subnodes.{is_leaf, is_inner, entries_of, inner_in, listed_ascend, listed_of, ordered, part_in, part_of, parts_of, level_in, level_of, opened, rows, branch_with, subs_from, subs_of}
 use Rattle.file_layout.specs.Nodes.{Node, node_at, AreNodes}
 use Rattle.lays_kept.specs.Grown.{FindsAll, Gives}
 
@@ -109,12 +109,12 @@ module _ (find found : ℕ → Option (List ℕ)) (more : FindsAll find found) w
   unfolding level_in
   level_in_gives level bid b =
       if_gives (is_leaf b) _ _ _ _ (same_gives (ordered bid (entries_of level b)))
-      (if_gives (is_inner b) _ _ _ _
+      (if_gives (is_inner b) _ _ _ _ (if_gives (listed_ascend (listed_of b)) _ _ _ _
       (and_then_gives (parts_of find level (listed_of b)) (parts_of found level (listed_of b)) _ _ (list_rec (λ listed. Gives (parts_of find level listed) (parts_of found level listed)) (same_gives (Ok []))
       (λ one rest more_rest. and_then_gives (part_of find level one) (part_of found level one) _ _
       (and_then_gives (fetched find one.block) (fetched found one.block) _ _ (fetched_gives one.block) (λ b. same_gives (part_in level one b)))
       (λ here. and_then_gives (parts_of find level rest) (parts_of found level rest) _ _ more_rest (λ after. same_gives (Ok (here ++ after)))))
-      (listed_of b)) (λ entries. same_gives (ordered bid entries)))
+      (listed_of b)) (λ entries. same_gives (ordered bid entries))) (same_gives (Err (Form bid))))
       (same_gives (Err (Form bid))))
 
   opened_gives : {Y : Type 0} (level : ℕ) (bid : Bid) (f g : List SubEntry → Result (List Y) TreeStop) → ((entries : List SubEntry) → Gives (f entries) (g entries)) → Gives (opened find level bid f) (opened found level bid g)
