@@ -57,11 +57,7 @@ fn count_from<S: BlockSizes>(
 ///
 /// `Missing` where there is no block with an id that is named; `Form` of a block that names others or lists subnodes and isn't of its layout, or names what may not stand below it, or whose NIDs don't ascend, or reach below the one that it is listed with; `Long` where the data of one subnode passes the file's length; `Deep` where a subnode stands below level 8; `Many` where there are more than one for each 24 bytes of the file; `Source` by the source. Each comes where `read_subs` gives it, unless a data block can't be read.
 #[tactic(auto, unfolding(crate::specs::Subnodes::subs_of))]
-pub fn count_subs<S: BlockSizes>(
-    alloc: Global,
-    bid: Bid,
-    s: &mut S,
-) -> Result<u64, MemOr<TreeStop>>
+pub fn count_subs<S: BlockSizes>(alloc: Global, bid: Bid, s: &mut S) -> Result<u64, MemOr<TreeStop>>
     ensures later { Later (S.view s.old) (S.view s.new) }
     ensures reads { Reads (λ count. count) (S.view s.old) (S.view s.new) (λ find. counted (subs_of find (S.view s.old).eof bid)) result }
 {
