@@ -3,7 +3,6 @@ use Rattle.std.proofs.Common.{Bool, true, false, not, ◌≡◌, ℕ, zero, suc,
 use Rattle.std.proofs.lemmas.Bool.{eq-eqb, ne_eqb, le-leb, leb-true, eqb-true, and_parts, cases_lt, false≢true}
 use Rattle.std.proofs.lemmas.List.{map-append, length-map, length-take-le}
 use Rattle.pst_base.specs.declared.ids.Bref.{Bref}
-use Rattle.pst_base.specs.declared.places.Place.{Place}
 use Rattle.pst_base.specs.declared.stops.PageFault.{PageFault}
 use Rattle.pst_base.specs.Fields.{number_at}
 use Rattle.btree_pages.specs.Entries.{inner_of}
@@ -16,7 +15,7 @@ use Rattle.page_frame.specs.Page.{reading}
 use Rattle.file_layout.proofs.SeatLaws.{page_in-owed, page_in-err, page_in-ok, page_in-key, page_in-level, ok_or_err}
 use Rattle.tree_edit.specs.Shapes.{Shape, leaf, inner, RiseIn, heads, up_to, OneThen, AreBelow, HasLeaf, HasInner, IsTree, IsRootOf, IsWhole}
 use Rattle.tree_edit.specs.Pages.{child_in, shape_of, seen, shown, shapes}
-use Rattle.file_pages.specs.InFile.{shapes_in, ok_of, body_at, place_at, IsShaped, IsUnshaped, IsShapedRoot, IsUnshapedRoot}
+use Rattle.file_pages.specs.InFile.{shapes_in, ok_of, body_at, IsShaped, IsUnshaped, IsShapedRoot, IsUnshapedRoot}
 use Rattle.file_pages.proofs.SpanLaws.{page-ascends, rises-in, spans-in}
 
 pub same-keys : {E : Type 0} (rule : ℕ → ℕ) (entry_of : List ℕ → E) (key : E → ℕ) → ((b : List ℕ) → key (entry_of b) ≡ rule (number_at 8 0 b)) → (bs : List (List ℕ)) → map key (map entry_of bs) ≡ keys rule bs
@@ -199,63 +198,52 @@ module _ {E : Type 0} (entry_of : List ℕ → E) (key : E → ℕ) (t : FileTre
 
   shaped-children : (n high low : ℕ) → ((seat : Seat) (found : Found) → seat.level ≡ Some n → IsFileTree t n seat found → IsShaped entry_of key t n seat.low seat.high seat.at found)
       → (entries : List (List ℕ)) (found : Found) → RiseIn low (high + 1) (heads (map (child_in t.rule) entries)) → AreChildren (IsFileTree t n) t.rule n high entries found
-      → (ps : List Bref) × AreBelow (IsTree (shapes_in entry_of t) key n) (high + 1) (map (child_in t.rule) entries) (map entry_of found.entries) ps × (map place_at ps ≡ found.places)
-  shaped-children n high low each [] found r are = ([], (ap (λ (f : Found). map entry_of f.entries) are, refl), sym (ap (λ (f : Found). f.places) are))
+      → AreBelow (IsTree (shapes_in entry_of t) key n) (high + 1) (map (child_in t.rule) entries) (map entry_of found.entries) found.pages
+  shaped-children n high low each [] found r are = (ap (λ (f : Found). map entry_of f.entries) are, ap (λ (f : Found). f.pages) are)
   shaped-children n high low each (b ∷ rest) found r are =
       let one = each (child_of t.rule n high b rest) are.0 refl are.2 in
       let more = shaped-children n high (key_below t.rule b + 1) each rest are.1 r.2 are.3 in
-      let top = next-high high (key_below t.rule b) rest r.2 in (
-        one.pages ++ more.0,
-        record {
-          first = map entry_of (are.0).entries;
-          later = map entry_of (are.1).entries;
-          first_pages = one.pages;
-          later_pages = more.0;
-          one = subst (λ (m : ℕ). IsTree (shapes_in entry_of t) key n (key_below t.rule b) m (inner_of b).page (map entry_of (are.0).entries) one.pages) top one.tree;
-          rest = more.1;
-          entries = ap (λ (f : Found). map entry_of f.entries) are.4 ∙ map-append entry_of (are.0).entries (are.1).entries;
-          pages = refl;
-        },
-        map-append place_at one.pages more.0 ∙ ap (λ (l : List Place). l ++ map place_at more.0) one.places ∙ ap (λ (l : List Place). (are.0).places ++ l) more.2 ∙ sym (ap (λ (f : Found). f.places) are.4),
-      )
+      let top = next-high high (key_below t.rule b) rest r.2 in
+      record {
+        first = map entry_of (are.0).entries;
+        later = map entry_of (are.1).entries;
+        first_pages = (are.0).pages;
+        later_pages = (are.1).pages;
+        one = subst (λ (m : ℕ). IsTree (shapes_in entry_of t) key n (key_below t.rule b) m (inner_of b).page (map entry_of (are.0).entries) (are.0).pages) top one;
+        rest = more;
+        entries = ap (λ (f : Found). map entry_of f.entries) are.4 ∙ map-append entry_of (are.0).entries (are.1).entries;
+        pages = ap (λ (f : Found). f.pages) are.4;
+      }
 
   pub shaped : (n : ℕ) (seat : Seat) (found : Found) → seat.level ≡ Some n → IsFileTree t n seat found → IsShaped entry_of key t n seat.low seat.high seat.at found
   shaped zero seat found wants tree =
       let s = seated t.rule t.leaf seat tree.1.body tree.0 tree.1.content in
       let es : map entry_of (tree.0).entries ≡ map entry_of found.entries = sym (ap (λ (f : Found). map entry_of f.entries) tree.3) in
-      record {
-        pages = seat.at ∷ [];
-        tree = subst (λ (l : List E). IsTree (shapes_in entry_of t) key zero seat.low (seat.high + 1) seat.at l (seat.at ∷ [])) es (record {
-          shown = shown-here t.rule t.leaf entry_of (body_at t) seat.at tree.1.body tree.0 (body-here t seat tree.0 tree.1) s.reads ∙ ap Some (leaf-shape t.rule entry_of tree.0 tree.2);
-          rises = subst (RiseIn seat.low (seat.high + 1)) (sym (same-keys t.rule entry_of key law (tree.0).entries)) (seat-rises t.rule t.leaf seat tree.1.body tree.0 s);
-          some = let n = not-empty t.rule t.leaf seat tree.1.body tree.0 0 wants s in let len = length-map (tree.0).entries entry_of in omega (arith, n, len);
-          alone = refl;
-        });
-        places = sym (ap (λ (f : Found). f.places) tree.3);
-      }
+      subst (λ (l : List E). IsTree (shapes_in entry_of t) key zero seat.low (seat.high + 1) seat.at l found.pages) es (record {
+        shown = shown-here t.rule t.leaf entry_of (body_at t) seat.at tree.1.body tree.0 (body-here t seat tree.0 tree.1) s.reads ∙ ap Some (leaf-shape t.rule entry_of tree.0 tree.2);
+        rises = subst (RiseIn seat.low (seat.high + 1)) (sym (same-keys t.rule entry_of key law (tree.0).entries)) (seat-rises t.rule t.leaf seat tree.1.body tree.0 s);
+        some = let n = not-empty t.rule t.leaf seat tree.1.body tree.0 0 wants s in let len = length-map (tree.0).entries entry_of in omega (arith, n, len);
+        alone = ap (λ (f : Found). f.pages) tree.3;
+      })
   shaped (suc n) seat found wants tree =
       let s = seated t.rule t.leaf seat tree.2.body tree.0 tree.2.content in
       let rises = subst (RiseIn seat.low (seat.high + 1)) (sym (same-heads t.rule (tree.0).entries)) (seat-rises t.rule t.leaf seat tree.2.body tree.0 s) in
       let below = shaped-children n seat.high seat.low (λ child got w h. shaped n child got w h) (tree.0).entries tree.1 rises tree.4 in
       let es : map entry_of (tree.1).entries ≡ map entry_of found.entries = sym (ap (λ (f : Found). map entry_of f.entries) tree.5) in
-      record {
-        pages = seat.at ∷ below.0;
-        tree = subst (λ (l : List E). IsTree (shapes_in entry_of t) key (suc n) seat.low (seat.high + 1) seat.at l (seat.at ∷ below.0)) es (record {
-          children = map (child_in t.rule) (tree.0).entries;
-          below = below.0;
-          shown = shown-here t.rule t.leaf entry_of (body_at t) seat.at tree.2.body tree.0 (body-here t seat tree.0 tree.2) s.reads ∙ ap Some (inner-shape t.rule entry_of tree.0 n tree.3);
-          rises = rises;
-          some = let m = not-empty t.rule t.leaf seat tree.2.body tree.0 (suc n) wants s in let len = length-map (tree.0).entries (child_in t.rule) in omega (arith, m, len);
-          are = below.1;
-          first = refl;
-        });
-        places = ap (λ (l : List Place). place_at seat.at ∷ l) below.2 ∙ sym (ap (λ (f : Found). f.places) tree.5);
-      }
+      subst (λ (l : List E). IsTree (shapes_in entry_of t) key (suc n) seat.low (seat.high + 1) seat.at l found.pages) es (record {
+        children = map (child_in t.rule) (tree.0).entries;
+        below = (tree.1).pages;
+        shown = shown-here t.rule t.leaf entry_of (body_at t) seat.at tree.2.body tree.0 (body-here t seat tree.0 tree.2) s.reads ∙ ap Some (inner-shape t.rule entry_of tree.0 n tree.3);
+        rises = rises;
+        some = let m = not-empty t.rule t.leaf seat tree.2.body tree.0 (suc n) wants s in let len = length-map (tree.0).entries (child_in t.rule) in omega (arith, m, len);
+        are = below;
+        first = ap (λ (f : Found). f.pages) tree.5;
+      })
 
   unshaped-children : (n high low : ℕ) → ((seat : Seat) (es : List E) (ps : List Bref) → seat.level ≡ Some n → IsTree (shapes_in entry_of t) key n seat.low (seat.high + 1) seat.at es ps → IsUnshaped entry_of t n seat es ps)
       → (entries : List (List ℕ)) (es : List E) (ps : List Bref) → RiseIn low (high + 1) (heads (map (child_in t.rule) entries)) → AreBelow (IsTree (shapes_in entry_of t) key n) (high + 1) (map (child_in t.rule) entries) es ps
-      → (found : Found) × AreChildren (IsFileTree t n) t.rule n high entries found × (map entry_of found.entries ≡ es) × (found.places ≡ map place_at ps)
-  unshaped-children n high low each [] es ps r a = (nothing, refl, sym a.0, ap (map place_at) (sym a.1))
+      → (found : Found) × AreChildren (IsFileTree t n) t.rule n high entries found × (map entry_of found.entries ≡ es) × (found.pages ≡ ps)
+  unshaped-children n high low each [] es ps r a = (nothing, refl, sym a.0, sym a.1)
   unshaped-children n high low each (b ∷ rest) es ps r a =
       let top = next-high high (key_below t.rule b) rest r.2 in
       let one = each (child_of t.rule n high b rest) a.first a.first_pages refl (subst (λ (m : ℕ). IsTree (shapes_in entry_of t) key n (key_below t.rule b) m (inner_of b).page a.first a.first_pages) (sym top) a.one) in
@@ -263,7 +251,7 @@ module _ {E : Type 0} (entry_of : List ℕ → E) (key : E → ℕ) (t : FileTre
         both one.found more.0,
         (one.found, more.0, one.tree, more.1, refl),
         map-append entry_of (one.found).entries (more.0).entries ∙ ap (λ (l : List E). l ++ map entry_of (more.0).entries) one.entries ∙ ap (λ (l : List E). a.first ++ l) more.2 ∙ sym a.entries,
-        ap (λ (l : List Place). l ++ (more.0).places) one.places ∙ ap (λ (l : List Place). map place_at a.first_pages ++ l) more.3 ∙ sym (map-append place_at a.first_pages a.later_pages) ∙ ap (map place_at) (sym a.pages),
+        ap (λ (l : List Bref). l ++ (more.0).pages) one.pages ∙ ap (λ (l : List Bref). a.first_pages ++ l) more.3 ∙ sym a.pages,
       )
 
   pub unshaped : (n : ℕ) (seat : Seat) (es : List E) (ps : List Bref) → t.eof ≤ length t.file → seat.level ≡ Some n → IsTree (shapes_in entry_of t) key n seat.low (seat.high + 1) seat.at es ps → IsUnshaped entry_of t n seat es ps
@@ -279,7 +267,7 @@ module _ {E : Type 0} (entry_of : List ℕ → E) (key : E → ℕ) (t : FileTre
         found = both (page_alone seat) (leaf_of r.page.entries);
         tree = (r.page, tree-page t seat r.body r.page 0 whole r.found r.reads wants level (omega (arith, len, same, some)) rises, level, refl);
         entries = entries;
-        places = sym (ap (map place_at) tree.alone);
+        pages = sym tree.alone;
       }
   unshaped (suc n) seat es ps whole wants tree =
       let r = read-here t.rule t.leaf entry_of (body_at t) seat.at (inner (suc n) tree.children) tree.shown in
@@ -294,7 +282,7 @@ module _ {E : Type 0} (entry_of : List ℕ → E) (key : E → ℕ) (t : FileTre
         found = both (page_alone seat) below.0;
         tree = (r.page, below.0, tree-page t seat r.body r.page (suc n) whole r.found r.reads wants level (omega (arith, len, same, some)) (subst (RiseIn seat.low (seat.high + 1)) (same-heads t.rule r.page.entries) rises), level, below.1, refl);
         entries = below.2;
-        places = ap (λ (l : List Place). place_at seat.at ∷ l) below.3 ∙ sym (ap (map place_at) tree.first);
+        pages = ap (λ (l : List Bref). seat.at ∷ l) below.3 ∙ sym tree.first;
       }
 
   shaped-at : (n : ℕ) (root : Bref) (found : Found) → n ≤ 7 → IsFileTree t n (root_seat root) found → IsShapedRoot entry_of key t root found
@@ -303,18 +291,14 @@ module _ {E : Type 0} (entry_of : List ℕ → E) (key : E → ℕ) (t : FileTre
       let s = seated t.rule t.leaf seat tree.1.body tree.0 tree.1.content in
       let es : map entry_of (tree.0).entries ≡ map entry_of found.entries = sym (ap (λ (f : Found). map entry_of f.entries) tree.3) in
       record {
-        pages = root ∷ [];
-        tree = record {
-          level = 0;
-          low_enough = low;
-          tree = subst (λ (l : List E). IsRootOf (shapes_in entry_of t) key zero 0 (2 ^ 64) root l (root ∷ [])) es (record {
-            shown = shown-here t.rule t.leaf entry_of (body_at t) root tree.1.body tree.0 (body-here t seat tree.0 tree.1) s.reads ∙ ap Some (leaf-shape t.rule entry_of tree.0 tree.2);
-            rises = subst (RiseIn 0 (2 ^ 64)) (sym (same-keys t.rule entry_of key law (tree.0).entries)) (seat-rises t.rule t.leaf seat tree.1.body tree.0 s);
-            some = omega arith;
-            alone = refl;
-          });
-        };
-        places = sym (ap (λ (f : Found). f.places) tree.3);
+        level = 0;
+        low_enough = low;
+        tree = subst (λ (l : List E). IsRootOf (shapes_in entry_of t) key zero 0 (2 ^ 64) root l found.pages) es (record {
+          shown = shown-here t.rule t.leaf entry_of (body_at t) root tree.1.body tree.0 (body-here t seat tree.0 tree.1) s.reads ∙ ap Some (leaf-shape t.rule entry_of tree.0 tree.2);
+          rises = subst (RiseIn 0 (2 ^ 64)) (sym (same-keys t.rule entry_of key law (tree.0).entries)) (seat-rises t.rule t.leaf seat tree.1.body tree.0 s);
+          some = omega arith;
+          alone = ap (λ (f : Found). f.pages) tree.3;
+        });
       }
   shaped-at (suc n) root found low tree =
       let seat : Seat = root_seat root in
@@ -323,21 +307,17 @@ module _ {E : Type 0} (entry_of : List ℕ → E) (key : E → ℕ) (t : FileTre
       let below = shaped-children n (2 ^ 64 - 1) 0 (λ child got w h. shaped n child got w h) (tree.0).entries tree.1 rises tree.4 in
       let es : map entry_of (tree.1).entries ≡ map entry_of found.entries = sym (ap (λ (f : Found). map entry_of f.entries) tree.5) in
       record {
-        pages = root ∷ below.0;
-        tree = record {
-          level = suc n;
-          low_enough = low;
-          tree = subst (λ (l : List E). IsRootOf (shapes_in entry_of t) key (suc n) 0 (2 ^ 64) root l (root ∷ below.0)) es (record {
-            children = map (child_in t.rule) (tree.0).entries;
-            below = below.0;
-            shown = shown-here t.rule t.leaf entry_of (body_at t) root tree.2.body tree.0 (body-here t seat tree.0 tree.2) s.reads ∙ ap Some (inner-shape t.rule entry_of tree.0 n tree.3);
-            rises = rises;
-            some = omega arith;
-            are = below.1;
-            first = refl;
-          });
-        };
-        places = ap (λ (l : List Place). place_at root ∷ l) below.2 ∙ sym (ap (λ (f : Found). f.places) tree.5);
+        level = suc n;
+        low_enough = low;
+        tree = subst (λ (l : List E). IsRootOf (shapes_in entry_of t) key (suc n) 0 (2 ^ 64) root l found.pages) es (record {
+          children = map (child_in t.rule) (tree.0).entries;
+          below = (tree.1).pages;
+          shown = shown-here t.rule t.leaf entry_of (body_at t) root tree.2.body tree.0 (body-here t seat tree.0 tree.2) s.reads ∙ ap Some (inner-shape t.rule entry_of tree.0 n tree.3);
+          rises = rises;
+          some = omega arith;
+          are = below;
+          first = ap (λ (f : Found). f.pages) tree.5;
+        });
       }
 
   -- the tree of a root in a file is one of shapes
@@ -354,7 +334,7 @@ module _ {E : Type 0} (entry_of : List ℕ → E) (key : E → ℕ) (t : FileTre
         found = both (page_alone (root_seat root)) (leaf_of r.page.entries);
         tree = record { level = 0; low_enough = low; tree = (r.page, root-page t root r.body r.page whole r.found r.reads rises, level, refl) };
         entries = entries;
-        places = sym (ap (map place_at) tree.alone);
+        pages = sym tree.alone;
       }
   unshaped-at (suc n) root es ps whole low tree =
       let r = read-here t.rule t.leaf entry_of (body_at t) root (inner (suc n) tree.children) tree.shown in
@@ -370,7 +350,7 @@ module _ {E : Type 0} (entry_of : List ℕ → E) (key : E → ℕ) (t : FileTre
           tree = (r.page, below.0, root-page t root r.body r.page whole r.found r.reads (subst (RiseIn 0 (2 ^ 64)) (same-heads t.rule r.page.entries) rises), level, below.1, refl);
         };
         entries = below.2;
-        places = ap (λ (l : List Place). place_at root ∷ l) below.3 ∙ sym (ap (map place_at) tree.first);
+        pages = ap (λ (l : List Bref). root ∷ l) below.3 ∙ sym tree.first;
       }
 
   -- and the other way round

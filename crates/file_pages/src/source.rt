@@ -4,20 +4,17 @@ ghost use Rattle.page_frame.specs.Page.{reading};
 ghost use Rattle.pst_outside.specs.Calls.{Rose, Untouched};
 ghost use Rattle.file_blocks.specs.Blocks.{file_of};
 ghost use Rattle.file_blocks.specs.Stops.{Tells};
-ghost use Rattle.file_layout.specs.Trees.{is_placed};
 ghost use Rattle.file_pages.specs.InFile.{bodies, ok_of};
 
+use file_blocks::has_room;
 use page_cache::PageCache;
 use page_frame::PageView;
 use pst_base::{Bref, MemOr, SourceStop};
 use pst_outside::{Failed, Outside, Part, read_part};
 use tree_edit::PageSource;
 
-/// Where the file's first page may stand.
-const FIRST: u64 = 0x4400;
-
 /// The length of a page, in bytes.
-const PAGE: u64 = 512;
+const PAGE: usize = 512;
 
 /// A content that is no page of a tree.
 const NO_PAGE: [u8; 496] = [0xFF; 496];
@@ -51,19 +48,6 @@ impl<'a, W: Outside> PageSource for FilePages<'a, W> {
             Err(Failed) => Err(MemOr::Refused(SourceStop::Failed)),
         }
     }
-}
-
-/// Whether a page may stand at a place of a file of `eof` bytes.
-fn is_placed(eof: u64, ib: u64) -> bool
-    ensures { result ≡ is_placed eof ib }
-{
-    if ib < FIRST {
-        return false;
-    }
-    if ib % 64 != 0 {
-        return false;
-    }
-    ib <= eof.saturating_sub(PAGE)
 }
 
 /// The bytes of the page at a place. Behind an open gate only the header lies elsewhere than in Main.
@@ -103,7 +87,7 @@ fn read_body<W: Outside>(
     ensures cause { OnErr result (Rose (W.view w.old).disk_faults (W.view w.new).disk_faults) }
     ensures same { Untouched (W.view w.old) (W.view w.new) }
 {
-    if !is_placed(eof, at.ib) {
+    if !has_room(eof, PAGE, at.ib) {
         return Ok(None);
     }
     let bytes = read_page(w, at.ib)?;
