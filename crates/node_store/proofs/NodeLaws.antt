@@ -35,14 +35,10 @@ node_id e = (e.nid).bits
 -- ---- the trees
 
 pub has-nodes : {header : Header} {file : List ℕ} {m : NodeMap} (is : Lays header file m) → HasTree node_key 32 node_of node_id file header.eof 0x81 header.nbt (nodes_in is.nodes)
-has-nodes {header} {file} is =
-    let shaped = shaped-root node_of node_id (node_tree file header.eof) key-node_of header.nbt is.nodes is.node_pages in
-    (shaped.pages, shaped.tree)
+has-nodes {header} {file} is = (is.nodes.pages, shaped-root node_of node_id (node_tree file header.eof) key-node_of header.nbt is.nodes is.node_pages)
 
 pub has-blocks : {header : Header} {file : List ℕ} {m : NodeMap} (is : Lays header file m) → HasTree key_of 24 block_of entry_key file header.eof 0x80 header.bbt (blocks_in is.blocks)
-has-blocks {header} {file} is =
-    let shaped = shaped-root block_of entry_key (block_tree file header.eof) key-block_of header.bbt is.blocks is.block_pages in
-    (shaped.pages, shaped.tree)
+has-blocks {header} {file} is = (is.blocks.pages, shaped-root block_of entry_key (block_tree file header.eof) key-block_of header.bbt is.blocks is.block_pages)
 
 -- what a world that lays nodes tells of its blocks
 pub blocks-told : {world : World} {header : Header} {caches : PageCaches} {m : NodeMap} (is : TellsNodes world header caches m) → TellsBlocks world (record { kind = 0x80; root = header.bbt; eof = header.eof }) caches.blocks (found_in (file_of world.here) (blocks_in is.lays.blocks))
