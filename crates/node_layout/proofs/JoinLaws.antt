@@ -10,12 +10,13 @@ use Rattle.btree_pages.specs.declared.entry.NodeEntry.{NodeEntry}
 use Rattle.btree_pages.specs.Entries.{block_of, node_of}
 use Rattle.btree_pages.specs.EntryLaws.{key-block_of, key-node_of}
 use Rattle.file_blocks.specs.Blocks.{Stands, AllStand, entry_key, found_in}
-use Rattle.file_layout.specs.Trees.{Found, IsWhole as IsFileWhole}
+use Rattle.file_layout.specs.Trees.{Found, IsWhole as IsFileWhole, page_place}
 use Rattle.file_layout.specs.Nodes.{Node, NodeMap, Lays, block_tree, node_tree, blocks_in, nodes_in, node_at as read_node, AreNodes, place_of, places_of, regions_to}
 use Rattle.lays_kept.specs.Kept.{Each as EachPlace, SameAt}
 use Rattle.lays_kept.specs.Tally.{one_at, tally as slot_tally}
-use Rattle.lays_kept.proofs.Kept.{each_front, each_back, all_kept}
+use Rattle.lays_kept.proofs.Kept.{each_front, each_back, pages_front, pages_back, all_kept}
 use Rattle.lays_kept.proofs.Once.{once_apart}
+use Rattle.lays_kept.proofs.Rows.{pages_tally}
 use Rattle.lays_kept.proofs.Tally.{tally_append, once_reordered}
 use Rattle.node_port.specs.declared.node.NodeRec.{NodeRec}
 use Rattle.node_port.specs.Nodes as port
@@ -64,12 +65,12 @@ joined header new file bytes m N is blocks nodes cs those up planned has =
     let old : List BlockEntry = blocks_in B in
     let entries : List NodeEntry = nodes_in T in
     let S : Place → Type 0 = SameAt file bytes in
-    let pages : EachPlace S (B.places ++ T.places) = each_front S (B.places ++ T.places) (map place_of old) has.kept in
-    let own : EachPlace S (map place_of old) = each_back S (B.places ++ T.places) (map place_of old) has.kept in
+    let pages : EachPlace S (map page_place (B.pages ++ T.pages)) = each_front S (map page_place (B.pages ++ T.pages)) (map place_of old) has.kept in
+    let own : EachPlace S (map place_of old) = each_back S (map page_place (B.pages ++ T.pages)) (map place_of old) has.kept in
     let bs : IsChangedTree block_of entry_key (block_tree file header.eof) bytes new.eof B blocks.pages blocks.freed blocks.top blocks.name blocks.edits =
-    tree-changed block_of entry_key (block_tree file header.eof) key-block_of bytes new.eof header.bbt B is.block_pages has.longer has.long_enough (each_front S B.places T.places pages) blocks.pages blocks.freed blocks.top blocks.name blocks.edits planned.block_plan has.block_pages in
+    tree-changed block_of entry_key (block_tree file header.eof) key-block_of bytes new.eof header.bbt B is.block_pages has.longer has.long_enough (pages_front S B.pages T.pages pages) blocks.pages blocks.freed blocks.top blocks.name blocks.edits planned.block_plan has.block_pages in
     let ns : IsChangedTree node_of node_id (node_tree file header.eof) bytes new.eof T nodes.pages nodes.freed nodes.top nodes.name nodes.edits =
-    tree-changed node_of node_id (node_tree file header.eof) key-node_of bytes new.eof header.nbt T is.node_pages has.longer has.long_enough (each_back S B.places T.places pages) nodes.pages nodes.freed nodes.top nodes.name nodes.edits planned.node_plan has.node_pages in
+    tree-changed node_of node_id (node_tree file header.eof) key-node_of bytes new.eof header.nbt T is.node_pages has.longer has.long_enough (pages_back S B.pages T.pages pages) nodes.pages nodes.freed nodes.top nodes.name nodes.edits planned.node_plan has.node_pages in
     let find : ℕ → Option (List ℕ) = found_in file old in
     let after : ℕ → Option (List ℕ) = found_after bytes old blocks.edits in
     let found : found_in bytes (blocks_in bs.found) ≡ after = ap (found_in bytes) bs.entries ∙ found-edited bytes old blocks.edits planned.block_edits in
@@ -108,11 +109,11 @@ joined header new file bytes m N is blocks nodes cs those up planned has =
           let a2 = tally_append slot (places_in blocks) (places_in nodes ++ planned.block_places) in
           let a3 = tally_append slot (places_in nodes) planned.block_places in
           let a4 = tally_append slot (places_of B T) amaps in
-          let a5 = tally_append slot (B.places ++ T.places) (map place_of old) in
-          let a6 = tally_append slot B.places T.places in
+          let a5 = tally_append slot (map page_place (B.pages ++ T.pages)) (map place_of old) in
+          let a6 = pages_tally slot B.pages T.pages in
           let b4 = tally_append slot (places_of bs.found ns.found) amaps in
-          let b5 = tally_append slot ((bs.found).places ++ (ns.found).places) (map place_of (blocks_in bs.found)) in
-          let b6 = tally_append slot (bs.found).places (ns.found).places in
+          let b5 = tally_append slot (map page_place ((bs.found).pages ++ (ns.found).pages)) (map place_of (blocks_in bs.found)) in
+          let b6 = pages_tally slot (bs.found).pages (ns.found).pages in
           let c1 = bs.places slot in
           let c2 = ns.places slot in
           let c3 = planned.counted slot in

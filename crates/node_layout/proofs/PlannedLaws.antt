@@ -12,8 +12,7 @@ use Rattle.btree_pages.specs.declared.entry.NodeEntry.{NodeEntry}
 use Rattle.btree_pages.specs.Entries.{block_of, node_of}
 use Rattle.btree_pages.specs.EntryLaws.{key-block_of, key-node_of}
 use Rattle.file_blocks.specs.Blocks.{entry_key}
-use Rattle.file_layout.specs.Trees.{IsPlace}
-use Rattle.file_layout.specs.Trees.{Found}
+use Rattle.file_layout.specs.Trees.{IsPlace, Found}
 use Rattle.file_layout.specs.Nodes.{NodeMap, Lays, block_tree, node_tree, blocks_in, place_of, places_of, regions_to}
 use Rattle.lays_kept.specs.declared.Piece.{Piece}
 use Rattle.lays_kept.specs.Kept.{Each, SameAt, IsClear}
@@ -21,18 +20,16 @@ use Rattle.lays_kept.specs.Once.{Once}
 use Rattle.lays_kept.specs.Tally.{one_at, tally}
 use Rattle.lays_kept.proofs.Beside.{IsWhole}
 use Rattle.lays_kept.proofs.Kept.{each_front, each_back}
-use Rattle.lays_kept.proofs.Places.{each_append, lays_places, scattered_same}
+use Rattle.lays_kept.proofs.Places.{each_append, lays_places, lays_wholes, scattered_same}
 use Rattle.lays_kept.proofs.Renewed.{behind}
 use Rattle.lays_kept.proofs.Tally.{tally_append, once_reordered}
 use Rattle.node_port.specs.declared.node.NodeRec.{NodeRec}
 use Rattle.node_port.specs.Nodes as port
 use Rattle.lays_kept.specs.Stands.{FileStands, IsPlan}
 use Rattle.lays_kept.proofs.Renewing.{renewed}
-use Rattle.file_pages.specs.InFile.{place_at}
 use Rattle.node_layout.specs.Joined.{node_id, TreePlan, places_in, IsPlanned}
 use Rattle.node_layout.specs.Pieces.{piece_place, EachStands}
 use Rattle.node_layout.specs.Commit.{IsNext, HasRoom, Shows}
-use Rattle.file_pages.proofs.Bridge.{shaped-root}
 use Rattle.node_layout.proofs.JoinLaws.{joined}
 use Rattle.node_layout.proofs.PieceLaws.{pieces-apart, pieces-beside, pieces-stand, stand-behind, block-whole}
 
@@ -51,30 +48,6 @@ pub amaps-whole : (n : ℕ) → Each IsWhole (amap_places n)
 unfolding amap_places
 amaps-whole zero = tt
 amaps-whole (suc r) = (record { above = omega arith; start = omega arith; whole = omega arith; some = omega arith }, amaps-whole r)
-
--- ---- places of a file
-
-blocks-whole : (eof : ℕ) (es : List BlockEntry) → Each (IsPlace eof) (map place_of es) → Each IsWhole (map place_of es)
-blocks-whole eof [] all = tt
-blocks-whole eof (e ∷ es) all = (block-whole eof (place_of e) all.0 (omega arith), blocks-whole eof es all.1)
-
-pages-whole : (eof : ℕ) (ps : List Bref) → Each (IsPlace eof) (map place_at ps) → Each IsWhole (map place_at ps)
-pages-whole eof [] all = tt
-pages-whole eof (p ∷ ps) all = (block-whole eof (place_at p) all.0 (omega arith), pages-whole eof ps all.1)
-
--- all places of a file that lays nodes are whole
-pub lays-whole : (header : Header) (file : List ℕ) (m : NodeMap) (is : Lays header file m) → Each IsWhole (places_of is.blocks is.nodes)
-lays-whole header file m is =
-    let B : Found = is.blocks in
-    let T : Found = is.nodes in
-    let all = lays_places header file m is in
-    let pages : Each (IsPlace header.eof) (B.places ++ T.places) = each_front (IsPlace header.eof) (B.places ++ T.places) (map place_of (blocks_in B)) all in
-    let b = shaped-root block_of entry_key (block_tree file header.eof) key-block_of header.bbt B is.block_pages in
-    let n = shaped-root node_of node_id (node_tree file header.eof) key-node_of header.nbt T is.node_pages in
-    let bs : Each IsWhole B.places = subst (Each IsWhole) b.places (pages-whole header.eof b.pages (subst (Each (IsPlace header.eof)) (sym b.places) (each_front (IsPlace header.eof) B.places T.places pages))) in
-    let ns : Each IsWhole T.places = subst (Each IsWhole) n.places (pages-whole header.eof n.pages (subst (Each (IsPlace header.eof)) (sym n.places) (each_back (IsPlace header.eof) B.places T.places pages))) in
-    each_append IsWhole (B.places ++ T.places) (map place_of (blocks_in B)) (each_append IsWhole B.places T.places bs ns)
-    (blocks-whole header.eof (blocks_in B) (each_back (IsPlace header.eof) (B.places ++ T.places) (map place_of (blocks_in B)) all))
 
 -- ---- pieces
 
@@ -124,7 +97,7 @@ planned-commits found file N last stands new sealed growth planned blocks nodes 
     let e = amaps-fewer slot (regions_to header.eof) k in
     let f = ap (λ (n : ℕ). tally slot (amap_places n)) sum in
     omega (arith, a, b, c, d, e, f)) room.once in
-    let wholes : Each IsWhole (standing old (regions_to header.eof)) = each_append IsWhole old (amap_places (regions_to header.eof)) (lays-whole header file stands.m is) (amaps-whole (regions_to header.eof)) in
+    let wholes : Each IsWhole (standing old (regions_to header.eof)) = each_append IsWhole old (amap_places (regions_to header.eof)) (lays_wholes header file stands.m is) (amaps-whole (regions_to header.eof)) in
     let beside : Each C (standing old (regions_to header.eof)) = clear-all growth planned (standing old (regions_to header.eof)) room.beside (pieces-beside planned (standing old (regions_to header.eof)) room.wholes wholes fewer) in
     let apart = pieces-apart planned (standing old (regions_to new.eof)) room.wholes room.once in
     record {

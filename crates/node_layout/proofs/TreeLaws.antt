@@ -4,7 +4,7 @@ use Rattle.std.proofs.lemmas.Bool.{cases_eq, eq-eqb, ne_eqb, le-leb}
 use Rattle.pst_base.specs.declared.ids.Bref.{Bref}
 use Rattle.pst_base.specs.declared.places.Place.{Place}
 use Rattle.pst_base.specs.Fields.{number_at}
-use Rattle.file_layout.specs.Trees.{IsPlace}
+use Rattle.file_layout.specs.Trees.{IsPlace, page_place, page_places}
 use Rattle.file_layout.specs.Trees.{FileTree, Found, root_seat, IsWhole as IsFileWhole}
 use Rattle.lays_kept.specs.Kept.{Each, SameAt}
 use Rattle.lays_kept.specs.Moved.{moved}
@@ -16,7 +16,7 @@ use Rattle.tree_edit.specs.declared.plan.Child.{Child}
 use Rattle.tree_edit.specs.declared.plan.PlanPage.{PlanPage}
 use Rattle.tree_edit.specs.Plans.{tally, names, resolve, AreKept, AreShown, IsPlan}
 use Rattle.tree_edit.proofs.PlanLaws.{tally-join}
-use Rattle.file_pages.specs.InFile.{shapes_in, place_at}
+use Rattle.file_pages.specs.InFile.{shapes_in}
 use Rattle.node_layout.specs.Changed.{IsChangedTree}
 use Rattle.file_pages.proofs.Bridge.{shaped-root, unshaped-root}
 
@@ -61,14 +61,14 @@ same-sums f (x ∷ xs) ys same =
     let e = w.sums in
     omega (arith, more, e)
 
-slots-sum : (slot : ℕ) (ps : List Bref) → slot_tally slot (map place_at ps) ≡ sum_at (λ ib. one_at slot (record { ib = ib; len = 512 })) ps
+slots-sum : (slot : ℕ) (ps : List Bref) → slot_tally slot (map page_place ps) ≡ sum_at (λ ib. one_at slot (record { ib = ib; len = 512 })) ps
 slots-sum slot [] = refl
-slots-sum slot (p ∷ ps) = ap (λ (n : ℕ). one_at slot (place_at p) + n) (slots-sum slot ps)
+slots-sum slot (p ∷ ps) = ap (λ (n : ℕ). one_at slot (page_place p) + n) (slots-sum slot ps)
 
 -- ---- pages that stay
 
 -- a page shows the same in a file with the same bytes there, and under a later end
-shape-same : {E : Type 0} (entry_of : List ℕ → E) (t : FileTree) (new : List ℕ) (more : ℕ) (at : Bref) → t.eof ≤ more → IsPlace t.eof (place_at at) → SameAt t.file new (place_at at)
+shape-same : {E : Type 0} (entry_of : List ℕ → E) (t : FileTree) (new : List ℕ) (more : ℕ) (at : Bref) → t.eof ≤ more → IsPlace t.eof (page_place at) → SameAt t.file new (page_place at)
     → shapes_in entry_of (moved t new more) at ≡ shapes_in entry_of t at
 shape-same entry_of t new more at longer place same =
     let x = place.above in
@@ -76,7 +76,7 @@ shape-same entry_of t new more at longer place same =
     rw (le-leb 0x4400 at.ib x, eq-eqb (at.ib % 64) 0 place.start, le-leb (at.ib + 512) more (omega (arith, y, longer)), le-leb (at.ib + 512) t.eof y, same) refl
 
 -- what is known of each place of some pages is known of each page at one of these places
-of-tally : (P : Place → Type 0) (ps : List Bref) (ib : ℕ) → Each P (map place_at ps) → 1 ≤ tally ib ps → P (record { ib = ib; len = 512 })
+of-tally : (P : Place → Type 0) (ps : List Bref) (ib : ℕ) → Each P (map page_place ps) → 1 ≤ tally ib ps → P (record { ib = ib; len = 512 })
 of-tally P [] ib all some = absurd (omega (arith, some))
 of-tally P (p ∷ ps) ib all some = elim (cases_eq p.ib ib) [
   | inl same ↦ subst (λ (k : ℕ). P (record { ib = k; len = 512 })) same all.0
@@ -93,18 +93,17 @@ kept-in old after qs (k ∷ kept) ps counted same =
 -- ---- the whole
 
 module _ {E : Type 0} (entry_of : List ℕ → E) (key : E → ℕ) (t : FileTree) (law : (b : List ℕ) → key (entry_of b) ≡ t.rule (number_at 8 0 b)) where
-  pub tree-changed : (new : List ℕ) (more : ℕ) (root : Bref) (old : Found) → IsFileWhole t root old → t.eof ≤ more → more ≤ length new → Each (SameAt t.file new) old.places
+  pub tree-changed : (new : List ℕ) (more : ℕ) (root : Bref) (old : Found) → IsFileWhole t root old → t.eof ≤ more → more ≤ length new → Each (SameAt t.file new) (page_places old)
       → (pages : List (PlanPage E)) (freed : List Bref) (top : Child) (name : ℕ → Bref) (ds : List (ℕ × Option E))
       → ((es : List E) (ps : List Bref) → IsWhole (shapes_in entry_of t) key root es ps → IsPlan (shapes_in entry_of t) key pages freed top (edited key es ds) ps)
       → AreShown (shapes_in entry_of (moved t new more)) name 0 pages
       → IsChangedTree entry_of key t new more old pages freed top name ds
   tree-changed new more root old whole longer long same pages freed top name ds plans shown =
       let s = shaped-root entry_of key t law root old whole in
-      let plan = plans (map entry_of old.entries) s.pages s.tree in
-      let stand : Each (IsPlace t.eof) (map place_at s.pages) = subst (Each (IsPlace t.eof)) (sym s.places) (tree_places t whole.level (root_seat root) old whole.tree) in
-      let bytes : Each (SameAt t.file new) (map place_at s.pages) = subst (Each (SameAt t.file new)) (sym s.places) same in
-      let kept = kept-in (shapes_in entry_of t) (shapes_in entry_of (moved t new more)) freed plan.kept s.pages (λ ib. let c = plan.counted ib in omega (arith, c))
-      (λ at some. shape-same entry_of t new more at longer (of-tally (IsPlace t.eof) s.pages at.ib stand some) (of-tally (SameAt t.file new) s.pages at.ib bytes some)) in
+      let plan = plans (map entry_of old.entries) old.pages s in
+      let stand : Each (IsPlace t.eof) (page_places old) = tree_places t whole.level (root_seat root) old whole.tree in
+      let kept = kept-in (shapes_in entry_of t) (shapes_in entry_of (moved t new more)) freed plan.kept old.pages (λ ib. let c = plan.counted ib in omega (arith, c))
+      (λ at some. shape-same entry_of t new more at longer (of-tally (IsPlace t.eof) old.pages at.ib stand some) (of-tally (SameAt t.file new) old.pages at.ib same some)) in
       let after = plan.tree (shapes_in entry_of (moved t new more)) name kept shown in
       let u = unshaped-root entry_of key (moved t new more) law (resolve name top) (edited key (map entry_of old.entries) ds) after.0 long after.1 in
       record {
@@ -113,13 +112,13 @@ module _ {E : Type 0} (entry_of : List ℕ → E) (key : E → ℕ) (t : FileTre
         entries = u.entries;
         places = λ slot.
             let f : ℕ → ℕ = λ ib. one_at slot (record { ib = ib; len = 512 }) in
-            let counts : (k : ℕ) → tally k (after.0 ++ freed) ≡ tally k (s.pages ++ names name 0 pages) = λ k.
-            let a = plan.counted k in let b = after.2 k in let c = tally-join k after.0 freed in let d = tally-join k s.pages (names name 0 pages) in omega (arith, a, b, c, d) in
-            let sums = same-sums f (after.0 ++ freed) (s.pages ++ names name 0 pages) counts in
+            let counts : (k : ℕ) → tally k (after.0 ++ freed) ≡ tally k (old.pages ++ names name 0 pages) = λ k.
+            let a = plan.counted k in let b = after.2 k in let c = tally-join k after.0 freed in let d = tally-join k old.pages (names name 0 pages) in omega (arith, a, b, c, d) in
+            let sums = same-sums f (after.0 ++ freed) (old.pages ++ names name 0 pages) counts in
             let one = sum_at-append f after.0 freed in
-            let two = sum_at-append f s.pages (names name 0 pages) in
-            let three : slot_tally slot u.found.places ≡ sum_at f after.0 = ap (slot_tally slot) u.places ∙ slots-sum slot after.0 in
-            let four : slot_tally slot old.places ≡ sum_at f s.pages = ap (slot_tally slot) (sym s.places) ∙ slots-sum slot s.pages in
+            let two = sum_at-append f old.pages (names name 0 pages) in
+            let three : slot_tally slot (page_places u.found) ≡ sum_at f after.0 = ap (λ (ps : List Bref). slot_tally slot (map page_place ps)) u.pages ∙ slots-sum slot after.0 in
+            let four : slot_tally slot (page_places old) ≡ sum_at f old.pages = slots-sum slot old.pages in
             let five = slots-sum slot freed in
             let six = slots-sum slot (names name 0 pages) in
             omega (arith, sums, one, two, three, four, five, six);

@@ -7,7 +7,7 @@ use Rattle.btree_pages.specs.declared.inner.Inner.{Inner}
 use Rattle.btree_pages.specs.Entries.{inner_of, inner_bytes, InnerFits}
 use Rattle.btree_pages.specs.EntryLaws.{inner_of-inner_bytes}
 use Rattle.btree_pages.specs.Pages.{page_of}
-use Rattle.file_layout.specs.Trees.{IsPlace}
+use Rattle.file_layout.specs.Trees.{IsPlace, page_place}
 use Rattle.file_layout.specs.Trees.{FileTree, is_placed}
 use Rattle.lays_kept.specs.declared.Piece.{Piece}
 use Rattle.lays_kept.specs.Kept.{Each}
@@ -15,12 +15,12 @@ use Rattle.tree_edit.specs.Shapes.{leaf, inner}
 use Rattle.tree_edit.specs.declared.plan.PlanPage.{PlanPage}
 use Rattle.tree_edit.specs.Pages.{seen, shown, child_in}
 use Rattle.tree_edit.specs.Plans.{AreShown, names, shape_in}
-use Rattle.file_pages.specs.InFile.{shapes_in, ok_of, body_at, place_at}
+use Rattle.file_pages.specs.InFile.{shapes_in, ok_of, body_at}
 use Rattle.node_layout.specs.Pieces.{EachStands}
 use Rattle.node_layout.specs.Lookups.{Each as EachOf}
 use Rattle.node_layout.specs.Written.{IsWritten, AreWritten}
 
-one-shown : {E : Type 0} (entry_of : List ℕ → E) (t : FileTree) (name : ℕ → Bref) (at : Bref) (page : PlanPage E) (piece : Piece) → IsWritten t.rule t.leaf entry_of t.kind name at page piece → IsPlace t.eof (place_at at)
+one-shown : {E : Type 0} (entry_of : List ℕ → E) (t : FileTree) (name : ℕ → Bref) (at : Bref) (page : PlanPage E) (piece : Piece) → IsWritten t.rule t.leaf entry_of t.kind name at page piece → IsPlace t.eof (page_place at)
     → take (length piece.bytes) (drop piece.at t.file) ≡ piece.bytes → shapes_in entry_of t at ≡ Some (shape_in name page)
 one-shown entry_of t name at page piece is place stands =
     let x = place.above in
@@ -33,7 +33,7 @@ one-shown entry_of t name at page piece is place stands =
 
 -- all pages of a plan
 pub pages-shown : {E : Type 0} (entry_of : List ℕ → E) (t : FileTree) (name : ℕ → Bref) (from : ℕ) (pages : List (PlanPage E)) (pieces : List Piece) → AreWritten t.rule t.leaf entry_of t.kind name from pages pieces
-    → Each (IsPlace t.eof) (map place_at (names name from pages)) → EachStands t.file pieces → AreShown (shapes_in entry_of t) name from pages
+    → Each (IsPlace t.eof) (map page_place (names name from pages)) → EachStands t.file pieces → AreShown (shapes_in entry_of t) name from pages
 pages-shown entry_of t name from [] pieces are places stands = tt
 pages-shown entry_of t name from (p ∷ ps) [] are places stands = absurd are
 pages-shown entry_of t name from (p ∷ ps) (q ∷ qs) are places stands =

@@ -12,6 +12,7 @@ use Rattle.btree_pages.specs.declared.entry.BlockEntry.{BlockEntry}
 use Rattle.btree_pages.specs.declared.entry.NodeEntry.{NodeEntry}
 use Rattle.btree_pages.specs.Entries.{block_of, node_of}
 use Rattle.file_blocks.specs.Blocks.{Stands, data_of, entry_key, found_in}
+use Rattle.file_layout.specs.Trees.{page_place}
 use Rattle.file_layout.specs.Nodes.{NodeMap, Lays, block_tree, node_tree, blocks_in, nodes_in, place_of, places_of, regions_to, LARGEST}
 use Rattle.lays_kept.specs.Kept.{Each as EachPlace, SameAt}
 use Rattle.lays_kept.specs.Grown.{NeedsOnly}
@@ -24,7 +25,7 @@ use Rattle.tree_edit.specs.declared.plan.PlanPage.{PlanPage}
 use Rattle.tree_edit.specs.Shapes.{IsWhole}
 use Rattle.tree_edit.specs.Edits.{edited, AreEdits, entry_with, extra}
 use Rattle.tree_edit.specs.Plans.{names, resolve, AreShown, IsPlan}
-use Rattle.file_pages.specs.InFile.{shapes_in, place_at}
+use Rattle.file_pages.specs.InFile.{shapes_in}
 use Rattle.node_layout.specs.Lookups.{edit_at, or_old, Each, EachPut}
 
 -- the key of a node's entry
@@ -44,7 +45,7 @@ pub record TreePlan (E : Type 0) : Type 0 where
 
 -- where its new pages stand
 abbrev pub places_in : {E : Type 0} → TreePlan E → List Place
-places_in p = map place_at (names p.name 0 p.pages)
+places_in p = map page_place (names p.name 0 p.pages)
 
 -- ---- blocks and nodes
 
