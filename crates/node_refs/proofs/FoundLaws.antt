@@ -9,11 +9,11 @@ use Rattle.btree_pages.specs.declared.entry.NodeEntry.{NodeEntry}
 use Rattle.data_tree.specs.declared.source.TreeStop.{TreeStop}
 use Rattle.data_tree.specs.declared.source.TreeStop.TheVariants.{Form, Long, Deep, Many}
 use Rattle.data_tree.specs.Tree.{and_then, named, fetched, is_internal, is_listing, names_of, leaves, below, all_below, listed, bids_of, blocks_from, blocks_of, are_data}
-use Rattle.subnode_tree.specs.declared.blocks.SubEntry.{SubEntry}
 use Rattle.subnode_tree.specs.Subnodes.{is_leaf, is_inner, entries_of, listed_ascend, listed_of, ordered, part_in, part_of, parts_of, level_in, level_of, rows, branch_with, subs_from, subs_of}
 use Rattle.file_layout.specs.Nodes.{Node, node_at}
 use Rattle.data_tree.specs.Keys.{keys_of, named_in, under, led_from, data_keys}
-use Rattle.node_refs.specs.Reach.{listed_in, ok_entries, each_keys, sub_keys, node_keys, AgreeOn, AllFound}
+use Rattle.subnode_tree.specs.Keys.{Entry, listed_in, ok_entries, each_keys, sub_keys_from, sub_keys}
+use Rattle.node_refs.specs.Reach.{node_keys, AgreeOn, AllFound}
 use Rattle.node_layout.specs.Lookups.{AllIn}
 
 found-front : (find : ℕ → Option (List ℕ)) (xs ys : List ℕ) → AllFound find (xs ++ ys) → AllFound find xs
@@ -120,8 +120,8 @@ module _ (find : ℕ → Option (List ℕ)) where
 
   -- ---- subnodes
 
-  parts-found : (level : ℕ) (b : List ℕ) (entries : List SubEntry) → parts_of find level (listed_of b) ≡ Ok entries → AllFound find (map (λ l. key_of (l.block).bits) (listed_of b))
-  parts-found level b entries e = list_rec (λ ls. (es : List SubEntry) → parts_of find level ls ≡ Ok es → AllFound find (map (λ l. key_of (l.block).bits) ls))
+  parts-found : (level : ℕ) (b : List ℕ) (entries : List Entry) → parts_of find level (listed_of b) ≡ Ok entries → AllFound find (map (λ l. key_of (l.block).bits) (listed_of b))
+  parts-found level b entries e = list_rec (λ ls. (es : List Entry) → parts_of find level ls ≡ Ok es → AllFound find (map (λ l. key_of (l.block).bits) ls))
       (λ es is. tt)
       (λ l ls rest es is.
       let p = then-parts (part_of find level l) (λ here. and_then (parts_of find level ls) (λ rest. Ok (here ++ rest))) es is in
@@ -130,7 +130,7 @@ module _ (find : ℕ → Option (List ℕ)) where
       ((q.x, fetched-found l.block q.x q.first), rest r.x r.first))
       (listed_of b) entries e
 
-  level-found : (level : ℕ) (bid : Bid) (entries : List SubEntry) → level_of find level bid ≡ Ok entries → AllFound find (key_of bid.bits ∷ listed_in (find (key_of bid.bits)))
+  level-found : (level : ℕ) (bid : Bid) (entries : List Entry) → level_of find level bid ≡ Ok entries → AllFound find (key_of bid.bits ∷ listed_in (find (key_of bid.bits)))
   unfolding level_in
   level-found level bid entries e =
       let p = then-parts (fetched find bid) (level_in find level bid) entries e in
@@ -144,15 +144,15 @@ module _ (find : ℕ → Option (List ℕ)) where
       by b false true false e = absurd (cc)
       by b false false up e = tt
 
-  rows-found : {Y : Type 0} (f : ℕ → SubEntry → Result (List Y) TreeStop) (keys : SubEntry → List ℕ) → ((room : ℕ) (entry : SubEntry) (ys : List Y) → f room entry ≡ Ok ys → AllFound find (keys entry))
-      → (room : ℕ) (entries : List SubEntry) (ys : List Y) → rows f room entries ≡ Ok ys → AllFound find (each_keys keys entries)
+  rows-found : {Y : Type 0} (f : ℕ → Entry → Result (List Y) TreeStop) (keys : Entry → List ℕ) → ((room : ℕ) (entry : Entry) (ys : List Y) → f room entry ≡ Ok ys → AllFound find (keys entry))
+      → (room : ℕ) (entries : List Entry) (ys : List Y) → rows f room entries ≡ Ok ys → AllFound find (each_keys keys entries)
   rows-found f keys step room [] ys e = tt
   rows-found f keys step room (entry ∷ entries) ys e =
       let p = then-parts (f room entry) (λ here. and_then (rows f (room - length here) entries) (λ more. Ok (here ++ more))) ys e in
       let q = then-parts (rows f (room - length p.x) entries) (λ more. Ok (p.x ++ more)) ys p.later in
       found-join find (keys entry) (each_keys keys entries) (step room entry p.x p.first) (rows-found f keys step (room - length p.x) entries q.x q.first)
 
-  subs-found : (eof deeper room : ℕ) (bid : Bid) (flats : List Flat) → subs_from find eof deeper room bid ≡ Ok flats → AllFound find (sub_keys find deeper bid)
+  subs-found : (eof deeper room : ℕ) (bid : Bid) (flats : List Flat) → subs_from find eof deeper room bid ≡ Ok flats → AllFound find (sub_keys_from find deeper bid)
   subs-found eof zero room bid flats e = by (eqb bid.bits 0) e
     where
       by : (none : Bool) → ◌≡◌ {A = Result (List Flat) TreeStop} (if none then Ok [] else and_then (level_of find 9 bid) (rows {Y = Flat} (λ left entry. Err Deep) room)) (Ok flats) → AllFound find (if none then [] else key_of bid.bits ∷ listed_in (find (key_of bid.bits)))
@@ -160,39 +160,39 @@ module _ (find : ℕ → Option (List ℕ)) where
       by false e = let p = then-parts (level_of find 9 bid) (rows {Y = Flat} (λ left entry. Err Deep) room) flats e in level-found 9 bid p.x p.first
   subs-found eof (suc deeper) room bid flats e = by (subs-found eof deeper) (eqb bid.bits 0) e
     where
-      keys : SubEntry → List ℕ
-      keys entry = data_keys find entry.content ++ sub_keys find deeper entry.subnodes
+      keys : Entry → List ℕ
+      keys entry = data_keys find entry.content ++ sub_keys_from find deeper entry.subnodes
 
-      branch : ((room : ℕ) (bid : Bid) (flats : List Flat) → subs_from find eof deeper room bid ≡ Ok flats → AllFound find (sub_keys find deeper bid))
-          → (room : ℕ) (entry : SubEntry) (ys : List Flat) → branch_with find eof (subs_from find eof deeper) room entry ≡ Ok ys → AllFound find (keys entry)
+      branch : ((room : ℕ) (bid : Bid) (flats : List Flat) → subs_from find eof deeper room bid ≡ Ok flats → AllFound find (sub_keys_from find deeper bid))
+          → (room : ℕ) (entry : Entry) (ys : List Flat) → branch_with find eof (subs_from find eof deeper) room entry ≡ Ok ys → AllFound find (keys entry)
       branch rec room entry ys e = at (eqb room 0) e
         where
           at : (none : Bool) → (if none then Err Many else and_then (blocks_of find eof entry.content) (λ blocks. and_then (subs_from find eof deeper (room - 1) entry.subnodes) (λ inner. Ok (record { level = 0; nid = (entry.nid).bits; blocks = blocks } ∷ map one_deeper inner)))) ≡ Ok ys
-              → AllFound find (data_keys find entry.content ++ sub_keys find deeper entry.subnodes)
+              → AllFound find (data_keys find entry.content ++ sub_keys_from find deeper entry.subnodes)
           at true e = absurd (cc)
           at false e =
               let p = then-parts (blocks_of find eof entry.content) (λ blocks. and_then (subs_from find eof deeper (room - 1) entry.subnodes) (λ inner. Ok (record { level = 0; nid = (entry.nid).bits; blocks = blocks } ∷ map one_deeper inner))) ys e in
               let q = then-parts (subs_from find eof deeper (room - 1) entry.subnodes) (λ inner. Ok (record { level = 0; nid = (entry.nid).bits; blocks = p.x } ∷ map one_deeper inner)) ys p.later in
-              found-join find (data_keys find entry.content) (sub_keys find deeper entry.subnodes) (data-found eof entry.content p.x p.first) (rec (room - 1) entry.subnodes q.x q.first)
+              found-join find (data_keys find entry.content) (sub_keys_from find deeper entry.subnodes) (data-found eof entry.content p.x p.first) (rec (room - 1) entry.subnodes q.x q.first)
 
-      by : ((room : ℕ) (bid : Bid) (flats : List Flat) → subs_from find eof deeper room bid ≡ Ok flats → AllFound find (sub_keys find deeper bid))
+      by : ((room : ℕ) (bid : Bid) (flats : List Flat) → subs_from find eof deeper room bid ≡ Ok flats → AllFound find (sub_keys_from find deeper bid))
           → (none : Bool) → (if none then Ok [] else and_then (level_of find (8 - deeper) bid) (rows (branch_with find eof (subs_from find eof deeper)) room)) ≡ Ok flats
           → AllFound find (if none then [] else key_of bid.bits ∷ (listed_in (find (key_of bid.bits)) ++ each_keys keys (ok_entries (level_of find (8 - deeper) bid))))
       by rec true e = tt
       by rec false e =
           let p = then-parts (level_of find (8 - deeper) bid) (rows (branch_with find eof (subs_from find eof deeper)) room) flats e in
           let here = level-found (8 - deeper) bid p.x p.first in
-          let entries : AllFound find (each_keys keys (ok_entries (level_of find (8 - deeper) bid))) = subst (λ (r : Result (List SubEntry) TreeStop). AllFound find (each_keys keys (ok_entries r))) (sym p.first)
+          let entries : AllFound find (each_keys keys (ok_entries (level_of find (8 - deeper) bid))) = subst (λ (r : Result (List Entry) TreeStop). AllFound find (each_keys keys (ok_entries r))) (sym p.first)
           (rows-found (branch_with find eof (subs_from find eof deeper)) keys (branch rec) room p.x flats p.later) in
           (here.0, found-join find (listed_in (find (key_of bid.bits))) (each_keys keys (ok_entries (level_of find (8 - deeper) bid))) here.1 entries)
 
   -- all that a node reaches is found, where the node is read
   pub node-found : (eof : ℕ) (e : NodeEntry) (n : Node) → node_at find eof e ≡ Ok n → AllFound find (node_keys find e)
-  unfolding node_at node_keys subs_of
+  unfolding node_at node_keys subs_of sub_keys
   node-found eof e n is =
       let p = then-parts (blocks_of find eof e.content) (λ blocks. and_then (subs_of find eof e.subnodes) (λ subs. Ok (record { nid = (e.nid).bits; parent = (e.parent).bits; blocks = blocks; subs = subs }))) n is in
       let q = then-parts (subs_of find eof e.subnodes) (λ subs. Ok (record { nid = (e.nid).bits; parent = (e.parent).bits; blocks = p.x; subs = subs })) n p.later in
-      found-join find (data_keys find e.content) (sub_keys find 8 e.subnodes) (data-found eof e.content p.x p.first) (subs-found eof 8 (eof / 24) e.subnodes q.x q.first)
+      found-join find (data_keys find e.content) (sub_keys_from find 8 e.subnodes) (data-found eof e.content p.x p.first) (subs-found eof 8 (eof / 24) e.subnodes q.x q.first)
 
 -- finders agree on what one finds, where the other finds that too
 pub still-agree : (find after : ℕ → Option (List ℕ)) (some : ℕ → Bool) → ((key : ℕ) (b : List ℕ) → some key ≡ true → find key ≡ Some b → after key ≡ Some b)

@@ -9,12 +9,12 @@ use Rattle.btree_pages.specs.declared.entry.NodeEntry.{NodeEntry}
 use Rattle.data_tree.specs.declared.source.TreeStop.{TreeStop}
 use Rattle.data_tree.specs.declared.source.TreeStop.TheVariants.{Form, Long, Deep, Many}
 use Rattle.data_tree.specs.Tree.{and_then, named, fetched, is_internal, is_listing, names_of, leaves, below, all_below, listed, bids_of, blocks_from, blocks_of, are_data}
-use Rattle.subnode_tree.specs.declared.blocks.SubEntry.{SubEntry}
 use Rattle.subnode_tree.specs.Subnodes.{is_leaf, is_inner, entries_of, listed_ascend, listed_of, ordered, part_in, part_of, parts_of, level_in, level_of, rows, branch_with, subs_from, subs_of}
 use Rattle.file_layout.specs.Nodes.{node_at}
 use Rattle.lays_kept.specs.Grown.{restricted, NeedsOnly}
 use Rattle.data_tree.specs.Keys.{keys_of, named_in, under, led_from, data_keys}
-use Rattle.node_refs.specs.Reach.{listed_in, ok_entries, each_keys, sub_keys, node_keys, AgreeOn}
+use Rattle.subnode_tree.specs.Keys.{Entry, listed_in, ok_entries, each_keys, sub_keys_from, sub_keys}
+use Rattle.node_refs.specs.Reach.{node_keys, AgreeOn}
 use Rattle.node_layout.specs.Lookups.{AllIn}
 
 all-front : (find g : ℕ → Option (List ℕ)) (xs ys : List ℕ) → AgreeOn find g (xs ++ ys) → AgreeOn find g xs
@@ -161,7 +161,7 @@ module _ (find g : ℕ → Option (List ℕ)) where
       (λ is none. refl)
       (λ l ls rest is all.
       ap (λ (r : Result (List ℕ) TreeStop). and_then (and_then r (part_in level l)) (λ here. and_then (parts_of g level ls) (λ rest. Ok (here ++ rest)))) (fetched-same l.block all.0)
-      ∙ ap (λ (r : Result (List SubEntry) TreeStop). and_then (part_of find level l) (λ here. and_then r (λ rest. Ok (here ++ rest)))) (rest refl all.1))
+      ∙ ap (λ (r : Result (List Entry) TreeStop). and_then (part_of find level l) (λ here. and_then r (λ rest. Ok (here ++ rest)))) (rest refl all.1))
       (listed_of b) refl all
 
   level_in-same : (level : ℕ) (bid : Bid) (b : List ℕ) → AgreeOn find g (listed_in (Some b)) → level_in g level bid b ≡ level_in find level bid b
@@ -172,7 +172,7 @@ module _ (find g : ℕ → Option (List ℕ)) where
           → (if one then ordered bid (entries_of level b) else (if two then (if up then and_then (parts_of g level (listed_of b)) (ordered bid) else Err (Form bid)) else Err (Form bid)))
           ≡ (if one then ordered bid (entries_of level b) else (if two then (if up then and_then (parts_of find level (listed_of b)) (ordered bid) else Err (Form bid)) else Err (Form bid)))
       by true two up all = refl
-      by false true true all = ap (λ (r : Result (List SubEntry) TreeStop). and_then r (ordered bid)) (parts-same level b all)
+      by false true true all = ap (λ (r : Result (List Entry) TreeStop). and_then r (ordered bid)) (parts-same level b all)
       by false true false all = refl
       by false false up all = refl
 
@@ -184,65 +184,65 @@ module _ (find g : ℕ → Option (List ℕ)) where
       at None all = refl
       at (Some b) all = level_in-same level bid b all
 
-  rows-same : {Y : Type 0} (f h : ℕ → SubEntry → Result (List Y) TreeStop) (keys : SubEntry → List ℕ) → ((room : ℕ) (entry : SubEntry) → AgreeOn find g (keys entry) → f room entry ≡ h room entry)
-      → (room : ℕ) (entries : List SubEntry) → AgreeOn find g (each_keys keys entries) → rows f room entries ≡ rows h room entries
+  rows-same : {Y : Type 0} (f h : ℕ → Entry → Result (List Y) TreeStop) (keys : Entry → List ℕ) → ((room : ℕ) (entry : Entry) → AgreeOn find g (keys entry) → f room entry ≡ h room entry)
+      → (room : ℕ) (entries : List Entry) → AgreeOn find g (each_keys keys entries) → rows f room entries ≡ rows h room entries
   rows-same f h keys step room [] all = refl
   rows-same {Y} f h keys step room (entry ∷ entries) all =
       ap (λ (r : Result (List Y) TreeStop). and_then r (λ here. and_then (rows f (room - length here) entries) (λ more. Ok (here ++ more)))) (step room entry (all-front find g (keys entry) (each_keys keys entries) all))
       ∙ then-same (h room entry) _ _ (λ here is. ap (λ (r : Result (List Y) TreeStop). and_then r (λ more. Ok (here ++ more))) (rows-same f h keys step (room - length here) entries (all-back find g (keys entry) (each_keys keys entries) all)))
 
-  subs_from-same : (eof deeper room : ℕ) (bid : Bid) → AgreeOn find g (sub_keys find deeper bid) → subs_from g eof deeper room bid ≡ subs_from find eof deeper room bid
+  subs_from-same : (eof deeper room : ℕ) (bid : Bid) → AgreeOn find g (sub_keys_from find deeper bid) → subs_from g eof deeper room bid ≡ subs_from find eof deeper room bid
   subs_from-same eof zero room bid all = by (eqb bid.bits 0) all
     where
       by : (none : Bool) → AgreeOn find g (if none then [] else key_of bid.bits ∷ listed_in (find (key_of bid.bits)))
           → ◌≡◌ {A = Result (List Flat) TreeStop} (if none then Ok [] else and_then (level_of g 9 bid) (rows {Y = Flat} (λ left entry. Err Deep) room)) (if none then Ok [] else and_then (level_of find 9 bid) (rows {Y = Flat} (λ left entry. Err Deep) room))
       by true all = refl
-      by false all = ap (λ (r : Result (List SubEntry) TreeStop). and_then r (rows {Y = Flat} (λ left entry. Err Deep) room)) (level-same 9 bid all.0 all.1)
+      by false all = ap (λ (r : Result (List Entry) TreeStop). and_then r (rows {Y = Flat} (λ left entry. Err Deep) room)) (level-same 9 bid all.0 all.1)
   subs_from-same eof (suc deeper) room bid all = by (subs_from-same eof deeper) (eqb bid.bits 0) all
     where
-      keys : SubEntry → List ℕ
-      keys entry = data_keys find entry.content ++ sub_keys find deeper entry.subnodes
+      keys : Entry → List ℕ
+      keys entry = data_keys find entry.content ++ sub_keys_from find deeper entry.subnodes
 
-      F : ℕ → SubEntry → Result (List Flat) TreeStop
+      F : ℕ → Entry → Result (List Flat) TreeStop
       F = branch_with g eof (subs_from g eof deeper)
 
-      H : ℕ → SubEntry → Result (List Flat) TreeStop
+      H : ℕ → Entry → Result (List Flat) TreeStop
       H = branch_with find eof (subs_from find eof deeper)
 
-      branch : ((room : ℕ) (bid : Bid) → AgreeOn find g (sub_keys find deeper bid) → subs_from g eof deeper room bid ≡ subs_from find eof deeper room bid)
-          → (room : ℕ) (entry : SubEntry) → AgreeOn find g (keys entry) → F room entry ≡ H room entry
+      branch : ((room : ℕ) (bid : Bid) → AgreeOn find g (sub_keys_from find deeper bid) → subs_from g eof deeper room bid ≡ subs_from find eof deeper room bid)
+          → (room : ℕ) (entry : Entry) → AgreeOn find g (keys entry) → F room entry ≡ H room entry
       branch rec room entry all =
           ap (λ (r : Result (List (List ℕ)) TreeStop). if eqb room 0 then Err Many else and_then r (λ blocks. and_then (subs_from g eof deeper (room - 1) entry.subnodes) (λ inner. Ok (record { level = 0; nid = (entry.nid).bits; blocks = blocks } ∷ map one_deeper inner))))
-          (blocks-same eof entry.content (all-front find g (data_keys find entry.content) (sub_keys find deeper entry.subnodes) all))
+          (blocks-same eof entry.content (all-front find g (data_keys find entry.content) (sub_keys_from find deeper entry.subnodes) all))
           ∙ ap (λ (r : Result (List Flat) TreeStop). if eqb room 0 then Err Many else and_then (blocks_of find eof entry.content) (λ blocks. and_then r (λ inner. Ok (record { level = 0; nid = (entry.nid).bits; blocks = blocks } ∷ map one_deeper inner))))
-          (rec (room - 1) entry.subnodes (all-back find g (data_keys find entry.content) (sub_keys find deeper entry.subnodes) all))
+          (rec (room - 1) entry.subnodes (all-back find g (data_keys find entry.content) (sub_keys_from find deeper entry.subnodes) all))
 
-      at : ((room : ℕ) (bid : Bid) → AgreeOn find g (sub_keys find deeper bid) → subs_from g eof deeper room bid ≡ subs_from find eof deeper room bid)
-          → (r : Result (List SubEntry) TreeStop) → AgreeOn find g (each_keys keys (ok_entries r)) → and_then r (rows F room) ≡ and_then r (rows H room)
+      at : ((room : ℕ) (bid : Bid) → AgreeOn find g (sub_keys_from find deeper bid) → subs_from g eof deeper room bid ≡ subs_from find eof deeper room bid)
+          → (r : Result (List Entry) TreeStop) → AgreeOn find g (each_keys keys (ok_entries r)) → and_then r (rows F room) ≡ and_then r (rows H room)
       at rec (Err stop) all = refl
       at rec (Ok entries) all = rows-same F H keys (branch rec) room entries all
 
-      by : ((room : ℕ) (bid : Bid) → AgreeOn find g (sub_keys find deeper bid) → subs_from g eof deeper room bid ≡ subs_from find eof deeper room bid)
+      by : ((room : ℕ) (bid : Bid) → AgreeOn find g (sub_keys_from find deeper bid) → subs_from g eof deeper room bid ≡ subs_from find eof deeper room bid)
           → (none : Bool) → AgreeOn find g (if none then [] else key_of bid.bits ∷ (listed_in (find (key_of bid.bits)) ++ each_keys keys (ok_entries (level_of find (8 - deeper) bid))))
           → (if none then Ok [] else and_then (level_of g (8 - deeper) bid) (rows F room)) ≡ (if none then Ok [] else and_then (level_of find (8 - deeper) bid) (rows H room))
       by rec true all = refl
       by rec false all =
-          ap (λ (r : Result (List SubEntry) TreeStop). and_then r (rows F room)) (level-same (8 - deeper) bid all.0 (all-front find g (listed_in (find (key_of bid.bits))) (each_keys keys (ok_entries (level_of find (8 - deeper) bid))) all.1))
+          ap (λ (r : Result (List Entry) TreeStop). and_then r (rows F room)) (level-same (8 - deeper) bid all.0 (all-front find g (listed_in (find (key_of bid.bits))) (each_keys keys (ok_entries (level_of find (8 - deeper) bid))) all.1))
           ∙ at rec (level_of find (8 - deeper) bid) (all-back find g (listed_in (find (key_of bid.bits))) (each_keys keys (ok_entries (level_of find (8 - deeper) bid))) all.1)
 
-  pub subs-same : (eof : ℕ) (bid : Bid) → AgreeOn find g (sub_keys find 8 bid) → subs_of g eof bid ≡ subs_of find eof bid
+  pub subs-same : (eof : ℕ) (bid : Bid) → AgreeOn find g (sub_keys_from find 8 bid) → subs_of g eof bid ≡ subs_of find eof bid
   unfolding subs_of
   subs-same eof bid all = subs_from-same eof 8 (eof / 24) bid all
 
   -- ---- a node
 
   node-same : (eof : ℕ) (e : NodeEntry) → AgreeOn find g (node_keys find e) → node_at g eof e ≡ node_at find eof e
-  unfolding node_at node_keys
+  unfolding node_at node_keys sub_keys
   node-same eof e all =
       ap (λ (r : Result (List (List ℕ)) TreeStop). and_then r (λ blocks. and_then (subs_of g eof e.subnodes) (λ subs. Ok (record { nid = (e.nid).bits; parent = (e.parent).bits; blocks = blocks; subs = subs }))))
-      (blocks-same eof e.content (all-front find g (data_keys find e.content) (sub_keys find 8 e.subnodes) all))
+      (blocks-same eof e.content (all-front find g (data_keys find e.content) (sub_keys_from find 8 e.subnodes) all))
       ∙ ap (λ (r : Result (List Flat) TreeStop). and_then (blocks_of find eof e.content) (λ blocks. and_then r (λ subs. Ok (record { nid = (e.nid).bits; parent = (e.parent).bits; blocks = blocks; subs = subs }))))
-      (subs-same eof e.subnodes (all-back find g (data_keys find e.content) (sub_keys find 8 e.subnodes) all))
+      (subs-same eof e.subnodes (all-back find g (data_keys find e.content) (sub_keys_from find 8 e.subnodes) all))
 
   -- ---- what is reached
 
@@ -272,13 +272,13 @@ module _ (find g : ℕ → Option (List ℕ)) where
       by false false all = refl
       by false true all = ap (λ (o : Option (List ℕ)). key_of bid.bits ∷ led_from g o) all.0 ∙ ap (λ (l : List ℕ). key_of bid.bits ∷ l) (led-same (find (key_of bid.bits)) all.1)
 
-  each-keys-same : (f h : SubEntry → List ℕ) → ((entry : SubEntry) → AgreeOn find g (h entry) → f entry ≡ h entry) → (entries : List SubEntry) → AgreeOn find g (each_keys h entries) → each_keys f entries ≡ each_keys h entries
+  each-keys-same : (f h : Entry → List ℕ) → ((entry : Entry) → AgreeOn find g (h entry) → f entry ≡ h entry) → (entries : List Entry) → AgreeOn find g (each_keys h entries) → each_keys f entries ≡ each_keys h entries
   each-keys-same f h step [] all = refl
   each-keys-same f h step (entry ∷ entries) all =
       ap (λ (l : List ℕ). l ++ each_keys f entries) (step entry (all-front find g (h entry) (each_keys h entries) all))
       ∙ ap (λ (l : List ℕ). h entry ++ l) (each-keys-same f h step entries (all-back find g (h entry) (each_keys h entries) all))
 
-  sub-keys-same : (deeper : ℕ) (bid : Bid) → AgreeOn find g (sub_keys find deeper bid) → sub_keys g deeper bid ≡ sub_keys find deeper bid
+  sub-keys-same : (deeper : ℕ) (bid : Bid) → AgreeOn find g (sub_keys_from find deeper bid) → sub_keys_from g deeper bid ≡ sub_keys_from find deeper bid
   sub-keys-same zero bid all = by (eqb bid.bits 0) all
     where
       by : (none : Bool) → AgreeOn find g (if none then [] else key_of bid.bits ∷ listed_in (find (key_of bid.bits)))
@@ -287,13 +287,13 @@ module _ (find g : ℕ → Option (List ℕ)) where
       by false all = ap (λ (o : Option (List ℕ)). key_of bid.bits ∷ listed_in o) all.0
   sub-keys-same (suc deeper) bid all = by (sub-keys-same deeper) (eqb bid.bits 0) all
     where
-      F : SubEntry → List ℕ
-      F entry = data_keys g entry.content ++ sub_keys g deeper entry.subnodes
+      F : Entry → List ℕ
+      F entry = data_keys g entry.content ++ sub_keys_from g deeper entry.subnodes
 
-      H : SubEntry → List ℕ
-      H entry = data_keys find entry.content ++ sub_keys find deeper entry.subnodes
+      H : Entry → List ℕ
+      H entry = data_keys find entry.content ++ sub_keys_from find deeper entry.subnodes
 
-      by : ((bid : Bid) → AgreeOn find g (sub_keys find deeper bid) → sub_keys g deeper bid ≡ sub_keys find deeper bid)
+      by : ((bid : Bid) → AgreeOn find g (sub_keys_from find deeper bid) → sub_keys_from g deeper bid ≡ sub_keys_from find deeper bid)
           → (none : Bool) → AgreeOn find g (if none then [] else key_of bid.bits ∷ (listed_in (find (key_of bid.bits)) ++ each_keys H (ok_entries (level_of find (8 - deeper) bid))))
           → (if none then [] else key_of bid.bits ∷ (listed_in (g (key_of bid.bits)) ++ each_keys F (ok_entries (level_of g (8 - deeper) bid))))
           ≡ (if none then [] else key_of bid.bits ∷ (listed_in (find (key_of bid.bits)) ++ each_keys H (ok_entries (level_of find (8 - deeper) bid))))
@@ -302,19 +302,19 @@ module _ (find g : ℕ → Option (List ℕ)) where
           let front = all-front find g (listed_in (find (key_of bid.bits))) (each_keys H (ok_entries (level_of find (8 - deeper) bid))) all.1 in
           let back = all-back find g (listed_in (find (key_of bid.bits))) (each_keys H (ok_entries (level_of find (8 - deeper) bid))) all.1 in
           ap (λ (o : Option (List ℕ)). key_of bid.bits ∷ (listed_in o ++ each_keys F (ok_entries (level_of g (8 - deeper) bid)))) all.0
-          ∙ ap (λ (r : Result (List SubEntry) TreeStop). key_of bid.bits ∷ (listed_in (find (key_of bid.bits)) ++ each_keys F (ok_entries r))) (level-same (8 - deeper) bid all.0 front)
+          ∙ ap (λ (r : Result (List Entry) TreeStop). key_of bid.bits ∷ (listed_in (find (key_of bid.bits)) ++ each_keys F (ok_entries r))) (level-same (8 - deeper) bid all.0 front)
           ∙ ap (λ (l : List ℕ). key_of bid.bits ∷ (listed_in (find (key_of bid.bits)) ++ l))
           (each-keys-same F H (λ entry a.
-          ap (λ (l : List ℕ). l ++ sub_keys g deeper entry.subnodes) (data-keys-same entry.content (all-front find g (data_keys find entry.content) (sub_keys find deeper entry.subnodes) a))
-          ∙ ap (λ (l : List ℕ). data_keys find entry.content ++ l) (rec entry.subnodes (all-back find g (data_keys find entry.content) (sub_keys find deeper entry.subnodes) a)))
+          ap (λ (l : List ℕ). l ++ sub_keys_from g deeper entry.subnodes) (data-keys-same entry.content (all-front find g (data_keys find entry.content) (sub_keys_from find deeper entry.subnodes) a))
+          ∙ ap (λ (l : List ℕ). data_keys find entry.content ++ l) (rec entry.subnodes (all-back find g (data_keys find entry.content) (sub_keys_from find deeper entry.subnodes) a)))
           (ok_entries (level_of find (8 - deeper) bid)) back)
 
   -- a node reaches the same blocks where the finders agree on them
   pub keys-same : (e : NodeEntry) → AgreeOn find g (node_keys find e) → node_keys g e ≡ node_keys find e
-  unfolding node_keys
+  unfolding node_keys sub_keys
   keys-same e all =
-      ap (λ (l : List ℕ). l ++ sub_keys g 8 e.subnodes) (data-keys-same e.content (all-front find g (data_keys find e.content) (sub_keys find 8 e.subnodes) all))
-      ∙ ap (λ (l : List ℕ). data_keys find e.content ++ l) (sub-keys-same 8 e.subnodes (all-back find g (data_keys find e.content) (sub_keys find 8 e.subnodes) all))
+      ap (λ (l : List ℕ). l ++ sub_keys_from g 8 e.subnodes) (data-keys-same e.content (all-front find g (data_keys find e.content) (sub_keys_from find 8 e.subnodes) all))
+      ∙ ap (λ (l : List ℕ). data_keys find e.content ++ l) (sub-keys-same 8 e.subnodes (all-back find g (data_keys find e.content) (sub_keys_from find 8 e.subnodes) all))
 
 agree-some : (find : ℕ → Option (List ℕ)) (some : ℕ → Bool) (keys : List ℕ) → AllIn some keys → AgreeOn find (restricted some find) keys
 agree-some find some [] all = tt
