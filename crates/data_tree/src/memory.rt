@@ -3,7 +3,7 @@ ghost use Rattle.std.specs.Prelude.{◌≡◌, Some, None, IfSome, IfNone};
 ghost use Rattle.pst_base.specs.Ids.{key_of};
 ghost use Rattle.data_tree.specs.Listed.{block_at};
 
-use crate::source::BlockSource;
+use crate::source::{BlockSizes, BlockSource};
 use pst_base::{Bid, Bytes, MemOr, SourceStop};
 use std::alloc::Global;
 
@@ -40,14 +40,16 @@ impl BlockSource for BlockList {
         }
     }
 
+    fn limit(&self) -> u64 {
+        self.limit
+    }
+}
+
+impl BlockSizes for BlockList {
     fn size(&self, bid: Bid) -> Option<u64> {
         match listed(self.blocks.as_slice(), bid) {
             Some(block) => Some(block.len() as u64),
             None => None,
         }
-    }
-
-    fn limit(&self) -> u64 {
-        self.limit
     }
 }

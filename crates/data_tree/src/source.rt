@@ -19,13 +19,16 @@ pub trait BlockSource {
         ensures found { IfOk result (λ found. (find : ℕ → Option (List ℕ)) → (view self.old).holds find → found ≡ find (key_of bid.bits)) }
         ensures stopped { IfErr result (SourceStops (view self.old) (view self.new)) };
 
-    /// How many bytes of data the block with this id has, of which bit 0 doesn't count; `None` where there is no such block. It reads nothing.
-    fn size(&self, bid: Bid) -> Option<u64>
-        ensures { (find : ℕ → Option (List ℕ)) → (view self.now).holds find → result ≡ size_in find bid };
-
     /// The file's length.
     fn limit(&self) -> u64
         ensures { result ≡ (view self.now).eof };
+}
+
+/// A source that knows how long its blocks are without a reading.
+pub trait BlockSizes: BlockSource {
+    /// How many bytes of data the block with this id has, of which bit 0 doesn't count; `None` where there is no such block.
+    fn size(&self, bid: Bid) -> Option<u64>
+        ensures { (find : ℕ → Option (List ℕ)) → (Self.view self.now).holds find → result ≡ size_in find bid };
 }
 
 /// Why a reading of a tree of blocks stopped.

@@ -13,4 +13,4 @@ mod tests;
 
 pub use check::{BlockRefusal, BlockStop, check_block, has_room, read_block};
 pub use entries::{entry_index, find_entry};
-pub use source::FileBlocks;
+pub use source::{FileBlocks, changed};

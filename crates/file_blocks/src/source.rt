@@ -5,7 +5,7 @@ use crate::check::{BlockRefusal, BlockStop, read_block};
 use crate::entries::find_entry;
 use block_frame::BlockFault;
 use btree_pages::BlockEntry;
-use data_tree::BlockSource;
+use data_tree::{BlockSizes, BlockSource};
 use pst_base::{Bid, Bytes, MemOr, SourceStop};
 use pst_outside::Outside;
 use std::alloc::Global;
@@ -44,18 +44,20 @@ impl<'a, W: Outside> BlockSource for FileBlocks<'a, W> {
         }
     }
 
-    fn size(&self, bid: Bid) -> Option<u64> {
-        let entry = find_entry(self.entries, bid)?;
-        Some(u64::from(entry.cb))
-    }
-
     fn limit(&self) -> u64 {
         self.eof
     }
 }
 
-/// What has changed of a block that was whole: the two numbers that its frame's check compared.
-fn changed(ib: u64, refusal: BlockRefusal) -> SourceStop
+impl<'a, W: Outside> BlockSizes for FileBlocks<'a, W> {
+    fn size(&self, bid: Bid) -> Option<u64> {
+        let entry = find_entry(self.entries, bid)?;
+        Some(u64::from(entry.cb))
+    }
+}
+
+/// What has changed of a block that was whole: the two numbers that its frame's check compared, or 10 and 0 where its frame holds.
+pub fn changed(ib: u64, refusal: BlockRefusal) -> SourceStop
     ensures { (stored : ℕ) × (computed : ℕ) × (result ≡ SourceStop.Changed ib stored computed) }
 {
     let (stored, computed) = match refusal {

@@ -2,7 +2,7 @@
 use crate::{BlockRefusal, BlockStop, FileBlocks, check_block};
 use block_frame::{BlockFault, seal};
 use btree_pages::BlockEntry;
-use data_tree::BlockSource;
+use data_tree::{BlockSizes, BlockSource};
 use pst_base::{Bid, Bref, Bytes, MemOr, SourceStop};
 use pst_outside::{FailPlan, MemWorld, Outside, Part};
 use std::alloc::{AllocError, Global};

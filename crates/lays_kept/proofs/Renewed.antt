@@ -18,7 +18,8 @@ use Rattle.file_layout.specs.Nodes.{NodeMap, Node, Lays, block_tree, node_tree, 
 use Rattle.alloc_map.specs.Standing.{standing, IsMeeting}
 use Rattle.lays_kept.specs.Kept.{Each, SameAt}
 use Rattle.lays_kept.specs.Saved.{SameTrees}
-use Rattle.lays_kept.specs.Grown.{FindsAll, restricted, NeedsOnly}
+use Rattle.data_tree.specs.Grown.{FindsAll}
+use Rattle.lays_kept.specs.Grown.{restricted, NeedsOnly}
 use Rattle.lays_kept.proofs.Kept.{each_front, each_back, pages_front, pages_back, tree_kept, all_kept, found_kept}
 use Rattle.lays_kept.proofs.Places.{lays_places}
 use Rattle.lays_kept.proofs.Grown.{node_gives, nodes_give}

@@ -7,7 +7,7 @@ use Rattle.file_layout.specs.Trees.{FileTree, Found, nothing, both, page_alone, 
 use Rattle.lays_kept.specs.Rows.{names, seats, within, page_with, AreRow, AreLeaves, Lead}
 
 -- places of pages are counted one by one
-pages_tally : (slot : ℕ) (xs ys : List Bref) → tally slot (map page_place (xs ++ ys)) ≡ tally slot (map page_place xs) + tally slot (map page_place ys)
+pub pages_tally : (slot : ℕ) (xs ys : List Bref) → tally slot (map page_place (xs ++ ys)) ≡ tally slot (map page_place xs) + tally slot (map page_place ys)
 pages_tally slot [] ys = omega arith
 pages_tally slot (x ∷ xs) ys = let h = pages_tally slot xs ys in omega (arith, h)
 

@@ -7,6 +7,10 @@ use Rattle.data_tree.specs.Keys.{data_keys}
 use Rattle.subnode_tree.specs.declared.blocks.SubEntry.{SubEntry}
 use Rattle.subnode_tree.specs.Subnodes.{is_leaf, is_inner, listed_of, level_of}
 
+-- a subnode, as a block lists it
+abbrev pub Entry : Type 0
+Entry = SubEntry
+
 -- the blocks of level 0 that one of level 1 lists
 abbrev pub listed_in : Option (List ℕ) → List ℕ
 listed_in None = []

@@ -6,7 +6,7 @@ ghost use Rattle.subnode_tree.specs.Subnodes.{subs_from, subs_of};
 ghost use Rattle.subnode_tree.specs.Counts.{counted, all_counted};
 
 use crate::entries::level_of;
-use data_tree::{BlockSource, TreeStop, measure_data};
+use data_tree::{BlockSizes, TreeStop, measure_data};
 use pst_base::{Bid, MemOr};
 use std::alloc::Global;
 
@@ -18,7 +18,7 @@ struct Counted {
 }
 
 /// The subnodes from a level on: so many levels may follow, and so many subnodes may still come.
-fn count_from<S: BlockSource>(
+fn count_from<S: BlockSizes>(
     alloc: Global,
     deeper: u8,
     room: u64,
@@ -57,11 +57,7 @@ fn count_from<S: BlockSource>(
 ///
 /// `Missing` where there is no block with an id that is named; `Form` of a block that names others or lists subnodes and isn't of its layout, or names what may not stand below it, or whose NIDs don't ascend, or reach below the one that it is listed with; `Long` where the data of one subnode passes the file's length; `Deep` where a subnode stands below level 8; `Many` where there are more than one for each 24 bytes of the file; `Source` by the source. Each comes where `read_subs` gives it, unless a data block can't be read.
 #[tactic(auto, unfolding(crate::specs::Subnodes::subs_of))]
-pub fn count_subs<S: BlockSource>(
-    alloc: Global,
-    bid: Bid,
-    s: &mut S,
-) -> Result<u64, MemOr<TreeStop>>
+pub fn count_subs<S: BlockSizes>(alloc: Global, bid: Bid, s: &mut S) -> Result<u64, MemOr<TreeStop>>
     ensures later { Later (S.view s.old) (S.view s.new) }
     ensures reads { Reads (λ count. count) (S.view s.old) (S.view s.new) (λ find. counted (subs_of find (S.view s.old).eof bid)) result }
 {

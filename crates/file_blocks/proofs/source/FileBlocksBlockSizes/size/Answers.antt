@@ -5,7 +5,7 @@ use Rattle.file_blocks.specs.Blocks.{file_of, data_of, entry_with}
 use Rattle.file_blocks.proofs.EntryLaws.{stands-with}
 use Rattle.file_blocks.proofs.FileLaws.{no_shorter}
 use Rattle.file_blocks.proofs.StandLaws.{stands-size}
-use Rattle.file_blocks.proofs.source.FileBlocksBlockSource.size.Goals as goal
+use Rattle.file_blocks.proofs.source.FileBlocksBlockSizes.size.Goals as goal
 
 pub returns : goal.returns
 returns g c = λ find holds.

@@ -1,0 +1,3 @@
+pub mod SpanLaws
+pub mod Bridge
+pub mod SourceLaws

@@ -1,0 +1,10 @@
+pub mod LookupLaws
+pub mod TreeLaws
+pub mod NodeLaws
+pub mod JoinLaws
+pub mod PieceLaws
+pub mod PlannedLaws
+pub mod WrittenLaws
+pub mod SealedLaws
+pub mod GrowthLaws
+pub mod DataLaws

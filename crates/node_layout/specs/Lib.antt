@@ -1,0 +1,9 @@
+pub mod Lookups
+pub mod Changed
+pub mod Changes
+pub mod Joined
+pub mod Pieces
+pub mod Commit
+pub mod Written
+pub mod Sealed
+pub mod Growth

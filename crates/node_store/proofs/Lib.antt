@@ -1,0 +1,3 @@
+pub mod NextLaws
+pub mod NodeLaws
+pub mod BlockLaws

@@ -1,0 +1,12 @@
+//! The nodes of a file over a world, read on demand.
+//!
+//! `read_node` gives the node with an id, with its data and its subnodes, and `next_node` the least id above one. They read the pages of the file's trees on the way alone, through a cache, and the blocks of the one node. Promises: over a world that tells a file which lays nodes, with caches that have no other pages than the file's, the answers are those nodes'; each stop has its cause; nothing is written, and the caches have no other pages than the file's still.
+//!
+//! Leaves to others: which header counts, and what nodes mean.
+#![tactic(auto)]
+
+mod blocks;
+mod content;
+mod node;
+
+pub use node::{PageCaches, next_node, read_node};

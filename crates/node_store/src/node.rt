@@ -1,0 +1,137 @@
+//! The nodes of a file.
+ghost use Rattle.std.specs.Prelude.{◌≡◌, IfOk, IfErr};
+ghost use Rattle.pst_outside.specs.Calls.{Untouched};
+ghost use Rattle.file_layout.specs.Nodes.{NodeMap};
+ghost use Rattle.lays_kept.specs.Stands.{AreThose};
+ghost use Rattle.node_port.specs.Nodes.{IsNext, Nodes, node_at};
+ghost use Rattle.node_store.specs.Told.{Begins, KeepsTelling, StopsKeeping, TellsNodes, keep_stop, tree_stop};
+
+use crate::content::read_content;
+use btree_pages::NodeEntry;
+use data_tree::TreeStop;
+use file_pages::{FileTree, entry_at, entry_from};
+use node_port::{KeepStop, NodeRec};
+use page_cache::PageCache;
+use pst_base::{MemOr, Nid, SourceStop};
+use pst_header::Header;
+use pst_outside::Outside;
+use std::alloc::Global;
+
+/// The kinds of pages of the two trees.
+const BLOCK_PAGE: u8 = 0x80;
+
+const NODE_PAGE: u8 = 0x81;
+
+/// The pages of a file's two trees that were read last.
+#[derive(Drop)]
+pub struct PageCaches {
+    pub blocks: PageCache,
+    pub nodes: PageCache,
+}
+
+/// A stop of a search in a tree of pages.
+fn keep_stop(stop: MemOr<SourceStop>) -> KeepStop
+    ensures { result ≡ keep_stop stop }
+{
+    match stop {
+        MemOr::Memory => KeepStop::Memory,
+        MemOr::Refused(SourceStop::Failed) => KeepStop::Fault,
+        MemOr::Refused(
+            SourceStop::Changed {
+                ib,
+                stored,
+                computed,
+            },
+        ) => KeepStop::Changed {
+            ib,
+            stored,
+            computed,
+        },
+    }
+}
+
+/// A stop of a reading of blocks, where `ib` is the place of what leads to them.
+fn tree_stop(ib: u64, stop: MemOr<TreeStop>) -> KeepStop
+    ensures { result ≡ tree_stop ib stop }
+{
+    match stop {
+        MemOr::Memory => KeepStop::Memory,
+        MemOr::Refused(TreeStop::Source(stop)) => keep_stop(MemOr::Refused(stop)),
+        MemOr::Refused(_) => KeepStop::Changed {
+            ib,
+            stored: 0,
+            computed: 0,
+        },
+    }
+}
+
+/// The node with an id in the file behind a header; `None` where it has none.
+///
+/// `Fault` comes where the disk failed, `Changed` where the file doesn't lay nodes under the header: at a page or a block that isn't there or isn't whole, or, with two zeros, at the root of the block tree where blocks don't make data and subnodes.
+pub fn read_node<W: Outside>(
+    alloc: Global,
+    w: &mut W,
+    header: &Header,
+    nid: Nid,
+    caches: &mut PageCaches,
+) -> Result<Option<NodeRec>, KeepStop>
+    ensures node { IfOk result (λ node. (m : NodeMap) (N : Nodes) → TellsNodes (W.view w.old) header.now caches.old m → AreThose m N → node ≡ node_at N nid.bits) }
+    ensures stops { IfErr result (StopsKeeping (W.view w.old) (W.view w.new) ((m : NodeMap) × TellsNodes (W.view w.old) header.now caches.old m)) }
+    ensures keeps { KeepsTelling (W.view w.old) (W.view w.new) header.now caches.old caches.new }
+    ensures untouched { Untouched (W.view w.old) (W.view w.new) }
+{
+    let tree = FileTree {
+        kind: NODE_PAGE,
+        root: header.nbt,
+        eof: header.eof,
+    };
+    let entry = match entry_at::<NodeEntry, W>(w, &mut caches.nodes, tree, u64::from(nid.bits)) {
+        Ok(Some(entry)) => entry,
+        Ok(None) => return Ok(None),
+        Err(stop) => return Err(keep_stop(stop)),
+    };
+    let blocks = FileTree {
+        kind: BLOCK_PAGE,
+        root: header.bbt,
+        eof: header.eof,
+    };
+    match read_content(alloc, w, &mut caches.blocks, blocks, entry) {
+        Ok(node) => Ok(Some(node)),
+        Err(stop) => Err(tree_stop(header.bbt.ib, stop)),
+    }
+}
+
+/// The least key above an id, or of all.
+fn key_after(after: Option<Nid>) -> u64
+    ensures { Begins after result }
+{
+    match after {
+        Some(nid) => u64::from(nid.bits) + 1,
+        None => 0,
+    }
+}
+
+/// The least id of a node above one in the file behind a header, or the least of all for `None`; `None` where there is none. It stops as `read_node`.
+pub fn next_node<W: Outside>(
+    w: &mut W,
+    header: &Header,
+    after: Option<Nid>,
+    caches: &mut PageCaches,
+) -> Result<Option<Nid>, KeepStop>
+    ensures next { IfOk result (λ next. (m : NodeMap) (N : Nodes) → TellsNodes (W.view w.old) header.now caches.old m → AreThose m N → IsNext N after next) }
+    ensures stops { IfErr result (StopsKeeping (W.view w.old) (W.view w.new) ((m : NodeMap) × TellsNodes (W.view w.old) header.now caches.old m)) }
+    ensures keeps { KeepsTelling (W.view w.old) (W.view w.new) header.now caches.old caches.new }
+    ensures untouched { Untouched (W.view w.old) (W.view w.new) }
+{
+    let low = key_after(after);
+    let tree = FileTree {
+        kind: NODE_PAGE,
+        root: header.nbt,
+        eof: header.eof,
+    };
+    match entry_from::<NodeEntry, W>(w, &mut caches.nodes, tree, low) {
+        Ok(Some(entry)) => Ok(Some(entry.nid)),
+        Ok(None) => Ok(None),
+        Err(stop) => Err(keep_stop(stop)),
+    }
+}
