@@ -8,17 +8,34 @@ use Rattle.command_text.specs.Refusals.{refusal_words}
 use Rattle.command_text.specs.Limits.{limit_word}
 use Rattle.node_port.specs.declared.map_keeper.MapKeeper.{MapKeeper}
 use Rattle.mail_store.specs.declared.store.Store.{Store}
-use Rattle.mail_session.specs.Lines.{Piece, line, too_long, further}
+use Rattle.line_server.specs.History.{Answers}
+use Rattle.line_server.specs.Lines.{Piece, line, too_long, further}
+use Rattle.line_server.specs.Spoken.{too_long_text}
+use Rattle.mail_session.specs.declared.mailbox.Mailbox.{Mailbox}
+use Rattle.mail_session.specs.Mailboxes.{BoxAnswers}
 use Rattle.mail_session.specs.Boxes.{Answering, DoesStep, Holds}
 use Rattle.mail_session.specs.Run.{Carries}
 use Rattle.mail_tree.specs.Tree.{Tree}
 
-pub further_answers : (store : Store MapKeeper) (spoken : List ℕ) → spoken ≡ [] → Answering store further spoken store
+further_answers : (store : Store MapKeeper) (spoken : List ℕ) → spoken ≡ [] → Answering store further spoken store
 further_answers store spoken is T holds = (T, inl (is, refl), holds)
 
-pub too_long_answers : (store : Store MapKeeper) → Answering store too_long (codes "no limit line" ++ 10 ∷ []) store
+too_long_answers : (store : Store MapKeeper) → Answering store too_long too_long_text store
 unfolding text last_text refusal_words limit_word
 too_long_answers store T holds = (T, inl (refl, refl), holds)
+
+-- a piece was answered over the mailbox's store
+pub box_answered : {W : Type 0} (piece : Piece) (said : List ℕ) (a b : Mailbox) (v w : W) → Answers BoxAnswers piece a v said b w → Answering a.store piece said b.store
+box_answered (line bytes) said a b v w is = is.0
+box_answered too_long said a b v w is =
+    subst (λ t. Answering a.store too_long t b.store) (sym is.0) (subst (λ (m : Mailbox). Answering a.store too_long too_long_text m.store) (sym is.1) (too_long_answers a.store))
+box_answered further said a b v w is = subst (λ (m : Mailbox). Answering a.store further said m.store) (sym is.1) (further_answers a.store said is.0)
+
+-- and nothing was asked of the world
+pub same_world : {W : Type 0} (piece : Piece) (said : List ℕ) (a b : Mailbox) (v w : W) → Answers BoxAnswers piece a v said b w → w ≡ v
+same_world (line bytes) said a b v w is = is.1
+same_world too_long said a b v w is = is.2
+same_world further said a b v w is = is.2
 
 -- what was done to a line is what a command does
 pub carried : {E : Type 0} (r : Result (List ℕ) E) (old new : Store MapKeeper) (c : Command) (asked : Result Command LineRefusal) → asked ≡ Ok c

@@ -3,7 +3,9 @@ use Rattle.std.proofs.Common.{List, ◌≡◌, ◌⊎◌, ◌∙◌, ◌≤◌, 
 use Rattle.pst_outside.specs.World.{Image, World, SameDisk}
 use Rattle.pst_outside.specs.Calls.{NeverFall, NoMore, Elapses, LeavesOnly, StaysButInput, StaysButSaid, SaysSome, Untouched}
 use Rattle.pst_outside.proofs.Moments.{goes_on, continues, at_end, started}
-use Rattle.mail_session.specs.Worlds.{HasDiskOf, Listens, KeepsDisk}
+use Rattle.line_server.proofs.Hearing.{falls_along}
+use Rattle.line_server.specs.Worlds.{Listens, SaysFront}
+use Rattle.mail_session.specs.Worlds.{HasDiskOf, KeepsDisk}
 
 pub same_disk : (c : Image) → SameDisk c c
 same_disk c = record { main = refl; side = refl; copy = refl }
@@ -14,9 +16,6 @@ same_disk_along p q = record { main = q.main ∙ p.main; side = q.side ∙ p.sid
 -- what has the disk of an image that has the disk of the world has it too
 pub disk_along : (world : World) {b c : Image} → HasDiskOf world b → SameDisk b c → HasDiskOf world c
 disk_along world p q = elim p [ inl here ↦ inl (same_disk_along here q) | inr left ↦ inr (left.0, left.1, same_disk_along left.2 q) ]
-
-pub falls_along : {a b c : World} → NeverFall a b → NeverFall b c → NeverFall a c
-falls_along p q = record { in_faults = omega arith; out_faults = omega arith; disk_faults = omega arith }
 
 -- before the first call
 pub keeps_started : (world : World) → KeepsDisk world world
@@ -62,27 +61,9 @@ keeps_untouched {old} so_far call = record {
       (λ c left. at_end so_far.disk c (call.crash c left));
 }
 
--- two calls that take input
-pub listens_along : {old mid new : World} → Listens old mid → Listens mid new → Listens old new
-listens_along {old} p q = record {
-  counts = falls_along p.counts q.counts;
-  stays = record {
-    written = q.stays.written ∙ p.stays.written;
-    told = λ t. p.stays.told (q.stays.told t);
-    here = λ t. q.stays.here t ∙ p.stays.here (q.stays.told t);
-  };
-  keeps_told = λ t. q.keeps_told (p.keeps_told t);
-  crash = λ c left. p.crash c (q.crash c left);
-  time = record {
-    later = omega arith;
-    nothing_else = λ t c le left.
-        elim (q.time.nothing_else t c (omega arith) left) [
-          | inl before ↦ elim (p.time.nothing_else t c le before) [ inl first ↦ inl first | inr then_ ↦ inl (old.counts_now t c le (p.crash c then_)) ]
-          | inr now ↦ inr now
-        ];
-    keeps = λ t c le left. q.time.keeps t c (omega arith) (p.time.keeps t c le left);
-  };
-}
+-- one call more, which says a front of a text
+pub keeps_front : {old mid new : World} {text : List ℕ} → KeepsDisk old mid → SaysFront text mid new → KeepsDisk old new
+keeps_front so_far says = keeps_says so_far says.counts says.stays says.any_moment
 
 -- two runs of such calls
 pub keeps_along : {old mid new : World} → KeepsDisk old mid → KeepsDisk mid new → KeepsDisk old new

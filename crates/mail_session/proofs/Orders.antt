@@ -25,7 +25,7 @@ use Rattle.mail_laws.proofs.MirrorPuts.{AreShownBut, all_shown, shown_but}
 use Rattle.mail_laws.proofs.Starting.{starts_whole}
 use Rattle.mail_laws.proofs.Strays.{whole_after}
 use Rattle.mail_session.specs.Boxes.{AllInOrder, InOrder, NAME}
-use Rattle.mail_session.specs.Lines.{Piece, further, line, too_long}
+use Rattle.line_server.specs.Lines.{Piece, further, line, too_long}
 use Rattle.mail_session.specs.Run.{Answers, Carries, Run, Steps}
 
 mirrors_after : (T : Tree) (c : Command) → IsWhole T → Mirrors T → IfOk (outcome T c) (λ o. Mirrors (after T o))

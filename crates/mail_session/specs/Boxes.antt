@@ -12,7 +12,7 @@ use Rattle.mail_laws.specs.Laws.{Counts, Mirrors}
 use Rattle.mail_tree.specs.Start.{IsStart}
 use Rattle.mail_tree.specs.Tree.{Tree}
 use Rattle.mail_tree.specs.Whole.{IsWhole}
-use Rattle.mail_session.specs.Lines.{Piece}
+use Rattle.line_server.specs.Lines.{Piece}
 use Rattle.mail_session.specs.Run.{Answers, Run, Steps}
 
 -- the store has this tree, and it is whole

@@ -1,15 +1,10 @@
 pub mod Boxes
-pub mod Fronts
 pub mod Info
-pub mod Lines
+pub mod Mailboxes
 pub mod Nodes
 pub mod Run
 pub mod Scratch
-pub mod Spoken
-pub mod States
 pub mod Statuses
-pub mod Taking
 pub mod Texts
-pub mod Turn
 pub mod Words
 pub mod Worlds

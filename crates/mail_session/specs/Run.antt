@@ -13,7 +13,7 @@ use Rattle.command_text.specs.Replies.{text}
 use Rattle.mail_tree.specs.Folders.{replied}
 use Rattle.mail_tree.specs.Step.{step}
 use Rattle.mail_tree.specs.Tree.{Tree}
-use Rattle.mail_session.specs.Lines.{Piece, line, too_long, further}
+use Rattle.line_server.specs.Lines.{Piece, line, too_long, further}
 
 -- the text of a refusal
 abbrev pub refused : CommandRefusal → List ℕ

@@ -1,48 +1,23 @@
--- How a session in memory goes on and ends.
+-- How a session in memory ends.
 use Rattle.std.specs.Prelude.{◌≡◌, ◌⊎◌, ℕ, ◌<◌, ◌≤◌, Bool, true, false, List, [], ◌++◌, length, take}
 use Rattle.std.specs.List.{concat, list_any}
 use Rattle.pst_outside.specs.World.{World}
 use Rattle.pst_outside.specs.Calls.{Rose}
+use Rattle.line_server.specs.declared.end.ServerEnd.{ServerEnd}
+use Rattle.line_server.specs.declared.end.ServerEnd.TheVariants as server_ends
+use Rattle.line_server.specs.Lines.{Piece, is_quit, lines}
+use Rattle.line_server.specs.Server.{LINES}
 use Rattle.mail_session.specs.declared.exit.Status.{Status}
 use Rattle.mail_session.specs.declared.exit.Status.TheVariants.{Done, Input, Output, Memory, Lines}
-use Rattle.mail_session.specs.Lines.{Piece, cut, is_quit, lines}
-use Rattle.mail_session.specs.Boxes.{Holds, IsSession, NAME}
-use Rattle.mail_session.specs.Run.{Run, last_tree}
-use Rattle.mail_tree.specs.Start.{IsStart}
-use Rattle.mail_tree.specs.Tree.{Tree}
-use Rattle.mail_session.specs.Turn.{State, IsAllowed}
+use Rattle.mail_session.specs.Boxes.{IsSession}
 use Rattle.mail_session.specs.Worlds.{KeepsDisk}
 
--- how many lines a session takes
-abbrev pub LINES : ℕ
-LINES = 4294967296
-
--- A session that has taken nothing, over a new store.
-pub record Starts (state : State) : Type 0 where
-  pub start : Tree
-  pub is_start : IsStart NAME start
-  pub holds : Holds state.store.store start
-  pub nothing_held : state.held ≡ []
-  pub short : state.long ≡ false
-  pub unended : state.ended ≡ false
-
--- From its start on a session has answered the lines of the input that it has taken, but for what it holds, and has said their replies.
-pub record SoFar (first now : World) (state : State) (count : ℕ) : Type 0 where
-  pub keeps : KeepsDisk first now
-  pub taken : List ℕ
-  pub done : List Piece
-  pub replies : List (List ℕ)
-  pub start : Tree
-  pub is_start : IsStart NAME start
-  pub trees : List Tree
-  pub run : Run start done replies trees
-  pub holds : Holds state.store.store (last_tree start trees)
-  pub counted : length done ≡ count
-  pub no_quit : list_any is_quit done ≡ false
-  pub cuts : (all : Bool) (more : List ℕ) → IsAllowed state.ended all more → cut all false [] (taken ++ more) ≡ done ++ cut all state.long [] (state.held ++ more)
-  pub input : now.tells → first.input ≡ taken ++ now.input
-  pub end : state.ended ≡ true → now.tells → now.input ≡ []
-  pub said : now.tells → now.here.said ≡ first.here.said ++ concat replies
+-- the status of a session whose server of lines ended so
+abbrev pub status_of : ServerEnd → Status
+status_of server_ends.Done = Done
+status_of server_ends.Input = Input
+status_of server_ends.Output = Output
+status_of server_ends.Lines = Lines
 
 -- How a session in memory ends, over any world: its replies are those of a run from the tree of a new store over lines that are the first
 -- of those that it has taken.

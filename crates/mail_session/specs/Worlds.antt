@@ -1,19 +1,11 @@
 -- What a session leaves of the world: the disk as it was.
 use Rattle.std.specs.Prelude.{◌≡◌, ◌⊎◌}
 use Rattle.pst_outside.specs.World.{Image, World, SameDisk}
-use Rattle.pst_outside.specs.Calls.{NeverFall, StaysButInput, NoMore, Elapses, LeavesOnly}
+use Rattle.pst_outside.specs.Calls.{NeverFall, LeavesOnly}
 
 -- the image has a disk that the world held, or that a crash might have left of it
 abbrev pub HasDiskOf : World → Image → Type 0
 HasDiskOf world c = SameDisk world.here c ⊎ ((d : Image) × world.may_leave d × SameDisk d c)
-
--- nothing changed but the input that is left
-pub record Listens (old new : World) : Type 0 where
-  pub counts : NeverFall old new
-  pub stays : StaysButInput old new
-  pub keeps_told : old.tells → new.tells
-  pub crash : NoMore old new
-  pub time : Elapses old new
 
 -- Nothing changed but the input that is left and what has been said: nothing was written, and at each moment the disk is one
 -- that was there before.

@@ -1,56 +1,20 @@
-//! The answer to a line.
-ghost use Rattle.std.specs.Prelude.{◌≡◌, [], IfOk, OnErr};
+//! The answers to lines.
+ghost use Rattle.std.specs.Prelude.{◌≡◌, IfOk, OnErr};
 ghost use Rattle.command_text.specs.Lines.{command};
-ghost use Rattle.mail_session.specs.Lines.{without_cr, line};
+ghost use Rattle.line_server.specs.Lines.{line};
 ghost use Rattle.command_text.specs.declared.reply.CommandRefusal.{CommandRefusal as Refusal};
 ghost use Rattle.mail_session.specs.Boxes.{Answering, StaysAs};
 ghost use Rattle.mail_session.specs.Run.{Carries, refused};
 ghost use Rattle.mail_session.specs.Boxes.{Holds};
 ghost use Rattle.mail_tree.specs.Tree.{Tree};
-ghost use Rattle.mail_session.specs.Spoken.{spoken_text};
+ghost use Rattle.line_server.specs.Spoken.{spoken_text};
 
 use crate::mailbox::Mailbox;
 use command_text::{CommandRefusal, LastLine, LineRefusal, Reply, read_line, reply_text};
+use line_server::{LineAnswerer, Spoken};
 use pst_base::{Bytes, MemOr};
+use pst_outside::Outside;
 use std::alloc::{AllocError, Global};
-
-/// What is said to a piece of the input.
-#[derive(Drop)]
-pub(crate) enum Spoken {
-    /// The text of a reply.
-    Reply(Bytes),
-    /// That there was no memory for one.
-    NoMemory,
-    /// That a line is too long.
-    TooLong,
-    /// Nothing: the piece goes on with a line that is answered already.
-    Nothing,
-}
-
-impl Spoken {
-    /// The bytes to say.
-    pub(crate) fn text(&self) -> &[u8]
-        ensures { result.now ≡ spoken_text self.now }
-    {
-        match self {
-            Spoken::Reply(text) => text.as_slice(),
-            Spoken::NoMemory => b"no memory\n",
-            Spoken::TooLong => b"no limit line\n",
-            Spoken::Nothing => &[],
-        }
-    }
-}
-
-/// The line without a CR at its end.
-#[tactic(auto, unfolding(crate::specs::Lines::without_cr))]
-pub(crate) fn without_cr(bytes: &[u8]) -> &[u8]
-    ensures { result.now ≡ without_cr bytes.now }
-{
-    match bytes.last() {
-        Some(13) => &bytes[..bytes.len() - 1],
-        _ => bytes,
-    }
-}
 
 /// The text of a refusal.
 pub(crate) fn refusal_text(alloc: Global, refusal: CommandRefusal) -> Result<Bytes, AllocError>
@@ -82,5 +46,15 @@ pub(crate) fn answer_line(alloc: Global, mailbox: &mut Mailbox, bytes: &[u8]) ->
     match carry_out(alloc, mailbox, bytes) {
         Ok(text) => Spoken::Reply(text),
         Err(AllocError) => Spoken::NoMemory,
+    }
+}
+
+impl<W: Outside> LineAnswerer<W> for Mailbox {
+    ghost use Rattle.mail_session.specs.Mailboxes.{BoxAnswers};
+
+    ghost answers = { BoxAnswers };
+
+    fn answer(&mut self, alloc: Global, _world: &mut W, line: &[u8]) -> Spoken {
+        answer_line(alloc, self, line)
     }
 }

@@ -9,7 +9,7 @@ ghost use Rattle.mail_session.specs.Scratch.{ScratchEnds};
 use crate::exit::{Exit, Status};
 use crate::info::info;
 use crate::nodes::nodes;
-use crate::turns::scratch;
+use crate::scratch::scratch;
 use crate::words::{Form, read_words};
 use pst_base::{Ledger, Steps};
 use pst_outside::Outside;

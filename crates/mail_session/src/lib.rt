@@ -1,22 +1,19 @@
 //! The program as one call: `run` takes the words of the command line and a world, and answers with a status.
 //!
-//! Promises, over any world that tells what it holds: `info` says exactly what the two files' bytes are (`InfoEnds`), `nodes` says the lines of the one node map that they lay, or a refusal that holds of them (`NodesEnds`), and `scratch` answers lines as a plain tree of folders does (`ScratchEnds`, `Run`, `step`), cut from the input as `lines` says, however it comes in pieces. Nothing is written to the disk. Each status has its cause.
+//! Promises, over any world that tells what it holds: `info` says exactly what the two files' bytes are (`InfoEnds`), `nodes` says the lines of the one node map that they lay, or a refusal that holds of them (`NodesEnds`), and `scratch` answers lines as a plain tree of folders does (`ScratchEnds`, `Run`, `step`). Nothing is written to the disk. Each status has its cause.
 //!
-//! Leaves to others: what a real file, terminal or pipe holds (`pst_outside::FileWorld`), and the texts on standard error (`pstore`).
+//! Leaves to others: what a real file, terminal or pipe holds (`pst_outside::FileWorld`), how the input is cut into lines and the replies are said (`line_server`), and the texts on standard error (`pstore`).
 #![tactic(auto)]
 
 mod answers;
 mod call;
 mod exit;
 mod info;
-mod input;
-mod lines;
 mod mailbox;
 mod nodes;
 mod nowhere;
-mod session;
+mod scratch;
 mod texts;
-mod turns;
 mod words;
 
 pub use call::run;

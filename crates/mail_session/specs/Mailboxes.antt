@@ -1,0 +1,9 @@
+-- What a mailbox answers.
+use Rattle.std.specs.Prelude.{◌≡◌, ℕ, List}
+use Rattle.line_server.specs.Lines.{line}
+use Rattle.mail_session.specs.declared.mailbox.Mailbox.{Mailbox}
+use Rattle.mail_session.specs.Boxes.{Answering}
+
+-- a line was answered over the mailbox's store, and nothing was asked of the world
+abbrev pub BoxAnswers : {W : Type 0} → Mailbox → W → List ℕ → List ℕ → Mailbox → W → Type 0
+BoxAnswers a before bytes said b after = Answering a.store (line bytes) said b.store × (after ≡ before)
