@@ -1,4 +1,3 @@
-use Rattle.std.proofs.Common.{◌≡◌, true}
 use Rattle.std.proofs.lemmas.Bool.{false≢true}
 use Rattle.node_port.specs.Nodes.{no_nodes}
 use Rattle.mail_session.proofs.mailbox.keep_nodes.Goals as goal

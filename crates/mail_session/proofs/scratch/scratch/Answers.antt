@@ -12,6 +12,6 @@ returns-in-Ok-serve-clause-ends g c =
     let ends = scratch_ends g.W.Outside.view _ _ c.args.world.now c.serve.new.world c.in-Ok-serve.end c.in-Ok.ensures c.in-Ok-serve.ensures.ends in
     subst (ScratchEnds (g.W.Outside.view c.args.world.now) (g.W.Outside.view c.serve.new.world)) (sym c.status_of.ensures) ends
 
-pub returns-in-Err-clause-ends : goal.returns-in-Err-clause-ends
-returns-in-Err-clause-ends g c =
+pub returns-clause-ends : goal.returns-clause-ends
+returns-clause-ends g c =
     subst (λ w. ScratchEnds (g.W.Outside.view c.args.world.now) (g.W.Outside.view w) Memory) (sym c.in-Err.ensures.no_memory.1) (ends_by_memory (g.W.Outside.view c.args.world.now))

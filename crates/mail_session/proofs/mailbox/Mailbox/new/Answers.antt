@@ -1,9 +1,6 @@
 use Rattle.std.proofs.Common.{subst, ◌∙◌}
 use Rattle.mail_session.proofs.Boxed.{new_holds}
-use Rattle.mail_session.specs.Boxes.{Holds, NAME}
-use Rattle.mail_store.specs.declared.store.Store.{Store}
 use Rattle.mail_tree.specs.Start.{IsStart}
-use Rattle.mail_tree.specs.Tree.{Tree}
 use Rattle.mail_session.proofs.mailbox.Mailbox.new.Goals as goal
 
 pub returns : goal.returns
