@@ -1,5 +1,5 @@
 -- A tree in a file is one of shapes.
-use Rattle.std.proofs.Common.{Bool, true, false, not, ◌≡◌, ℕ, zero, suc, ◌+◌, ◌-◌, ◌^◌, ◌%◌, ◌≤◌, ◌<◌, ◌==◌, ◌&&◌, length-drop, eqb, ltb, leb, inl, inr, if◌then◌else◌, List, [], ◌∷◌, ◌++◌, map, length, take, drop, get_or, refl, sym, ap, subst, ◌∙◌, arith, Option, Some, None, Result, Ok, Err}
+use Rattle.std.proofs.Common.{Bool, true, false, not, ◌≡◌, ℕ, zero, suc, ◌+◌, ◌-◌, ◌^◌, ◌%◌, ◌≤◌, ◌&&◌, length-drop, eqb, ltb, leb, inl, inr, if◌then◌else◌, List, [], ◌∷◌, ◌++◌, map, length, take, drop, refl, sym, ap, subst, ◌∙◌, arith, Option, Some, None, Result, Ok, Err}
 use Rattle.std.proofs.lemmas.Bool.{eq-eqb, ne_eqb, le-leb, leb-true, eqb-true, and_parts, cases_lt, false≢true}
 use Rattle.std.proofs.lemmas.List.{map-append, length-map, length-take-le}
 use Rattle.pst_base.specs.declared.ids.Bref.{Bref}
@@ -12,8 +12,8 @@ use Rattle.pst_base.specs.declared.stops.PageFault.TheVariants.{Count, Level, Ke
 use Rattle.file_layout.specs.declared.tree_pages.Seat.{Seat}
 use Rattle.file_layout.specs.Trees.{FileTree, Found, both, page_alone, leaf_of, nothing, key_below, before_next, child_of, AreChildren, IsTreePage, IsTree as IsFileTree, IsWhole as IsFileWhole, root_seat, FilePage, is_placed, in_span, owed, page_in}
 use Rattle.page_frame.specs.Page.{reading}
-use Rattle.file_layout.proofs.SeatLaws.{page_in-owed, page_in-err, page_in-ok, page_in-key, page_in-level, ok_or_err}
-use Rattle.tree_edit.specs.Shapes.{Shape, leaf, inner, RiseIn, heads, up_to, OneThen, AreBelow, HasLeaf, HasInner, IsTree, IsRootOf, IsWhole}
+use Rattle.file_layout.proofs.SeatLaws.{page_in-owed, page_in-err, page_in-ok, page_in-key, ok_or_err}
+use Rattle.tree_edit.specs.Shapes.{Shape, leaf, inner, RiseIn, heads, up_to, AreBelow, IsTree, IsRootOf, IsWhole}
 use Rattle.tree_edit.specs.Pages.{child_in, shape_of, seen, shown, shapes}
 use Rattle.file_pages.specs.InFile.{shapes_in, ok_of, body_at, IsShaped, IsUnshaped, IsShapedRoot, IsUnshapedRoot}
 use Rattle.file_pages.proofs.SpanLaws.{page-ascends, rises-in, spans-in}

@@ -1,7 +1,6 @@
 -- A file as a source of pages.
-use Rattle.std.proofs.Common.{◌≡◌, ℕ, ◌+◌, ◌-◌, ◌≤◌, ◌<◌, List, replicate, Option, Some, None, Result, Ok, Err, IfErr, refl, sym, ap, subst, ◌∙◌, arith, inl}
+use Rattle.std.proofs.Common.{◌≡◌, ℕ, List, Option, Some, None, Result, Ok, Err, IfErr, refl, sym, ap, subst, ◌∙◌, arith, inl}
 use Rattle.pst_base.specs.declared.ids.Bref.{Bref}
-use Rattle.pst_base.specs.declared.stops.PageFault.{PageFault}
 use Rattle.pst_base.specs.declared.stops.PageFault.TheVariants.{Count}
 use Rattle.pst_base.specs.declared.stops.MemOr.{MemOr}
 use Rattle.pst_base.specs.declared.stops.MemOr.TheVariants.{Memory, Refused}
@@ -12,12 +11,12 @@ use Rattle.pst_outside.specs.World.{Image, World}
 use Rattle.pst_outside.specs.Calls.{Untouched}
 use Rattle.file_blocks.specs.Blocks.{file_of}
 use Rattle.file_blocks.proofs.StandLaws.{tells-still}
-use Rattle.btree_pages.specs.Pages.{Page, page_of, page_with, is_counted}
+use Rattle.btree_pages.specs.Pages.{page_of, page_with, is_counted}
 use Rattle.page_cache.specs.declared.cache.Cached.{Cached}
 use Rattle.page_cache.specs.Cache.{Holds}
 use Rattle.tree_edit.specs.Shapes.{Shape, IsWhole}
 use Rattle.tree_edit.specs.Pages.{seen, shown, shapes}
-use Rattle.tree_edit.specs.Source.{Source, StopsOn, TellsWhole}
+use Rattle.tree_edit.specs.Source.{Source, StopsOn}
 use Rattle.tree_search.specs.Search.{StopsIn}
 use Rattle.file_pages.specs.InFile.{bodies}
 use Rattle.file_pages.specs.Told.{no_page, or_no_page, Caches, Gives, HasTree, StopsUnless}

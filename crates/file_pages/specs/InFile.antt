@@ -17,6 +17,7 @@ ok_of (Err fault) = None
 abbrev pub bodies : List ℕ → ℕ → ℕ → Bref → Option (List ℕ)
 bodies file eof kind at = if is_placed eof at.ib then ok_of (reading kind at (take 512 (drop at.ib file))) else None
 
+-- the contents of the pages of a tree, in its file
 abbrev pub body_at : FileTree → Bref → Option (List ℕ)
 body_at t at = bodies t.file t.eof t.kind at
 

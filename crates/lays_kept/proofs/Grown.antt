@@ -1,8 +1,8 @@
 -- A node reads the same where more blocks are found and the file is longer.
-use Rattle.std.proofs.Common.{◌≡◌, ℕ, ◌≤◌, List, [], ◌∷◌, Option, Ok}
+use Rattle.std.proofs.Common.{ℕ, ◌≤◌, List, [], ◌∷◌, Option, Ok}
 use Rattle.btree_pages.specs.declared.entry.NodeEntry.{NodeEntry}
 use Rattle.data_tree.specs.Grown.{FindsAll, Gives}
-use Rattle.data_tree.specs.Tree.{and_then, blocks_of}
+use Rattle.data_tree.specs.Tree.{blocks_of}
 use Rattle.data_tree.proofs.GrownLaws.{and_then_gives, blocks_gives, same_gives}
 use Rattle.subnode_tree.specs.Subnodes.{subs_of}
 use Rattle.subnode_tree.proofs.GrownLaws.{subs_gives}

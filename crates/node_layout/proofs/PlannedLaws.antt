@@ -1,7 +1,6 @@
 -- A plan can be committed.
-use Rattle.std.proofs.Common.{◌≡◌, ◌∙◌, inl, ℕ, zero, suc, ◌+◌, ◌-◌, ◌≤◌, List, [], ◌∷◌, ◌++◌, length, take, drop, map, Option, sym, ap, subst, arith, length-append, length-drop, true}
+use Rattle.std.proofs.Common.{◌≡◌, ◌∙◌, inl, ℕ, zero, suc, ◌+◌, ◌-◌, ◌≤◌, List, [], ◌∷◌, ◌++◌, length, take, drop, map, Option, ap, arith, length-append, length-drop, true}
 use Rattle.std.proofs.lemmas.List.{take_at}
-use Rattle.pst_base.specs.declared.ids.Bref.{Bref}
 use Rattle.pst_base.specs.declared.ids.Nid.{Nid}
 use Rattle.pst_base.specs.declared.places.Place.{Place}
 use Rattle.pst_header.specs.declared.header.Header.{Header}
@@ -9,17 +8,14 @@ use Rattle.pst_header.specs.Format.{reading}
 use Rattle.alloc_map.specs.Standing.{amap_place, amap_places, standing}
 use Rattle.btree_pages.specs.declared.entry.BlockEntry.{BlockEntry}
 use Rattle.btree_pages.specs.declared.entry.NodeEntry.{NodeEntry}
-use Rattle.btree_pages.specs.Entries.{block_of, node_of}
-use Rattle.btree_pages.specs.EntryLaws.{key-block_of, key-node_of}
-use Rattle.file_blocks.specs.Blocks.{entry_key}
-use Rattle.file_layout.specs.Trees.{IsPlace, Found}
-use Rattle.file_layout.specs.Nodes.{NodeMap, Lays, block_tree, node_tree, blocks_in, place_of, places_of, regions_to}
+use Rattle.file_layout.specs.Trees.{IsPlace}
+use Rattle.file_layout.specs.Nodes.{Lays, places_of, regions_to}
 use Rattle.lays_kept.specs.declared.Piece.{Piece}
 use Rattle.lays_kept.specs.Kept.{Each, SameAt, IsClear}
 use Rattle.lays_kept.specs.Once.{Once}
 use Rattle.lays_kept.specs.Tally.{one_at, tally}
 use Rattle.lays_kept.proofs.Beside.{IsWhole}
-use Rattle.lays_kept.proofs.Kept.{each_front, each_back}
+use Rattle.lays_kept.proofs.Kept.{each_front}
 use Rattle.lays_kept.proofs.Places.{each_append, lays_places, lays_wholes, scattered_same}
 use Rattle.lays_kept.proofs.Renewed.{behind}
 use Rattle.lays_kept.proofs.Tally.{tally_append, once_reordered}
@@ -27,11 +23,11 @@ use Rattle.node_port.specs.declared.node.NodeRec.{NodeRec}
 use Rattle.node_port.specs.Nodes as port
 use Rattle.lays_kept.specs.Stands.{FileStands, IsPlan}
 use Rattle.lays_kept.proofs.Renewing.{renewed}
-use Rattle.node_layout.specs.Joined.{node_id, TreePlan, places_in, IsPlanned}
+use Rattle.node_layout.specs.Joined.{TreePlan, places_in, IsPlanned}
 use Rattle.node_layout.specs.Pieces.{piece_place, EachStands}
 use Rattle.node_layout.specs.Commit.{IsNext, HasRoom, Shows}
 use Rattle.node_layout.proofs.JoinLaws.{joined}
-use Rattle.node_layout.proofs.PieceLaws.{pieces-apart, pieces-beside, pieces-stand, stand-behind, block-whole}
+use Rattle.node_layout.proofs.PieceLaws.{pieces-apart, pieces-beside, pieces-stand, stand-behind}
 
 -- ---- AMap pages
 

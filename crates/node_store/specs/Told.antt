@@ -77,6 +77,7 @@ Begins (Some nid) low = low ≡ nid.bits + 1
 
 -- ---- stops of a keeper
 
+-- a stop of a search, as a keeper gives it
 abbrev pub keep_stop : MemOr SourceStop → KeepStop
 keep_stop mem.Memory = keep.Memory
 keep_stop (mem.Refused source.Failed) = keep.Fault

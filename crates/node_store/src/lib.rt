@@ -8,5 +8,7 @@
 mod blocks;
 mod content;
 mod node;
+#[cfg(test)]
+mod tests;
 
 pub use node::{PageCaches, next_node, read_node};

@@ -1,5 +1,5 @@
-use Rattle.std.proofs.Common.{◌≡◌, ℕ, List, Option, refl, sym, subst}
-use Rattle.std.proofs.lemmas.Result.{IfOk-weaker, IfErr-weaker}
+use Rattle.std.proofs.Common.{◌≡◌, ℕ, List, Option, refl}
+use Rattle.std.proofs.lemmas.Result.{IfOk-weaker}
 use Rattle.pst_base.specs.declared.ids.Bref.{Bref}
 use Rattle.pst_outside.specs.Calls.{Untouched}
 use Rattle.file_pages.specs.declared.source.FilePages.{FilePages}
@@ -7,8 +7,8 @@ use Rattle.file_blocks.specs.Blocks.{file_of}
 use Rattle.tree_edit.specs.Shapes.{IsWhole}
 use Rattle.tree_edit.specs.Pages.{shapes}
 use Rattle.tree_edit.specs.Edits.{entry_with}
-use Rattle.tree_edit.specs.Source.{Source, StopsOn, TellsWhole}
-use Rattle.file_pages.specs.Told.{Caches, Gives, HasTree, StopsUnless}
+use Rattle.tree_edit.specs.Source.{Source, TellsWhole}
+use Rattle.file_pages.specs.Told.{Caches, Gives, HasTree}
 use Rattle.file_pages.proofs.SourceLaws.{caches-of, given, gives, stops-on, tree-given, untouched-same}
 use Rattle.file_pages.proofs.search.entry_in.Goals as goal
 

@@ -1,8 +1,8 @@
-use Rattle.std.proofs.Common.{◌≡◌, ℕ, List, Some, sym, ap, ◌∙◌, arith}
+use Rattle.std.proofs.Common.{Some, sym, ap, ◌∙◌, arith}
 use Rattle.file_blocks.specs.Blocks.{file_of}
 use Rattle.file_layout.proofs.Underway.{untouched_then}
 use Rattle.file_pages.specs.InFile.{bodies}
-use Rattle.file_pages.specs.Told.{Caches, or_no_page}
+use Rattle.file_pages.specs.Told.{or_no_page}
 use Rattle.file_pages.proofs.SourceLaws.{caches-put, caches-still, gives-on, untouched-same}
 use Rattle.file_pages.proofs.source.FilePagesPageSource.page.Goals as goal
 
