@@ -4,7 +4,7 @@ use Rattle.std.proofs.lemmas.List.{drop_all}
 use Rattle.data_tree.proofs.ListingLaws.{drop-here}
 use Rattle.pst_base.specs.declared.ids.Bref.{Bref}
 use Rattle.btree_pages.specs.declared.entry.BlockEntry.{BlockEntry}
-use Rattle.file_scan.specs.Found.{past_blocks, past_pages, counted_to}
+use Rattle.file_layout.specs.Numbers.{past_blocks, past_pages, counted_to}
 
 more : (x n m p q : ℕ) → p ≡ max q m → max x p ≡ max (max x q) m
 more x n m p q is = grind (arith, is)

@@ -1,6 +1,6 @@
 //! The numbers of the next block and the next page.
 ghost use Rattle.std.specs.Prelude.{◌≡◌};
-ghost use Rattle.file_scan.specs.Found.{next_block, next_page};
+ghost use Rattle.file_layout.specs.Numbers.{next_block, next_page};
 
 use btree_pages::BlockEntry;
 use pst_base::Bref;

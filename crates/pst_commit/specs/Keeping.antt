@@ -1,5 +1,5 @@
 -- What a keeper of a file's nodes holds, and what a plan of it comes to.
-use Rattle.std.specs.Prelude.{◌≡◌, ℕ, ◌+◌, ◌*◌, ◌^◌, ◌||◌, nat_le, Bool, List, ◌++◌, length, take, drop, Option, Ok}
+use Rattle.std.specs.Prelude.{◌≡◌, ℕ, ◌+◌, ◌*◌, Bool, List, ◌++◌, length, take, drop, Option, Ok}
 use Rattle.pst_base.specs.declared.ids.Nid.{Nid}
 use Rattle.pst_outside.specs.World.{Image, World}
 use Rattle.pst_outside.specs.Calls.{Untouched}
@@ -11,6 +11,7 @@ use Rattle.gate_file.specs.Gate.{IsShut}
 use Rattle.file_blocks.specs.Blocks.{file_of}
 use Rattle.file_layout.specs.Trees.{Found}
 use Rattle.file_layout.specs.Nodes.{NodeMap, Lays, places_of, regions_to}
+use Rattle.file_layout.specs.Numbers.{is_spent}
 use Rattle.node_port.specs.declared.node.NodeRec.{NodeRec}
 use Rattle.node_port.specs.Nodes.{Nodes, changed}
 use Rattle.node_port.specs.Stops.{Room}
@@ -39,7 +40,7 @@ pub record IsMeasured (header : Header) (blocks nodes : Found) (used : List Bool
   pub covered : IsCovered (occupied (places_of blocks nodes) 8192) used
   pub free : cells.0 ≡ free_cells_of used
   pub pages : cells.1 ≡ length blocks.pages + length nodes.pages
-  pub spent : cells.2 ≡ (nat_le (2 ^ 61) header.next_block || nat_le (2 ^ 61) header.next_page)
+  pub spent : cells.2 ≡ is_spent header blocks nodes
 
 -- the file of an image has this room
 pub record HasRoom (image : Image) (room : Room) : Type 0 where

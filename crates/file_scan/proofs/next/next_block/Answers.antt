@@ -1,6 +1,6 @@
 use Rattle.std.proofs.Common.{◌≡◌, ◌∙◌, ◌+◌, max, length, drop, get_or, ap, arith}
 use Rattle.btree_pages.specs.declared.entry.BlockEntry.{BlockEntry}
-use Rattle.file_scan.specs.Found.{past_blocks, counted_to}
+use Rattle.file_layout.specs.Numbers.{past_blocks, counted_to}
 use Rattle.file_scan.proofs.NextLaws.{blocks-next, blocks-end}
 use Rattle.file_scan.proofs.next.next_block.Goals as goal
 

@@ -1,5 +1,5 @@
 use Rattle.std.proofs.Common.{◌≡◌, drop, max}
-use Rattle.file_scan.specs.Found.{past_blocks, counted_to}
+use Rattle.file_layout.specs.Numbers.{past_blocks, counted_to}
 use Rattle.file_scan.proofs.next.next_block.Given as goal
 
 abbrev pub invariant-loop-entry : goal.invariant-loop-entry

@@ -1,5 +1,5 @@
 use Rattle.std.proofs.Common.{◌≡◌, ◌≤◌, drop}
-use Rattle.file_scan.specs.Found.{past_pages, counted_to}
+use Rattle.file_layout.specs.Numbers.{past_pages, counted_to}
 use Rattle.file_scan.proofs.next.next_page.Given as goal
 
 abbrev pub invariant-loop-page : goal.invariant-loop-page

@@ -1,5 +1,5 @@
 use Rattle.std.proofs.Common.{◌∙◌, ap, length}
-use Rattle.file_scan.specs.Found.{next_block, next_page}
+use Rattle.file_layout.specs.Numbers.{next_block, next_page}
 use Rattle.file_scan.proofs.scan.scan_file.Goals as goal
 
 pub returns-clause-found : goal.returns-clause-found
