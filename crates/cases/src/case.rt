@@ -30,6 +30,10 @@ pub struct Case<'a> {
     pub exit: Exit,
     /// Whether FILE or FILE.gate may be changed.
     pub writes: bool,
+    /// Whether the case is also cut off at each call of its disk.
+    pub stops: bool,
+    /// The lines by which what a stop leaves is looked at.
+    pub looks: Vec<u8>,
 }
 
 impl<'a> Case<'a> {
@@ -52,6 +56,8 @@ impl<'a> Case<'a> {
                 changed: None,
             },
             writes: false,
+            stops: false,
+            looks: Vec::new(alloc),
         }
     }
 
@@ -69,6 +75,11 @@ impl<'a> Case<'a> {
             "fails" => self.fail(words)?,
             "turns" => self.turn = Some((words.number()?, words.bytes(alloc)?)),
             "dead" => self.fails.dead_from = Some(words.number()?),
+            "stops" => self.stops = true,
+            "look" => {
+                self.looks.extend_from_slice(words.rest().as_bytes())?;
+                self.looks.push(b'\n')?;
+            }
             _ => return Err(Trouble::Spelling),
         }
         Ok(())

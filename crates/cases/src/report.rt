@@ -3,6 +3,7 @@ ghost use Rattle.std.specs.Prelude.{◌≡◌, ◌<◌, ◌+◌, ◌-◌, ◌^�
 
 use crate::case::Case;
 use crate::running::{Outcome, first_difference};
+use crate::stops::BadStop;
 use std::{io, str};
 
 /// How many cases were run, and how many differences were found.
@@ -68,6 +69,16 @@ impl<R: Print + AllocGlobal> Report<'_, R> {
         self.show(wanted)?;
         print!(self.rt; ", got ")?;
         self.show(got)?;
+        println!(self.rt; "")
+    }
+
+    /// Prints that a stop left what no whole lines leave.
+    pub fn bad_stop(&mut self, case: &Case, stop: &BadStop) -> io::Result<()>
+        ensures { self.new.tally.differ ≡ min (self.old.tally.differ + 1) (2 ^ 64 - 1) }
+    {
+        self.begin(case)?;
+        print!(self.rt; "a stop at call {} of the disk, {:?} of FILE and {:?} of FILE.gate: got ", stop.call, stop.main, stop.side)?;
+        self.show(stop.said.as_slice())?;
         println!(self.rt; "")
     }
 
