@@ -26,6 +26,8 @@ pub struct Case<'a> {
     pub turn: Option<(u64, Vec<u8>)>,
     /// What must be said.
     pub said: Vec<u8>,
+    /// Lines that must be among those said; where there is one, others may be said too.
+    pub has: Vec<&'a str>,
     /// How the call must end.
     pub exit: Exit,
     /// Whether FILE or FILE.gate may be changed.
@@ -51,6 +53,7 @@ impl<'a> Case<'a> {
             fails: FailPlan::none(alloc),
             turn: None,
             said: Vec::new(alloc),
+            has: Vec::new(alloc),
             exit: Exit {
                 status: 0,
                 changed: None,
@@ -97,8 +100,9 @@ impl<'a> Case<'a> {
     }
 
     /// Follows a line about what must come of the call.
-    pub fn expect(&mut self, verb: &str, words: &mut Words) -> Result<(), Trouble> {
+    pub fn expect(&mut self, verb: &str, words: &mut Words<'a>) -> Result<(), Trouble> {
         match verb {
+            "has" => self.has.push(words.rest())?,
             "status" => self.exit.status = words.byte()?,
             "changed" => {
                 let ib = words.number()?;

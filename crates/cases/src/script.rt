@@ -103,7 +103,7 @@ impl<'a> Script<'a> {
             "run" | "takes" | "says" | "fails" | "dead" | "turns" | "stops" | "look" => {
                 self.case()?.arrange(alloc, verb, words)
             }
-            "status" | "changed" | "writes" => self.case()?.expect(verb, words),
+            "status" | "changed" | "writes" | "has" => self.case()?.expect(verb, words),
             _ => edit(alloc, self.target()?, verb, words),
         }
     }
