@@ -8,10 +8,10 @@ use Rattle.std.proofs.lemmas.List.Sorted.{All-permutation, sum_by-IsPermutation}
 use Rattle.std.specs.List.{sum_by, All}
 use Rattle.std.specs.List.Sorted.{IsPermutation}
 use Rattle.pst_base.specs.declared.places.Place.{Place}
-use Rattle.alloc_map.specs.Slots.{AreAll, Becomes, BeginsLeast, IsAll, IsLaid, IsPageRoom, IsRoom, is_used, regions_of, slot_of, slots_in}
+use Rattle.alloc_map.specs.Slots.{AreAll, Becomes, BeginsLeast, IsLaid, IsPageRoom, IsRoom, is_used, regions_of, slot_of, slots_in}
 use Rattle.alloc_map.specs.Standing.{Covers, SomeCovers, IsCovered}
 use Rattle.alloc_map.specs.Covered.{IsTwice, Once}
-use Rattle.alloc_map.specs.Taken.{Takes, Taken}
+use Rattle.alloc_map.specs.Taken.{IsAll, Takes, Taken}
 use Rattle.alloc_map.specs.Tally.{one_at, tally}
 use Rattle.alloc_map.proofs.CoverLaws.{covers_either, covers_first, covers_last}
 use Rattle.alloc_map.proofs.TallyLaws.{once_reordered, some_tally, tally_append, tally_some}

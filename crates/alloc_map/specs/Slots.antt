@@ -34,11 +34,6 @@ pub record IsLaid (regions : ℕ) (p : Place) : Type 0 where
 abbrev pub AreAll : List Bool → ℕ → ℕ → Bool → Type 0
 AreAll used slot n value = (s : ℕ) → slot ≤ s → s < slot + n → is_used used s ≡ value
 
--- the place is made of whole slots of the regions, of which each is used, or each is free
-pub record IsAll (used : List Bool) (p : Place) (value : Bool) : Type 0 where
-  pub laid : IsLaid (regions_of used) p
-  pub all : AreAll used (slot_of p.ib) (slots_in p) value
-
 -- just the n slots from a slot on have become used, or free
 pub record Becomes (old new : List Bool) (slot n : ℕ) (value : Bool) : Type 0 where
   pub size : length new ≡ length old

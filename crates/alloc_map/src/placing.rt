@@ -45,6 +45,7 @@ impl Slots {
         requires room { n ≤ page_rooms self.old }
         ensures placed { IfOk result (λ places. Takes IsPagePlace self.old places.items self.new) }
         ensures count { IfOk result (λ places. length places.items ≡ n) }
+        ensures sized { IfOk result (λ places. All (λ (p : Places). p.len ≡ 512) places.items) }
         ensures taken { IfOk result (λ places. Taken self.old self.new places.items) }
         ensures room { IfOk result (λ _. page_rooms self.old ≤ page_rooms self.new + n) }
         ensures back { IfErr result (λ _. self.new ≡ self.old) }

@@ -1,10 +1,11 @@
 //! The used slots of a file's regions.
 ghost use Rattle.std.specs.Prelude.{◌≡◌, ◌<◌, ◌≤◌, ◌↔◌, ◌*◌, ◌/◌, ◌%◌, ◌+◌, ℕ, List, true, false, not, length, slice_index, count_by, take, All, IfOk, IfErr, IfSome, IfNone, IsTrue};
-ghost use Rattle.alloc_map.specs.Slots.{AreAll, Becomes, BeginsLeast, IsAll, IsLaid, IsPageRoom, IsRoom, Unites, regions_of, slot_of, slots_in};
+ghost use Rattle.alloc_map.specs.Slots.{AreAll, Becomes, BeginsLeast, IsLaid, IsPageRoom, IsRoom, Unites, regions_of, slot_of, slots_in};
 ghost use Rattle.alloc_map.specs.Cells.{free_cells_of, page_rooms};
 ghost use Rattle.alloc_map.specs.Ends.{free_slots_of};
 ghost use Rattle.alloc_map.specs.Maps.{IsMapPage};
 ghost use Rattle.alloc_map.specs.Standing.{IsCovered, IsMeeting, StopsAtOverlap, occupied, standing};
+ghost use Rattle.alloc_map.specs.Taken.{IsAll};
 
 use crate::bits::Bits;
 use crate::bounds::Bounds;
