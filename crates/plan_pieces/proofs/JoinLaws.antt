@@ -1,19 +1,24 @@
 -- What a plan's pieces are to a file: their places are whole and those that were planned, and the file reaches its new end.
 use Rattle.std.proofs.Common.{◌≡◌, ◌∙◌, inl, inr, ℕ, zero, suc, ◌+◌, ◌<◌, ◌≤◌, List, [], ◌∷◌, ◌++◌, map, length, get_or, refl, sym, ap, subst, arith}
 use Rattle.std.proofs.lemmas.Bool.{cases_lt}
+use Rattle.std.proofs.lemmas.List.{map-append}
 use Rattle.std.specs.List.{All}
 use Rattle.pst_base.specs.declared.ids.Bid.{Bid}
 use Rattle.pst_base.specs.declared.ids.Bref.{Bref}
 use Rattle.pst_base.specs.declared.places.Place.{Place}
 use Rattle.alloc_map.specs.Slots.{IsLaid, slots_in}
-use Rattle.file_layout.specs.Trees.{IsPlace, page_place}
+use Rattle.file_layout.specs.Trees.{FileTree, IsPlace, page_place}
+use Rattle.file_pages.specs.InFile.{shapes_in}
 use Rattle.lays_kept.specs.declared.Piece.{Piece}
 use Rattle.lays_kept.specs.Kept.{Each, HoldsEach, Scattered}
 use Rattle.lays_kept.proofs.Beside.{IsWhole}
 use Rattle.node_layout.specs.Growth.{EndsAt}
+use Rattle.node_layout.specs.Pieces.{EachStands, piece_place}
+use Rattle.node_layout.specs.Written.{AreWritten}
 use Rattle.node_layout.proofs.GrowthLaws.{grown-long}
+use Rattle.node_layout.proofs.WrittenLaws.{pages-shown}
 use Rattle.tree_edit.specs.declared.plan.PlanPage.{PlanPage}
-use Rattle.tree_edit.specs.Plans.{names}
+use Rattle.tree_edit.specs.Plans.{AreShown, names}
 use Rattle.plan_pieces.specs.Blocks.{slots_of}
 use Rattle.plan_pieces.specs.Names.{named}
 use Rattle.plan_pieces.proofs.BlockLaws.{slots-low}
@@ -74,3 +79,19 @@ names-placed {E} first places pages long sized = go places pages 0 (λ i lt. nam
         let one : ◌≡◌ {A = Place} (record { ib = (named first places from).ib; len = 512 }) p = ap (λ (x : ℕ). record { ib = x; len = 512 }) ib ∙ ap (λ (x : ℕ). record { ib = p.ib; len = x }) (sym len) in
         ap (λ (x : Place). x ∷ map page_place (names (named first places) (from + 1) qs)) one
         ∙ ap (λ (l : List Place). p ∷ l) (go ps qs (from + 1) (λ i lt. let e : from + 1 + i ≡ from + suc i = omega arith in ap (λ (k : ℕ). (named first places k).ib) e ∙ at (suc i) (omega (arith, lt))) (omega (arith, long)) (λ k d lt. sized (suc k) d (omega (arith, lt))))
+
+-- such pages are shown where they stand
+pub sealed-shown : {E : Type 0} (entry_of : List ℕ → E) (t : FileTree) (first : ℕ) (places : List Place) (pages : List (PlanPage E)) (pieces : List Piece) → length places ≡ length pages → All (λ (p : Place). p.len ≡ 512) places → Each (IsPlace t.eof) places
+    → AreWritten t.rule t.leaf entry_of t.kind (named first places) 0 pages pieces → EachStands t.file pieces → AreShown (shapes_in entry_of t) (named first places) 0 pages
+sealed-shown entry_of t first places pages pieces long sized at are stands = pages-shown entry_of t (named first places) 0 pages pieces are (subst (Each (IsPlace t.eof)) (sym (names-placed first places pages long sized)) at) stands
+
+-- pieces stand where those do of which they are a part
+pub stands-parts : (file : List ℕ) (xs ys : List Piece) → EachStands file (xs ++ ys) → EachStands file xs × EachStands file ys
+stands-parts file [] ys stands = (tt, stands)
+stands-parts file (x ∷ xs) ys stands = let rest = stands-parts file xs ys stands.1 in ((stands.0, rest.0), rest.1)
+
+-- the places of the pages of both trees and of the blocks, together
+pub planned-places : (ps qs bs : List Piece) (xs ys zs : List Place) → map piece_place ps ≡ xs → map piece_place qs ≡ ys → map piece_place bs ≡ zs → map piece_place (ps ++ (qs ++ bs)) ≡ xs ++ (ys ++ zs)
+planned-places ps qs bs xs ys zs a b c =
+    map-append piece_place ps (qs ++ bs) ∙ ap (λ (l : List Place). map piece_place ps ++ l) (map-append piece_place qs bs)
+    ∙ ap (λ (l : List Place). l ++ (map piece_place qs ++ map piece_place bs)) a ∙ ap (λ (l : List Place). xs ++ (l ++ map piece_place bs)) b ∙ ap (λ (l : List Place). xs ++ (ys ++ l)) c
