@@ -6,11 +6,11 @@ use Rattle.std.specs.List.{concat, list_any}
 use Rattle.pst_outside.specs.World.{World}
 use Rattle.pst_outside.specs.Calls.{NeverFall}
 use Rattle.line_server.specs.declared.end.ServerEnd.{ServerEnd}
-use Rattle.line_server.specs.declared.end.ServerEnd.TheVariants.{Done, Input, Output, Lines}
-use Rattle.line_server.specs.History.{Answering, Turn, Turns}
+use Rattle.line_server.specs.declared.end.ServerEnd.TheVariants.{Done, Input, Output, Lines, Stopped}
+use Rattle.line_server.specs.History.{Answering, Stopping, Turn, Turns}
 use Rattle.line_server.specs.Lines.{Piece, cut, is_quit, up_to_quit, lines}
 use Rattle.line_server.specs.Server.{SoFar, ServerEnds, Starts, LINES}
-use Rattle.line_server.specs.Step.{State, IsAllowed, Hears, TurnsOn, TurnsOut, BreaksOff, Steps}
+use Rattle.line_server.specs.Step.{State, IsAllowed, Hears, TurnsOn, TurnsOut, BreaksOff, Steps, StopsOn}
 use Rattle.line_server.proofs.Hearing.{falls_along, falls_started, listens_started}
 use Rattle.line_server.proofs.PieceLaws.{nothing_cuts, broken_cuts}
 use Rattle.line_server.proofs.Quits.{no_quit_on, quit_on, up_to_quit-past, concat_on, length_on, take-append_past}
@@ -151,10 +151,14 @@ lines_are taken held long ended before piece no_quit cuts =
 all_front : (said first text : List ℕ) → said ≡ first ++ text → (k : ℕ) × (said ≡ first ++ take k text)
 all_front said first text is = (length text, is ∙ ap (λ x. first ++ x) (sym (take_all _ text (omega arith))))
 
+-- the output didn't fail
+abbrev pub IsNoOutput : {Stop : Type 0} → ServerEnd Stop → Type 0
+IsNoOutput end = end ≡ Output → ⊥
+
 -- `quit` was answered
-pub ends_by_quit : {S W : Type 0} (view : W → World) (answers : Answering S W) (a b c : S) (first mid now : W) (old new : State) (count : ℕ) → count < LINES
-    → SoFar view answers a first b mid old count → TurnsOn view answers (Unit {0}) old new true b mid c now → ServerEnds view answers a first c now Done
-ends_by_quit view answers a b c first mid now old new count few so_far turn =
+pub ends_by_quit : {S W Stop : Type 0} (view : W → World) (answers : Answering S W) (stops : Stopping S W Stop) (a b c : S) (first mid now : W) (old new : State) (count : ℕ) → count < LINES
+    → SoFar view answers a first b mid old count → TurnsOn view answers (Unit {0}) old new true b mid c now → ServerEnds view answers stops a first c now Done
+ends_by_quit view answers stops a b c first mid now old new count few so_far turn =
     let g = goes view answers (Unit {0}) a b c first mid now old new count true so_far turn in
     let quit : is_quit g.piece ≡ true = sym g.quits in
     let rest = cut new.ended new.long [] (new.held ++ []) in
@@ -170,7 +174,10 @@ ends_by_quit view answers a b c first mid now old new count few so_far turn =
       left = left_of g.piece rest;
       cuts = lines_are g.taken new.held new.long new.ended g.before g.piece g.no_quit g.cuts;
       replies = g.replies ++ g.reply ∷ [];
+      behind = c;
+      last = now;
       turns = turns_heard view answers _ _ _ a c c first now now g.turns refl (listens_started (view now));
+      closes = (refl, refl);
       front = g.said_some;
       whole = λ no. g.said_all tt;
       finished = λ is. (none, inr (quit_on g.before g.piece quit));
@@ -226,10 +233,10 @@ rested view answers whole a b c first mid now old count holds is so_far hears sa
     }
 
 -- the input has ended
-pub ends_by_end : {S W : Type 0} (view : W → World) (answers : Answering S W) (a b c : S) (first mid now : W) (old : State) (count : ℕ) → count < LINES
-    → SoFar view answers a first b mid old count → TurnsOut old b c (view mid) (view now) → ServerEnds view answers a first c now Done
-ends_by_end view answers a b c first mid now old count few so_far turn =
-    let r = rested view answers (Done ≡ Output → ⊥) a b c first mid now old count [] true so_far turn.hears turn.same (nothing_cuts true old.long) in
+pub ends_by_end : {S W Stop : Type 0} (view : W → World) (answers : Answering S W) (stops : Stopping S W Stop) (a b c : S) (first mid now : W) (old : State) (count : ℕ) → count < LINES
+    → SoFar view answers a first b mid old count → TurnsOut old b c (view mid) (view now) → ServerEnds view answers stops a first c now Done
+ends_by_end {Stop = Stop} view answers stops a b c first mid now old count few so_far turn =
+    let r = rested view answers (IsNoOutput {Stop = Stop} Done) a b c first mid now old count [] true so_far turn.hears turn.same (nothing_cuts true old.long) in
     record {
       counts = r.counts;
       told = r.told;
@@ -241,7 +248,10 @@ ends_by_end view answers a b c first mid now old count few so_far turn =
       left = [];
       cuts = r.cuts;
       replies = r.replies;
+      behind = c;
+      last = now;
       turns = r.turns;
+      closes = (refl, refl);
       front = λ t. all_front _ _ _ (r.said t);
       whole = λ no. r.said;
       finished = λ is. (refl, inl refl);
@@ -252,10 +262,10 @@ ends_by_end view answers a b c first mid now old count few so_far turn =
     }
 
 -- the input failed
-pub ends_by_input : {S W : Type 0} (view : W → World) (answers : Answering S W) (a b c : S) (first mid now : W) (old : State) (count : ℕ) → count < LINES
-    → SoFar view answers a first b mid old count → BreaksOff old b c (view mid) (view now) → ServerEnds view answers a first c now Input
-ends_by_input view answers a b c first mid now old count few so_far turn =
-    let r = rested view answers (Input ≡ Output → ⊥) a b c first mid now old count turn.taken false so_far turn.hears turn.same (broken_cuts old.long turn.taken turn.stands.0 turn.stands.1) in
+pub ends_by_input : {S W Stop : Type 0} (view : W → World) (answers : Answering S W) (stops : Stopping S W Stop) (a b c : S) (first mid now : W) (old : State) (count : ℕ) → count < LINES
+    → SoFar view answers a first b mid old count → BreaksOff old b c (view mid) (view now) → ServerEnds view answers stops a first c now Input
+ends_by_input {Stop = Stop} view answers stops a b c first mid now old count few so_far turn =
+    let r = rested view answers (IsNoOutput {Stop = Stop} Input) a b c first mid now old count turn.taken false so_far turn.hears turn.same (broken_cuts old.long turn.taken turn.stands.0 turn.stands.1) in
     record {
       counts = r.counts;
       told = r.told;
@@ -267,7 +277,10 @@ ends_by_input view answers a b c first mid now old count few so_far turn =
       left = [];
       cuts = r.cuts;
       replies = r.replies;
+      behind = c;
+      last = now;
       turns = r.turns;
+      closes = (refl, refl);
       front = λ t. all_front _ _ _ (r.said t);
       whole = λ no. r.said;
       finished = λ is. absurd (cc);
@@ -278,9 +291,9 @@ ends_by_input view answers a b c first mid now old count few so_far turn =
     }
 
 -- the output failed
-pub ends_by_output : {S W : Type 0} (view : W → World) (answers : Answering S W) (a b c : S) (first mid now : W) (old new : State) (count : ℕ) → count < LINES
-    → SoFar view answers a first b mid old count → Steps view answers old new b mid c now (Some Output) → ServerEnds view answers a first c now Output
-ends_by_output view answers a b c first mid now old new count few so_far turn =
+pub ends_by_output : {S W Stop : Type 0} (view : W → World) (answers : Answering S W) (stops : Stopping S W Stop) (a b c : S) (first mid now : W) (old new : State) (count : ℕ) → count < LINES
+    → SoFar view answers a first b mid old count → Steps view answers stops old new b mid c now (Some Output) → ServerEnds view answers stops a first c now Output
+ends_by_output {Stop = Stop} view answers stops a b c first mid now old new count few so_far turn =
     let g = goes view answers ⊥ a b c first mid now old new count turn.0 so_far turn.1 in
     let rest = cut new.ended new.long [] (new.held ++ []) in
     record {
@@ -294,7 +307,10 @@ ends_by_output view answers a b c first mid now old new count few so_far turn =
       left = left_of g.piece rest;
       cuts = lines_are g.taken new.held new.long new.ended g.before g.piece g.no_quit g.cuts;
       replies = g.replies ++ g.reply ∷ [];
-      turns = turns_weaker view answers ⊥ (Output ≡ Output → ⊥) _ _ a c first now (λ no. no refl) g.turns;
+      behind = c;
+      last = now;
+      turns = turns_weaker view answers ⊥ (IsNoOutput {Stop = Stop} Output) _ _ a c first now (λ no. no refl) g.turns;
+      closes = (refl, refl);
       front = g.said_some;
       whole = λ no t. absurd (no refl);
       finished = λ is. absurd (cc);
@@ -304,9 +320,49 @@ ends_by_output view answers a b c first mid now old new count few so_far turn =
       few = omega (arith, length_on g.before g.piece, g.counted);
     }
 
+-- the answerer stopped
+pub ends_by_stop : {S W Stop : Type 0} (view : W → World) (answers : Answering S W) (stops : Stopping S W Stop) (a b c : S) (first mid now : W) (old new : State) (count : ℕ) (stop : Stop) → count < LINES
+    → SoFar view answers a first b mid old count → StopsOn view stops old new b mid c now stop → ServerEnds view answers stops a first c now (Stopped stop)
+ends_by_stop view answers stops a b c first mid now old new count stop few so_far turn =
+    let more' = turn.hears.goes_on.more in
+    let told_heard : (view now).tells → (view turn.heard).tells = turn.stops_it.quiet.told in
+    let told_mid : (view now).tells → (view mid).tells = λ t. turn.hears.listens.stays.told (told_heard t) in
+    let said : (view now).tells → (view now).here.said ≡ (view first).here.said ++ concat so_far.replies =
+    λ t. turn.stops_it.quiet.said t ∙ ap (λ i. i.said) (turn.hears.listens.stays.here (told_heard t)) ∙ so_far.said (told_mid t) in
+    let rest = cut new.ended new.long [] (new.held ++ []) in
+    record {
+      counts = falls_along so_far.counts (falls_along turn.hears.listens.counts turn.stops_it.quiet.counts);
+      told = λ t. so_far.told (told_mid t);
+      taken = so_far.taken ++ more';
+      input = λ t. so_far.input (told_mid t) ∙ ap (λ x. so_far.taken ++ x) (turn.hears.goes_on.input (told_heard t) ∙ ap (λ x. more' ++ x) (sym (turn.stops_it.quiet.input t))) ∙ sym (append_assoc so_far.taken more' _);
+      all = new.ended;
+      spent_input = λ is t. turn.stops_it.quiet.input t ∙ turn.hears.ends.end so_far.end is (told_heard t);
+      done = so_far.done;
+      left = turn.stops_it.piece ∷ left_of turn.stops_it.piece rest;
+      cuts = lines_are (so_far.taken ++ more') new.held new.long new.ended so_far.done turn.stops_it.piece so_far.no_quit (λ all more allowed.
+          let before = allowed_before old.ended new.ended more' more all turn.hears.ends.stays turn.hears.goes_on.none allowed in
+          ap (λ x. cut all false [] x) (append_assoc so_far.taken more' more)
+          ∙ so_far.cuts all (more' ++ more) before
+          ∙ ap (λ x. so_far.done ++ cut all old.long [] x) (sym (append_assoc old.held more' more) ∙ ap (λ x. x ++ more) (sym turn.hears.goes_on.behind))
+          ∙ ap (λ x. so_far.done ++ x) (turn.stops_it.passes all more allowed))
+          ∙ append_assoc so_far.done (turn.stops_it.piece ∷ []) (left_of turn.stops_it.piece rest);
+      replies = so_far.replies;
+      behind = b;
+      last = mid;
+      turns = turns_weaker view answers (Unit {0}) (IsNoOutput (Stopped stop)) so_far.done so_far.replies a b first mid (λ is. tt) so_far.turns;
+      closes = (turn.stops_it.piece, left_of turn.stops_it.piece rest, refl, record { heard = turn.heard; hears = turn.hears.listens; stopped = turn.stops_it.stopped; quiet = turn.stops_it.quiet });
+      front = λ t. all_front _ _ _ (said t);
+      whole = λ no. said;
+      finished = λ is. absurd (cc);
+      input_failed = λ is. absurd (cc);
+      output_failed = λ is. absurd (cc);
+      spent = λ is. absurd (cc);
+      few = omega (arith, so_far.counted);
+    }
+
 -- as many lines were taken as a server takes
-pub ends_by_lines : {S W : Type 0} (view : W → World) (answers : Answering S W) (a b : S) (first now : W) (state : State) → SoFar view answers a first b now state LINES → ServerEnds view answers a first b now Lines
-ends_by_lines view answers a b first now state so_far = record {
+pub ends_by_lines : {S W Stop : Type 0} (view : W → World) (answers : Answering S W) (stops : Stopping S W Stop) (a b : S) (first now : W) (state : State) → SoFar view answers a first b now state LINES → ServerEnds view answers stops a first b now Lines
+ends_by_lines {Stop = Stop} view answers stops a b first now state so_far = record {
   counts = so_far.counts;
   told = so_far.told;
   taken = so_far.taken;
@@ -317,7 +373,10 @@ ends_by_lines view answers a b first now state so_far = record {
   left = up_to_quit (cut state.ended state.long [] (state.held ++ []));
   cuts = ap (λ x. up_to_quit (cut state.ended false [] x)) (sym (append-nil so_far.taken)) ∙ ap up_to_quit (so_far.cuts state.ended [] (here_allowed state.ended)) ∙ up_to_quit-past so_far.done _ so_far.no_quit;
   replies = so_far.replies;
-  turns = turns_heard view answers (Lines ≡ Output → ⊥) so_far.done so_far.replies a b b first now now so_far.turns refl (listens_started (view now));
+  behind = b;
+  last = now;
+  turns = turns_heard view answers (IsNoOutput {Stop = Stop} Lines) so_far.done so_far.replies a b b first now now so_far.turns refl (listens_started (view now));
+  closes = (refl, refl);
   front = λ t. all_front _ _ _ (so_far.said t);
   whole = λ no. so_far.said;
   finished = λ is. absurd (cc);
@@ -328,10 +387,11 @@ ends_by_lines view answers a b first now state so_far = record {
 }
 
 -- the turn with which a server ends
-pub ends : {S W : Type 0} (view : W → World) (answers : Answering S W) (a b c : S) (first mid now : W) (old new : State) (count : ℕ) (end : ServerEnd) → count < LINES
-    → SoFar view answers a first b mid old count → Steps view answers old new b mid c now (Some end) → ServerEnds view answers a first c now end
-ends view answers a b c first mid now old new count Done few so_far turn =
-    elim turn [ inl quit ↦ ends_by_quit view answers a b c first mid now old new count few so_far quit | inr out ↦ ends_by_end view answers a b c first mid now old count few so_far out ]
-ends view answers a b c first mid now old new count Input few so_far turn = ends_by_input view answers a b c first mid now old count few so_far turn
-ends view answers a b c first mid now old new count Output few so_far turn = ends_by_output view answers a b c first mid now old new count few so_far turn
-ends view answers a b c first mid now old new count Lines few so_far turn = absurd turn
+pub ends : {S W Stop : Type 0} (view : W → World) (answers : Answering S W) (stops : Stopping S W Stop) (a b c : S) (first mid now : W) (old new : State) (count : ℕ) (end : ServerEnd Stop) → count < LINES
+    → SoFar view answers a first b mid old count → Steps view answers stops old new b mid c now (Some end) → ServerEnds view answers stops a first c now end
+ends view answers stops a b c first mid now old new count Done few so_far turn =
+    elim turn [ inl quit ↦ ends_by_quit view answers stops a b c first mid now old new count few so_far quit | inr out ↦ ends_by_end view answers stops a b c first mid now old count few so_far out ]
+ends view answers stops a b c first mid now old new count Input few so_far turn = ends_by_input view answers stops a b c first mid now old count few so_far turn
+ends view answers stops a b c first mid now old new count Output few so_far turn = ends_by_output view answers stops a b c first mid now old new count few so_far turn
+ends view answers stops a b c first mid now old new count Lines few so_far turn = absurd turn
+ends view answers stops a b c first mid now old new count (Stopped stop) few so_far turn = ends_by_stop view answers stops a b c first mid now old new count stop few so_far turn

@@ -15,11 +15,11 @@ loop-count-preserved g c =
 pub returns-in-Some-clause-ends : goal.returns-in-Some-clause-ends
 returns-in-Some-clause-ends g c =
     let few : c.loop-count._count < LINES = c.loop-count-test.true in
-    ends g.W.Outside.view g.A.LineAnswerer.answers c.args.answerer.now c.loop-count.answerer c.turn.new.answerer c.args.world.now c.loop-count.world c.turn.new.world
+    ends g.W.Outside.view g.A.LineAnswerer.answers g.A.LineAnswerer.stops c.args.answerer.now c.loop-count.answerer c.turn.new.answerer c.args.world.now c.loop-count.world c.turn.new.world
     (state_of c.loop-count.server) (state_of c.turn.new.self) c.loop-count._count c.in-Some.end few c.loop-count.invariant c.in-Some.ensures
 
 pub returns-clause-ends : goal.returns-clause-ends
 returns-clause-ends g c =
     let all : c.loop-count._count ≡ LINES = omega arith in
-    ends_by_lines g.W.Outside.view g.A.LineAnswerer.answers c.args.answerer.now c.loop-count.answerer c.args.world.now c.loop-count.world (state_of c.loop-count.server)
+    ends_by_lines g.W.Outside.view g.A.LineAnswerer.answers g.A.LineAnswerer.stops c.args.answerer.now c.loop-count.answerer c.args.world.now c.loop-count.world (state_of c.loop-count.server)
     (subst (SoFar g.W.Outside.view g.A.LineAnswerer.answers c.args.answerer.now c.args.world.now c.loop-count.answerer c.loop-count.world (state_of c.loop-count.server)) all c.loop-count.invariant)
