@@ -25,6 +25,11 @@ StopsAt stops (line bytes) a v stop b w = stops a v bytes stop b w
 StopsAt stops too_long a v stop b w = ⊥
 StopsAt stops further a v stop b w = ⊥
 
+-- The answerer says nothing itself, whatever it answers.
+pub record Hushes {S W Stop : Type 0} (view : W → World) (answers : Answering S W) (stops : Stopping S W Stop) : Type 0 where
+  pub answering : (a b : S) (v w : W) (bytes said : List ℕ) → answers a v bytes said b w → (view w).tells → (view w).here.said ≡ (view v).here.said
+  pub stopping : (a b : S) (v w : W) (bytes : List ℕ) (stop : Stop) → stops a v bytes stop b w → (view w).tells → (view w).here.said ≡ (view v).here.said
+
 -- One turn: input was taken where that was wanted, a piece was answered, and then its reply was said: all of it, if it is to be whole.
 pub record Turn {S W : Type 0} (view : W → World) (answers : Answering S W) (whole : Type 0) (piece : Piece) (reply : List ℕ) (a : S) (v : W) (b : S) (w : W) : Type 0 where
   pub heard : W

@@ -7,7 +7,7 @@ use crate::Spoken;
 use pst_outside::Outside;
 use std::alloc::Global;
 
-/// What answers lines, one after another, over a world. It says nothing itself, and takes no input.
+/// What answers lines, one after another, over a world. It takes no input. That it says nothing itself is for `answers` and `stops` to tell (`Hushes`), since it may hang on its state.
 pub trait LineAnswerer<W: Outside> {
     /// Why it can't go on: it then has no reply, and takes no line more.
     type Stop: Drop;
@@ -22,6 +22,6 @@ pub trait LineAnswerer<W: Outside> {
     fn answer(&mut self, alloc: Global, world: &mut W, line: &[u8]) -> Result<Spoken, Self::Stop>
         ensures answers { IfOk result (λ spoken. answers self.old world.old line.now (spoken_text spoken) self.new world.new) }
         ensures stops { IfErr result (λ stop. stops self.old world.old line.now stop self.new world.new) }
-        // The input that is left and what was said are as before, and no count of faults falls.
+        // The input that is left is as before, and no count of faults falls.
         ensures quiet { Quiet (W.view world.old) (W.view world.new) };
 }
