@@ -1,0 +1,4 @@
+pub mod Keep
+pub mod Told
+pub mod Plan
+pub mod Put
