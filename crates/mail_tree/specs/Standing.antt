@@ -20,8 +20,10 @@ use Rattle.node_port.specs.declared.node.NodeRec.{NodeRec}
 -- the node at the id is there, and is properties, a table or a message
 abbrev pub HasContext : Nodes → ℕ → Ctx → Type 0
 HasContext N q c = (node : NodeRec) × (node_at N q ≡ Some node) × ShowsContext node c
+
 abbrev pub HasTable : Nodes → ℕ → Tbl → Type 0
 HasTable N q t = (node : NodeRec) × (node_at N q ≡ Some node) × ShowsTable node t
+
 abbrev pub HasMail : Nodes → ℕ → Mes → Type 0
 HasMail N q m = (node : NodeRec) × (node_at N q ≡ Some node) × ShowsMail q node m
 
@@ -32,6 +34,7 @@ names_sort N r = if r % 32 == 2 then Some Plain else (if (r % 32 == 3) && is_som
 -- the folder's table of folders, or of messages, has a row of this id
 abbrev pub ListsFolder : Nodes → ℕ → ℕ → Type 0
 ListsFolder N f r = (t : Tbl) × HasTable N (hierarchy f) t × IsSome (find_row r t.table.rows)
+
 abbrev pub ListsMessage : Nodes → ℕ → ℕ → Type 0
 ListsMessage N f m = (t : Tbl) × HasTable N (contents f) t × IsSome (find_row m t.table.rows) × (m % 32 ≡ 4)
 
