@@ -112,7 +112,7 @@ module _ (T : Tree) (w : Before T) (h : IsFound T) where
   start : Finds T T.places nothing
   start = record {
     listed = λ f p t r e plain is row s named. h.listed f p t r s e plain (sym (ap (λ g. g (hierarchy f)) (now_nothing T false)) ∙ is) row named;
-    told = λ f p c e plain is. let d = w.contexts f p e in let same : d.0 ≡ c = cc in ap (λ (x : Ctx). x.parent) (sym same) ∙ d.2;
+    told = λ f p c e plain no_root is. let d = w.contexts f p e in let same : d.0 ≡ c = cc in ap (λ (x : Ctx). x.parent) (sym same) ∙ d.2 no_root;
     apart = λ k three. map.get-empty nat_cmp k;
   }
 
@@ -289,13 +289,13 @@ module _ (T : Tree) (w : Before T) (h : IsFound T) where
               let v = start.listed g p t r was plain (sym (now_still T D (hierarchy g) (with_untouched f parent (hierarchy g) name (table_elsewhere f g two (two_of g p was plain) other))) ∙ is) row s named in
               (v.0, find-put_other place_id r (place f parent) T.places (λ same. none-some (record { nid = nid r; parent = nid g; sort = s }) (sym none ∙ ap (λ x. find_place x T.places) (sym same) ∙ v.1)) ∙ v.1)
         ];
-        told = λ g p c e plain is. elim (cases_eq g f) [
+        told = λ g p c e plain no_root is. elim (cases_eq g f) [
           | inl same ↦
               let values : new.1.0 ≡ c = same_context new.1.0 c (sym (ap (now_at T D) same ∙ new.1.1) ∙ is) in
               ap (λ (x : Ctx). x.parent) (sym values) ∙ new.1.2 ∙ ap (λ (x : FolderPlace). x.parent.bits) (put_is f parent g p same e)
           | inr other ↦
               let was = put_was f parent g p other e in
-              start.told g p c was plain (sym (now_still T D g (with_untouched f parent g name (folder_elsewhere f g (two_of g p was plain) other))) ∙ is)
+              start.told g p c was plain no_root (sym (now_still T D g (with_untouched f parent g name (folder_elsewhere f g (two_of g p was plain) other))) ∙ is)
         ];
         apart = λ k three. with_untouched f parent k name (search_elsewhere f k two three);
       }
@@ -338,7 +338,7 @@ module _ (T : Tree) (w : Before T) (h : IsFound T) where
   -- the row of a folder goes from its parent's table, the only one that lists it
   dropped : (places : List FolderPlace) (places_ids : PlainIds places) (f : ℕ) (p : FolderPlace) (D : Changed) → find_place f T.places ≡ Some p → SameBut f T.places places
       → ((g : ℕ) (q : FolderPlace) → find_place g places ≡ Some q → is_plain q ≡ true → ((r : FolderPlace) × (find_place g T.places ≡ Some r) × (is_plain r ≡ true)) × (now_at T D (hierarchy g) ≡ now_at T nothing (hierarchy g)))
-      → ((g : ℕ) (q : FolderPlace) (c : Ctx) → find_place g places ≡ Some q → is_plain q ≡ true → now_at T D g ≡ Some (Context c) → c.parent ≡ q.parent.bits)
+      → ((g : ℕ) (q : FolderPlace) (c : Ctx) → find_place g places ≡ Some q → is_plain q ≡ true → (g ≡ ROOT → ⊥) → now_at T D g ≡ Some (Context c) → c.parent ≡ q.parent.bits)
       → ((k : ℕ) → k % 32 ≡ 3 → map.get D.objects k ≡ None) → IfOk (drop_shown T (hierarchy p.parent.bits) f D) (Finds T places)
   unfolding drop_shown
   dropped places places_ids f p D found same_but was told apart =
@@ -366,7 +366,7 @@ module _ (T : Tree) (w : Before T) (h : IsFound T) where
                   away (ap (λ (x : FolderPlace). hierarchy x.parent.bits) (sym here)) in
                   (k.0, same_but r other ∙ k.1)
             ];
-        told = λ g q c e plain is. told g q c e plain (sym (puts.others g (kind_apart g from 13 (omega arith) (λ k. let two = (places_ids g q e plain).0 in omega arith))) ∙ is);
+        told = λ g q c e plain no_root is. told g q c e plain no_root (sym (puts.others g (kind_apart g from 13 (omega arith) (λ k. let two = (places_ids g q e plain).0 in omega arith))) ∙ is);
         apart = λ k three. get_other D (hierarchy from) k o (kind_apart k from 13 (omega arith) (λ e. omega arith)) ∙ apart k three;
       })
 
@@ -424,11 +424,11 @@ module _ (T : Tree) (w : Before T) (h : IsFound T) where
             elim (cases_eq g f) [ inl same ↦ (p, ap (λ x. find_place x T.places) same ∙ e, plain) | inr other ↦ (q, put_was f parent g q other is, plain_q) ],
             puts.others (hierarchy g) (λ same. kind_apart f g 13 (omega arith) (λ k. omega arith) (sym same)),
           ))
-          (λ g q d is plain_q at_g. elim (cases_eq g f) [
+          (λ g q d is plain_q other_root at_g. elim (cases_eq g f) [
             | inl same ↦
                 let values = same_context (record c { parent = parent }) d (sym (ap (now_at T D) same ∙ puts.here) ∙ at_g) in
                 ap (λ (x : Ctx). x.parent) (sym values) ∙ ap (λ (x : FolderPlace). x.parent.bits) (put_is f parent g q same is)
-            | inr other ↦ start.told g q d (put_was f parent g q other is) plain_q (sym (puts.others g other) ∙ at_g)
+            | inr other ↦ start.told g q d (put_was f parent g q other is) plain_q other_root (sym (puts.others g other) ∙ at_g)
           ])
           (λ k three. get_other nothing f k o (λ same. omega arith) ∙ map.get-empty nat_cmp k)
 
@@ -464,7 +464,7 @@ module _ (T : Tree) (w : Before T) (h : IsFound T) where
                 rw none (then_moving places (removed_reached T.places f h.reached w.ascend childless) (a' >>= settled T places from) (replied Done) (then_finds T places places_ids a' from v.0 from_still v.2
                 (dropped places places_ids f p.0 D p.1 (λ x other. find-drop_other place_id x f T.places other)
                 (λ g q e plain. ((q, was g q e, plain), now_still T D (hierarchy g) (without_untouched T f (hierarchy g) (table_elsewhere f g two (places_ids g q e plain).0 (apart g q e)))))
-                (λ g q d e plain is. start.told g q d (was g q e) plain (sym (now_still T D g (without_untouched T f g (folder_elsewhere f g (places_ids g q e plain).0 (apart g q e)))) ∙ is))
+                (λ g q d e plain other_root is. start.told g q d (was g q e) plain other_root (sym (now_still T D g (without_untouched T f g (folder_elsewhere f g (places_ids g q e plain).0 (apart g q e)))) ∙ is))
                 (λ k three. without_untouched T f k (search_elsewhere f k two three)))))
           ])))))
     ])

@@ -43,10 +43,10 @@ PlainIds places = (f : ℕ) (p : FolderPlace) → find_place f places ≡ Some p
 abbrev pub Names : Tree → List FolderPlace → ℕ → ℕ → Type 0
 Names T places f r = (s : Sort) → named_sort T r ≡ Some s → (r ≡ ROOT → ⊥) × (find_place r places ≡ Some (record { nid = nid r; parent = nid f; sort = s }))
 
--- After changes the rows of folders name those that stand there, folders' values tell where they stand, and no search folder changed.
+-- After changes the rows of folders name those that stand there, the values of all but the root tell where they stand, and no search folder changed.
 pub record Finds (T : Tree) (places : List FolderPlace) (D : Changed) : Type 0 where
   pub listed : (f : ℕ) (p : FolderPlace) (t : Tbl) (r : ℕ) → find_place f places ≡ Some p → is_plain p ≡ true → now_at T D (hierarchy f) ≡ Some (Table t) → IsSome (find_row r t.table.rows) → Names T places f r
-  pub told : (f : ℕ) (p : FolderPlace) (c : Ctx) → find_place f places ≡ Some p → is_plain p ≡ true → now_at T D f ≡ Some (Context c) → c.parent ≡ p.parent.bits
+  pub told : (f : ℕ) (p : FolderPlace) (c : Ctx) → find_place f places ≡ Some p → is_plain p ≡ true → (f ≡ ROOT → ⊥) → now_at T D f ≡ Some (Context c) → c.parent ≡ p.parent.bits
   pub apart : (k : ℕ) → k % 32 ≡ 3 → map.get D.objects k ≡ None
 
 -- an id of another kind is none beside a folder
@@ -69,7 +69,7 @@ module _ (T : Tree) (places : List FolderPlace) (ids : PlainIds places) where
       → (q % 32 ≡ 2 → ⊥) → (q % 32 ≡ 3 → ⊥) → (q % 32 ≡ 13 → ⊥) → Finds T places D'
   finds_elsewhere D D' q o s puts gets no_folder no_search no_table = record {
     listed = λ f p t r e plain is row. s.listed f p t r e plain (sym (puts.others (hierarchy f) (λ same. no_table (ap (λ x. x % 32) (sym same) ∙ beside_kind f 13 (omega arith)))) ∙ is) row;
-    told = λ f p c e plain is. s.told f p c e plain (sym (puts.others f (λ same. no_folder (ap (λ x. x % 32) (sym same) ∙ (ids f p e plain).0))) ∙ is);
+    told = λ f p c e plain no_root is. s.told f p c e plain no_root (sym (puts.others f (λ same. no_folder (ap (λ x. x % 32) (sym same) ∙ (ids f p e plain).0))) ∙ is);
     apart = λ k three. gets k (λ same. no_search (ap (λ x. x % 32) (sym same) ∙ three)) ∙ s.apart k three;
   }
 
@@ -79,15 +79,15 @@ module _ (T : Tree) (places : List FolderPlace) (ids : PlainIds places) where
       let new : Ctx = record c { props = props } in
       let puts = puts_values T D f (Context new) c.props props in record {
         listed = λ g p t r e plain is row. s.listed g p t r e plain (sym (puts.others (hierarchy g) (λ same. kind_apart f g 13 (omega arith) (λ k. omega arith) (sym same))) ∙ is) row;
-        told = λ g p d e plain is. elim (cases_eq g f) [
-          | inl same ↦ told_here g p d e plain (sym (ap (now_at T (with_context f c props D)) same ∙ puts.here) ∙ is) (ap (now_at T D) same ∙ at)
-          | inr other ↦ s.told g p d e plain (sym (puts.others g other) ∙ is)
+        told = λ g p d e plain no_root is. elim (cases_eq g f) [
+          | inl same ↦ told_here g p d e plain no_root (sym (ap (now_at T (with_context f c props D)) same ∙ puts.here) ∙ is) (ap (now_at T D) same ∙ at)
+          | inr other ↦ s.told g p d e plain no_root (sym (puts.others g other) ∙ is)
         ];
         apart = λ k three. get_other D f k (Some (Context new)) (λ same. omega arith) ∙ s.apart k three;
       }
     where
-      told_here : (g : ℕ) (p : FolderPlace) (d : Ctx) → find_place g places ≡ Some p → is_plain p ≡ true → ◌≡◌ {A = Option Object} (Some (Context (record c { props = props }))) (Some (Context d)) → now_at T D g ≡ Some (Context c) → d.parent ≡ p.parent.bits
-      told_here g p d e plain same is = let one : record c { props = props } ≡ d = cc in ap (λ (x : Ctx). x.parent) (sym one) ∙ s.told g p c e plain is
+      told_here : (g : ℕ) (p : FolderPlace) (d : Ctx) → find_place g places ≡ Some p → is_plain p ≡ true → (g ≡ ROOT → ⊥) → ◌≡◌ {A = Option Object} (Some (Context (record c { props = props }))) (Some (Context d)) → now_at T D g ≡ Some (Context c) → d.parent ≡ p.parent.bits
+      told_here g p d e plain no_root same is = let one : record c { props = props } ≡ d = cc in ap (λ (x : Ctx). x.parent) (sym one) ∙ s.told g p c e plain no_root is
 
   -- a table of folders gets other rows, and each new one names a folder that stands there
   pub finds_rows : (D D' : Changed) (f : ℕ) (t t' : Tbl) → f % 32 ≡ 2 → Finds T places D → now_at T D (hierarchy f) ≡ Some (Table t) → Puts (now_at T D) (now_at T D') (hierarchy f) (Some (Table t'))
@@ -104,7 +104,7 @@ module _ (T : Tree) (places : List FolderPlace) (ids : PlainIds places) where
           ]
       | inr other ↦ s.listed g p u r e plain (sym (puts.others (hierarchy g) other) ∙ is) row
     ];
-    told = λ g p c e plain is. s.told g p c e plain (sym (puts.others g (kind_apart g f 13 (omega arith) (λ k. let two' = (ids g p e plain).0 in omega arith))) ∙ is);
+    told = λ g p c e plain no_root is. s.told g p c e plain no_root (sym (puts.others g (kind_apart g f 13 (omega arith) (λ k. let two' = (ids g p e plain).0 in omega arith))) ∙ is);
     apart = λ k three. gets k (kind_apart k f 13 (omega arith) (λ e. omega arith)) ∙ s.apart k three;
   }
 
@@ -159,7 +159,7 @@ module _ (T : Tree) (places : List FolderPlace) (ids : PlainIds places) where
   finds_mirrored D f p e plain s = elim (cases_Bool (f == ROOT)) [
     | inl b ↦ rw b s
     | inr b ↦ rw b (if_then (λ c. now_at T D f ≡ Some (Context c)) (Finds T places) (context_at T D f) _ (if_context T D f) (λ c at.
-        let up = s.told f p c e plain at in
+        let up = s.told f p c e plain (eqb-false f ROOT b) at in
         let two = ids f p e plain in
         finds_put D c.parent f c.props (ap (λ x. x % 32) up ∙ two.1) s (named_place T places f c.parent p e plain (sym up) two.0 (eqb-false f ROOT b))))
   ]

@@ -97,8 +97,8 @@ is_whole name = record {
   typed = λ q o e. find_passes fits_id (start_objects name) q o e refl;
   rows_ascend = λ q t e. find_passes rows_rise (start_objects name) q (Table t) e refl;
   store = refl;
-  contexts = four (λ f p. (c : Ctx) × (at name f ≡ Some (Context c)) × (c.parent ≡ p.parent.bits))
-      (root_context, refl, refl) (folder_context top_name, refl, refl) (folder_context search_name, refl, refl) (folder_context deleted_name, refl, refl);
+  contexts = four (λ f p. (c : Ctx) × (at name f ≡ Some (Context c)) × ((f ≡ ROOT → ⊥) → c.parent ≡ p.parent.bits))
+      (root_context, refl, λ no. refl) (folder_context top_name, refl, λ no. refl) (folder_context search_name, refl, λ no. refl) (folder_context deleted_name, refl, λ no. refl);
   tables = four (λ f p. is_plain p ≡ true → IsSome (at name (hierarchy f)) × IsSome (at name (contents f))) (λ plain. (refl, refl)) (λ plain. (refl, refl)) (λ plain. (refl, refl)) (λ plain. (refl, refl));
   listed = λ f p t m e plain.
       four (λ f p. at name (contents f) ≡ Some (Table t) → IsSome (find_row m t.table.rows) → m % 32 ≡ 4 → (M : Mes) × (at name m ≡ Some (Message M)) × (M.folder ≡ f))
