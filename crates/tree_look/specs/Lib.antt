@@ -1,0 +1,5 @@
+pub mod Standing
+pub mod Forms
+pub mod Faults
+pub mod Walk
+pub mod Stops
