@@ -1,4 +1,5 @@
 pub mod Boxes
+pub mod Files
 pub mod Info
 pub mod Mailboxes
 pub mod Nodes
