@@ -13,7 +13,7 @@ NamesNew name asked.Nothing = name ≡ None
 
 -- the words have that form, and `new` that name
 abbrev pub AsksFor : List (List ℕ) → Asked → Type 0
-AsksFor words (asked.Plain form) = form_of words ≡ Some form
+AsksFor words (asked.Plain form) = (form_of words ≡ Some form) × (form ≡ New → ⊥)
 AsksFor words (asked.New units) = (form_of words ≡ Some New) × (third_name words ≡ Some units)
 AsksFor words asked.Nothing = form_of words ≡ None
 

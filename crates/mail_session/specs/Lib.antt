@@ -1,5 +1,6 @@
 pub mod Asking
 pub mod Boxes
+pub mod Ends
 pub mod Files
 pub mod Info
 pub mod Mailboxes

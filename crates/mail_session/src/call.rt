@@ -1,6 +1,7 @@
 //! The call of the program.
 ghost use Rattle.std.specs.Prelude.{◌≡◌, ◌↔◌, ◌⊎◌, ℕ, List, None, Some, IsSome};
 ghost use Rattle.mail_session.specs.Asking.{IsNaming};
+ghost use Rattle.mail_session.specs.Ends.{EndsFor};
 ghost use Rattle.mail_session.specs.Files.{NewEnds, RunEnds};
 ghost use Rattle.mail_session.specs.Words.{form_of, spelled, third_name};
 ghost use Rattle.mail_session.specs.Statuses.{EndsAs};
