@@ -13,5 +13,7 @@ mod node;
 mod plan;
 mod put;
 mod read;
+#[cfg(test)]
+mod tests;
 
 pub use plan::{ContentPlan, plan_contents};
