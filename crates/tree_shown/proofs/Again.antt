@@ -18,6 +18,7 @@ use Rattle.mail_tree.specs.Folders.{place}
 use Rattle.mail_tree.specs.Found.{BelongsAt, IsFound, named_sort}
 use Rattle.mail_tree.specs.Ids.{is_taken}
 use Rattle.mail_tree.specs.Places.{ROOT, find_place, is_plain, is_plain_sort, place_id}
+use Rattle.mail_tree.specs.Start.{IsStart, names_props, start_others}
 use Rattle.mail_tree.specs.Standing.{HasContext, HasTable, HasTables, HasTree, ListsFolder, ListsMessage, names_sort}
 use Rattle.mail_tree.specs.Tree.{StandsAt, Tree, object_at}
 use Rattle.mail_tree.specs.Whole.{IsWhole, fits_id}
@@ -176,3 +177,11 @@ names_stay N N' T T' w w' at at' same names =
     let here = subst (λ x. StandsAt 0x61 (node_at N 0x61) x (node_at T.others 0x61)) (names_apart T w) (at 0x61) in
     let there = subst (λ x. StandsAt 0x61 (node_at N' 0x61) x (node_at T'.others 0x61)) (names_apart T' w') (at' 0x61) in
     (names.0, (names.1.0, there ∙ same ∙ sym here ∙ names.1.1, names.1.2))
+
+-- a new store has the names
+pub names_start : (name : List ℕ) (N : Nodes) (T : Tree) → IsStart name T → IsWhole T → ((q : ℕ) → StandsAt q (node_at N q) (object_at T q) (node_at T.others q)) → (c : Ctx) × HasContext N 0x61 c
+unfolding start_others
+names_start name N T start w at =
+    let other = start.others 0x61 in
+    let here = subst (λ x. StandsAt 0x61 (node_at N 0x61) x (node_at T.others 0x61)) (names_apart T w) (at 0x61) in
+    (record { parent = 0; props = names_props; kept = [] }, (other.0, here ∙ other.1, other.2))
