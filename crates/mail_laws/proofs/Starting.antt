@@ -27,7 +27,7 @@ use Rattle.mail_tree.proofs.AfterTree.{tied}
 use Rattle.mail_tree.proofs.KindsOfPuts.{same_table}
 
 -- what all objects of a list pass is passed by the one at an id
-find_passes : (P : ℕ → Object → Bool) (es : List (ℕ × Object)) (q : ℕ) (o : Object) → map.find nat_cmp q es ≡ Some o → list_all (λ e. P e.0 e.1) es ≡ true → P q o ≡ true
+pub find_passes : (P : ℕ → Object → Bool) (es : List (ℕ × Object)) (q : ℕ) (o : Object) → map.find nat_cmp q es ≡ Some o → list_all (λ e. P e.0 e.1) es ≡ true → P q o ≡ true
 find_passes P [] q o e all = absurd (none-some o e)
 find_passes P (x ∷ es) q o e all =
     let parts = and_parts (P x.0 x.1) (list_all (λ e. P e.0 e.1) es) all in

@@ -1,5 +1,5 @@
 -- Objects at listed ids, gathered.
-use Rattle.std.proofs.Common.{◌≡◌, inl, inr, ⊎_elim, ◌∙◌, ℕ, cond, List, [], ◌∷◌, Option, None, Some, IsSome, refl, sym, subst, ap}
+use Rattle.std.proofs.Common.{◌≡◌, inl, inr, ⊎_elim, ◌∙◌, ℕ, cond, List, [], ◌∷◌, None, Some, IsSome, refl, sym, subst, ap}
 use Rattle.std.proofs.lemmas.Bool.{cases_eq, eq-eqb, ne_eqb}
 use Rattle.std.proofs.lemmas.Option.{none-some, same_Some}
 use Rattle.std.specs.Cmp.{nat_cmp_total, unsigned_tied}

@@ -4,3 +4,4 @@ pub mod Gather
 pub mod Owned
 pub mod Made
 pub mod One
+pub mod Again

@@ -1,30 +1,25 @@
 -- The tree that is made from nodes.
-use Rattle.std.proofs.Common.{◌≡◌, ◌⊎◌, inl, inr, ◌∙◌, ℕ, ◌%◌, ◌==◌, ◌||◌, ◌≤◌, Bool, true, false, List, Option, None, Some, IsSome, is_some, arith, refl, sym, subst, ap}
-use Rattle.std.proofs.lemmas.Bool.{cases_Bool, eqb-true, false≢true, or_cases}
-use Rattle.std.proofs.lemmas.Option.{none-some, same_Some}
+use Rattle.std.proofs.Common.{◌≡◌, ◌⊎◌, inl, inr, ◌∙◌, ℕ, ◌%◌, ◌==◌, ◌||◌, ◌≤◌, ◌<◌, true, List, Option, None, Some, IsSome, is_some, arith, refl, sym, subst, ap}
+use Rattle.std.proofs.lemmas.Bool.{eqb-true, false≢true, or_cases}
 use Rattle.mapi_values.specs.Messages.{Mes}
-use Rattle.mapi_values.specs.Tables.{find_row}
 use Rattle.mail_objects.specs.Forms.{Ctx, Tbl}
 use Rattle.mail_objects.specs.declared.object.Object.{Object}
 use Rattle.mail_objects.specs.declared.object.Object.TheVariants.{Context, Table, Message}
 use Rattle.node_port.specs.Nodes.{Nodes, node_at}
-use Rattle.node_port.specs.declared.node.NodeRec.{NodeRec}
 use Rattle.mail_tree.specs.declared.places.FolderPlace.{FolderPlace}
-use Rattle.mail_tree.specs.declared.places.Sort.{Sort}
 use Rattle.mail_tree.specs.Changing.{associated, contents, hierarchy}
 use Rattle.mail_tree.specs.Folders.{place}
-use Rattle.mail_tree.specs.Found.{IsFound, named_sort}
+use Rattle.mail_tree.specs.Found.{BelongsAt, IsFound, named_sort}
 use Rattle.mail_tree.specs.Ids.{is_taken}
 use Rattle.mail_tree.specs.Places.{ROOT, find_place, is_plain}
 use Rattle.mail_tree.specs.Standing.{HasContext, HasMail, HasTable, HasTree, ListsMessage, names_sort}
-use Rattle.mail_tree.specs.Tree.{StandsAt, Tree, object_at}
+use Rattle.mail_tree.specs.Tree.{Shown, StandsAt, Tree, object_at}
 use Rattle.mail_tree.specs.Whole.{AreWhole, HasNoStray, HasRow, IsWhole, fits_id}
 use Rattle.mail_tree.proofs.FineLaws.{cases_Option}
 use Rattle.mail_tree.proofs.KindsOfPuts.{beside_kind, low}
 use Rattle.mail_tree.proofs.Nearly.{context_id, folder_kind, message_id, table_of}
-use Rattle.tree_shown.specs.Shows.{IsBeside, IsOwned, IsPlainIn, Shows}
+use Rattle.tree_shown.specs.Shows.{IsBeside, IsOwned, Shows}
 use Rattle.tree_shown.proofs.Gather.{Gathered, gather}
-use Rattle.tree_shown.proofs.Ids.{IsIn, Lists}
 use Rattle.tree_shown.proofs.Owned.{IsAt, object_of, one_context_at, one_mail_at, one_table_at, owned}
 use Rattle.tree_shown.proofs.Rows.{rows_rise}
 
@@ -37,6 +32,17 @@ table_id q t e = elim (or_cases (q % 32 == 13) ((q % 32 == 14) || (q % 32 == 15)
     | inr k ↦ let is = eqb-true (q % 32) 15 k in omega arith
   ]
 ]
+
+-- values stand at ids of low kinds
+pub context_low : (q : ℕ) (c : Ctx) → fits_id q (Context c) ≡ true → q % 32 < 4
+context_low q c e = elim (context_id q c e) [ inl k ↦ omega arith | inr r ↦ elim r [ inl k ↦ omega arith | inr k ↦ omega arith ] ]
+
+-- what stands beside a folder has another id than values
+beside_high : (N : Nodes) (f q : ℕ) → IsBeside N f q → 4 ≤ q % 32
+beside_high N f q (inl same) = omega (arith, beside_kind f 13 (omega arith))
+beside_high N f q (inr (inl same)) = omega (arith, beside_kind f 14 (omega arith))
+beside_high N f q (inr (inr (inl x))) = let same = x.0 in omega (arith, beside_kind f 15 (omega arith))
+beside_high N f q (inr (inr (inr x))) = let four = x.3 in omega arith
 
 -- what stands at the id of a folder, a table or a message is of the form that is there
 is_context : (N : Nodes) (q : ℕ) (c : Ctx) (o : Option Object) → IsSome o → ((x : Object) → o ≡ Some x → IsAt N q x) → (q % 32 ≡ 2) ⊎ (q % 32 ≡ 3) → HasContext N q c → o ≡ Some (Context c)
@@ -152,10 +158,30 @@ module _ (N : Nodes) (places : List FolderPlace) (last : List ℕ) (h : HasTree 
   named : (r : ℕ) → named_sort tree r ≡ names_sort N r
   named r = rw (taken r) refl
 
+  placed_low : (q : ℕ) → IsSome (find_place q places) → q % 32 < 4
+  placed_low q placed = elim (cases_Option (find_place q places)) [
+    | inl none ↦ absurd (false≢true (sym (ap is_some none) ∙ placed))
+    | inr p ↦ let (above, below) = low q (folder_kind p.0.sort q (h.kinds q p.0 p.1)) in below
+  ]
+
+  -- each object belongs where it stands
+  belongs_is : (q : ℕ) (o : Object) → fits_id q o ≡ true → IsOwned N places q → BelongsAt places q o
+  belongs_is q (Message m) fits is = tt
+  belongs_is q (Context c) fits (inl same) = inl same
+  belongs_is q (Context c) fits (inr (inl placed)) = inr placed
+  belongs_is q (Context c) fits (inr (inr (f, p, x))) = let less = context_low q c fits in let more = beside_high N f q x in absurd (omega arith)
+  belongs_is q (Table t) fits (inl same) = let more = table_id q t fits in absurd (omega arith)
+  belongs_is q (Table t) fits (inr (inl placed)) = let more = table_id q t fits in let less = placed_low q placed in absurd (omega arith)
+  belongs_is q (Table t) fits (inr (inr (f, p, inl same))) = (f, p, inl same)
+  belongs_is q (Table t) fits (inr (inr (f, p, inr (inl same)))) = (f, p, inr (inl same))
+  belongs_is q (Table t) fits (inr (inr (f, p, inr (inr (inl x))))) = (f, p, inr (inr x.0))
+  belongs_is q (Table t) fits (inr (inr (f, p, inr (inr (inr x))))) = let more = table_id q t fits in let four = x.3 in absurd (omega arith)
+
   is_found : IsFound tree
   is_found = record {
     listed = λ f p t r s e plain is row names. h.listed f p r e plain (t, (stands (hierarchy f) (Table t) is).0, row) s (sym (named r) ∙ names);
     reached = h.reached;
+    owned = λ q o e. belongs_is q o (stands q o e).1 (belongs q o e);
   }
 
   shows : Shows N tree
@@ -169,3 +195,9 @@ module _ (N : Nodes) (places : List FolderPlace) (last : List ℕ) (h : HasTree 
 pub shows_tree : (N : Nodes) (places : List FolderPlace) (last : List ℕ) → HasTree N places → (T : Tree) × (T.places ≡ places) × (T.last ≡ last) × Shows N T × IsWhole T × IsFound T
 shows_tree N places last h =
     (tree N places last h, refl, refl, shows N places last h, record { objects = are_whole N places last h; no_stray = no_stray N places last h }, is_found N places last h)
+
+-- a keeper that holds nodes that have a tree shows one
+pub shown_tree : (holds : Nodes → Type 0) (N : Nodes) (places : List FolderPlace) (last : List ℕ) → holds N → HasTree N places → (T : Tree) × Shown holds last T × (T.places ≡ places) × IsWhole T × IsFound T
+shown_tree holds N places last held h =
+    let s = shows_tree N places last h in
+    (s.0, record { nodes = N; held = held; at = s.3.at; counters = s.2 }, s.1, s.4, s.5)

@@ -1,5 +1,5 @@
 -- Nodes show at most one tree.
-use Rattle.std.proofs.Common.{◌≡◌, ◌⊎◌, inl, inr, ◌∙◌, ℕ, zero, suc, ◌≤◌, ◌<◌, ◌%◌, Bool, true, false, List, Option, None, Some, IsSome, is_some, arith, refl, sym, subst, ap}
+use Rattle.std.proofs.Common.{◌≡◌, ◌∙◌, ℕ, zero, suc, ◌%◌, List, Option, None, Some, IsSome, is_some, arith, refl, sym, subst, ap}
 use Rattle.std.proofs.lemmas.Bool.{false≢true}
 use Rattle.std.proofs.lemmas.Option.{same_Some}
 use Rattle.std.specs.Cmp.{nat_cmp_total}
@@ -18,12 +18,12 @@ use Rattle.mail_tree.specs.Found.{StandsBelow}
 use Rattle.mail_tree.specs.Places.{find_place, place_id}
 use Rattle.mail_tree.specs.Standing.{HasTree, names_sort}
 use Rattle.mail_tree.specs.Tree.{StandsAt, Tree, object_at}
-use Rattle.mail_tree.specs.Whole.{fits_id, kind_of_sort}
-use Rattle.mail_tree.proofs.Nearly.{context_id, message_id}
+use Rattle.mail_tree.specs.Whole.{kind_of_sort}
+use Rattle.mail_tree.proofs.Nearly.{message_id}
 use Rattle.mail_tree.proofs.OneList.{one_list}
 use Rattle.tree_shown.specs.Shows.{IsOwned, Shows}
 use Rattle.tree_shown.proofs.Owned.{IsAt, one_context_at, one_mail_at, one_table_at}
-use Rattle.tree_shown.proofs.Made.{table_id}
+use Rattle.tree_shown.proofs.Made.{context_low, table_id}
 
 -- a row names a folder that stands somewhere
 named : (N : Nodes) (f : ℕ) (s : Sort) → f % 32 ≡ kind_of_sort s → IsSome (node_at N f) → names_sort N f ≡ Some s
@@ -47,10 +47,6 @@ module _ (N : Nodes) (P Q : List FolderPlace) (h : HasTree N P) (k : HasTree N Q
 one_places : (N : Nodes) (P Q : List FolderPlace) → HasTree N P → HasTree N Q → P ≡ Q
 one_places N P Q h k =
     one_list place_id 0 0 P Q h.ascend k.ascend (λ f p e. let below = h.reached f p e in stands N P Q h k below.0 f p below.2 e) (λ f p e. let below = k.reached f p e in stands N Q P k h below.0 f p below.2 e)
-
--- values stand at ids of low kinds
-context_low : (q : ℕ) (c : Ctx) → fits_id q (Context c) ≡ true → q % 32 < 4
-context_low q c e = elim (context_id q c e) [ inl k ↦ omega arith | inr r ↦ elim r [ inl k ↦ omega arith | inr k ↦ omega arith ] ]
 
 -- what may stand at an id is of one form, and so one object
 one_object : (N : Nodes) (q : ℕ) (a b : Object) → IsAt N q a → IsAt N q b → a ≡ b
