@@ -2,4 +2,5 @@ pub mod BlockSteps
 pub mod NextLaws
 pub mod NodeSteps
 pub mod OpeningLaws
+pub mod RefSteps
 pub mod ScanLaws
