@@ -1,0 +1,4 @@
+pub mod Rising
+pub mod Apart
+pub mod Laid
+pub mod Joined
