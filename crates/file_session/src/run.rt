@@ -3,11 +3,13 @@ ghost use Rattle.std.specs.Prelude.{◌≡◌, List};
 ghost use Rattle.pst_outside.specs.Calls.{NeverFall, Settled, Untouched};
 ghost use Rattle.mail_tree.specs.declared.places.FolderPlace.{FolderPlace};
 ghost use Rattle.file_open.specs.Opening.{IsFileRefused, ReadsFresh};
+ghost use Rattle.file_open.specs.declared.stops.FileRefusal.{FileRefusal as Refusals};
 ghost use Rattle.store_session.specs.Session.{HasCause};
+ghost use Rattle.store_session.specs.declared.session.SessionEnd.{SessionEnd as End};
+ghost use Rattle.file_session.specs.Stops.{unopened};
 ghost use Rattle.file_session.specs.FileRun.{FileRunEnds};
 
-use file_open::{FileRefusal, FileStop, open_file};
-use file_planner::FilePlanner;
+use file_open::{FileRefusal, FileStop, FoundStore, open_file};
 use mail_store::Store;
 use pst_outside::Outside;
 use std::alloc::Global;
@@ -43,7 +45,7 @@ fn unopened(stop: FileStop) -> FileRun
 }
 
 /// Opens the two files, and answers the lines of the input over the tree that they are read as: takes lines until the input ends, a line is `quit`, a device fails, something changed, or 2^32 lines were taken. Each reply is made before its command is committed, and said after it.
-pub fn run_file<W: Outside>(alloc: Global, world: &mut W) -> FileRun
+pub fn run_file<W: Outside, S: FoundStore<W> + Drop>(alloc: Global, world: &mut W) -> FileRun
     ensures refused { (refusal : Refusals) → result ≡ FileRun.Refused refusal → Untouched (W.view world.old) (W.view world.new)
         × ((W.view world.new).tells → IsFileRefused (W.view world.old).here refusal × ((places : List FolderPlace) → ReadsFresh (W.view world.old).here places → ⊥)) }
     // The replies are those of a run, and a stop at any moment leaves the tree after some of its turns.
@@ -52,7 +54,7 @@ pub fn run_file<W: Outside>(alloc: Global, world: &mut W) -> FileRun
     ensures told { (W.view world.new).tells → (W.view world.old).tells }
     ensures counts { NeverFall (W.view world.old) (W.view world.new) }
 {
-    match open_file::<W, FilePlanner>(alloc, world) {
+    match open_file::<W, S>(alloc, world) {
         Ok(opened) => {
             let store = Store {
                 keeper: opened.keeper,
