@@ -16,8 +16,8 @@ use Rattle.content_plan.specs.Told.{KeepsParts, TellsParts}
 use Rattle.content_plan.proofs.PlanLaws.{Changes, Front, front-next, front-start, plans-next, plans-none}
 
 -- what a plan says, with its vectors as lists
-abbrev pub Plans : (ℕ → Option (List ℕ)) → List NodeEntry → Changes → ContentPlan → Type 0
-Plans find es cs plan = PlansContents find es cs plan.edits.items plan.blocks.items plan.taken.items plan.put.items
+abbrev pub Plans : (ℕ → Option (List ℕ)) → ℕ → ℕ → List NodeEntry → Changes → ContentPlan → Type 0
+Plans find eof limit es cs plan = PlansContents find eof limit es cs plan.edits.items plan.blocks.items plan.taken.items plan.put.items
 
 -- the front of the changes is planned, and the world tells what it told
 pub record Planned (old now : World) (header : Header) (caches between : PageCaches) (next free : ℕ) (changes : Changes) (i : ℕ) (plan : ContentPlan) : Type 0 where
@@ -25,7 +25,7 @@ pub record Planned (old now : World) (header : Header) (caches between : PageCac
   pub keeps : KeepsParts old now header caches between
   pub front : Front next free changes i plan.edits.items plan.blocks.items
   pub high : free ≤ 2 ^ 62
-  pub plans : (find : ℕ → Option (List ℕ)) (es : List NodeEntry) → TellsParts old header caches find es → Plans find es (take i changes) plan
+  pub plans : (find : ℕ → Option (List ℕ)) (es : List NodeEntry) → TellsParts old header caches find es → Plans find header.eof next es (take i changes) plan
 
 -- a plan is these lists
 pub record Lists (plan first later : ContentPlan) : Type 0 where
@@ -41,13 +41,13 @@ planned-start old header caches next changes plan up high edits blocks taken put
   keeps = λ find es is. is;
   front = rw (edits, blocks) (front-start next changes up);
   high = high;
-  plans = λ find es is. rw (edits, blocks, taken, put) (plans-none find es);
+  plans = λ find es is. rw (edits, blocks, taken, put) (plans-none find header.eof next es);
 }
 
 pub planned-next : (old now new : World) (header : Header) (caches between after : PageCaches) (next free end : ℕ) (changes : Changes) (i : ℕ) (c : Nid × Option NodeRec) (plan one whole : ContentPlan)
     → i < length changes → c ≡ get_or changes i c → (c.0).bits < 2 ^ 64 → end ≡ free + 4 * length one.blocks.items → end ≤ 2 ^ 62
     → Planned old now header caches between next free changes i plan → Untouched now new → KeepsParts now new header between after → IsCounted free (c.0).bits ((c.0).bits + 1) (c ∷ []) one.edits.items one.blocks.items
-    → ((find : ℕ → Option (List ℕ)) (es : List NodeEntry) → TellsParts now header between find es → Plans find es (c ∷ []) one) → Lists whole plan one → Planned old new header caches after next end changes (i + 1) whole
+    → ((find : ℕ → Option (List ℕ)) (es : List NodeEntry) → TellsParts now header between find es → Plans find header.eof next es (c ∷ []) one) → Lists whole plan one → Planned old new header caches after next end changes (i + 1) whole
 planned-next old now new header caches between after next free end changes i c plan one whole h is small behind high p same keeps counted plans lists = record {
   same = untouched_then p.same same;
   keeps = λ find es told. keeps find es (p.keeps find es told);
@@ -55,5 +55,5 @@ planned-next old now new header caches between after next free end changes i c p
   high = high;
   plans = λ find es told.
       rw (lists.edits, lists.blocks, lists.taken, lists.put)
-      (plans-next find es next free changes i c plan.edits.items one.edits.items plan.blocks.items one.blocks.items plan.taken.items one.taken.items plan.put.items one.put.items h is p.front counted (p.plans find es told) (plans find es (p.keeps find es told)));
+      (plans-next find header.eof next es next free changes i c plan.edits.items one.edits.items plan.blocks.items one.blocks.items plan.taken.items one.taken.items plan.put.items one.put.items h is p.front counted (p.plans find es told) (plans find es (p.keeps find es told)));
 }

@@ -1,12 +1,12 @@
 -- Plans of changes, one after the other.
-use Rattle.std.proofs.Common.{true, ◌≡◌, inl, inr, ◌∙◌, ℕ, ◌+◌, ◌*◌, ◌^◌, ◌<◌, ◌≤◌, leb, get_or, if◌then◌else◌, List, [], ◌∷◌, ◌++◌, length, map, drop, take, Option, Some, None, refl, sym, ap, subst, arith, length-append}
+use Rattle.std.proofs.Common.{true, ◌≡◌, inl, inr, ◌∙◌, ℕ, ◌+◌, ◌*◌, ◌^◌, ◌<◌, ◌≤◌, leb, get_or, if◌then◌else◌, List, [], ◌∷◌, ◌++◌, length, map, drop, take, Option, Some, None, Ok, refl, sym, ap, subst, arith, length-append}
 use Rattle.std.proofs.lemmas.Bool.{and_parts, cases_eq, cases_lt, eq-eqb, ne_eqb, leb-true}
 use Rattle.std.proofs.lemmas.List.{take_all, take_more}
 use Rattle.pst_base.specs.declared.ids.Bid.{Bid}
 use Rattle.pst_base.specs.declared.ids.Nid.{Nid}
 use Rattle.btree_pages.specs.declared.entry.NodeEntry.{NodeEntry}
 use Rattle.data_tree.specs.Keys.{count_of}
-use Rattle.data_tree.specs.Plan.{IsFound, Rise}
+use Rattle.data_tree.specs.Plan.{IsFound, Rise, bids_in, placed}
 use Rattle.data_tree.proofs.KeyLaws.{count-append, count-blocks}
 use Rattle.data_tree.proofs.ListingLaws.{drop-here}
 use Rattle.data_tree.proofs.PieceLaws.{all_from-each, each-append, each-from_all, each-left, each-right}
@@ -22,9 +22,10 @@ use Rattle.node_refs.specs.Counts as refs
 use Rattle.node_refs.specs.Counts.{is_edit, is_edited, sum_if, sum_put, uses}
 use Rattle.tree_edit.specs.Edits.{AreEdits, entry_with}
 use Rattle.tree_edit.specs.Shapes.{RiseIn}
-use Rattle.content_plan.specs.Plan.{IsCounted, PlansContents, StayFound}
+use Rattle.content_plan.specs.Keep.{kept_list}
+use Rattle.content_plan.specs.Plan.{AreNamed, IsCounted, PlansContents, StayFound}
 use Rattle.content_plan.specs.Put.{PutsOver}
-use Rattle.content_plan.specs.Told.{Content, IsOld, keys_at}
+use Rattle.content_plan.specs.Told.{Content, IsOld, keys_at, content_at}
 
 abbrev pub Edits : Type 0
 Edits = List (ℕ × Option NodeEntry)
@@ -83,6 +84,12 @@ changed-append find eof es xs ys (c ∷ cs) ds (inl one) later =
     inl (one.0, one.1 ++ ys, ap (λ (l : Edits). l ++ ys) one.2, one.3, one.4, changed-append find eof es one.1 ys cs ds one.5 later)
 changed-append find eof es xs ys (c ∷ cs) ds (inr skip) later = inr (skip.0, skip.1, changed-append find eof es xs ys cs ds skip.2 later)
 
+named-append : (find after : ℕ → Option (List ℕ)) (eof limit : ℕ) (es : List NodeEntry) (xs ys : Edits) (cs ds : Changes) → AreNamed find after eof limit es xs cs → AreNamed find after eof limit es ys ds → AreNamed find after eof limit es (xs ++ ys) (cs ++ ds)
+named-append find after eof limit es xs ys [] ds none later = subst (λ (l : Edits). AreNamed find after eof limit es (l ++ ys) ds) (sym none) later
+named-append find after eof limit es xs ys (c ∷ cs) ds (inl one) later =
+    inl (one.0, one.1 ++ ys, ap (λ (l : Edits). l ++ ys) one.2, one.3, one.4, named-append find after eof limit es one.1 ys cs ds one.5 later)
+named-append find after eof limit es xs ys (c ∷ cs) ds (inr skip) later = inr (skip.0, named-append find after eof limit es xs ys cs ds skip.1 later)
+
 size-append : (cs ds : Changes) → size (cs ++ ds) ≡ size cs + size ds
 size-append [] ds = omega arith
 size-append ((nid, None) ∷ cs) ds = size-append cs ds
@@ -110,11 +117,11 @@ still-front find after xs ys still key b some is = still key b (let sum = count-
 still-back : (find after : ℕ → Option (List ℕ)) (xs ys : List ℕ) → StayFound find after (xs ++ ys) → StayFound find after ys
 still-back find after xs ys still key b some is = still key b (let sum = count-append key xs ys in omega (arith, some, sum)) is
 
-pub plans-append : (find : ℕ → Option (List ℕ)) (es : List NodeEntry) (low mid high : ℕ) (cs ds : Changes) (xs ys : Edits) (front back : List (Bid × List ℕ)) (taken more put with_more : List ℕ) → AreEdits node_id low mid xs → AreEdits node_id mid high ys
-    → PlansContents find es cs xs front taken put → PlansContents find es ds ys back more with_more → PlansContents find es (cs ++ ds) (xs ++ ys) (front ++ back) (taken ++ more) (put ++ with_more)
-plans-append find es low mid high cs ds xs ys front back taken more put with_more a b first later = record {
+pub plans-append : (find : ℕ → Option (List ℕ)) (eof limit : ℕ) (es : List NodeEntry) (low mid high : ℕ) (cs ds : Changes) (xs ys : Edits) (front back : List (Bid × List ℕ)) (taken others put with_more : List ℕ) → AreEdits node_id low mid xs → AreEdits node_id mid high ys
+    → PlansContents find eof limit es cs xs front taken put → PlansContents find eof limit es ds ys back others with_more → PlansContents find eof limit es (cs ++ ds) (xs ++ ys) (front ++ back) (taken ++ others) (put ++ with_more)
+plans-append find eof limit es low mid high cs ds xs ys front back taken others put with_more a b first later = record {
   taken_are = λ key.
-      let sum = count-append key taken more in
+      let sum = count-append key taken others in
       let one = first.taken_are key in
       let two = later.taken_are key in
       let both = taken-append find key low mid high xs ys es a b in
@@ -126,11 +133,11 @@ plans-append find es low mid high cs ds xs ys front back taken more put with_mor
         | inl here ↦ elim (first.known key (omega (arith, here))) [ inl old ↦ inl old | inr new ↦ inr (omega (arith, new, blocks)) ]
         | inr none ↦ elim (later.known key (omega (arith, some, sum, none))) [ inl old ↦ inl old | inr new ↦ inr (omega (arith, new, blocks)) ]
       ];
-  shows = λ after eof found still bounds.
+  shows = λ after more found still bounds.
       let all = each-from_all (IsFound after) (front ++ back) found in
-      let one = first.shows after eof (all_from-each (IsFound after) front (each-left (IsFound after) front back all)) (still-front find after put with_more still) bounds in
-      let two = later.shows after eof (all_from-each (IsFound after) back (each-right (IsFound after) front back all)) (still-back find after put with_more still) bounds in (
-        changed-append after eof es xs ys cs ds one.0 two.0,
+      let one = first.shows after more (all_from-each (IsFound after) front (each-left (IsFound after) front back all)) (still-front find after put with_more still) bounds in
+      let two = later.shows after more (all_from-each (IsFound after) back (each-right (IsFound after) front back all)) (still-back find after put with_more still) bounds in (
+        changed-append after more es xs ys cs ds one.0 two.0,
         (λ key.
             let sum = count-append key put with_more in
             let c = one.1 key in
@@ -138,6 +145,9 @@ plans-append find es low mid high cs ds xs ys front back taken more put with_mor
             let both = put-append (uses after key) xs ys in
             omega (arith, sum, c, d, both)),
       );
+  names = λ after found.
+      let all = each-from_all (IsFound after) (front ++ back) found in
+      named-append find after eof limit es xs ys cs ds (first.names after (all_from-each (IsFound after) front (each-left (IsFound after) front back all))) (later.names after (all_from-each (IsFound after) back (each-right (IsFound after) front back all)));
 }
 
 -- ---- no changes
@@ -149,11 +159,12 @@ taken-none : (find : ℕ → Option (List ℕ)) (key : ℕ) (es : List NodeEntry
 taken-none find key [] = refl
 taken-none find key (e ∷ es) = let rest = taken-none find key es in omega (arith, rest)
 
-pub plans-none : (find : ℕ → Option (List ℕ)) (es : List NodeEntry) → PlansContents find es [] [] [] [] []
-plans-none find es = record {
+pub plans-none : (find : ℕ → Option (List ℕ)) (eof limit : ℕ) (es : List NodeEntry) → PlansContents find eof limit es [] [] [] [] []
+plans-none find eof limit es = record {
   taken_are = λ key. let e = taken-none find key es in omega (arith, e);
   known = λ key some. absurd (omega (arith, some));
-  shows = λ after eof found still bounds. (refl, λ key. refl);
+  shows = λ after more found still bounds. (refl, λ key. refl);
+  names = λ after found. refl;
 }
 
 -- ---- one change
@@ -184,25 +195,27 @@ pub gone-counted : (next : ℕ) (nid : Nid) → IsCounted next nid.bits (nid.bit
 gone-counted next nid = record { rise = tt; small = all_from-each Small [] tt; most = omega arith; edits_rise = tt }
 
 -- a node that goes
-pub removed-plans : (find : ℕ → Option (List ℕ)) (es : List NodeEntry) (nid : Nid) (entry : Option NodeEntry) (keys : List ℕ) → RiseIn 0 (2 ^ 64) (map node_id es) → entry_with node_id nid.bits es ≡ entry → keys ≡ keys_at find entry
-    → PlansContents find es ((nid, None) ∷ []) ((nid.bits, None) ∷ []) [] keys []
-removed-plans find es nid entry keys rise there are = record {
+pub removed-plans : (find : ℕ → Option (List ℕ)) (eof limit : ℕ) (es : List NodeEntry) (nid : Nid) (entry : Option NodeEntry) (keys : List ℕ) → RiseIn 0 (2 ^ 64) (map node_id es) → entry_with node_id nid.bits es ≡ entry → keys ≡ keys_at find entry
+    → PlansContents find eof limit es ((nid, None) ∷ []) ((nid.bits, None) ∷ []) [] keys []
+removed-plans find eof limit es nid entry keys rise there are = record {
   taken_are = λ key. ap (count_of key) (are ∙ ap (keys_at find) (sym there)) ∙ sym (taken-one find key nid.bits None 0 (2 ^ 64) es rise);
   known = λ key some. absurd (omega (arith, some));
-  shows = λ after eof found still bounds. (inl ((nid.bits, None), [], refl, refl, refl, refl), λ key. refl);
+  shows = λ after more found still bounds. (inl ((nid.bits, None), [], refl, refl, refl, refl), λ key. refl);
+  names = λ after found. inl ((nid.bits, None), [], refl, refl, tt, refl);
 }
 
 -- a node that goes and isn't there
-pub gone-plans : (find : ℕ → Option (List ℕ)) (es : List NodeEntry) (nid : Nid) (keys : List ℕ) → entry_with node_id nid.bits es ≡ None → keys ≡ [] → PlansContents find es ((nid, None) ∷ []) [] [] keys []
-gone-plans find es nid keys there are = record {
+pub gone-plans : (find : ℕ → Option (List ℕ)) (eof limit : ℕ) (es : List NodeEntry) (nid : Nid) (keys : List ℕ) → entry_with node_id nid.bits es ≡ None → keys ≡ [] → PlansContents find eof limit es ((nid, None) ∷ []) [] [] keys []
+gone-plans find eof limit es nid keys there are = record {
   taken_are = λ key. ap (count_of key) are ∙ sym (taken-none find key es);
   known = λ key some. absurd (omega (arith, some));
-  shows = λ after eof found still bounds. (inr (refl, there, refl), λ key. refl);
+  shows = λ after more found still bounds. (inr (refl, there, refl), λ key. refl);
+  names = λ after found. inr (refl, refl);
 }
 
-pub put-counted : (next : ℕ) (nid : Nid) (node : NodeRec) (old : Content) (entry : NodeEntry) (blocks : List (Bid × List ℕ)) (keys : List ℕ) → PutsOver next nid node old entry blocks keys
+pub put-counted : (limit next : ℕ) (nid : Nid) (node : NodeRec) (old : Content) (entry : NodeEntry) (blocks : List (Bid × List ℕ)) (keys : List ℕ) → PutsOver limit next nid node old entry blocks keys
     → IsCounted next nid.bits (nid.bits + 1) ((nid, Some node) ∷ []) ((nid.bits, Some entry) ∷ []) blocks
-put-counted next nid node old entry blocks keys p = record {
+put-counted limit next nid node old entry blocks keys p = record {
   rise = p.rise;
   small = p.small;
   most = let m = p.most in omega (arith, m);
@@ -210,14 +223,22 @@ put-counted next nid node old entry blocks keys p = record {
 }
 
 -- a node that is put
-pub put-plans : (find : ℕ → Option (List ℕ)) (es : List NodeEntry) (next : ℕ) (nid : Nid) (node : NodeRec) (old : Content) (entry : NodeEntry) (blocks : List (Bid × List ℕ)) (taken keys : List ℕ) → RiseIn 0 (2 ^ 64) (map node_id es)
-    → taken ≡ keys_at find (entry_with node_id nid.bits es) → IsOld find old → PutsOver next nid node old entry blocks keys → PlansContents find es ((nid, Some node) ∷ []) ((nid.bits, Some entry) ∷ []) blocks taken keys
-put-plans find es next nid node old entry blocks taken keys rise are there p = record {
+pub put-plans : (find : ℕ → Option (List ℕ)) (eof limit : ℕ) (es : List NodeEntry) (next : ℕ) (nid : Nid) (node : NodeRec) (old : Content) (entry : NodeEntry) (blocks : List (Bid × List ℕ)) (taken keys : List ℕ) → RiseIn 0 (2 ^ 64) (map node_id es)
+    → taken ≡ keys_at find (entry_with node_id nid.bits es) → IsOld find old → old ≡ content_at find eof (entry_with node_id nid.bits es) → limit ≤ next → PutsOver limit next nid node old entry blocks keys → PlansContents find eof limit es ((nid, Some node) ∷ []) ((nid.bits, Some entry) ∷ []) blocks taken keys
+put-plans find eof limit es next nid node old entry blocks taken keys rise are there exact behind p = record {
   taken_are = λ key. ap (count_of key) are ∙ sym (taken-one find key nid.bits (Some entry) 0 (2 ^ 64) es rise);
   known = p.known find there;
-  shows = λ after eof found still bounds. (
-    inl ((nid.bits, Some entry), [], refl, refl, p.leads find after eof there found still bounds, refl),
+  shows = λ after more found still bounds. (
+    inl ((nid.bits, Some entry), [], refl, refl, p.leads find after more there found still bounds, refl),
     (λ key. let same = p.reaches after found key in omega (arith, same)),
+  );
+  names = λ after found. inl (
+    (nid.bits, Some entry),
+    [],
+    refl,
+    refl,
+    (next, behind, p.names after found ∙ ap (λ (c : Content). Ok (bids_in (placed next (kept_list limit c.ids c.blocks node.blocks) node.blocks))) exact),
+    refl,
   );
 }
 
@@ -266,13 +287,13 @@ front-next next free after changes i c xs ys front back h is small behind f one 
       others = a.others;
     }
 
-pub plans-next : (find : ℕ → Option (List ℕ)) (es : List NodeEntry) (next free : ℕ) (changes : Changes) (i : ℕ) (c : Nid × Option NodeRec) (xs ys : Edits) (front back : List (Bid × List ℕ)) (taken more put with_more : List ℕ) → i < length changes → c ≡ get_or changes i c
-    → Front next free changes i xs front → IsCounted free (c.0).bits ((c.0).bits + 1) (c ∷ []) ys back → PlansContents find es (take i changes) xs front taken put → PlansContents find es (c ∷ []) ys back more with_more
-    → PlansContents find es (take (i + 1) changes) (xs ++ ys) (front ++ back) (taken ++ more) (put ++ with_more)
-plans-next find es next free changes i c xs ys front back taken more put with_more h is f one first later =
+pub plans-next : (find : ℕ → Option (List ℕ)) (eof limit : ℕ) (es : List NodeEntry) (next free : ℕ) (changes : Changes) (i : ℕ) (c : Nid × Option NodeRec) (xs ys : Edits) (front back : List (Bid × List ℕ)) (taken more put with_more : List ℕ) → i < length changes → c ≡ get_or changes i c
+    → Front next free changes i xs front → IsCounted free (c.0).bits ((c.0).bits + 1) (c ∷ []) ys back → PlansContents find eof limit es (take i changes) xs front taken put → PlansContents find eof limit es (c ∷ []) ys back more with_more
+    → PlansContents find eof limit es (take (i + 1) changes) (xs ++ ys) (front ++ back) (taken ++ more) (put ++ with_more)
+plans-next find eof limit es next free changes i c xs ys front back taken more put with_more h is f one first later =
     let a = ahead f.low changes i c h is f.others in
-    subst (λ (l : Changes). PlansContents find es l (xs ++ ys) (front ++ back) (taken ++ more) (put ++ with_more)) (taken-more changes i c h is)
-    (plans-append find es 0 (c.0).bits ((c.0).bits + 1) (take i changes) (c ∷ []) xs ys front back taken more put with_more (edits-raise 0 f.low (c.0).bits xs a.reached f.counted.edits_rise) one.edits_rise first later)
+    subst (λ (l : Changes). PlansContents find eof limit es l (xs ++ ys) (front ++ back) (taken ++ more) (put ++ with_more)) (taken-more changes i c h is)
+    (plans-append find eof limit es 0 (c.0).bits ((c.0).bits + 1) (take i changes) (c ∷ []) xs ys front back taken more put with_more (edits-raise 0 f.low (c.0).bits xs a.reached f.counted.edits_rise) one.edits_rise first later)
 
 -- all changes are planned
 pub front-whole : (next free : ℕ) (changes : Changes) (i : ℕ) (xs : Edits) (blocks : List (Bid × List ℕ)) → length changes ≤ i → Front next free changes i xs blocks → IsCounted next 0 (2 ^ 64) changes xs blocks

@@ -7,7 +7,7 @@ use Rattle.pst_base.specs.declared.ids.Nid.{Nid}
 use Rattle.pst_base.specs.Flat.{Flat}
 use Rattle.btree_pages.specs.declared.entry.NodeEntry.{NodeEntry}
 use Rattle.data_tree.specs.Keys.{count_of, data_keys, keys_of}
-use Rattle.data_tree.specs.Plan.{AreFound, AreSmall, IsFound, Reaches, ReadsKept, Rise, above_kept, bids_in, bytes_in, contents, fresh, kept_bids, unkept}
+use Rattle.data_tree.specs.Plan.{AreFound, AreSmall, IsFound, NamesKept, Reaches, ReadsKept, Rise, above_kept, bids_in, bytes_in, contents, fresh, kept_bids, placed, unkept}
 use Rattle.data_tree.proofs.KeepLaws.{few-unkept}
 use Rattle.data_tree.proofs.KeyLaws.{count-append, count-blocks}
 use Rattle.data_tree.proofs.PieceLaws.{Each, all_from-each, each-append, each-from_all, each-left, each-right}
@@ -20,7 +20,7 @@ use Rattle.node_port.specs.Stops.{subs_size}
 use Rattle.node_refs.specs.Reach.{node_keys}
 use Rattle.subnode_tree.specs.Keys.{sub_keys}
 use Rattle.subnode_tree.specs.Plan.{AreAmong, SubsFound, SubsReach, SubsReadKept, data_in, first_list, kept_in, paired, unkept_in}
-use Rattle.subnode_tree.proofs.PairLaws.{Keep, Pair}
+use Rattle.subnode_tree.proofs.PairLaws.{Keep, Pair, may-above}
 use Rattle.subnode_tree.proofs.SubPlanLaws.{PairAmong, PairFound}
 use Rattle.content_plan.specs.Keep.{IsKept, Keeps, all_kept_keys, kept_list}
 use Rattle.content_plan.specs.Put.{PutsNode, PutsOver}
@@ -44,6 +44,7 @@ pub record Parts (next after : ℕ) (node : NodeRec) (keep : List (Option Bid)) 
   pub rise : Rise next front
   pub reads : ReadsKept front keep content node.blocks
   pub reaches : Reaches front (kept_bids keep node.blocks) content
+  pub names : NamesKept front next keep content node.blocks
   pub sub_most : 2 * length back ≤ 2 * length (unkept_in sub_keep node.subs) + length (data_in node.subs) + 2 * length node.subs
   pub sub_small : AreSmall back
   pub sub_room : 24 * length node.subs ≤ bytes_in (contents back)
@@ -123,6 +124,9 @@ parts-put next after nid node keep sub_keep content subs front back blocks keys 
           let g = ap (λ (l : List (Bid × List ℕ)). count_of key (keys_of (bids_in l))) joined in
           let h = sum key in
           omega (arith, one, two, a, b, c, d, e, f, g, h);
+      names = λ find found.
+          let all : Each (IsFound find) (front ++ back) = subst (λ (l : List (Bid × List ℕ)). Each (IsFound find) l) joined (each-from_all (IsFound find) blocks found) in
+          p.names find (all_from-each (IsFound find) front (each-left (IsFound find) front back all));
     }
 
 -- ---- over what was there
@@ -155,17 +159,17 @@ pub all-keep : (next : ℕ) (ids : Keep) (was : List (List (List ℕ))) (pairs :
 all-keep next ids was [] are = tt
 all-keep next ids was (pair ∷ pairs) are = (iskept-keeps next ids was pair are.0, all-keep next ids was pairs are.1)
 
-pub put-over : (next : ℕ) (nid : Nid) (node : NodeRec) (old : Content) (keep : List (Option Bid)) (sub_keep : Keep) (entry : NodeEntry) (blocks : List (Bid × List ℕ)) (keys : List ℕ)
-    → keep ≡ kept_list next old.ids old.blocks node.blocks → length sub_keep ≡ length node.subs → All (IsKept next old.sub_ids (map (λ (f : Flat). f.blocks) old.subs)) (paired sub_keep node.subs)
-    → PutsNode next nid node keep sub_keep entry blocks keys → PutsOver next nid node old entry blocks keys
-put-over next nid node old keep sub_keep entry blocks keys is same kept p =
+pub put-over : (limit next : ℕ) (nid : Nid) (node : NodeRec) (old : Content) (keep : List (Option Bid)) (sub_keep : Keep) (entry : NodeEntry) (blocks : List (Bid × List ℕ)) (keys : List ℕ)
+    → keep ≡ kept_list limit old.ids old.blocks node.blocks → length sub_keep ≡ length node.subs → All (IsKept limit old.sub_ids (map (λ (f : Flat). f.blocks) old.subs)) (paired sub_keep node.subs)
+    → PutsNode next nid node keep sub_keep entry blocks keys → PutsOver limit next nid node old entry blocks keys
+put-over limit next nid node old keep sub_keep entry blocks keys is same kept p =
     let was : List (List (List ℕ)) = map (λ (f : Flat). f.blocks) old.subs in
     let pairs = paired sub_keep node.subs in
-    let each = each-from_all (IsKept next old.sub_ids was) pairs kept in
-    let keeps : Keeps next keep node.blocks = subst (λ (k : List (Option Bid)). Keeps next k node.blocks) (sym is) (keeps-list next old.ids old.blocks node.blocks) in
-    let sub_keeps = all-keep next old.sub_ids was pairs each in
+    let each = each-from_all (IsKept limit old.sub_ids was) pairs kept in
+    let keeps : Keeps limit keep node.blocks = subst (λ (k : List (Option Bid)). Keeps limit k node.blocks) (sym is) (keeps-list limit old.ids old.blocks node.blocks) in
+    let sub_keeps = all-keep limit old.sub_ids was pairs each in
     let own_found : (find : ℕ → Option (List ℕ)) → IsOld find old → AreFound find keep node.blocks = λ find there.
-    subst (λ (k : List (Option Bid)). AreFound find k node.blocks) (sym is) (kept-found find next [] old.ids old.blocks node.blocks there.data_found) in
+    subst (λ (k : List (Option Bid)). AreFound find k node.blocks) (sym is) (kept-found find limit [] old.ids old.blocks node.blocks there.data_found) in
     record {
       own = p.own;
       rise = p.rise;
@@ -176,18 +180,29 @@ put-over next nid node old keep sub_keep entry blocks keys is same kept p =
           elim (cases_lt 0 (count_of key (kept_keys keep))) [
             | inl here ↦ inl (kept-known find keep node.blocks key keeps.short (own_found find there) (omega (arith, here)))
             | inr none ↦ elim (cases_lt 0 (count_of key (all_kept_keys sub_keep))) [
-              | inl here ↦ inl (sub-known find next key sub_keep node.subs same sub_keeps (all-kept find next old.sub_ids old.subs pairs there.subs_found each) (omega (arith, here)))
+              | inl here ↦ inl (sub-known find limit key sub_keep node.subs same sub_keeps (all-kept find limit old.sub_ids old.subs pairs there.subs_found each) (omega (arith, here)))
               | inr nothing ↦ inr (omega (arith, some, sum, none, nothing))
             ]
           ];
       leads = λ find after eof there found still bounds.
           p.leads after eof found (kept-still find after keep node.blocks (λ key b some is_there. still key b (let sum = p.counted key in omega (arith, sum, some)) is_there) (own_found find there))
           (all_from-each (PairFound after) pairs (sub-still find after sub_keep node.subs same (λ key b some is_there. still key b (let sum = p.counted key in omega (arith, sum, some)) is_there)
-          (all-kept find next old.sub_ids old.subs pairs there.subs_found each))) bounds;
+          (all-kept find limit old.sub_ids old.subs pairs there.subs_found each))) bounds;
       reaches = p.reaches;
+      names = λ after found. p.names after found ∙ ap (λ (k : List (Option Bid)). Ok (bids_in (placed next k node.blocks))) is;
     }
 
 -- what holds of an answer, from what holds of it
 pub ok-map : {A E : Type 0} (P Q : A → Type 0) → ((a : A) → P a → Q a) → (r : Result A E) → IfOk r P → IfOk r Q
 ok-map P Q into (Ok a) p = into a p
 ok-map P Q into (Err e) p = tt
+
+keeps-raise : (limit next : ℕ) (pair : Pair) → limit ≤ next → PairKeeps limit pair → PairKeeps next pair
+keeps-raise limit next pair le k = record { may = may-above limit next pair.0 le k.may; once = k.once; short = k.short }
+
+pub own-raise : (limit next : ℕ) (keep : List (Option Bid)) (bs : List (List ℕ)) → limit ≤ next → Keeps limit keep bs → Keeps next keep bs
+own-raise limit next keep bs le k = keeps-raise limit next (keep, bs) le k
+
+pub all-raise : (limit next : ℕ) (pairs : List Pair) → limit ≤ next → Each (PairKeeps limit) pairs → Each (PairKeeps next) pairs
+all-raise limit next [] le all = tt
+all-raise limit next (pair ∷ pairs) le all = (keeps-raise limit next pair le all.0, all-raise limit next pairs le all.1)

@@ -20,7 +20,7 @@ use Rattle.subnode_tree.specs.Subnodes.{branch, branch_with, level_of, rows, sub
 use Rattle.subnode_tree.proofs.NamedLaws.{sub-bids-name}
 use Rattle.subnode_tree.proofs.PairLaws.{Keep}
 use Rattle.tree_edit.specs.Edits.{entry_with}
-use Rattle.content_plan.specs.Told.{Content, IsOld, content_read, keys_read}
+use Rattle.content_plan.specs.Told.{Content, IsOld, content_at, content_read, keys_read, or_none}
 
 -- ---- subnodes that are read have ids
 
@@ -204,3 +204,7 @@ led-entry find eof k (x ∷ es) e lead is = by (eqb (node_id x) k) (led-entry fi
     by : (b : Bool) → (entry_with node_id k es ≡ Some e → (n : Node) × (node_at find eof e ≡ Ok n)) → (if b then Some x else entry_with node_id k es) ≡ Some e → (n : Node) × (node_at find eof e ≡ Ok n)
     by true rest is = let same : x ≡ e = cc in (subst (λ (y : NodeEntry). (n : Node) × (node_at find eof y ≡ Ok n)) same lead.0)
     by false rest is = rest is
+
+-- the content of an entry that was read
+pub content-exact : (find : ℕ → Option (List ℕ)) (eof : ℕ) (e : NodeEntry) (c : Content) → content_read find eof e ≡ Ok c → c ≡ content_at find eof (Some e)
+content-exact find eof e c is = sym (ap or_none is)

@@ -1,5 +1,5 @@
 -- What a world tells of a file's blocks and entries, and what is read of a node that is there.
-use Rattle.std.specs.Prelude.{◌≡◌, ℕ, List, [], map, ◌++◌, Option, None, Some, Result, Ok}
+use Rattle.std.specs.Prelude.{◌≡◌, ℕ, List, [], map, ◌++◌, Option, None, Some, Result, Ok, Err}
 use Rattle.pst_base.specs.declared.ids.Bid.{Bid}
 use Rattle.pst_base.specs.Flat.{Flat}
 use Rattle.pst_outside.specs.World.{World}
@@ -75,6 +75,19 @@ unfoldable pub content_read : (ℕ → Option (List ℕ)) → ℕ → NodeEntry 
 content_read find eof e =
     and_then (bids_of find e.content) (λ ids. and_then (blocks_of find eof e.content) (λ blocks.
     and_then (sub_bids_of find eof e.subnodes) (λ sub_ids. and_then (subs_of find eof e.subnodes) (λ subs. Ok (record { ids = map Some ids; blocks = blocks; sub_ids = sub_ids; subs = subs })))))
+
+abbrev pub no_content : Content
+no_content = record { ids = []; blocks = []; sub_ids = []; subs = [] }
+
+-- what was read, or nothing
+abbrev pub or_none : Result Content TreeStop → Content
+or_none (Ok content) = content
+or_none (Err stop) = no_content
+
+-- the content of a node that may be there
+abbrev pub content_at : (ℕ → Option (List ℕ)) → ℕ → Option NodeEntry → Content
+content_at find eof None = no_content
+content_at find eof (Some e) = or_none (content_read find eof e)
 
 -- under each id stand the bytes at its position
 pub record IsOld (find : ℕ → Option (List ℕ)) (old : Content) : Type 0 where

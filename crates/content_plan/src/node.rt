@@ -9,7 +9,7 @@ ghost use Rattle.subnode_tree.specs.Plan.{IsForm};
 ghost use Rattle.tree_edit.specs.Edits.{entry_with};
 ghost use Rattle.tree_edit.specs.Shapes.{RiseIn};
 ghost use Rattle.content_plan.specs.Plan.{IsCounted, PlansContents};
-ghost use Rattle.content_plan.specs.Told.{HasEntry, HasParts, IsOld, KeepsParts, TellsParts, content_of, keys_at};
+ghost use Rattle.content_plan.specs.Told.{HasEntry, HasParts, IsOld, KeepsParts, TellsParts, content_at, content_of, keys_at};
 
 use crate::content::Old;
 use crate::form::{is_content, is_form};
@@ -87,6 +87,7 @@ fn old_content<W: Outside>(
     entry: Option<NodeEntry>,
     caches: &mut PageCaches,
 ) -> Result<Old, KeepStop>
+    ensures exact { IfOk result (λ old. (find : ℕ → Option (List ℕ)) (es : List Entry) → TellsParts (W.view w.old) header.now caches.old find es → content_of old ≡ content_at find header.now.eof entry) }
     ensures old { IfOk result (λ old. (find : ℕ → Option (List ℕ)) (es : List Entry) → TellsParts (W.view w.old) header.now caches.old find es → IsOld find (content_of old)) }
     ensures stops { IfErr result (StopsKeeping (W.view w.old) (W.view w.new) (HasEntry (W.view w.old) header.now caches.old nid.bits entry)) }
     ensures keeps { KeepsParts (W.view w.old) (W.view w.new) header.now caches.old caches.new }
@@ -120,7 +121,7 @@ fn removed(
 ) -> Result<ContentPlan, AllocError>
     ensures counted { IfOk result (λ plan. (next : ℕ) → IsCounted next nid.bits (nid.bits + 1) ((nid, None) ∷ []) plan.edits.items plan.blocks.items) }
     ensures none { IfOk result (λ plan. plan.blocks.items ≡ []) }
-    ensures plans { IfOk result (λ plan. (find : ℕ → Option (List ℕ)) (es : List Entry) → RiseIn 0 (2 ^ 64) (map node_id es) → entry_with node_id nid.bits es ≡ entry → keys.items ≡ keys_at find entry → PlansContents find es ((nid, None) ∷ []) plan.edits.items plan.blocks.items plan.taken.items plan.put.items) }
+    ensures plans { IfOk result (λ plan. (find : ℕ → Option (List ℕ)) (eof limit : ℕ) (es : List Entry) → RiseIn 0 (2 ^ 64) (map node_id es) → entry_with node_id nid.bits es ≡ entry → keys.items ≡ keys_at find entry → PlansContents find eof limit es ((nid, None) ∷ []) plan.edits.items plan.blocks.items plan.taken.items plan.put.items) }
 {
     let mut edits = Vec::new(alloc);
     let Some(_) = entry else {
@@ -147,18 +148,20 @@ fn placed(
     node: &NodeRec,
     old: &Old,
     keys: Vec<u64>,
+    limit: u64,
     next: u64,
 ) -> Result<(ContentPlan, u64), AllocError>
     requires content { IsContent node.now.blocks }
     requires form { IsForm node.now.subs }
     requires low { 4 ≤ next }
+    requires limit { limit ≤ next }
     requires high { next ≤ 2 ^ 62 }
     requires apart { next % 4 ≡ 0 }
     ensures after { IfOk result (λ made. made.1 ≡ next + 4 * length made.0.blocks.items) }
     ensures counted { IfOk result (λ made. IsCounted next nid.bits (nid.bits + 1) ((nid, Some node.now) ∷ []) made.0.edits.items made.0.blocks.items) }
-    ensures plans { IfOk result (λ made. (find : ℕ → Option (List ℕ)) (es : List Entry) → RiseIn 0 (2 ^ 64) (map node_id es) → keys.items ≡ keys_at find (entry_with node_id nid.bits es) → IsOld find (content_of old.now) → PlansContents find es ((nid, Some node.now) ∷ []) made.0.edits.items made.0.blocks.items made.0.taken.items made.0.put.items) }
+    ensures plans { IfOk result (λ made. (find : ℕ → Option (List ℕ)) (eof : ℕ) (es : List Entry) → RiseIn 0 (2 ^ 64) (map node_id es) → keys.items ≡ keys_at find (entry_with node_id nid.bits es) → IsOld find (content_of old.now) → content_of old.now ≡ content_at find eof (entry_with node_id nid.bits es) → PlansContents find eof limit es ((nid, Some node.now) ∷ []) made.0.edits.items made.0.blocks.items made.0.taken.items made.0.put.items) }
 {
-    let put = put_over(alloc, nid, node, old, next)?;
+    let put = put_over(alloc, nid, node, old, limit, next)?;
     let mut edits = Vec::new(alloc);
     edits.push((u64::from(nid.bits), Some(put.entry)))?;
     Ok((
@@ -172,35 +175,37 @@ fn placed(
     ))
 }
 
-/// What the change of a node comes to, with new blocks from a number on, and the number that the next block may have.
+/// What a change comes to, with new blocks from a number on, and the number that the next block may have. Blocks with ids below `limit` may stay.
 pub(crate) fn plan_node<W: Outside>(
     alloc: Global,
     w: &mut W,
     header: &Header,
     caches: &mut PageCaches,
-    nid: Nid,
-    change: &Option<NodeRec>,
+    change: &(Nid, Option<NodeRec>),
+    limit: u64,
     next: u64,
 ) -> Result<(ContentPlan, u64), KeepStop>
     requires low { 4 ≤ next }
+    requires limit { limit ≤ next }
     requires high { next ≤ 2 ^ 62 }
     requires apart { next % 4 ≡ 0 }
-    ensures id { nid.bits < 2 ^ 64 }
+    ensures id { change.now.0.bits < 2 ^ 64 }
     ensures after { IfOk result (λ made. made.1 ≡ next + 4 * length made.0.blocks.items) }
-    ensures counted { IfOk result (λ made. IsCounted next nid.bits (nid.bits + 1) ((nid, change.now) ∷ []) made.0.edits.items made.0.blocks.items) }
-    ensures plans { IfOk result (λ made. (find : ℕ → Option (List ℕ)) (es : List Entry) → TellsParts (W.view w.old) header.now caches.old find es → PlansContents find es ((nid, change.now) ∷ []) made.0.edits.items made.0.blocks.items made.0.taken.items made.0.put.items) }
+    ensures counted { IfOk result (λ made. IsCounted next change.now.0.bits (change.now.0.bits + 1) (change.now ∷ []) made.0.edits.items made.0.blocks.items) }
+    ensures plans { IfOk result (λ made. (find : ℕ → Option (List ℕ)) (es : List Entry) → TellsParts (W.view w.old) header.now caches.old find es → PlansContents find header.now.eof limit es (change.now ∷ []) made.0.edits.items made.0.blocks.items made.0.taken.items made.0.put.items) }
     ensures stops { IfErr result (StopsKeeping (W.view w.old) (W.view w.new) (HasParts (W.view w.old) header.now caches.old)) }
     ensures keeps { KeepsParts (W.view w.old) (W.view w.new) header.now caches.old caches.new }
     ensures untouched { Untouched (W.view w.old) (W.view w.new) }
 {
+    let nid = change.0;
     let entry = look(w, header, nid, caches)?;
     let keys = old_keys(alloc, w, header, nid, entry, caches)?;
-    let Some(node) = change else {
+    let Some(node) = &change.1 else {
         return Ok((removed(alloc, nid, entry, keys)?, next));
     };
     if !is_content(node.blocks.as_slice()) || !is_form(&node.subs, 8) {
         return Err(KeepStop::Memory);
     }
     let old = old_content(alloc, w, header, nid, entry, caches)?;
-    Ok(placed(alloc, nid, node, &old, keys, next)?)
+    Ok(placed(alloc, nid, node, &old, keys, limit, next)?)
 }

@@ -81,7 +81,7 @@ pub fn plan_contents<W: Outside>(
     requires low { 4 ≤ next }
     requires high { next ≤ 2 ^ 62 }
     requires apart { next % 4 ≡ 0 }
-    ensures plan { IfOk result (λ plan. (m : NodeMap) → (tells : TellsNodes (W.view w.old) header.now caches.old m) → IsContentPlan tells.lays changes.now plan) }
+    ensures plan { IfOk result (λ plan. (m : NodeMap) → (tells : TellsNodes (W.view w.old) header.now caches.old m) → IsContentPlan tells.lays next changes.now plan) }
     ensures numbered { IfOk result (λ plan. Rise next plan.blocks.items) }
     ensures small { IfOk result (λ plan. AreSmall plan.blocks.items) }
     ensures most { IfOk result (λ plan. 2 * (length plan.blocks.items + puts_in plan.edits.items) ≤ 3 * size changes.now) }
@@ -93,7 +93,7 @@ pub fn plan_contents<W: Outside>(
     let mut plan = ContentPlan::new(alloc);
     let mut free = next;
     for change in changes {
-        let (one, after) = plan_node(alloc, w, header, caches, change.0, &change.1, free)?;
+        let (one, after) = plan_node(alloc, w, header, caches, change, next, free)?;
         free = limited(after)?;
         plan = plan.with(one)?;
     }

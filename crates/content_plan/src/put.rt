@@ -132,29 +132,31 @@ fn put_keep(
     })
 }
 
-/// The blocks and the entry of a node where there was this one, of which data blocks stay where their bytes and their positions do.
+/// The blocks and the entry of a node where there was this one, of which data blocks with ids below `limit` stay where their bytes and their positions do.
 pub(crate) fn put_over(
     alloc: Global,
     nid: Nid,
     node: &NodeRec,
     old: &Old,
+    limit: u64,
     next: u64,
 ) -> Result<Put, AllocError>
     requires content { IsContent node.now.blocks }
     requires form { IsForm node.now.subs }
     requires low { 4 ≤ next }
+    requires limit { limit ≤ next }
     requires high { next ≤ 2 ^ 62 }
     requires apart { next % 4 ≡ 0 }
     ensures after { IfOk result (λ put. put.next ≡ next + 4 * length put.blocks.items) }
-    ensures puts { IfOk result (λ put. PutsOver next nid node.now (content_of old.now) put.entry put.blocks.items put.keys.items) }
+    ensures puts { IfOk result (λ put. PutsOver limit next nid node.now (content_of old.now) put.entry put.blocks.items put.keys.items) }
 {
     let keep = kept_list(
         alloc,
-        next,
+        limit,
         old.ids.as_slice(),
         old.blocks.as_slice(),
         node.blocks.as_slice(),
     )?;
-    let sub_keep = keep_subs(alloc, next, old, &node.subs)?;
+    let sub_keep = keep_subs(alloc, limit, old, &node.subs)?;
     put_keep(alloc, nid, node, keep.as_slice(), sub_keep.as_slice(), next)
 }

@@ -1,9 +1,9 @@
-use Rattle.std.proofs.Common.{refl, sym, subst, ◌∙◌, arith}
+use Rattle.std.proofs.Common.{refl, sym, ap, subst, ◌∙◌, arith}
 use Rattle.node_port.specs.declared.keeper.KeepStop.{KeepStop}
 use Rattle.node_store.specs.Told.{StopsKeeping}
 use Rattle.node_store.proofs.BlockLaws.{tree-stops}
-use Rattle.content_plan.specs.Told.{HasEntry, blocks_tree, content_of, content_read}
-use Rattle.content_plan.proofs.ReadLaws.{content-old, content-no-fault, led-entry}
+use Rattle.content_plan.specs.Told.{HasEntry, blocks_tree, content_at, content_of, content_read}
+use Rattle.content_plan.proofs.ReadLaws.{content-exact, content-old, content-no-fault, led-entry}
 use Rattle.content_plan.proofs.TellLaws.{keeps-blocks}
 use Rattle.content_plan.proofs.node.old_content.Goals as goal
 
@@ -31,3 +31,7 @@ returns-in-Err-clause-stops g c =
       is.2.blocks,
       (λ fault bad. let led = led-entry is.0 header.eof c.args.nid.bits is.1 there is.2.lead (is.3 ∙ c.in-Some.is) in content-no-fault is.0 header.eof there led.0 fault led.1 bad),
     )) c.in-Err.stop c.in-Err.ensures.stops)
+
+pub returns-in-Ok-clause-exact : goal.returns-in-Ok-clause-exact
+returns-in-Ok-clause-exact g c = λ find es told.
+    content-exact find c.args.header.now.eof c.in-Some.there (content_of c.in-Ok.old) (c.in-Ok.ensures.reads find told.blocks) ∙ ap (content_at find c.args.header.now.eof) (sym c.in-Some.is)

@@ -56,7 +56,7 @@ returns-clause-plan g c = λ m tells.
     let old = g.W.Outside.view c.args.w.now in
     let find = found_in (file_of old.here) (blocks_in tells.lays.blocks) in
     let es = nodes_in tells.lays.nodes in
-    let P : Changes → Type 0 = λ cs. Plans find es cs c.loop-change.plan in
+    let P : Changes → Type 0 = λ cs. Plans find c.args.header.now.eof c.args.next es cs c.loop-change.plan in
     subst P (take_all c.loop-change.change-index c.args.changes.now c.loop-change-test.false) (c.loop-change.invariant.plans find es (parts-told tells))
 
 pub returns-clause-edits : goal.returns-clause-edits

@@ -1,7 +1,7 @@
 use Rattle.std.proofs.Common.{◌++◌, ℕ, length, List, ap, subst, ◌∙◌, arith}
 use Rattle.pst_base.specs.declared.ids.Bid.{Bid}
 use Rattle.data_tree.specs.Keys.{keys_of}
-use Rattle.data_tree.specs.Plan.{MayKeep, Reaches, ReadsKept, above_kept, bids_in, fresh, kept_bids, unkept}
+use Rattle.data_tree.specs.Plan.{MayKeep, NamesKept, Reaches, ReadsKept, above_kept, bids_in, fresh, kept_bids, unkept}
 use Rattle.data_tree.proofs.PieceLaws.{all_from-each, each-from_all}
 use Rattle.node_layout.specs.Joined.{kept_keys}
 use Rattle.subnode_tree.specs.Plan.{paired}
@@ -44,6 +44,7 @@ returns-clause-puts c =
       rise = given.numbered;
       reads = let P : List (List ℕ) → Type 0 = λ bs. ReadsKept front keep bid bs in subst P value given.reads;
       reaches = let P : List (List ℕ) → Type 0 = λ bs. Reaches front (kept_bids keep bs) bid in subst P value given.reaches;
+      names = let P : List (List ℕ) → Type 0 = λ bs. NamesKept front next keep bid bs in subst P value given.names;
       sub_most = subs.most;
       sub_small = subs.small;
       sub_room = subs.room;

@@ -10,7 +10,7 @@ use Rattle.content_plan.specs.declared.put.Put.{Put}
 use Rattle.content_plan.specs.Put.{PutsNode, PutsOver}
 use Rattle.content_plan.specs.Told.{content_of}
 use Rattle.content_plan.proofs.KeepLaws.{keeps-list}
-use Rattle.content_plan.proofs.PutLaws.{PairKeeps, all-keep, ok-map, put-over}
+use Rattle.content_plan.proofs.PutLaws.{PairKeeps, all-keep, all-raise, ok-map, own-raise, put-over}
 use Rattle.content_plan.proofs.put.put_over.Goals as goal
 
 -- what stays of the node's own data
@@ -25,8 +25,8 @@ put_keep-requires-clause-keeps c =
     let old = c.args.old.now in
     let now = c.args.node.now.blocks in
     let P : List (Option Bid) → Type 0 = λ k. Keeps c.args.next k now in
-    let is = own_list c.args.next c.as_slice-4.result.now old.ids c.as_slice.result.now old.blocks c.as_slice-2.result.now now c.as_slice-3.result.now (c.as_slice-4.ensures.value ∙ c.in_ok-keep.ensures) c.as_slice.ensures c.as_slice-2.ensures.value c.as_slice-3.ensures.value in
-    subst P (sym is) (keeps-list c.args.next old.ids old.blocks now)
+    let is = own_list c.args.limit c.as_slice-4.result.now old.ids c.as_slice.result.now old.blocks c.as_slice-2.result.now now c.as_slice-3.result.now (c.as_slice-4.ensures.value ∙ c.in_ok-keep.ensures) c.as_slice.ensures c.as_slice-2.ensures.value c.as_slice-3.ensures.value in
+    subst P (sym is) (own-raise c.args.limit c.args.next (kept_list c.args.limit old.ids old.blocks now) now c.requires.limit (keeps-list c.args.limit old.ids old.blocks now))
 
 pub put_keep-requires-clause-sub_keeps : goal.put_keep-requires-clause-sub_keeps
 put_keep-requires-clause-sub_keeps c =
@@ -34,8 +34,8 @@ put_keep-requires-clause-sub_keeps c =
     let was : List (List (List ℕ)) = map (λ (f : Flat). f.blocks) old.subs in
     let keep = c.as_slice-5.result.now in
     let pairs = paired keep c.args.node.now.subs in
-    let all = along c.args.next old.sub_ids.items was c.in_ok-sub_keep.sub_keep.items keep c.args.node.now.subs c.as_slice-5.ensures.value c.in_ok-sub_keep.ensures.kept in
-    all_from-each (PairKeeps c.args.next) pairs (all-keep c.args.next old.sub_ids.items was pairs (each-from_all (IsKept c.args.next old.sub_ids.items was) pairs all))
+    let all = along c.args.limit old.sub_ids.items was c.in_ok-sub_keep.sub_keep.items keep c.args.node.now.subs c.as_slice-5.ensures.value c.in_ok-sub_keep.ensures.kept in
+    all_from-each (PairKeeps c.args.next) pairs (all-raise c.args.limit c.args.next pairs c.requires.limit (all-keep c.args.limit old.sub_ids.items was pairs (each-from_all (IsKept c.args.limit old.sub_ids.items was) pairs all)))
 
 pub returns-clause-puts : goal.returns-clause-puts
 returns-clause-puts c =
@@ -44,8 +44,8 @@ returns-clause-puts c =
     let was : List (List (List ℕ)) = map (λ (f : Flat). f.blocks) old.subs in
     let keep = c.as_slice-4.result.now in
     let sub_keep = c.as_slice-5.result.now in
-    let is = own_list c.args.next keep old.ids c.as_slice.result.now old.blocks c.as_slice-2.result.now node.blocks c.as_slice-3.result.now (c.as_slice-4.ensures.value ∙ c.in_ok-keep.ensures) c.as_slice.ensures c.as_slice-2.ensures.value c.as_slice-3.ensures.value in
+    let is = own_list c.args.limit keep old.ids c.as_slice.result.now old.blocks c.as_slice-2.result.now node.blocks c.as_slice-3.result.now (c.as_slice-4.ensures.value ∙ c.in_ok-keep.ensures) c.as_slice.ensures c.as_slice-2.ensures.value c.as_slice-3.ensures.value in
     let same = ap length c.as_slice-5.ensures.value ∙ c.in_ok-sub_keep.ensures.count in
-    let all = along c.args.next old.sub_ids.items was c.in_ok-sub_keep.sub_keep.items sub_keep node.subs c.as_slice-5.ensures.value c.in_ok-sub_keep.ensures.kept in
-    ok-map (λ (put : Put). PutsNode c.args.next c.args.nid node keep sub_keep put.entry put.blocks.items put.keys.items) (λ (put : Put). PutsOver c.args.next c.args.nid node (content_of old) put.entry put.blocks.items put.keys.items)
-    (λ put p. put-over c.args.next c.args.nid node (content_of old) keep sub_keep put.entry put.blocks.items put.keys.items is same all p) c.put_keep.result c.put_keep.ensures.puts
+    let all = along c.args.limit old.sub_ids.items was c.in_ok-sub_keep.sub_keep.items sub_keep node.subs c.as_slice-5.ensures.value c.in_ok-sub_keep.ensures.kept in
+    ok-map (λ (put : Put). PutsNode c.args.next c.args.nid node keep sub_keep put.entry put.blocks.items put.keys.items) (λ (put : Put). PutsOver c.args.limit c.args.next c.args.nid node (content_of old) put.entry put.blocks.items put.keys.items)
+    (λ put p. put-over c.args.limit c.args.next c.args.nid node (content_of old) keep sub_keep put.entry put.blocks.items put.keys.items is same all p) c.put_keep.result c.put_keep.ensures.puts
