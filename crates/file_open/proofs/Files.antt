@@ -23,7 +23,7 @@ use Rattle.node_port.specs.declared.node.NodeRec.{NodeRec}
 use Rattle.lays_kept.specs.Stands.{AreThose, node_with, rec_of}
 use Rattle.mail_tree.specs.declared.places.FolderPlace.{FolderPlace}
 use Rattle.tree_look.specs.Faults.{HasFault, Stops}
-use Rattle.tree_look.specs.Standing.{HasTree}
+use Rattle.mail_tree.specs.Standing.{HasTree}
 use Rattle.tree_look.specs.declared.stops.LookRefusal.{LookRefusal}
 use Rattle.tree_look.specs.declared.stops.LookStop.{LookStop}
 use Rattle.tree_look.specs.declared.stops.LookStop.TheVariants as looks

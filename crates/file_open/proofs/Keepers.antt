@@ -21,7 +21,7 @@ use Rattle.pst_commit.proofs.Holding.{same_header}
 use Rattle.pst_commit.proofs.Outcomes.{stands_over}
 use Rattle.mail_tree.specs.declared.places.FolderPlace.{FolderPlace}
 use Rattle.tree_look.specs.Faults.{Stops}
-use Rattle.tree_look.specs.Standing.{HasTree}
+use Rattle.mail_tree.specs.Standing.{HasTree}
 use Rattle.tree_look.specs.Walk.{Looks}
 use Rattle.tree_look.specs.declared.stops.LookStop.{LookStop}
 use Rattle.file_open.specs.Opening.{IsKept, IsOpened, LaysNodes, ReadsFresh, StopsOpening, spent_in}

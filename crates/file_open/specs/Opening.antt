@@ -14,7 +14,7 @@ use Rattle.file_scan.specs.Scan.{IsRefused}
 use Rattle.file_scan.specs.declared.scan.FoundFile.{FoundFile}
 use Rattle.mail_tree.specs.declared.places.FolderPlace.{FolderPlace}
 use Rattle.tree_look.specs.Faults.{HasFault}
-use Rattle.tree_look.specs.Standing.{HasTree}
+use Rattle.mail_tree.specs.Standing.{HasTree}
 use Rattle.file_open.specs.declared.stops.FileRefusal.{FileRefusal}
 use Rattle.file_open.specs.declared.stops.FileRefusal.TheVariants as refusals
 use Rattle.file_open.specs.declared.stops.FileStop.{FileStop}

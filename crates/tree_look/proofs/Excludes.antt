@@ -12,7 +12,7 @@ use Rattle.mail_tree.specs.declared.places.FolderPlace.{FolderPlace}
 use Rattle.node_port.specs.Nodes.{Nodes, node_at}
 use Rattle.node_port.specs.declared.node.NodeRec.{NodeRec}
 use Rattle.mail_tree.specs.declared.places.Sort.TheVariants.{Plain}
-use Rattle.tree_look.specs.Standing.{HasContext, HasTable, HasTables, HasTree, names_sort}
+use Rattle.mail_tree.specs.Standing.{HasContext, HasTable, HasTables, HasTree, names_sort}
 use Rattle.tree_look.specs.Faults.{HasFault, IsFixed, IsFormless, IsNamed, IsOpened, IsReached, IsTreeFault, Stops}
 use Rattle.tree_look.specs.declared.stops.LookRefusal.{LookRefusal}
 use Rattle.tree_look.specs.declared.stops.LookRefusal.TheVariants as refusals

@@ -24,7 +24,7 @@ use Rattle.node_port.specs.Stops.{Room}
 use Rattle.pst_outside.specs.World.{World}
 use Rattle.pst_outside.specs.Calls.{Untouched}
 use Rattle.node_port.specs.declared.node.NodeRec.{NodeRec}
-use Rattle.tree_look.specs.Standing.{HasTable, names_sort}
+use Rattle.mail_tree.specs.Standing.{HasTable, names_sort}
 use Rattle.std.specs.Result.{IsErrAnd}
 use Rattle.tree_look.specs.Faults.{Finds, IsFormless, IsReached, IsTreeFault, Stops}
 use Rattle.tree_look.specs.Stops.{formless, sort_with}

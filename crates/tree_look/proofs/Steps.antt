@@ -21,7 +21,7 @@ use Rattle.mail_tree.proofs.KeyedFinds.{find-put_other, find-put_same}
 use Rattle.node_port.specs.Nodes.{Nodes}
 use Rattle.node_port.specs.declared.node.NodeRec.{NodeRec}
 use Rattle.tree_look.specs.Faults.{IsOpened, IsReached}
-use Rattle.tree_look.specs.Standing.{HasContext, HasTable, HasTables, HasTree, IsListed, ListsFolder, names_sort}
+use Rattle.mail_tree.specs.Standing.{HasContext, HasTable, HasTables, HasTree, IsListed, ListsFolder, names_sort}
 use Rattle.tree_look.specs.Walk.{Awaits, Checked, Comes, Follows, IsClosed, IsPart, Suits, parent_of}
 use Rattle.tree_look.proofs.Found.{below_kept, is_reached, names_kind, one_table_at}
 

@@ -7,7 +7,7 @@ use Rattle.mail_tree.specs.declared.places.Sort.{Sort}
 use Rattle.node_port.specs.Nodes.{Nodes, node_at}
 use Rattle.node_port.specs.declared.node.NodeRec.{NodeRec}
 use Rattle.tree_look.specs.Forms.{IsNoContext, IsNoMail, IsNoTable}
-use Rattle.tree_look.specs.Standing.{ListsFolder, ListsMessage, names_sort}
+use Rattle.mail_tree.specs.Standing.{ListsFolder, ListsMessage, names_sort}
 use Rattle.tree_look.specs.declared.stops.LookRefusal.{LookRefusal}
 use Rattle.tree_look.specs.declared.stops.LookRefusal.TheVariants as refusals
 use Rattle.tree_look.specs.declared.stops.LookStop.{LookStop}

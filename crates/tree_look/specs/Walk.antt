@@ -13,7 +13,7 @@ use Rattle.mail_tree.specs.declared.places.FolderPlace.{FolderPlace}
 use Rattle.mail_tree.specs.declared.places.Sort.{Sort}
 use Rattle.node_port.specs.Nodes.{Nodes}
 use Rattle.node_port.specs.Stops.{Room}
-use Rattle.tree_look.specs.Standing.{HasContext, HasTables, IsListed, ListsFolder, names_sort}
+use Rattle.mail_tree.specs.Standing.{HasContext, HasTables, IsListed, ListsFolder, names_sort}
 use Rattle.tree_look.specs.Faults.{IsReached}
 use Rattle.tree_look.specs.declared.stops.LookStop.{LookStop}
 use Rattle.tree_look.specs.declared.stops.LookStop.TheVariants as stops

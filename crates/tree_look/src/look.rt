@@ -4,7 +4,7 @@ ghost use Rattle.mail_tree.specs.Places.{is_plain_sort};
 ghost use Rattle.mail_tree.specs.declared.places.FolderPlace.{FolderPlace as Stands};
 ghost use Rattle.node_port.specs.Nodes.{Nodes};
 ghost use Rattle.tree_look.specs.Faults.{Finds};
-ghost use Rattle.tree_look.specs.Standing.{HasTree, names_sort};
+ghost use Rattle.mail_tree.specs.Standing.{HasTree, names_sort};
 ghost use Rattle.tree_look.specs.declared.stops.LookRefusal.{LookRefusal as Refusal};
 ghost use Rattle.tree_look.specs.declared.stops.LookStop.TheVariants.{Refused};
 ghost use Rattle.tree_look.specs.Walk.{parent_of, Awaits, Comes, Follows, IsCaused, IsPart, Looks};

@@ -12,7 +12,7 @@ ghost use Rattle.mail_tree.specs.Changing.{associated, contents, hierarchy};
 ghost use Rattle.mail_tree.specs.Folders.{nid as nid_with};
 ghost use Rattle.node_port.specs.Nodes.{Nodes, node_at};
 ghost use Rattle.tree_look.specs.Faults.{Finds, IsFixed, IsOpened, IsReached};
-ghost use Rattle.tree_look.specs.Standing.{HasContext, HasMail, HasTable, HasTables, ListsMessage};
+ghost use Rattle.mail_tree.specs.Standing.{HasContext, HasMail, HasTable, HasTables, ListsMessage};
 ghost use Rattle.tree_look.specs.Stops.{missed, sort_with};
 ghost use Rattle.tree_look.specs.Walk.{Checked, Comes, IsCaused, Looks};
 

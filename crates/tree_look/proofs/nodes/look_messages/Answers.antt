@@ -2,7 +2,7 @@ use Rattle.std.proofs.Common.{◌≡◌, ◌%◌, ℕ, List, ap, sym, subst, ◌
 use Rattle.mapi_values.specs.Messages.{Mes}
 use Rattle.mapi_values.specs.Tables.{Tab, find_row}
 use Rattle.mapi_values.specs.Values.{Val}
-use Rattle.tree_look.specs.Standing.{HasMail}
+use Rattle.mail_tree.specs.Standing.{HasMail}
 use Rattle.tree_look.proofs.Found.{looks_then, next_row, row_here, stops_on}
 use Rattle.tree_look.proofs.nodes.look_messages.Goals as goal
 

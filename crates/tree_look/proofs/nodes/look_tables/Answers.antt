@@ -2,7 +2,7 @@ use Rattle.std.proofs.Common.{IsSome, inl, inr, subst}
 use Rattle.mapi_values.specs.Tables.{find_row}
 use Rattle.mail_objects.specs.Forms.{Tbl}
 use Rattle.mail_tree.specs.Changing.{contents, hierarchy}
-use Rattle.tree_look.specs.Standing.{HasTable}
+use Rattle.mail_tree.specs.Standing.{HasTable}
 use Rattle.tree_look.proofs.Found.{looks_then, one_table_at, stops_on}
 use Rattle.tree_look.proofs.nodes.look_tables.Goals as goal
 
