@@ -1,12 +1,11 @@
 -- What an opening has found, step by step.
 use Rattle.std.proofs.Common.{◌≡◌, ℕ, zero, suc, ◌+◌, ◌<◌, ◌≤◌, ◌%◌, ◌==◌, true, false, List, [], ◌∷◌, ◌++◌, length, get_or, drop, drop-cons, add-one, is_some, option_copied, Bor, Option, None, Some, IsSome, Result, Ok, Err, arith, refl, sym, subst, ap, ◌∙◌, ◌⊎◌, inl, inr, ⊎_elim}
-use Rattle.std.specs.Prelude.{nat_le}
 use Rattle.std.specs.Result.{IsErrAnd}
-use Rattle.std.proofs.lemmas.Bool.{and_parts, cases_Bool, cases_eq, cases_lt, eq-eqb, eqb-true, ne_eqb}
+use Rattle.std.proofs.lemmas.Bool.{cases_Bool, cases_eq, eq-eqb, eqb-true}
 use Rattle.std.proofs.lemmas.List.{drop_all}
 use Rattle.std.proofs.lemmas.Option.{none-some, same_Some}
 use Rattle.pst_base.specs.declared.ids.Nid.{Nid}
-use Rattle.mapi_values.specs.Keyed.{find_key, keys_ascend, put_key}
+use Rattle.mapi_values.specs.Keyed.{find_key, put_key}
 use Rattle.mapi_values.specs.Tables.{find_row}
 use Rattle.mapi_values.proofs.KeyedLaws.{put-ascends}
 use Rattle.mapi_values.specs.Values.{Val}
