@@ -20,10 +20,10 @@ const MAP: u64 = 0x4400;
 const PAGE_MAP: u64 = 0x4600;
 
 /// Where the root of the block tree stands.
-const BLOCK_ROOT: u64 = 0x4c00;
+pub(crate) const BLOCK_ROOT: u64 = 0x4c00;
 
 /// Where the root of the node tree stands.
-const NODE_ROOT: u64 = 0x4e00;
+pub(crate) const NODE_ROOT: u64 = 0x4e00;
 
 /// How many bytes a file of one region has.
 const EOF: u64 = 271_360;
