@@ -4,3 +4,4 @@ pub mod NodeSteps
 pub mod OpeningLaws
 pub mod RefSteps
 pub mod ScanLaws
+pub mod WideLaws

@@ -1,5 +1,5 @@
 -- A file lays one node map at most, and what is at fault leaves it none.
-use Rattle.std.proofs.Common.{Bool, true, false, ◌≡◌, ℕ, ◌≤◌, ◌<◌, zero, suc, ◌+◌, nat_lt, List, [], ◌∷◌, ◌++◌, map, take, drop, length, Option, Some, None, Result, Ok, Err, refl, sym, ap, subst, ◌∙◌, arith, inl, inr, if◌then◌else◌}
+use Rattle.std.proofs.Common.{Bool, true, false, ◌≡◌, ℕ, ◌≤◌, ◌<◌, zero, suc, nat_lt, List, [], ◌∷◌, ◌++◌, map, take, drop, length, Option, Some, None, Result, Ok, Err, refl, sym, ap, subst, ◌∙◌, arith, inl, inr, if◌then◌else◌}
 use Rattle.std.specs.List.{Contains}
 use Rattle.pst_base.specs.declared.ids.Bref.{Bref}
 use Rattle.pst_base.specs.declared.ids.Nid.{Nid}
@@ -315,7 +315,7 @@ places-stops header file blocks nodes (Refused (refusals.Node nid fault)) holdin
 
 pub lays-these : (header : Header) (file : List ℕ) (blocks nodes : Found) (lines : List NodeLine) (slots : List Bool) → Holding header file blocks nodes → header.eof ≤ length file → header.eof ≤ LARGEST
     → AreLines (found_in file (blocks_in blocks)) header.eof (nodes_in nodes) lines → ((slot : ℕ) → IsMeeting (standing (places_of blocks nodes) (regions_to header.eof)) slot → ⊥)
-    → IsCovered (occupied (places_of blocks nodes) (regions_to header.eof)) slots → LaysThese header file (blocks_in blocks) (nodes_in nodes) (blocks.pages ++ nodes.pages) lines slots
+    → IsCovered (occupied (places_of blocks nodes) 8192) slots → LaysThese header file (blocks_in blocks) (nodes_in nodes) (blocks.pages ++ nodes.pages) lines slots
 lays-these header file blocks nodes lines slots holding whole small are apart used = record {
   nodes = record { counters = header.indexes; nodes = are.nodes };
   lays = record {
@@ -393,7 +393,7 @@ pub lines-laid : (header : Header) (world : World) (blocks bs more : List BlockE
     → Gathered header (file_of world.here) blocks nodes pages → bs ≡ blocks → more ≡ blocks → ns ≡ nodes → ps ≡ pages → header.eof ≤ LARGEST
     → ((find : ℕ → Option (List ℕ)) → Holds world header.eof bs find → AreLines find header.eof ns lines)
     → ((slot : ℕ) → IsMeeting (standing (map page_place ps ++ map place_of more) (regions_to header.eof)) slot → ⊥)
-    → IsCovered (occupied (map page_place ps ++ map place_of more) (regions_to header.eof)) slots → LaysThese header (file_of world.here) blocks nodes pages lines slots
+    → IsCovered (occupied (map page_place ps ++ map place_of more) 8192) slots → LaysThese header (file_of world.here) blocks nodes pages lines slots
 lines-laid header world blocks bs more nodes ns pages ps lines slots told all one other two three small are apart used =
     let file = file_of world.here in
     let regions = regions_to header.eof in
@@ -408,8 +408,8 @@ lines-laid header world blocks bs more nodes ns pages ps lines slots told all on
     (are find (subst (λ (es : List BlockEntry). Holds world header.eof es find) (sym (one ∙ all.blocks_are)) (holds-gathered header world blocks nodes pages told all))))
     (subst (λ (es : List Bref). (slot : ℕ) → IsMeeting (standing (map page_place es ++ map place_of (blocks_in B)) regions) slot → ⊥) (three ∙ all.pages_are)
     (subst (λ (es : List BlockEntry). (slot : ℕ) → IsMeeting (standing (map page_place ps ++ map place_of es) regions) slot → ⊥) (other ∙ all.blocks_are) apart))
-    (subst (λ (es : List Bref). IsCovered (occupied (map page_place es ++ map place_of (blocks_in B)) regions) slots) (three ∙ all.pages_are)
-    (subst (λ (es : List BlockEntry). IsCovered (occupied (map page_place ps ++ map place_of es) regions) slots) (other ∙ all.blocks_are) used)) in
+    (subst (λ (es : List Bref). IsCovered (occupied (map page_place es ++ map place_of (blocks_in B)) 8192) slots) (three ∙ all.pages_are)
+    (subst (λ (es : List BlockEntry). IsCovered (occupied (map page_place ps ++ map place_of es) 8192) slots) (other ∙ all.blocks_are) used)) in
     subst (λ (es : List BlockEntry). LaysThese header file es nodes pages lines slots) (sym all.blocks_are)
     (subst (λ (es : List NodeEntry). LaysThese header file (blocks_in B) es pages lines slots) (sym all.nodes_are)
     (subst (λ (es : List Bref). LaysThese header file (blocks_in B) (nodes_in N) es lines slots) (sym all.pages_are) laid))

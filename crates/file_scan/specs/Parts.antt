@@ -23,7 +23,7 @@ use Rattle.file_layout.specs.declared.stops.OpenRefusal.TheVariants as refusals
 use Rattle.file_layout.specs.declared.stops.OpenStop.{OpenStop}
 use Rattle.file_layout.specs.declared.stops.OpenStop.TheVariants.{Refused, Fault, Changed, Memory}
 use Rattle.pst_header.specs.declared.header.Header.{Header}
-use Rattle.file_layout.specs.Nodes.{Node, NodeMap, node_at, AreNodes, block_tree, blocks_in, nodes_in, places_of, regions_to, LARGEST, Lays}
+use Rattle.file_layout.specs.Nodes.{Node, NodeMap, node_at, AreNodes, block_tree, blocks_in, nodes_in, places_of, LARGEST, Lays}
 use Rattle.file_scan.specs.Lines.{line_of, lines_of}
 use Rattle.file_scan.specs.Scan.{IsFirstBad, IsFirstStop, ib_of, HasBadBlock, IsFault}
 use Rattle.file_layout.specs.Trees.{Found, IsWhole}
@@ -157,7 +157,7 @@ StopsTrees Fault header file = Unit {0}
 StopsTrees (Changed ib stored computed) header file = ⊥
 StopsTrees (Refused refusal) header file = IsFault header file refusal × ((m : NodeMap) → Lays header file m → ⊥)
 
--- the file with this header lays a node map of these lines, its trees have these blocks, nodes and pages, and just their slots and those of the fixed pages are used
+-- the file with this header lays a node map of these lines, its trees have these blocks, nodes and pages, and just their slots and those of the fixed pages of 8192 regions are used
 pub record LaysThese (header : Header) (file : List ℕ) (blocks : List BlockEntry) (entries : List NodeEntry) (pages : List Bref) (lines : List NodeLine) (slots : List Bool) : Type 0 where
   pub nodes : NodeMap
   pub lays : Lays header file nodes
@@ -165,4 +165,4 @@ pub record LaysThese (header : Header) (file : List ℕ) (blocks : List BlockEnt
   pub blocks_are : blocks ≡ blocks_in lays.blocks
   pub entries_are : entries ≡ nodes_in lays.nodes
   pub pages_are : pages ≡ lays.blocks.pages ++ lays.nodes.pages
-  pub used : IsCovered (occupied (places_of lays.blocks lays.nodes) (regions_to header.eof)) slots
+  pub used : IsCovered (occupied (places_of lays.blocks lays.nodes) 8192) slots

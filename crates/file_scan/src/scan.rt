@@ -1,7 +1,7 @@
 //! A scan of a whole file.
 ghost use Rattle.std.specs.Prelude.{◌≡◌, ◌≤◌, ◌*◌, length, Ok, Err, IfOk, IfErr};
 ghost use Rattle.pst_outside.specs.Calls.{Rose, Untouched};
-ghost use Rattle.file_layout.specs.Nodes.{NodeMap, Lays, LARGEST, regions_to};
+ghost use Rattle.file_layout.specs.Nodes.{NodeMap, Lays, LARGEST};
 ghost use Rattle.file_layout.specs.Opening.{opening};
 ghost use Rattle.file_layout.specs.Trees.{file_of};
 ghost use Rattle.file_scan.specs.Found.{IsFound};
@@ -31,7 +31,7 @@ const NODE_TREE: u8 = 0x81;
 pub struct FoundFile {
     /// The header that counts.
     pub header: Header,
-    /// The slots on which a block, a page of a tree or a fixed page stands.
+    /// The slots of all 8192 regions that a file may have, and on which of them a block, a page of a tree or a fixed page stands.
     pub slots: Slots,
     /// How many pages both trees have.
     pub pages: u64,
@@ -103,7 +103,7 @@ fn scan<W: Outside>(alloc: Global, w: &mut W) -> Result<Scanned, OpenStop>
     ensures opened { IfOk result (λ scanned. (W.view w.new).tells → opening (W.view w.new).here.main (W.view w.new).here.side ≡ Ok scanned.header) }
     ensures lays { IfOk result (λ scanned. (W.view w.new).tells → LaysThese scanned.header (file_of (W.view w.new).here) scanned.blocks.items scanned.nodes.items scanned.pages.items scanned.lines.items scanned.slots) }
     ensures whole { IfOk result (λ scanned. (W.view w.new).tells → scanned.header.eof ≤ length (W.view w.new).here.main) }
-    ensures size { IfOk result (λ scanned. length scanned.slots ≡ 3968 * regions_to scanned.header.eof) }
+    ensures size { IfOk result (λ scanned. length scanned.slots ≡ 3968 * 8192) }
     ensures refused { IfErr result (λ stop. (W.view w.new).tells → StopsScan stop (W.view w.new).here) }
     ensures fault { result ≡ Err OpenStop.Fault → Rose (W.view w.old).disk_faults (W.view w.new).disk_faults }
     ensures same { Untouched (W.view w.old) (W.view w.new) }
@@ -119,7 +119,7 @@ fn scan_trees<W: Outside>(alloc: Global, w: &mut W, header: &Header) -> Result<S
     requires small { header.now.eof ≤ LARGEST }
     ensures lays { IfOk result (λ scanned. (W.view w.new).tells → LaysThese header.now (file_of (W.view w.new).here) scanned.blocks.items scanned.nodes.items scanned.pages.items scanned.lines.items scanned.slots) }
     ensures header { IfOk result (λ scanned. scanned.header ≡ header.now) }
-    ensures size { IfOk result (λ scanned. length scanned.slots ≡ 3968 * regions_to header.now.eof) }
+    ensures size { IfOk result (λ scanned. length scanned.slots ≡ 3968 * 8192) }
     ensures refused { IfErr result (λ stop. (W.view w.new).tells → StopsTrees stop header.now (file_of (W.view w.new).here)) }
     ensures fault { result ≡ Err OpenStop.Fault → Rose (W.view w.old).disk_faults (W.view w.new).disk_faults }
     ensures same { Untouched (W.view w.old) (W.view w.new) }

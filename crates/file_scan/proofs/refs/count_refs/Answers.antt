@@ -1,4 +1,4 @@
-use Rattle.std.proofs.Common.{◌≡◌, ◌∙◌, ◌+◌, ℕ, List, Option, sym, ap, subst, arith, take, length, get_or}
+use Rattle.std.proofs.Common.{◌∙◌, ℕ, List, sym, ap, subst, arith, get_or}
 use Rattle.std.proofs.lemmas.List.{take_all}
 use Rattle.btree_pages.specs.declared.entry.NodeEntry.{NodeEntry}
 use Rattle.data_tree.specs.Keys.{count_of}

@@ -1,4 +1,4 @@
-use Rattle.std.proofs.Common.{◌≡◌, ◌∙◌, ℕ, List, Option, ap, sym, subst, length}
+use Rattle.std.proofs.Common.{◌∙◌, ℕ, List, Option, ap, sym, subst, length}
 use Rattle.std.proofs.lemmas.Result.{err_from_is_err_and}
 use Rattle.btree_pages.specs.declared.entry.BlockEntry.{BlockEntry}
 use Rattle.btree_pages.specs.declared.entry.NodeEntry.{NodeEntry}
@@ -6,7 +6,6 @@ use Rattle.file_blocks.specs.Blocks.{file_of, found_in}
 use Rattle.file_blocks.specs.Stops.{Holds}
 use Rattle.file_layout.specs.Nodes.{AreNodes, blocks_in}
 use Rattle.file_layout.specs.Numbers.{next_block, next_page}
-use Rattle.file_layout.proofs.Underway.{untouched_then}
 use Rattle.node_reach.specs.Reach.{uses_of}
 use Rattle.file_scan.proofs.RefSteps.{never-scan, still-found}
 use Rattle.file_scan.proofs.ScanLaws.{holds-found}
