@@ -8,5 +8,7 @@
 mod found;
 mod laying;
 mod parts;
+#[cfg(test)]
+mod tests;
 
 pub use laying::{LayStop, lay_empty};

@@ -80,7 +80,13 @@ pub(crate) fn parts(alloc: Global, header: &Header) -> Result<Vec<Piece>, AllocE
     parts.push(Piece { at: 0, bytes })?;
     push_page(alloc, &mut parts, 0x86, &[0; 496], page_at(1, DENSE_LIST))?;
     push_page(alloc, &mut parts, 0x84, &[0xff; 496], page_at(MAP, MAP))?;
-    push_page(alloc, &mut parts, 0x83, &[0xff; 496], page_at(PAGE_MAP, PAGE_MAP))?;
+    push_page(
+        alloc,
+        &mut parts,
+        0x83,
+        &[0xff; 496],
+        page_at(PAGE_MAP, PAGE_MAP),
+    )?;
     let blocks = write_leaf::<BlockEntry>(&[]);
     push_page(alloc, &mut parts, 0x80, &blocks, page_at(2, BLOCK_ROOT))?;
     let nodes = write_leaf::<NodeEntry>(&[]);
