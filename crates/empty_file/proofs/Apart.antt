@@ -1,8 +1,11 @@
 -- The two roots of a file without nodes meet neither each other nor an AMap page.
-use Rattle.std.proofs.Common.{◌⊎◌, inl, inr, ℕ, zero, suc, ◌+◌, ◌*◌, ◌≤◌, List, [], ◌∷◌, arith}
+use Rattle.std.proofs.Common.{◌≡◌, subst, ◌⊎◌, inl, inr, ℕ, zero, suc, ◌+◌, ◌*◌, ◌≤◌, List, [], ◌∷◌, arith}
 use Rattle.pst_base.specs.declared.places.Place.{Place}
+use Rattle.pst_base.specs.declared.stops.MemOr.{MemOr}
+use Rattle.pst_base.specs.declared.stops.MemOr.TheVariants.{Refused}
+use Rattle.alloc_map.specs.declared.overlap.Overlap.{Overlap}
 use Rattle.alloc_map.specs.Slots.{slot_of, slots_in}
-use Rattle.alloc_map.specs.Standing.{Meet, MeetsSome, IsMeeting, amap_place, amap_places, standing}
+use Rattle.alloc_map.specs.Standing.{Meet, MeetsSome, IsMeeting, amap_place, amap_places, standing, StopsAtOverlap}
 use Rattle.file_layout.specs.Nodes.{places_of}
 use Rattle.empty_file.specs.Empty.{alone, block_root, node_root}
 
@@ -50,3 +53,9 @@ roots-apart n slot (inl (inl meet)) = let a = meet.first.ends in let b = meet.se
 roots-apart n slot (inl (inr meets)) = no-amap (record { ib = block_root.ib; len = 512 }) n slot (record { low = omega arith; high = omega arith }) meets
 roots-apart n slot (inr (inl meets)) = no-amap (record { ib = node_root.ib; len = 512 }) n slot (record { low = omega arith; high = omega arith }) meets
 roots-apart n slot (inr (inr meets)) = amaps-apart n slot meets
+
+-- so no overlap is ever found
+pub no-overlap : (n : ℕ) (stop : MemOr Overlap) (overlap : Overlap) → stop ≡ Refused overlap → StopsAtOverlap (standing (places_of (alone block_root) (alone node_root)) n) stop → ⊥
+no-overlap n stop overlap is stops =
+    let found = subst (StopsAtOverlap (standing (places_of (alone block_root) (alone node_root)) n)) is stops in
+    roots-apart n found.slot found.meets

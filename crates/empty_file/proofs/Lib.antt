@@ -2,3 +2,4 @@ pub mod Rising
 pub mod Apart
 pub mod Laid
 pub mod Joined
+pub mod Outcomes

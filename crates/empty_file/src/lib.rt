@@ -5,8 +5,10 @@
 //! Leaves to others: the nodes of a new store, and what a stop while the file is laid leaves, which is no file yet.
 #![tactic(auto)]
 
+mod found;
 mod laying;
 mod parts;
+#[cfg(test)]
+mod tests;
 
-
-
+pub use laying::{LayStop, lay_empty};

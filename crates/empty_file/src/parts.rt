@@ -20,10 +20,10 @@ const MAP: u64 = 0x4400;
 const PAGE_MAP: u64 = 0x4600;
 
 /// Where the root of the block tree stands.
-const BLOCK_ROOT: u64 = 0x4c00;
+pub(crate) const BLOCK_ROOT: u64 = 0x4c00;
 
 /// Where the root of the node tree stands.
-const NODE_ROOT: u64 = 0x4e00;
+pub(crate) const NODE_ROOT: u64 = 0x4e00;
 
 /// How many bytes a file of one region has.
 const EOF: u64 = 271_360;
@@ -80,7 +80,13 @@ pub(crate) fn parts(alloc: Global, header: &Header) -> Result<Vec<Piece>, AllocE
     parts.push(Piece { at: 0, bytes })?;
     push_page(alloc, &mut parts, 0x86, &[0; 496], page_at(1, DENSE_LIST))?;
     push_page(alloc, &mut parts, 0x84, &[0xff; 496], page_at(MAP, MAP))?;
-    push_page(alloc, &mut parts, 0x83, &[0xff; 496], page_at(PAGE_MAP, PAGE_MAP))?;
+    push_page(
+        alloc,
+        &mut parts,
+        0x83,
+        &[0xff; 496],
+        page_at(PAGE_MAP, PAGE_MAP),
+    )?;
     let blocks = write_leaf::<BlockEntry>(&[]);
     push_page(alloc, &mut parts, 0x80, &blocks, page_at(2, BLOCK_ROOT))?;
     let nodes = write_leaf::<NodeEntry>(&[]);
