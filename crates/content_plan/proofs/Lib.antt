@@ -1,6 +1,7 @@
 pub mod FormLaws
 pub mod KeepLaws
 pub mod FitLaws
+pub mod BoundLaws
 pub mod PutLaws
 pub mod ReadLaws
 pub mod MatchLaws
