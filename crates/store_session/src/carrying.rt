@@ -1,12 +1,9 @@
 //! Lines carried out over a store.
-ghost use Rattle.std.specs.Prelude.{◌≡◌, ℕ, List, true, IfErr, IfOk};
-ghost use Rattle.command_text.specs.Lines.{command};
+ghost use Rattle.std.specs.Prelude.{◌≡◌, true, IfErr};
 ghost use Rattle.command_text.specs.declared.command.Command.TheVariants.{Save};
-ghost use Rattle.mail_draft.specs.declared.stop.Stop.{Stop as Stops};
 ghost use Rattle.mail_store.specs.Planning.{StandsFor};
 ghost use Rattle.mail_tree.specs.Tree.{Tree};
 ghost use Rattle.line_server.specs.Lines.{line};
-ghost use Rattle.line_server.specs.Spoken.{spoken_text};
 ghost use Rattle.line_server.specs.Worlds.{Quiet};
 ghost use Rattle.store_session.specs.Carrying.{CarriesOut, ComesTo, Has, IsCaused, SaysRefusal};
 ghost use Rattle.store_session.specs.Run.{Answers, CommandAnswers};
