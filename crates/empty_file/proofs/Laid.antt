@@ -7,11 +7,10 @@ use Rattle.pst_header.specs.declared.header.Header.{Header}
 use Rattle.pst_header.specs.Format.{reading}
 use Rattle.page_frame.specs.Page.{IsPage}
 use Rattle.btree_pages.specs.Pages.{Page}
-use Rattle.alloc_map.specs.Standing.{standing, IsMeeting}
 use Rattle.gate_file.specs.Effective.{effective}
 use Rattle.gate_file.specs.Gate.{IsShut, SameStore}
 use Rattle.file_blocks.specs.Blocks.{file_of}
-use Rattle.file_layout.specs.Nodes.{NodeMap, Lays, block_tree, node_tree, places_of, regions_to}
+use Rattle.file_layout.specs.Nodes.{NodeMap, Lays, block_tree, node_tree, regions_to}
 use Rattle.file_layout.specs.Opening.{opening, of_header}
 use Rattle.file_layout.specs.Trees.{FileTree, IsPlace, IsWhole, page_place, root_seat}
 use Rattle.file_layout.proofs.SeatLaws.{page_in-ok}

@@ -1,5 +1,5 @@
 -- What is found of a file without nodes once it is laid, over a world that was only looked at before.
-use Rattle.std.proofs.Common.{◌≡◌, ◌∙◌, ℕ, ◌-◌, ◌%◌, ◌≤◌, max, List, [], ◌∷◌, ◌++◌, length, inl, inr, ⊎_elim, sym, ap, subst, arith}
+use Rattle.std.proofs.Common.{◌≡◌, ◌∙◌, ℕ, ◌-◌, ◌%◌, max, List, [], ◌∷◌, ◌++◌, length, inl, inr, sym, ap, subst, arith}
 use Rattle.pst_base.specs.declared.ids.Bref.{Bref}
 use Rattle.pst_outside.specs.World.{Image, World}
 use Rattle.pst_outside.specs.Calls.{NeverFall, Untouched}

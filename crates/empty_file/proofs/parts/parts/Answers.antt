@@ -1,4 +1,4 @@
-use Rattle.std.proofs.Common.{rules, ◌≡◌, ◌∙◌, ℕ, List, [], ◌∷◌, ◌++◌, length, refl, ap, Ok}
+use Rattle.std.proofs.Common.{rules, ◌≡◌, ◌∙◌, ℕ, List, [], ◌∷◌, ◌++◌, length, refl, ap}
 use Rattle.pst_header.specs.Format.{reading}
 use Rattle.empty_file.proofs.Joined.{adds-at, all-parts}
 use Rattle.empty_file.proofs.parts.parts.Goals as goal
