@@ -8,7 +8,6 @@ mod edits;
 mod report;
 mod running;
 mod script;
-mod stops;
 mod texts;
 mod trouble;
 mod words;
@@ -17,7 +16,6 @@ mod world;
 use report::{Report, Tally};
 use running::run_case;
 use script::Script;
-use stops::bad_stop;
 use std::process::ExitCode;
 use std::rt::{Env, Files};
 use std::{env, fs, io};
@@ -34,11 +32,6 @@ fn end_case<R: Print + AllocGlobal>(report: &mut Report<R>, script: &mut Script)
     let outcome = run_case(report.rt.alloc(), &case, words)?;
     report.compare(&case, &outcome)?;
     script.leave(outcome);
-    if case.stops {
-        if let Some(stop) = bad_stop(report.rt.alloc(), &case, words)? {
-            report.bad_stop(&case, &stop)?;
-        }
-    }
     Ok(())
 }
 

@@ -1,7 +1,4 @@
-pub mod Asking
 pub mod Boxes
-pub mod Ends
-pub mod Files
 pub mod Info
 pub mod Mailboxes
 pub mod Nodes

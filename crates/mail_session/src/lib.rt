@@ -8,8 +8,6 @@
 mod answers;
 mod call;
 mod exit;
-mod file_texts;
-mod files;
 mod info;
 mod mailbox;
 mod nodes;

@@ -1,2 +1,0 @@
-pub mod FileRun
-pub mod Stops
