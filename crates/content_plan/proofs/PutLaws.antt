@@ -17,7 +17,7 @@ use Rattle.node_layout.specs.Joined.{kept_keys}
 use Rattle.node_layout.proofs.DataLaws.{node-leads}
 use Rattle.node_port.specs.declared.node.NodeRec.{NodeRec}
 use Rattle.node_port.specs.Stops.{subs_size}
-use Rattle.node_refs.specs.Reach.{node_keys}
+use Rattle.node_reach.specs.Reach.{node_keys}
 use Rattle.subnode_tree.specs.Keys.{sub_keys}
 use Rattle.subnode_tree.specs.Plan.{AreAmong, SubsFound, SubsReach, SubsReadKept, data_in, first_list, kept_in, paired, unkept_in}
 use Rattle.subnode_tree.proofs.PairLaws.{Keep, Pair, may-above}

@@ -13,7 +13,7 @@ use Rattle.data_tree.proofs.NamedLaws.{bids-name, then-ok}
 use Rattle.file_layout.specs.Nodes.{Node, node_at}
 use Rattle.lays_kept.specs.Renewed.{EachLeads}
 use Rattle.node_layout.specs.Joined.{node_id}
-use Rattle.node_refs.specs.Reach.{node_keys}
+use Rattle.node_reach.specs.Reach.{node_keys}
 use Rattle.subnode_tree.specs.Bids.{bids_each, entry_bids, sub_bids_of}
 use Rattle.subnode_tree.specs.Keys.{Entry, sub_keys}
 use Rattle.subnode_tree.specs.Subnodes.{branch, branch_with, level_of, rows, subs_from, subs_of, tree_from, tree_of}

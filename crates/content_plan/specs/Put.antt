@@ -11,7 +11,7 @@ use Rattle.lays_kept.specs.Renewed.{LeadsTo}
 use Rattle.node_layout.specs.Joined.{kept_keys, node_id}
 use Rattle.node_port.specs.declared.node.NodeRec.{NodeRec}
 use Rattle.node_port.specs.Stops.{size}
-use Rattle.node_refs.specs.Reach.{node_keys}
+use Rattle.node_reach.specs.Reach.{node_keys}
 use Rattle.subnode_tree.specs.Plan.{SubsFound}
 use Rattle.content_plan.specs.Keep.{all_kept_keys, kept_list}
 use Rattle.content_plan.specs.Plan.{Bounds, StayFound}

@@ -20,7 +20,7 @@ use Rattle.file_pages.specs.Told.{Caches, HasTree}
 use Rattle.lays_kept.specs.Renewed.{EachLeads}
 use Rattle.node_layout.specs.Joined.{node_id}
 use Rattle.tree_edit.specs.Edits.{entry_with}
-use Rattle.node_refs.specs.Reach.{node_keys}
+use Rattle.node_reach.specs.Reach.{node_keys}
 use Rattle.node_store.specs.declared.node.PageCaches.{PageCaches}
 use Rattle.node_store.specs.Told.{TellsBlocks}
 use Rattle.content_plan.specs.declared.content.Old.{Old}
