@@ -1,0 +1,9 @@
+pub mod SlotLaws
+pub mod AfterLaws
+pub mod RecountLaws
+pub mod NewLaws
+pub mod PageLaws
+pub mod PlacedLaws
+pub mod DrawnLaws
+pub mod FreedLaws
+pub mod KnownLaws

@@ -1,0 +1,6 @@
+pub mod Freed
+pub mod Recounts
+pub mod Numbering
+pub mod Knowing
+pub mod Drawn
+pub mod Becomes

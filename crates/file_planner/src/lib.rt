@@ -1,0 +1,6 @@
+//! The planner of commits of a file.
+#![tactic(auto)]
+
+mod planner;
+
+pub use planner::{FilePlanner, PlanEffects};
