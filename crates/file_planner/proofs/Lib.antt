@@ -7,3 +7,4 @@ pub mod PlacedLaws
 pub mod DrawnLaws
 pub mod FreedLaws
 pub mod KnownLaws
+pub mod ComesLaws
