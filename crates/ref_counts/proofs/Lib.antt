@@ -1,0 +1,4 @@
+pub mod TableLaws
+pub mod SeatLaws
+pub mod CountLaws
+pub mod ChangeLaws
