@@ -11,7 +11,7 @@ use Rattle.pst_base.specs.declared.places.Place.{Place}
 use Rattle.alloc_map.specs.Slots.{AreAll, Becomes, BeginsLeast, IsLaid, IsPageRoom, IsRoom, is_used, regions_of, slot_of, slots_in}
 use Rattle.alloc_map.specs.Standing.{Covers, SomeCovers, IsCovered}
 use Rattle.alloc_map.specs.Covered.{IsTwice, Once}
-use Rattle.alloc_map.specs.Taken.{Takes, Taken}
+use Rattle.alloc_map.specs.Taken.{IsAll, Takes, Taken}
 use Rattle.alloc_map.specs.Tally.{one_at, tally}
 use Rattle.alloc_map.proofs.CoverLaws.{covers_either, covers_first, covers_last}
 use Rattle.alloc_map.proofs.TallyLaws.{once_reordered, some_tally, tally_append, tally_some}
@@ -107,6 +107,37 @@ taken-first before now p ps taken = (
   subst (λ (n : ℕ). IsLaid n p) (ap (λ (k : ℕ). k / 3968) (sym taken.size)) (All-head (IsLaid (regions_of before)) p ps taken.laid),
   λ slot low high. (taken.covered slot (covers-first p ps slot (record { begins = low; ends = high }))).0,
 )
+
+-- the first of them is taken first
+pub taken-rest : (before mid now : List Bool) (p : Place) (ps : List Place) → Taken before now (p ∷ ps) → Becomes before mid (slot_of p.ib) (slots_in p) true → Taken mid now ps
+taken-rest before mid now p ps taken becomes = record {
+  size = taken.size ∙ sym becomes.size;
+  laid = subst (λ (n : ℕ). All (IsLaid n) ps) (ap (λ (k : ℕ). k / 3968) (sym becomes.size)) (All-tail (IsLaid (regions_of before)) p ps taken.laid);
+  covered = λ slot there. elim (in-or-out p slot) [
+    | inl here ↦ absurd (once-first p ps taken.once slot here there)
+    | inr out ↦ ((taken.covered slot (covers-later p ps slot there)).0, beside slot becomes out ∙ (taken.covered slot (covers-later p ps slot there)).1)
+  ];
+  others = λ slot none. elim (in-or-out p slot) [
+    | inl here ↦ (taken.covered slot (covers-first p ps slot here)).0 ∙ sym (becomes.inside slot here.begins here.ends)
+    | inr out ↦ taken.others slot (λ c. elim (covers-cases p ps slot c) [ inl here ↦ outside here out | inr there ↦ none there ]) ∙ sym (beside slot becomes out)
+  ];
+  once = once-rest p ps taken.once;
+}
+  where
+    outside : {slot : ℕ} → Covers p slot → (slot < slot_of p.ib) ⊎ (slot_of p.ib + slots_in p ≤ slot) → ⊥
+    outside here (inl low) = let a = here.begins in absurd (omega (arith, a, low))
+    outside here (inr high) = let a = here.ends in absurd (omega (arith, a, high))
+
+-- and its slots are free before
+pub taken-free : (before now : List Bool) (p : Place) (ps : List Place) → Taken before now (p ∷ ps) → IsAll before p false
+taken-free before now p ps taken = record {
+  laid = All-head (IsLaid (regions_of before)) p ps taken.laid;
+  all = λ slot low high. (taken.covered slot (covers-first p ps slot (record { begins = low; ends = high }))).1;
+}
+
+-- and used after
+pub taken-used : (before now : List Bool) (p : Place) (ps : List Place) → Taken before now (p ∷ ps) → IsAll now p true
+taken-used before now p ps taken = let f = taken-first before now p ps taken in record { laid = f.0; all = f.1 }
 
 -- once all are given back, the slots are as before
 pub taken-all : (before now : List Bool) → Taken before now [] → now ≡ before

@@ -1,7 +1,7 @@
 -- Places taken one after another, and given back.
 use Rattle.std.specs.Prelude.{◌≡◌, ℕ, Bool, true, false, List, [], ◌∷◌, length, All}
 use Rattle.pst_base.specs.declared.places.Place.{Place}
-use Rattle.alloc_map.specs.Slots.{Becomes, BeginsLeast, IsLaid, IsPageRoom, IsRoom, is_used, regions_of, slot_of, slots_in}
+use Rattle.alloc_map.specs.Slots.{AreAll, Becomes, BeginsLeast, IsLaid, IsPageRoom, IsRoom, is_used, regions_of, slot_of, slots_in}
 use Rattle.alloc_map.specs.Standing.{SomeCovers}
 use Rattle.alloc_map.specs.Covered.{Once}
 
@@ -24,3 +24,8 @@ pub record Taken (before now : List Bool) (ps : List Place) : Type 0 where
   pub covered : (slot : ℕ) → SomeCovers ps slot → (is_used now slot ≡ true) × (is_used before slot ≡ false)
   pub others : (slot : ℕ) → (SomeCovers ps slot → ⊥) → is_used now slot ≡ is_used before slot
   pub once : Once ps
+
+-- the place is made of whole slots of the regions, of which each is used, or each is free
+pub record IsAll (used : List Bool) (p : Place) (value : Bool) : Type 0 where
+  pub laid : IsLaid (regions_of used) p
+  pub all : AreAll used (slot_of p.ib) (slots_in p) value

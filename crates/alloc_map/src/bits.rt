@@ -97,6 +97,20 @@ impl Bits {
         true
     }
 
+    /// Whether each of the n bits from an index on is set, or each is clear.
+    pub(crate) fn are_all(&self, from: usize, n: usize, value: bool) -> bool
+        requires within { from + n ≤ length self.now }
+        requires small { length self.now < 2 ^ 32 }
+        ensures { IsTrue result ↔ AreAll self.now from n value }
+    {
+        for at in from..from + n {
+            if self.get(at) != value {
+                return false;
+            }
+        }
+        true
+    }
+
     /// How many of the first n bits are clear.
     pub(crate) fn clear_before(&self, n: usize) -> u64
         requires within { n ≤ length self.now }

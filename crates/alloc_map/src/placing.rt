@@ -1,5 +1,6 @@
 //! Places taken for lists of blocks and pages, and given back.
-ghost use Rattle.std.specs.Prelude.{◌≡◌, ◌≤◌, ◌+◌, List, Bool, All, length, map, IfOk, IfErr};
+ghost use Rattle.std.specs.Prelude.{◌≡◌, ◌≤◌, ◌+◌, ◌∷◌, List, Bool, All, length, map, IfOk, IfErr};
+ghost use Rattle.pst_base.specs.declared.places.Place.{Place as Places};
 ghost use Rattle.alloc_map.specs.Cells.{free_cells_of, page_rooms};
 ghost use Rattle.alloc_map.specs.Slots.{slots_in};
 ghost use Rattle.alloc_map.specs.Taken.{IsBlockPlace, IsPagePlace, Taken, Takes};
@@ -44,6 +45,7 @@ impl Slots {
         requires room { n ≤ page_rooms self.old }
         ensures placed { IfOk result (λ places. Takes IsPagePlace self.old places.items self.new) }
         ensures count { IfOk result (λ places. length places.items ≡ n) }
+        ensures sized { IfOk result (λ places. All (λ (p : Places). p.len ≡ 512) places.items) }
         ensures taken { IfOk result (λ places. Taken self.old self.new places.items) }
         ensures room { IfOk result (λ _. page_rooms self.old ≤ page_rooms self.new + n) }
         ensures back { IfErr result (λ _. self.new ≡ self.old) }
@@ -69,6 +71,46 @@ impl Slots {
         ensures back { (before : List Bool) → Taken before self.old places.now → self.new ≡ before }
     {
         for place in places {
+            self.give_back(*place);
+        }
+    }
+
+    /// Uses again the places that a plan took in these slots and gave back. Takes no memory. A place that lies outside, or of which a slot is used, is passed over.
+    pub fn retake(&mut self, places: &[Place])
+        ensures taken { (after : List Bool) → Taken self.old after places.now → self.new ≡ after }
+        ensures size { length self.new ≡ length self.old }
+    {
+        for place in places {
+            self.use_free(place);
+        }
+    }
+
+    /// Frees places. Takes no memory. A place that lies outside, or of which a slot is free, is passed over.
+    pub fn release(&mut self, places: &[Place])
+        ensures freed { (after : List Bool) → Taken after self.old places.now → self.new ≡ after }
+        ensures size { length self.new ≡ length self.old }
+    {
+        for place in places {
+            self.free_used(place);
+        }
+    }
+
+    /// Uses a place whose slots are free.
+    fn use_free(&mut self, place: &Place)
+        ensures rest { (after : List Bool) (ps : List Places) → Taken self.old after (place.now ∷ ps) → Taken self.new after ps }
+        ensures size { length self.new ≡ length self.old }
+    {
+        if self.is_all(place, false) {
+            self.mark(*place);
+        }
+    }
+
+    /// Frees a place whose slots are used.
+    fn free_used(&mut self, place: &Place)
+        ensures rest { (after : List Bool) (ps : List Places) → Taken after self.old (place.now ∷ ps) → Taken after self.new ps }
+        ensures size { length self.new ≡ length self.old }
+    {
+        if self.is_all(place, true) {
             self.give_back(*place);
         }
     }

@@ -1,10 +1,11 @@
 //! The used slots of a file's regions.
-ghost use Rattle.std.specs.Prelude.{◌≡◌, ◌<◌, ◌≤◌, ◌*◌, ◌/◌, ◌%◌, ◌+◌, ℕ, List, true, false, not, length, slice_index, count_by, take, All, IfOk, IfErr, IfSome, IfNone};
+ghost use Rattle.std.specs.Prelude.{◌≡◌, ◌<◌, ◌≤◌, ◌↔◌, ◌*◌, ◌/◌, ◌%◌, ◌+◌, ℕ, List, true, false, not, length, slice_index, count_by, take, All, IfOk, IfErr, IfSome, IfNone, IsTrue};
 ghost use Rattle.alloc_map.specs.Slots.{AreAll, Becomes, BeginsLeast, IsLaid, IsPageRoom, IsRoom, Unites, regions_of, slot_of, slots_in};
 ghost use Rattle.alloc_map.specs.Cells.{free_cells_of, page_rooms};
 ghost use Rattle.alloc_map.specs.Ends.{free_slots_of};
 ghost use Rattle.alloc_map.specs.Maps.{IsMapPage};
 ghost use Rattle.alloc_map.specs.Standing.{IsCovered, IsMeeting, StopsAtOverlap, occupied, standing};
+ghost use Rattle.alloc_map.specs.Taken.{IsAll};
 
 use crate::bits::Bits;
 use crate::bounds::Bounds;
@@ -107,6 +108,22 @@ impl Slots {
         let (from, to) = (slot / REGION, (slot + n + (REGION - 1)) / REGION);
         self.bounds.raise(from, to);
         self.pages.raise(from, to);
+    }
+
+    /// Whether a place is made of whole slots of the regions, of which each is used, or each is free.
+    pub(crate) fn is_all(&self, place: &Place, used: bool) -> bool
+        ensures { IsTrue result ↔ IsAll self.now place.now used }
+    {
+        let end = start_of(REGION * self.bounds.len());
+        if place.ib < 0x4400 || end < place.ib || end - place.ib < place.len {
+            return false;
+        }
+        if place.ib % 64 != 0 || place.len % 64 != 0 {
+            return false;
+        }
+        self.used
+            .bits()
+            .are_all(slot_of(place.ib), slots_in(place), used)
     }
 
     /// The same set again.

@@ -155,6 +155,19 @@ fn a_place_given_back_is_given_again(rt: HostRuntime) -> Result<(), Fail> {
     Ok(())
 }
 
+#[test]
+fn places_are_freed_and_taken_again(rt: HostRuntime) -> Result<(), Fail> {
+    let mut slots = Slots::rebuild(rt.alloc(), &[], 1).ok().ok_or("refused")?;
+    let (page, outside) = (at(19_456, 512), at(271_360, 512));
+    assert_eq!(rt; slots.place_page(), Some(19_456));
+    slots.release(&[outside, page, page]);
+    assert_eq!(rt; slots.place_page(), Some(19_456));
+    slots.release(&[page]);
+    slots.retake(&[outside, page, page]);
+    assert_eq!(rt; slots.place_page(), Some(19_968));
+    Ok(())
+}
+
 /// What zlib computes of the 496 bytes (from 0xffffffff, and xored with it again) stands in the trailer.
 #[test]
 fn map_pages_have_a_bit_for_each_used_slot(rt: HostRuntime) -> Result<(), Fail> {

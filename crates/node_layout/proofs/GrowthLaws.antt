@@ -8,7 +8,7 @@ use Rattle.file_layout.specs.Trees.{IsPlace}
 use Rattle.lays_kept.specs.declared.Piece.{Piece}
 use Rattle.lays_kept.specs.Kept.{Each, IsClear, HoldsEach}
 use Rattle.lays_kept.proofs.Places.{each_append}
-use Rattle.node_layout.specs.Growth.{region_end, end_for, Grows, AllGrow}
+use Rattle.node_layout.specs.Growth.{region_end, end_for, Grows, AllGrow, EndsAt}
 
 -- the new end holds all, and is the least
 pub end-least : (m : ℕ) → (m ≤ end_for m) × ((n : ℕ) → m ≤ region_end n → end_for m ≤ region_end n)
@@ -45,11 +45,6 @@ growth-beside eof growth ps some all places = (
   clear-before eof 0 564 growth (omega (arith, some)) all,
   each_append (λ p. IsClear growth p.ib p.len) ps (amap_places (regions_to eof)) (clear-places eof growth ps places all) (clear-amaps eof (regions_to eof) growth (omega arith) some all),
 )
-
--- some piece ends where the new file is to end
-abbrev pub EndsAt : ℕ → List Piece → Type 0
-EndsAt eof [] = ⊥
-EndsAt eof (p ∷ ps) = (p.at + length p.bytes ≡ eof) ⊎ EndsAt eof ps
 
 -- the file is as long as its new end, where a last byte was written there
 pub grown-long : (eof : ℕ) (mid : List ℕ) (growth planned : List Piece) → EndsAt eof growth → HoldsEach mid (growth ++ planned) → eof ≤ length mid

@@ -20,3 +20,8 @@ pub record Grows (eof : ℕ) (p : Piece) : Type 0 where
 abbrev pub AllGrow : ℕ → List Piece → Type 0
 AllGrow eof [] = Unit {0}
 AllGrow eof (p ∷ ps) = Grows eof p × AllGrow eof ps
+
+-- some piece ends where the new file is to end
+abbrev pub EndsAt : ℕ → List Piece → Type 0
+EndsAt eof [] = ⊥
+EndsAt eof (p ∷ ps) = (p.at + length p.bytes ≡ eof) ⊎ EndsAt eof ps

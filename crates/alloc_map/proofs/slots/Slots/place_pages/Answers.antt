@@ -1,4 +1,6 @@
 use Rattle.std.proofs.Common.{rules, ◌≡◌, ◌∙◌, ◌+◌, ◌/◌, List, length, ℕ, [], ◌∷◌, ◌++◌, refl, sym, ap, subst, arith, length-append, true}
+use Rattle.std.proofs.lemmas.List.Elements.{All-nil, All-push}
+use Rattle.std.specs.List.{All}
 use Rattle.pst_base.specs.declared.places.Place.{Place as Places}
 use Rattle.alloc_map.specs.Slots.{IsLaid, IsPageRoom, Becomes, BeginsLeast, regions_of, slot_of}
 use Rattle.alloc_map.specs.Taken.{IsPagePlace, Taken, Takes}
@@ -11,6 +13,7 @@ loop-init c =
     record {
       placed = subst (λ (l : List Places). Takes IsPagePlace c.args.self.now l c.args.self.now) (sym e) refl;
       count = ap (λ (l : List Places). length l) e;
+      sized = subst (All (λ (p : Places). p.len ≡ 512)) (sym e) (All-nil (λ (p : Places). p.len ≡ 512));
       taken = subst (Taken c.args.self.now c.args.self.now) (sym e) (taken-none c.args.self.now);
       room = omega arith;
     }
@@ -63,6 +66,7 @@ loop-preserved c =
     record {
       placed = subst (λ (l : List Places). Takes IsPagePlace c.args.self.now l c.place_page.new.self) (sym items) (takes-more IsPagePlace c.args.self.now c.loop.self c.place_page.new.self c.loop.places.items p c.loop.invariant.placed least used);
       count = ap (λ (l : List Places). length l) items ∙ length-append c.loop.places.items (p ∷ []) ∙ ap (λ (n : ℕ). n + 1) count;
+      sized = subst (All (λ (p : Places). p.len ≡ 512)) (sym items) (All-push (λ (p : Places). p.len ≡ 512) c.loop.places.items p c.loop.invariant.sized refl);
       taken = subst (Taken c.args.self.now c.place_page.new.self) (sym items) (taken-push c.args.self.now c.loop.self c.place_page.new.self p c.loop.places.items c.loop.invariant.taken there laid.1 used);
       room = omega (arith, room, takes);
     }
