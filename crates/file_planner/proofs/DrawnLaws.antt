@@ -34,12 +34,12 @@ use Rattle.lays_kept.proofs.Tally.{once_reordered, tally_append}
 use Rattle.node_port.specs.declared.node.NodeRec.{NodeRec}
 use Rattle.node_port.specs.Nodes as port
 use Rattle.node_layout.specs.Commit.{HasRoom, IsNext, Shows}
-use Rattle.node_layout.specs.Growth.{AllGrow}
+use Rattle.node_layout.specs.Growth.{AllGrow, EndsAt}
 use Rattle.node_layout.specs.Joined.{AreChanged, IsPlanned, TreePlan, found_after, node_id, places_in}
 use Rattle.node_layout.specs.Lookups.{Each, EachPut, edit_at, or_old, sum_of}
 use Rattle.node_layout.specs.Pieces.{EachStands, piece_place}
 use Rattle.node_layout.proofs.DataLaws.{all-here}
-use Rattle.node_layout.proofs.GrowthLaws.{EndsAt, growth-beside, grown-long}
+use Rattle.node_layout.proofs.GrowthLaws.{growth-beside, grown-long}
 use Rattle.node_layout.proofs.LookupLaws.{each-edited, sum-edited, with-edited}
 use Rattle.node_layout.proofs.NodeLaws.{still-found}
 use Rattle.node_layout.proofs.PlannedLaws.{planned-commits}
@@ -52,14 +52,15 @@ use Rattle.tree_edit.specs.Edits.{AreEdits, edited, entry_with, extra}
 use Rattle.ref_counts.specs.declared.table.RefChange.{RefChange}
 use Rattle.ref_counts.specs.Changes.{AreRefChanges, IsRefChange, change_of, number_after, number_by}
 use Rattle.content_plan.specs.Plan.{Bounds, PlansContents, StayFound}
-use Rattle.plan_pieces.specs.Named.{named}
+use Rattle.plan_pieces.specs.Names.{named}
+use Rattle.plan_pieces.proofs.JoinLaws.{names-placed}
 use Rattle.file_planner.specs.declared.planner.PlanEffects.{PlanEffects}
 use Rattle.file_planner.specs.Drawn.{IsDrawn, blocks_drawn, nodes_drawn}
 use Rattle.file_planner.specs.Knowing.{IsKnown}
 use Rattle.file_planner.specs.Recounts.{puts_of, recounts}
 use Rattle.file_planner.proofs.AfterLaws.{AllLaid, once-beside, standing-fewer}
 use Rattle.file_planner.proofs.NewLaws.{all-blocks, news-here, next-known, puts-edits}
-use Rattle.file_planner.proofs.PlacedLaws.{all-each, laid-high, laid-taken, laid-wholes, laid-within, named-places, sealed-long, stands-back, stands-front, standing-once, written-long}
+use Rattle.file_planner.proofs.PlacedLaws.{all-each, each-all, laid-high, laid-taken, laid-wholes, laid-within, sealed-long, stands-back, stands-front, standing-once, written-long}
 use Rattle.file_planner.proofs.RecountLaws.{blocks-left, each-put, each-with, edits-append, entry-has, extra-append, puts-append, puts-extra, recounts-edits, recounts-extra, recounts-stand, steady-slot, sum-places}
 
 -- ---- numbers of references
@@ -223,10 +224,10 @@ module _ {header : Header} {file : List ℕ} {m : NodeMap} (is : Lays header fil
       standing-fewer new_places (places_of is.blocks is.nodes) (regions_to next.eof) (8192 - regions_to next.eof) (subst (λ (k : ℕ). Once (new_places ++ standing (places_of is.blocks is.nodes) k)) (sym sum) once-new)
 
   pub first-at : places_in (blocks_drawn d) ≡ d.first_places
-  first-at = named-places page d.first_places d.block_pages (d.block_tree).count first-long
+  first-at = names-placed page d.first_places d.block_pages (d.block_tree).count (each-all (λ p. p.len ≡ 512) d.first_places first-long)
 
   pub last-at : places_in (nodes_drawn d) ≡ d.last_places
-  last-at = named-places (page + length d.block_pages) d.last_places d.node_pages (d.node_tree).count last-long
+  last-at = names-placed (page + length d.block_pages) d.last_places d.node_pages (d.node_tree).count (each-all (λ p. p.len ≡ 512) d.last_places last-long)
 
   -- the pieces that aren't growth
   abbrev pub drawn_pieces : List Piece

@@ -43,12 +43,14 @@ use Rattle.node_layout.proofs.PlannedLaws.{planned-has}
 use Rattle.node_layout.proofs.TreeLaws.{tree-changed}
 use Rattle.node_refs.specs.Counts.{AreRefs, put, refs_after, taken as taken_in}
 use Rattle.node_refs.proofs.AfterLaws.{refs-kept}
+use Rattle.tree_edit.specs.declared.plan.PlanPage.{PlanPage}
 use Rattle.tree_edit.specs.Edits.{AreEdits, edited, entry_with}
 use Rattle.tree_edit.specs.Plans.{IsPlan, names, tally as times}
 use Rattle.tree_edit.specs.Shapes.{RiseIn}
 use Rattle.tree_edit.proofs.PlanLaws.{tally-join}
 use Rattle.ref_counts.specs.Changes.{HasRoomFor, change_of, number_after, number_by}
-use Rattle.plan_pieces.specs.Named.{named}
+use Rattle.plan_pieces.specs.Names.{named}
+use Rattle.plan_pieces.proofs.PageLaws.{named-within}
 use Rattle.file_planner.specs.declared.planner.PlanEffects.{PlanEffects}
 use Rattle.file_planner.specs.Drawn.{IsDrawn, blocks_drawn, nodes_drawn}
 use Rattle.file_planner.specs.Freed.{all_behind}
@@ -141,6 +143,10 @@ tame-pages (f ∷ freed) all done few tame =
 
     here : (y : Bref) (ys : List Bref) → 1 ≤ times y.ib (y ∷ ys)
     here y ys = let e : ◌≡◌ {A = ℕ} (if eqb y.ib y.ib then 1 else 0) 1 = rw (eq-eqb y.ib y.ib refl) refl in omega (arith, e)
+
+-- the id of a new page
+named-id : {E : Type 0} (first : ℕ) (places : List Place) (pages : List (PlanPage E)) → length places ≡ length pages → (i : ℕ) → i < length pages → ((named first places i).bid).bits ≡ first + i
+named-id first places pages count i lt = ap (λ (at : Bref). (at.bid).bits) (named-within first places i (omega (arith, lt, count)))
 
 -- ---- the file after it
 
@@ -312,8 +318,8 @@ module _ {header : Header} {file : List ℕ} {m : NodeMap} (is : Lays header fil
   page-now =
       let all : Each (RefBelow page) (is.blocks.pages ++ is.nodes.pages) = page-known header (is.blocks.pages ++ is.nodes.pages) page known.next_page page_low in
       let end : ℕ = page + (length d.block_pages + length d.node_pages) in
-      let one : Each (RefBelow end) bs.found.pages = changed-below bs header.bbt is.block_pages (pages_front (SameAt file bytes) is.blocks.pages is.nodes.pages page-kept) has.block_pages page page end (omega arith) (omega arith) (λ i. refl) (each-left (RefBelow page) is.blocks.pages is.nodes.pages all) in
-      let two : Each (RefBelow end) ns.found.pages = changed-below ns header.nbt is.node_pages (pages_back (SameAt file bytes) is.blocks.pages is.nodes.pages page-kept) has.node_pages page (page + length d.block_pages) end (omega arith) (omega arith) (λ i. refl) (each-right (RefBelow page) is.blocks.pages is.nodes.pages all) in
+      let one : Each (RefBelow end) bs.found.pages = changed-below bs header.bbt is.block_pages (pages_front (SameAt file bytes) is.blocks.pages is.nodes.pages page-kept) has.block_pages page page end (omega arith) (omega arith) (λ i lt. named-id page d.first_places d.block_pages (d.block_tree).count i lt) (each-left (RefBelow page) is.blocks.pages is.nodes.pages all) in
+      let two : Each (RefBelow end) ns.found.pages = changed-below ns header.nbt is.node_pages (pages_back (SameAt file bytes) is.blocks.pages is.nodes.pages page-kept) has.node_pages page (page + length d.block_pages) end (omega arith) (omega arith) (λ i lt. named-id (page + length d.block_pages) d.last_places d.node_pages (d.node_tree).count i lt) (each-right (RefBelow page) is.blocks.pages is.nodes.pages all) in
       let is_next = d.next_page in
       let high = d.page_high in
       d.page_after ∙ is_next ∙ page-is next (bs.found.pages ++ ns.found.pages) end is_next (omega (arith, is_next, high)) (each-both (RefBelow end) bs.found.pages ns.found.pages one two)

@@ -120,13 +120,13 @@ places-below file new limit more (p ∷ ps) le ids below same =
     (omega (arith, e, is, lt, le), places-below file new limit more ps le ids.1 below.1 same.1)
 
 -- the pages of a plan, of which each has the next id
-names-below : {E : Type 0} (entry_of : List ℕ → E) (t : FileTree) (name : ℕ → Bref) (first from limit : ℕ) (pages : List (PlanPage E)) → ((i : ℕ) → ((name i).bid).bits ≡ first + i) → first + from + length pages ≤ limit
+names-below : {E : Type 0} (entry_of : List ℕ → E) (t : FileTree) (name : ℕ → Bref) (first from count limit : ℕ) (pages : List (PlanPage E)) → ((i : ℕ) → i < count → ((name i).bid).bits ≡ first + i) → from + length pages ≤ count → first + count ≤ limit
     → AreShown (shapes_in entry_of t) name from pages → EachPlace (IdBelow t.file limit) (map page_place (names name from pages))
-names-below entry_of t name first from limit [] are most shown = tt
-names-below entry_of t name first from limit (p ∷ pages) are most shown =
+names-below entry_of t name first from count limit [] are few most shown = tt
+names-below entry_of t name first from count limit (p ∷ pages) are few most shown =
     let id = shown-id entry_of t (name from) (shape_in name p) shown.0 in
-    let is = are from in
-    (omega (arith, id, is, most), names-below entry_of t name first (from + 1) limit pages are (omega (arith, most)) shown.1)
+    let is = are from (omega (arith, few)) in
+    (omega (arith, id, is, few, most), names-below entry_of t name first (from + 1) count limit pages are (omega (arith, few)) most shown.1)
 
 -- what is known of each place of some pages is known of each page at one of these places
 of-tally : (P : Place → Type 0) (ps : List Bref) (ib : ℕ) → EachPlace P (map page_place ps) → 1 ≤ tally ib ps → P (record { ib = ib; len = 512 })
@@ -155,7 +155,7 @@ place-append P (x ∷ xs) ys a b = (a.0, place-append P xs ys a.1 b)
 -- of a tree after edits: where the ids of the old pages are below a number, and the new ones go on from another
 pub changed-below : {E : Type 0} {entry_of : List ℕ → E} {key : E → ℕ} {t : FileTree} {new : List ℕ} {more : ℕ} {old : Found} {pages : List (PlanPage E)} {freed : List Bref} {top : Child} {name : ℕ → Bref} {ds : List (ℕ × Option E)}
     → (is : IsChangedTree entry_of key t new more old pages freed top name ds) → (root : Bref) → IsFileWhole t root old → EachPlace (SameAt t.file new) (page_places old)
-    → AreShown (shapes_in entry_of (moved t new more)) name 0 pages → (limit first end : ℕ) → limit ≤ end → first + length pages ≤ end → ((i : ℕ) → ((name i).bid).bits ≡ first + i) → Each (RefBelow limit) old.pages
+    → AreShown (shapes_in entry_of (moved t new more)) name 0 pages → (limit first end : ℕ) → limit ≤ end → first + length pages ≤ end → ((i : ℕ) → i < length pages → ((name i).bid).bits ≡ first + i) → Each (RefBelow limit) old.pages
     → Each (RefBelow end) (is.found).pages
 changed-below {E} {entry_of} {key} {t} {new} {more} {old} {pages} {freed} {top} {name} {ds} is root whole same shown limit first end le most are below =
     let ids : Each (HasId t.file) old.pages = tree-ids t whole.level (root_seat root) old whole.tree in
@@ -163,7 +163,7 @@ changed-below {E} {entry_of} {key} {t} {new} {more} {old} {pages} {freed} {top} 
     refs-below new end freed (is.found).pages (old.pages ++ names name 0 pages)
     (λ ib. let a = is.named ib in let b = tally-join ib old.pages (names name 0 pages) in omega (arith, a, b)) now
     (place-append (IdBelow new end) old.pages (names name 0 pages) (places-below t.file new limit end old.pages le ids below same)
-    (names-below entry_of (moved t new more) name first 0 end pages are (omega (arith, most)) shown))
+    (names-below entry_of (moved t new more) name first 0 (length pages) end pages are (omega arith) most shown))
 
 -- ---- the number of the next page
 

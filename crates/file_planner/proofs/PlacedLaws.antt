@@ -3,7 +3,7 @@ use Rattle.std.proofs.Common.{Bool, true, false, ◌≡◌, ◌∙◌, ◌⊎◌
 use Rattle.std.specs.List.{All}
 use Rattle.std.proofs.lemmas.Bool.{cases_lt}
 use Rattle.std.proofs.lemmas.List.{map-append}
-use Rattle.std.proofs.lemmas.List.Elements.{All-head, All-tail}
+use Rattle.std.proofs.lemmas.List.Elements.{All-cons, All-head, All-nil, All-tail}
 use Rattle.pst_base.specs.declared.ids.Bid.{Bid}
 use Rattle.pst_base.specs.declared.ids.Bref.{Bref}
 use Rattle.pst_base.specs.declared.places.Place.{Place}
@@ -28,8 +28,6 @@ use Rattle.node_layout.specs.Pieces.{EachStands, piece_place}
 use Rattle.node_layout.specs.Sealed.{AreSealed, IsSealed}
 use Rattle.node_layout.specs.Written.{AreWritten}
 use Rattle.tree_edit.specs.declared.plan.PlanPage.{PlanPage}
-use Rattle.tree_edit.specs.Plans.{names}
-use Rattle.plan_pieces.specs.Named.{named, nowhere}
 use Rattle.file_planner.proofs.AfterLaws.{AllLaid, standing-more}
 
 -- ---- lists
@@ -37,6 +35,10 @@ use Rattle.file_planner.proofs.AfterLaws.{AllLaid, standing-more}
 pub all-each : (P : Place → Type 0) (ps : List Place) → All P ps → Each P ps
 all-each P [] all = tt
 all-each P (p ∷ ps) all = (All-head P p ps all, all-each P ps (All-tail P p ps all))
+
+pub each-all : (P : Place → Type 0) (ps : List Place) → Each P ps → All P ps
+each-all P [] all = All-nil P
+each-all P (p ∷ ps) all = All-cons P p ps all.0 (each-all P ps all.1)
 
 pub stands-front : (file : List ℕ) (xs ys : List Piece) → EachStands file (xs ++ ys) → EachStands file xs
 stands-front file [] ys all = tt
@@ -101,32 +103,6 @@ sealed-long (b ∷ bs) (e ∷ es) (p ∷ ps) are = (some-bytes (length b.1) (len
   where
     some-bytes : (n k : ℕ) → k ≡ disk_size_of n → 64 ≤ k
     some-bytes n k is = omega (arith, is)
-
--- where the pages of a plan stand, by their names
-named-from : {E : Type 0} (first : ℕ) (done rest : List Place) (pages : List (PlanPage E)) → length rest ≡ length pages → Each (λ p. p.len ≡ 512) rest → map page_place (names (named first (done ++ rest)) (length done) pages) ≡ rest
-named-from first done [] [] count long = refl
-named-from first done [] (p ∷ pages) count long = absurd (omega (arith, count))
-named-from first done (q ∷ rest) [] count long = absurd (omega (arith, count))
-named-from {E} first done (q ∷ rest) (p ∷ pages) count long =
-    let here : get_or (done ++ q ∷ rest) (length done) nowhere ≡ q = get-here done q rest in
-    let same : (done ++ q ∷ []) ++ rest ≡ done ++ q ∷ rest = append-one done q rest in
-    let len : length (done ++ q ∷ []) ≡ length done + 1 = length-append done (q ∷ []) in
-    let later = named-from first (done ++ q ∷ []) rest pages (omega (arith, count)) long.1 in
-    let moved : map page_place (names (named first (done ++ q ∷ rest)) (length done + 1) pages) ≡ rest =
-    ap (λ (l : List Place). map page_place (names (named first l) (length done + 1) pages)) (sym same) ∙ ap (λ (n : ℕ). map page_place (names (named first ((done ++ q ∷ []) ++ rest)) n pages)) (sym len) ∙ later in
-    let one : page_place (named first (done ++ q ∷ rest) (length done)) ≡ q = ap (λ (p : Place). page_place (record { bid = record { bits = first + length done }; ib = p.ib })) here ∙ ap (λ (n : ℕ). record { ib = q.ib; len = n }) (sym long.0) in
-    ap (λ (p : Place). p ∷ map page_place (names (named first (done ++ q ∷ rest)) (length done + 1) pages)) one ∙ ap (λ (l : List Place). q ∷ l) moved
-  where
-    get-here : (done : List Place) (q : Place) (rest : List Place) → get_or (done ++ q ∷ rest) (length done) nowhere ≡ q
-    get-here [] q rest = refl
-    get-here (d ∷ done) q rest = get-here done q rest
-
-    append-one : (done : List Place) (q : Place) (rest : List Place) → (done ++ q ∷ []) ++ rest ≡ done ++ q ∷ rest
-    append-one [] q rest = refl
-    append-one (d ∷ done) q rest = ap (λ (l : List Place). d ∷ l) (append-one done q rest)
-
-pub named-places : {E : Type 0} (first : ℕ) (places : List Place) (pages : List (PlanPage E)) → length places ≡ length pages → Each (λ p. p.len ≡ 512) places → map page_place (names (named first places) 0 pages) ≡ places
-named-places first places pages count long = named-from first [] places pages count long
 
 -- ---- the new places
 

@@ -19,8 +19,7 @@ use Rattle.file_layout.specs.Trees.{page_place}
 use Rattle.file_pages.specs.Told.{PlansIn}
 use Rattle.lays_kept.specs.declared.Piece.{Piece}
 use Rattle.node_port.specs.declared.node.NodeRec.{NodeRec}
-use Rattle.node_layout.specs.Growth.{AllGrow}
-use Rattle.node_layout.proofs.GrowthLaws.{EndsAt}
+use Rattle.node_layout.specs.Growth.{AllGrow, EndsAt}
 use Rattle.node_layout.specs.Joined.{TreePlan, node_id}
 use Rattle.node_layout.specs.Pieces.{piece_place}
 use Rattle.node_layout.specs.Sealed.{AreSealed}
@@ -31,7 +30,7 @@ use Rattle.tree_edit.specs.Edits.{AreEdits}
 use Rattle.tree_edit.specs.Plans.{resolve}
 use Rattle.ref_counts.specs.declared.table.RefChange.{RefChange}
 use Rattle.ref_counts.specs.Changes.{AreRefChanges}
-use Rattle.plan_pieces.specs.Named.{named}
+use Rattle.plan_pieces.specs.Names.{named}
 use Rattle.content_plan.specs.Plan.{PlansContents}
 use Rattle.file_planner.specs.Freed.{all_behind}
 use Rattle.file_planner.specs.Recounts.{left_places, puts_of, recounts}

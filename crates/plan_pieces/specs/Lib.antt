@@ -1,1 +1,3 @@
-pub mod Named
+pub mod Names
+pub mod Blocks
+pub mod Growth
