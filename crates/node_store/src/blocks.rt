@@ -12,11 +12,11 @@ use std::alloc::Global;
 
 /// The blocks of a file over a world, with a cache of the pages of its block tree. It writes nothing, and counts in `changes` what it found changed.
 #[derive(Drop)]
-pub(crate) struct TreeBlocks<'a, W: Outside> {
-    pub(crate) world: &'a mut W,
-    pub(crate) cache: &'a mut PageCache,
-    pub(crate) tree: FileTree,
-    pub(crate) changes: u64,
+pub struct TreeBlocks<'a, W: Outside> {
+    pub world: &'a mut W,
+    pub cache: &'a mut PageCache,
+    pub tree: FileTree,
+    pub changes: u64,
 }
 
 impl<'a, W: Outside> BlockSource for TreeBlocks<'a, W> {

@@ -2,6 +2,8 @@
 //!
 //! `read_node` gives the node with an id, with its data and its subnodes, and `next_node` the least id above one. They read the pages of the file's trees on the way alone, through a cache, and the blocks of the one node. Promises: over a world that tells a file which lays nodes, with caches that have no other pages than the file's, the answers are those nodes'; each stop has its cause; nothing is written, and the caches have no other pages than the file's still.
 //!
+//! `TreeBlocks` is the file's blocks as a source for other readings.
+//!
 //! Leaves to others: which header counts, and what nodes mean.
 #![tactic(auto)]
 
@@ -11,4 +13,5 @@ mod node;
 #[cfg(test)]
 mod tests;
 
-pub use node::{PageCaches, next_node, read_node};
+pub use blocks::TreeBlocks;
+pub use node::{BLOCK_PAGE, NODE_PAGE, PageCaches, keep_stop, next_node, read_node, tree_stop};

@@ -17,10 +17,11 @@ use pst_header::Header;
 use pst_outside::Outside;
 use std::alloc::Global;
 
-/// The kinds of pages of the two trees.
-const BLOCK_PAGE: u8 = 0x80;
+/// The kind of the pages of the block tree ([MS-PST] 2.2.2.7.1).
+pub const BLOCK_PAGE: u8 = 0x80;
 
-const NODE_PAGE: u8 = 0x81;
+/// The kind of the pages of the node tree.
+pub const NODE_PAGE: u8 = 0x81;
 
 /// The pages of a file's two trees that were read last.
 #[derive(Drop)]
@@ -29,8 +30,8 @@ pub struct PageCaches {
     pub nodes: PageCache,
 }
 
-/// A stop of a search in a tree of pages.
-fn keep_stop(stop: MemOr<SourceStop>) -> KeepStop
+/// A stop of a search in a tree of pages, as a keeper gives it.
+pub fn keep_stop(stop: MemOr<SourceStop>) -> KeepStop
     ensures { result ≡ keep_stop stop }
 {
     match stop {
@@ -50,8 +51,8 @@ fn keep_stop(stop: MemOr<SourceStop>) -> KeepStop
     }
 }
 
-/// A stop of a reading of blocks, where `ib` is the place of what leads to them.
-fn tree_stop(ib: u64, stop: MemOr<TreeStop>) -> KeepStop
+/// A stop of a reading of blocks, as a keeper gives it, where `ib` is the place of what leads to them.
+pub fn tree_stop(ib: u64, stop: MemOr<TreeStop>) -> KeepStop
     ensures { result ≡ tree_stop ib stop }
 {
     match stop {

@@ -11,7 +11,7 @@ use Rattle.pst_base.specs.Subs.{flattened, one_deeper}
 use Rattle.data_tree.specs.declared.source.TreeStop.{TreeStop}
 use Rattle.data_tree.specs.Keys.{count_of, data_keys, keys_of}
 use Rattle.data_tree.specs.Tree.{and_then, blocks_of}
-use Rattle.data_tree.specs.Plan.{AreFound, AreSmall, IsFound, Reaches, ReadsKept, Rise, above_kept, bids_in, bytes_in, fresh, kept_bids, last_id, plain, unkept}
+use Rattle.data_tree.specs.Plan.{AreFound, AreSmall, IsFound, Reaches, ReadsKept, Rise, above_kept, bids_in, bytes_in, contents, fresh, kept_bids, last_id, plain, unkept}
 use Rattle.data_tree.proofs.KeyLaws.{count-append, count-blocks, keys-append}
 use Rattle.data_tree.proofs.PieceLaws.{Each, all_from-each, each-append, each-from_all, each-left, each-right}
 use Rattle.data_tree.proofs.PlanLaws.{plain-append, rise-append}
@@ -25,7 +25,7 @@ use Rattle.subnode_tree.specs.Tables.{Fits, tables}
 use Rattle.subnode_tree.proofs.FormLaws.{data-more, each-below, form-top, own, sub_nids}
 use Rattle.subnode_tree.proofs.PairLaws.{Keep, Pair, kept-more, nothing-paired, paired-more, rest-more, unkept-more}
 use Rattle.subnode_tree.proofs.SubSteps.{flattened-more, sub_row, subs-read}
-use Rattle.subnode_tree.proofs.TableLaws.{entry_as, few-tables, fewer-tables, last-high, plain-tables, rise-tables, root-none, root-some, row_nids, small-tables, tables-keys, tables-read}
+use Rattle.subnode_tree.proofs.TableLaws.{bytes-more, entry_as, few-tables, fewer-tables, last-high, plain-tables, rise-tables, room-tables, root-none, root-some, row_nids, small-tables, tables-keys, tables-read}
 
 -- what an entry leads to is the subnode's own
 pub record RowReads (find : ℕ → Option (List ℕ)) (x : Sub) (row : Row) : Type 0 where
@@ -118,6 +118,7 @@ pub record Underway (keep : Keep) (xs : List Sub) (rs : List Row) (first next : 
   pub fits : Each Fits rs
   pub small : Each Small blocks
   pub most : 2 * length blocks + 2 * length xs ≤ 2 * length (unkept_in keep (flattened xs)) + length (data_in (flattened xs)) + 2 * length (flattened xs)
+  pub room : 24 * length (flattened xs) ≤ bytes_in (contents blocks) + 24 * length xs
   pub among : Each (PairAmong first blocks) (paired keep (flattened xs))
   pub reads : (find : ℕ → Option (List ℕ)) → Each (IsFound find) blocks → Each (PairFound find) (paired keep (flattened xs)) → RowsRead find xs rs
   pub keys : (find : ℕ → Option (List ℕ)) → Each (IsFound find) blocks → (deeper : ℕ) → deeper < 8 → Each (λ f. f.level < suc deeper) (flattened xs) → (level key : ℕ)
@@ -134,6 +135,7 @@ underway-start keep first high = record {
   fits = tt;
   small = tt;
   most = omega arith;
+  room = omega arith;
   among = tt;
   reads = λ find found kept. tt;
   keys = λ find found deeper low levels level key. omega arith;
@@ -238,6 +240,14 @@ underway-more keep rest others left n xs rs first next end blocks content below 
           let deep = length-map x.subs one_deeper in
           let wide = length-append xs (x ∷ []) in
           omega arith;
+      room = let so_far = under.room in
+          let room_below = planned.plans.room in
+          let size = ap length (flattened-more xs x) ∙ length-append (flattened xs) (own x ∷ map one_deeper x.subs) in
+          let deep = length-map x.subs one_deeper in
+          let wide = length-append xs (x ∷ []) in
+          let sum_one = bytes-more (blocks ++ content) below in
+          let sum_two = bytes-more blocks content in
+          omega (arith, so_far, room_below, size, deep, wide, sum_one, sum_two);
       among = subst (λ (l : List Pair). Each (PairAmong first ((blocks ++ content) ++ below)) l) (sym pairs)
           (each-append (PairAmong first ((blocks ++ content) ++ below)) (paired keep (flattened xs)) ((own_keep, x.blocks) ∷ paired others x.subs)
           (each-among (PairAmong first blocks) (PairAmong first ((blocks ++ content) ++ below))
@@ -376,6 +386,11 @@ underway-end keep rest xs rs first next bid blocks lists low apart form under ma
       most = let most_so_far = under.most in
           let both = length-append blocks lists in
           omega arith;
+      room = let so_far = under.room in
+          let lists_room = room-tables next rs in
+          let lists_are = ap (λ (l : List (Bid × List ℕ)). bytes_in (contents l)) made in
+          let sum = bytes-more blocks lists in
+          omega (arith, so_far, lists_room, lists_are, sum, count);
       among = all_from-each (PairAmong first (blocks ++ lists)) (paired keep (flattened xs))
           (each-among (PairAmong first blocks) (PairAmong first (blocks ++ lists)) (among-front first blocks lists) (paired keep (flattened xs)) under.among);
       reads = λ find found kept eof deeper room shallow levels fewer small.

@@ -10,7 +10,7 @@ use Rattle.pst_base.specs.Ids.{key_of}
 use Rattle.pst_base.proofs.Numbers.{number_at-first, number_at-next, number_at-behind}
 use Rattle.data_tree.specs.declared.source.TreeStop.{TreeStop}
 use Rattle.data_tree.specs.Tree.{and_then, named}
-use Rattle.data_tree.specs.Plan.{IsFound, Rise, bids_in, cut, last_id, numbered, plain}
+use Rattle.data_tree.specs.Plan.{IsFound, Rise, bids_in, bytes_in, contents, cut, last_id, numbered, plain}
 use Rattle.data_tree.specs.Keys.{count_of, keys_of}
 use Rattle.data_tree.proofs.KeyLaws.{count-blocks}
 use Rattle.data_tree.proofs.SizeLaws.{Short, Small, small-numbered}
@@ -552,3 +552,30 @@ tables-keys find key next bits rows high some few fits is found =
           let names : listed_in (find (key_of bits)) ≡ [] = ap listed_in block ∙ in-leaf rows short in
           ap (λ (ks : List ℕ). count_of key (key_of bits ∷ ks)) names ∙ ap (λ (n : ℕ). count_of key (key_of n ∷ [])) root ∙ ap (λ (l : List (Bid × List ℕ)). count_of key (keys_of (bids_in l))) (sym alone)
     ]
+
+-- ---- how many bytes they have
+
+pub bytes-more : (xs ys : List (Bid × List ℕ)) → bytes_in (contents (xs ++ ys)) ≡ bytes_in (contents xs) + bytes_in (contents ys)
+bytes-more [] ys = omega arith
+bytes-more (x ∷ xs) ys = let rest = bytes-more xs ys in omega (arith, rest)
+
+room-leaves : (next : ℕ) (parts : List (List Row)) → 24 * length (joined parts) ≤ bytes_in (contents (numbered 2 next (map leaf parts)))
+room-leaves next [] = omega arith
+room-leaves next (part ∷ parts) =
+    let whole = length-table 0 (length part) (rows_bytes part) in
+    let size = length-rows_bytes part in
+    let both = length-append part (joined parts) in
+    let rest = room-leaves (next + 4) parts in
+    omega (arith, whole, size, both, rest)
+
+-- each entry stands in 24 bytes
+pub room-tables : (next : ℕ) (rows : List Row) → 24 * length rows ≤ bytes_in (contents (tables next rows))
+unfolding tables
+room-tables next rows =
+    let ls = leaves next rows in
+    let over = top (next + 4 * length ls) (listed_as next (cut 340 rows)) in
+    let both = bytes-more ls over in
+    let here = room-leaves next (cut 340 rows) in
+    let same = ap length (joined-cut 340 rows (omega arith)) in
+    let is = ap (λ (l : List (Bid × List ℕ)). bytes_in (contents l)) (leaves-is next rows) in
+    omega (arith, both, here, same, is)

@@ -4,7 +4,7 @@ use Rattle.std.specs.List.{All, flat_map}
 use Rattle.pst_base.specs.declared.ids.Bid.{Bid}
 use Rattle.pst_base.specs.Flat.{Flat}
 use Rattle.data_tree.specs.Keys.{AreSame, keys_of}
-use Rattle.data_tree.specs.Plan.{AreFound, AreSmall, IsContent, IsFound, Rise, above_kept, bids_in, bytes_in, fresh, kept_bids, plain, unkept}
+use Rattle.data_tree.specs.Plan.{AreFound, AreSmall, IsContent, IsFound, Rise, above_kept, bids_in, bytes_in, contents, fresh, kept_bids, plain, unkept}
 use Rattle.subnode_tree.specs.Keys.{sub_keys, sub_keys_from}
 use Rattle.subnode_tree.specs.Subnodes.{subs_from, subs_of}
 
@@ -100,6 +100,7 @@ pub record Plans (keep : List (List (Option Bid))) (flats : List Flat) (next : �
   pub within : bid.bits < 2 ^ 64
   pub small : AreSmall blocks
   pub most : 2 * length blocks ≤ 2 * length (unkept_in keep flats) + length (data_in flats) + 2 * length flats
+  pub room : 24 * length flats ≤ bytes_in (contents blocks)
   pub among : AreAmong next blocks keep flats
   pub reads : (find : ℕ → Option (List ℕ)) → All (IsFound find) blocks → SubsFound find keep flats → (eof deeper room : ℕ) → deeper ≤ 8 → All (λ f. f.level < deeper) flats → length flats ≤ room
       → All (λ f. bytes_in f.blocks ≤ eof) flats → subs_from find eof deeper room bid ≡ Ok flats

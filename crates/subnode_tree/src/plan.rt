@@ -1,7 +1,7 @@
 //! The blocks of subnodes that are to be written.
 ghost use Rattle.std.specs.Prelude.{◌≡◌, ◌≤◌, ◌+◌, ◌*◌, ◌%◌, ◌^◌, [], drop, length, IfOk};
 ghost use Rattle.std.specs.List.{All};
-ghost use Rattle.data_tree.specs.Plan.{AreSmall, MayKeep, Rise, plain};
+ghost use Rattle.data_tree.specs.Plan.{AreSmall, MayKeep, Rise, bytes_in, contents, plain};
 ghost use Rattle.subnode_tree.specs.Plan.{AreAmong, IsForm, Plans, SubsReach, SubsReadAs, SubsReadKept, data_in, first_list, kept_in, nothing, unkept_in};
 
 use crate::kept::Kept;
@@ -119,6 +119,7 @@ pub fn plan_subs(alloc: Global, s: &Subs, next: u64) -> Result<SubPlan, AllocErr
     ensures after { IfOk result (λ plan. plan.next ≡ next + 4 * length plan.blocks.items) }
     ensures most { IfOk result (λ plan. 2 * length plan.blocks.items ≤ 3 * length (data_in s.now) + 2 * length s.now) }
     ensures small { IfOk result (λ plan. AreSmall plan.blocks.items) }
+    ensures room { IfOk result (λ plan. 24 * length s.now ≤ bytes_in (contents plan.blocks.items)) }
     ensures numbered { IfOk result (λ plan. Rise next plan.blocks.items) }
     ensures marked { IfOk result (λ plan. plain plan.blocks.items ≡ data_in s.now) }
     ensures laid { IfOk result (λ plan. AreAmong next plan.blocks.items [] s.now) }
@@ -148,6 +149,7 @@ pub fn plan_subs_keep(
     ensures after { IfOk result (λ plan. plan.next ≡ next + 4 * length plan.blocks.items) }
     ensures most { IfOk result (λ plan. 2 * length plan.blocks.items ≤ 2 * length (unkept_in keep.now s.now) + length (data_in s.now) + 2 * length s.now) }
     ensures small { IfOk result (λ plan. AreSmall plan.blocks.items) }
+    ensures room { IfOk result (λ plan. 24 * length s.now ≤ bytes_in (contents plan.blocks.items)) }
     ensures numbered { IfOk result (λ plan. Rise next plan.blocks.items) }
     ensures marked { IfOk result (λ plan. plain plan.blocks.items ≡ unkept_in keep.now s.now) }
     ensures laid { IfOk result (λ plan. AreAmong next plan.blocks.items keep.now s.now) }
