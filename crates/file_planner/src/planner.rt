@@ -1,10 +1,19 @@
 //! What is known of a file, and of a file after a commit.
-use alloc_map::Slots;
-use node_store::PageCaches;
-use pst_base::Place;
-use ref_counts::{RefChange, RefCounts};
+ghost use Rattle.std.specs.Prelude.{◌≡◌};
+ghost use Rattle.file_planner.specs.Stopping.{prepare_stop};
 
-/// Reads a file's nodes and plans changes of them.
+use crate::room::decide;
+use alloc_map::Slots;
+use node_port::{Changes, KeepStop, NodeRec, PrepareStop};
+use node_store::{PageCaches, next_node, read_node};
+use pst_base::{Nid, Place, Subs};
+use pst_commit::{CommitPlan, NodeStore};
+use pst_header::Header;
+use pst_outside::Outside;
+use ref_counts::{RefChange, RefCounts};
+use std::alloc::Global;
+
+/// Reads a file's nodes and plans changes of them. It knows the file's used slots, how often each block is referred to, the pages of both trees by number, and the numbers of the next block and page; and it has caches of pages.
 #[derive(Drop)]
 pub struct FilePlanner {
     pub(crate) caches: PageCaches,
@@ -29,4 +38,115 @@ pub struct PlanEffects {
     pub(crate) pages: u64,
     pub(crate) next_block: u64,
     pub(crate) next_page: u64,
+}
+
+impl<W: Outside> NodeStore<W> for FilePlanner {
+    ghost use Rattle.file_planner.specs.Becomes.{IsMade};
+    ghost use Rattle.file_planner.specs.Knowing.{Knows, KnowsAfter, cells_of};
+    ghost use Rattle.file_planner.specs.Laws.{known_right};
+
+    type Adopts = PlanEffects;
+
+    ghost knows = { Knows };
+
+    ghost knows_after = { KnowsAfter };
+
+    ghost becomes = { IsMade };
+
+    ghost used = { λ p. p.slots };
+
+    ghost cells = { cells_of };
+
+    fn node(
+        &mut self,
+        alloc: Global,
+        w: &mut W,
+        header: &Header,
+        nid: Nid,
+    ) -> Result<Option<NodeRec>, KeepStop> {
+        read_node(alloc, w, header, nid, &mut self.caches)
+    }
+
+    fn content(
+        &mut self,
+        alloc: Global,
+        w: &mut W,
+        header: &Header,
+        nid: Nid,
+    ) -> Result<Option<NodeRec>, KeepStop> {
+        match read_node(alloc, w, header, nid, &mut self.caches) {
+            Ok(Some(node)) => Ok(Some(NodeRec {
+                parent: node.parent,
+                blocks: node.blocks,
+                subs: Subs::new(alloc),
+            })),
+            Ok(None) => Ok(None),
+            Err(stop) => Err(stop),
+        }
+    }
+
+    fn next(
+        &mut self,
+        w: &mut W,
+        header: &Header,
+        nid: Option<Nid>,
+    ) -> Result<Option<Nid>, KeepStop> {
+        next_node(w, header, nid, &mut self.caches)
+    }
+
+    fn plan(
+        &mut self,
+        alloc: Global,
+        w: &mut W,
+        header: &Header,
+        changes: Changes,
+    ) -> Result<CommitPlan<PlanEffects>, PrepareStop> {
+        let spent = self.spent();
+        let free = self.slots.free_cells();
+        let nodes = changes.nodes.as_slice();
+        decide(free, self.pages, spent, changes.room, nodes)?;
+        match self.plan_nodes(alloc, w, header, nodes, &changes.counts) {
+            Ok(plan) => Ok(plan),
+            Err(stop) => Err(prepare_stop(stop)),
+        }
+    }
+
+    fn adopt(&mut self, adopts: PlanEffects) {
+        self.slots.retake(adopts.taken.as_slice());
+        self.slots.release(adopts.freed.as_slice());
+        self.refs.adopt(adopts.refs.as_slice());
+        self.pages = adopts.pages;
+        self.next_block = adopts.next_block;
+        self.next_page = adopts.next_page;
+        self.clear();
+    }
+
+    fn stay(&mut self) {
+        self.clear();
+    }
+
+    fn slots(&self) -> &Slots {
+        &self.slots
+    }
+
+    ghost known_right = { known_right };
+}
+
+/// A stop of a reading, as a plan gives it.
+fn prepare_stop(stop: KeepStop) -> PrepareStop
+    ensures { result ≡ prepare_stop stop }
+{
+    match stop {
+        KeepStop::Fault => PrepareStop::Fault,
+        KeepStop::Changed {
+            ib,
+            stored,
+            computed,
+        } => PrepareStop::Changed {
+            ib,
+            stored,
+            computed,
+        },
+        KeepStop::Memory => PrepareStop::Memory,
+    }
 }

@@ -1,0 +1,58 @@
+//! Whether changes have room.
+ghost use Rattle.std.specs.Prelude.{◌≡◌, ◌≤◌, ◌^◌, ℕ, List, Bool, min};
+ghost use Rattle.node_port.specs.Stops.{RoomDecides, size, subs_size};
+
+use node_port::{NodeRec, PrepareStop};
+use pst_base::{Nid, Subs};
+
+/// The most for which room is asked.
+const MOST: u64 = 0x1000_0000_0000_0000;
+
+/// How many subnodes there are at all levels, and data blocks in them, up to `MOST`.
+fn count_subs(subs: &Subs) -> u64
+    ensures { result ≡ min (subs_size subs.now) (2 ^ 60) }
+{
+    let mut n = 0;
+    for sub in subs.as_slice() {
+        let blocks = (sub.blocks.len() as u64).min(MOST);
+        let below = count_subs(&sub.subs);
+        n = (n + 1 + blocks + below).min(MOST);
+    }
+    n
+}
+
+/// How many data blocks, nodes and subnodes are new, up to `MOST`.
+fn count_nodes(nodes: &[(Nid, Option<NodeRec>)]) -> u64
+    ensures { result ≡ min (size nodes.now) (2 ^ 60) }
+{
+    let mut n = 0;
+    for change in nodes {
+        if let Some(node) = &change.1 {
+            let blocks = (node.blocks.len() as u64).min(MOST);
+            let subs = count_subs(&node.subs);
+            n = (n + 1 + blocks + subs).min(MOST);
+        }
+    }
+    n
+}
+
+/// Decides whether changes may be planned, where so many cells are free and both trees have so many pages, and a next number may be used up.
+pub(crate) fn decide(
+    free: u64,
+    pages: u64,
+    spent: bool,
+    room: u64,
+    nodes: &[(Nid, Option<NodeRec>)],
+) -> Result<(), PrepareStop>
+    requires { room ≤ 2 ^ 60 }
+    ensures { (found : List ℕ) → RoomDecides (record { free = free; pages = pages; spent = spent; found = found }) room nodes.now result }
+{
+    if spent {
+        return Err(PrepareStop::IdsSpent);
+    }
+    let need = pages / 16 + 3 * room.max(count_nodes(nodes)) + 16;
+    if free < need {
+        return Err(PrepareStop::Full { free, need });
+    }
+    Ok(())
+}
