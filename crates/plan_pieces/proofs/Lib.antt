@@ -1,5 +1,0 @@
-pub mod ListLaws
-pub mod PageLaws
-pub mod BlockLaws
-pub mod GrowLaws
-pub mod JoinLaws
