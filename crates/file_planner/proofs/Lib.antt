@@ -8,3 +8,5 @@ pub mod DrawnLaws
 pub mod FreedLaws
 pub mod KnownLaws
 pub mod ComesLaws
+pub mod RoomLaws
+pub mod OldLaws

@@ -1,5 +1,5 @@
 //! The entries of old blocks whose numbers of references change.
-ghost use Rattle.std.specs.Prelude.{◌≡◌, ◌≤◌, ◌++◌, ℕ, List, OnOk, IfOk, IfErr};
+ghost use Rattle.std.specs.Prelude.{◌≡◌, ◌≤◌, ◌++◌, ◌∷◌, [], ℕ, List, OnOk, IfOk, IfErr};
 ghost use Rattle.btree_pages.specs.declared.entry.BlockEntry.{BlockEntry as Entries};
 ghost use Rattle.btree_pages.specs.Entries.{block_of};
 ghost use Rattle.file_blocks.specs.Blocks.{entry_key, file_of};
@@ -86,6 +86,35 @@ pub(crate) fn put_entries(
     Ok(())
 }
 
+/// Adds the edit of one change, if its block is an old one, by the block tree of a file.
+fn edit_change<W: Outside>(
+    w: &mut W,
+    cache: &mut PageCache,
+    tree: FileTree,
+    next: u64,
+    change: RefChange,
+    old: &mut OldEdits,
+) -> Result<(), MemOr<SourceStop>>
+    ensures made { OnOk result (Caches (W.view w.old) tree.eof tree.kind cache.old → (es : List Entries)
+        → HasTree key_of 24 block_of entry_key (file_of (W.view w.old).here) tree.eof tree.kind tree.root es
+        → (old.new.edits.items ≡ old.old.edits.items ++ recounts es next (change ∷ [])) × (old.new.left.items ≡ old.old.left.items ++ left_places es next (change ∷ []))) }
+    ensures stops { IfErr result (StopsUnless (W.view w.old) (W.view w.new)
+        (Caches (W.view w.old) tree.eof tree.kind cache.old × ((es : List Entries) × HasTree key_of 24 block_of entry_key (file_of (W.view w.old).here) tree.eof tree.kind tree.root es))) }
+    ensures caches { Caches (W.view w.old) tree.eof tree.kind cache.old → Caches (W.view w.new) tree.eof tree.kind cache.new }
+    ensures same { Untouched (W.view w.old) (W.view w.new) }
+{
+    if change.key >= next {
+        return Ok(());
+    }
+    match entry_at::<BlockEntry, W>(w, cache, tree, change.key) {
+        Ok(entry) => {
+            add_edit(old, entry, change)?;
+            Ok(())
+        }
+        Err(stop) => Err(stop),
+    }
+}
+
 /// The edits of the blocks with keys below `next` whose numbers of references change, by the block tree of a file: a block to which nothing refers any more is to go.
 pub(crate) fn old_edits<W: Outside>(
     alloc: Global,
@@ -108,9 +137,9 @@ pub(crate) fn old_edits<W: Outside>(
         left: Vec::new(alloc),
     };
     for change in changes {
-        if change.key < next {
-            let entry = entry_at::<BlockEntry, W>(w, cache, tree, change.key)?;
-            add_edit(&mut old, entry, *change)?;
+        match edit_change(w, cache, tree, next, *change, &mut old) {
+            Ok(()) => (),
+            Err(stop) => return Err(stop),
         }
     }
     Ok(old)

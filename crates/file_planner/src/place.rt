@@ -109,8 +109,7 @@ fn draw_pages<W: Outside>(
     ensures keeps { KeepsTelling (W.view w.old) (W.view w.new) header.now caches.old caches.new }
     ensures untouched { Untouched (W.view w.old) (W.view w.new) }
 {
-    let built = build(alloc, w, header, caches, &sketch, edits, places)?;
-    let trees = &built.trees;
+    let Built { trees, pieces } = build(alloc, w, header, caches, &sketch, edits, places)?;
     let many = number_after(trees.blocks.pages.len() as u64, 1, trees.nodes.pages.len())?;
     if many > slots.free_cells().saturating_mul(16) {
         return Err(changed(header.bbt));
@@ -123,10 +122,10 @@ fn draw_pages<W: Outside>(
         last,
         numbers,
         sketch,
-        trees,
+        &trees,
         pages.as_slice(),
         places,
-        built.pieces,
+        pieces,
     );
     slots.give_back_all(pages.as_slice());
     Ok(plan?)

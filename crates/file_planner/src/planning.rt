@@ -64,7 +64,7 @@ impl FilePlanner {
         requires enough { self.old.pages / 16 + 3 * min (size nodes.now) (2 ^ 60) + 16 ≤ free_cells_of self.old.slots }
         ensures plan { (found : List ℕ) → IfOk result (λ p. PlansFor (Knows self.new) (KnowsAfter self.new p.adopts) IsMade found header.now (W.view w.new) p.pieces.items p.sealed p.header nodes.now) }
         ensures indexes { IfOk result (λ p. p.header.indexes ≡ counts.now.last) }
-        ensures stops { IfErr result (StopsKeeping (W.view w.old) (W.view w.new) ((found : List ℕ) × (N : Nodes) × Holds (Knows self.old) found header.now (W.view w.old))) }
+        ensures stops { IfErr result (StopsKeeping (W.view w.old) (W.view w.new) ((found : List ℕ) × (N : Nodes) × Holds (Knows self.old) found header.now (W.view w.old) N)) }
         ensures looks { LooksOn (Knows self.old) (Knows self.new) header.now self.old.slots self.new.slots (cells_of self.old) (cells_of self.new) (W.view w.old) (W.view w.new) }
     {
         let numbers = Numbers {

@@ -1,6 +1,7 @@
 //! Whether changes have room.
 ghost use Rattle.std.specs.Prelude.{◌≡◌, ◌≤◌, ◌^◌, ℕ, List, Bool, min};
 ghost use Rattle.node_port.specs.Stops.{RoomDecides, size, subs_size};
+ghost use Rattle.file_planner.specs.Stopping.{one_node};
 
 use node_port::{NodeRec, PrepareStop};
 use pst_base::{Nid, Subs};
@@ -12,13 +13,26 @@ const MOST: u64 = 0x1000_0000_0000_0000;
 fn count_subs(subs: &Subs) -> u64
     ensures { result ≡ min (subs_size subs.now) (2 ^ 60) }
 {
+    let items = subs.as_slice();
     let mut n = 0;
-    for sub in subs.as_slice() {
+    for sub in items {
         let blocks = (sub.blocks.len() as u64).min(MOST);
         let below = count_subs(&sub.subs);
         n = (n + 1 + blocks + below).min(MOST);
     }
     n
+}
+
+/// How many data blocks and subnodes a node that is put has, and itself, up to `MOST`.
+fn count_node(node: &Option<NodeRec>) -> u64
+    ensures { result ≡ min (one_node node.now) (2 ^ 60) }
+{
+    let Some(node) = node else {
+        return 0;
+    };
+    let blocks = (node.blocks.len() as u64).min(MOST);
+    let subs = count_subs(&node.subs);
+    (1 + blocks + subs).min(MOST)
 }
 
 /// How many data blocks, nodes and subnodes are new, up to `MOST`.
@@ -27,11 +41,7 @@ fn count_nodes(nodes: &[(Nid, Option<NodeRec>)]) -> u64
 {
     let mut n = 0;
     for change in nodes {
-        if let Some(node) = &change.1 {
-            let blocks = (node.blocks.len() as u64).min(MOST);
-            let subs = count_subs(&node.subs);
-            n = (n + 1 + blocks + subs).min(MOST);
-        }
+        n = (n + count_node(&change.1)).min(MOST);
     }
     n
 }
