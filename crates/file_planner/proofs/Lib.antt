@@ -10,3 +10,5 @@ pub mod KnownLaws
 pub mod ComesLaws
 pub mod RoomLaws
 pub mod OldLaws
+pub mod TreeSteps
+pub mod DrawSteps

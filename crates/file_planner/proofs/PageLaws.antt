@@ -36,7 +36,7 @@ names-count name from [] = refl
 names-count name from (p ∷ pages) = let h = names-count name (from + 1) pages in omega (arith, h)
 
 -- lists that name each place equally often are equally long
-same-length : (xs ys : List Bref) → ((k : ℕ) → tally k xs ≡ tally k ys) → length xs ≡ length ys
+pub same-length : (xs ys : List Bref) → ((k : ℕ) → tally k xs ≡ tally k ys) → length xs ≡ length ys
 same-length xs ys same = sym (sum-ones xs) ∙ same-sums (λ ib. 1) xs ys same ∙ sum-ones ys
 
 pub pages-count : {E : Type 0} {entry_of : List ℕ → E} {key : E → ℕ} {t : FileTree} {new : List ℕ} {more : ℕ} {old : Found} {pages : List (PlanPage E)} {freed : List Bref} {top : Child} {name : ℕ → Bref} {ds : List (ℕ × Option E)}

@@ -75,8 +75,10 @@ fn build<W: Outside>(
     let (entries, pieces) = seal_blocks(alloc, sketch.blocks.as_slice(), places)?;
     put_entries(&mut edits, entries.as_slice())?;
     let nodes = sketch.nodes.as_slice();
-    let trees = change_trees(alloc, w, header, caches, edits.as_slice(), nodes)?;
-    Ok(Built { trees, pieces })
+    match change_trees(alloc, w, header, caches, edits.as_slice(), nodes) {
+        Ok(trees) => Ok(Built { trees, pieces }),
+        Err(stop) => Err(stop),
+    }
 }
 
 /// The plan of blocks that have places: its pages get theirs.
@@ -109,7 +111,11 @@ fn draw_pages<W: Outside>(
     ensures keeps { KeepsTelling (W.view w.old) (W.view w.new) header.now caches.old caches.new }
     ensures untouched { Untouched (W.view w.old) (W.view w.new) }
 {
-    let Built { trees, pieces } = build(alloc, w, header, caches, &sketch, edits, places)?;
+    let built = match build(alloc, w, header, caches, &sketch, edits, places) {
+        Ok(built) => built,
+        Err(stop) => return Err(stop),
+    };
+    let Built { trees, pieces } = built;
     let many = number_after(trees.blocks.pages.len() as u64, 1, trees.nodes.pages.len())?;
     if many > slots.free_cells().saturating_mul(16) {
         return Err(changed(header.bbt));
@@ -128,7 +134,10 @@ fn draw_pages<W: Outside>(
         pieces,
     );
     slots.give_back_all(pages.as_slice());
-    Ok(plan?)
+    match plan {
+        Ok(plan) => Ok(plan),
+        Err(_) => Err(KeepStop::Memory),
+    }
 }
 
 /// The plan of what is to be written: its blocks get places, and then its pages. The places are given back.

@@ -76,7 +76,10 @@ impl FilePlanner {
             return Err(changed(header.bbt));
         }
         let caches = &mut self.caches;
-        let content = plan_contents(alloc, w, header, caches, nodes, numbers.block)?;
+        let content = match plan_contents(alloc, w, header, caches, nodes, numbers.block) {
+            Ok(content) => content,
+            Err(stop) => return Err(stop),
+        };
         let refs = self.refs.changes(alloc, content.taken, content.put)?;
         self.refs.make_room(refs.as_slice())?;
         let tree = block_tree(header);
