@@ -12,3 +12,4 @@ pub mod RoomLaws
 pub mod OldLaws
 pub mod TreeSteps
 pub mod DrawSteps
+pub mod KeepLaws

@@ -13,6 +13,14 @@ prepare_stop keep.Fault = prepare.Fault
 prepare_stop (keep.Changed ib stored computed) = prepare.Changed ib stored computed
 prepare_stop keep.Memory = prepare.Memory
 
+-- the stop is for want of room or of numbers
+abbrev pub IsRoomStop : PrepareStop → Type 0
+IsRoomStop (prepare.Full free needed) = Unit {0}
+IsRoomStop prepare.IdsSpent = Unit {0}
+IsRoomStop prepare.Fault = ⊥
+IsRoomStop (prepare.Changed ib stored computed) = ⊥
+IsRoomStop prepare.Memory = ⊥
+
 -- how many data blocks and subnodes a node that is put has, and itself
 abbrev pub one_node : Option NodeRec → ℕ
 one_node None = 0

@@ -189,5 +189,8 @@ pub(crate) fn draw<W: Outside>(
         places.as_slice(),
     );
     slots.give_back_all(places.as_slice());
-    plan
+    match plan {
+        Ok(plan) => Ok(plan),
+        Err(stop) => Err(stop),
+    }
 }

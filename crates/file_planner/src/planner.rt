@@ -1,5 +1,6 @@
 //! What is known of a file, and of a file after a commit.
 ghost use Rattle.std.specs.Prelude.{◌≡◌};
+ghost use Rattle.node_port.specs.Nodes.{content_of};
 ghost use Rattle.file_planner.specs.Stopping.{prepare_stop};
 
 use crate::room::decide;
@@ -75,12 +76,7 @@ impl<W: Outside> NodeStore<W> for FilePlanner {
         nid: Nid,
     ) -> Result<Option<NodeRec>, KeepStop> {
         match read_node(alloc, w, header, nid, &mut self.caches) {
-            Ok(Some(node)) => Ok(Some(NodeRec {
-                parent: node.parent,
-                blocks: node.blocks,
-                subs: Subs::new(alloc),
-            })),
-            Ok(None) => Ok(None),
+            Ok(node) => Ok(without_subs(alloc, node)),
             Err(stop) => Err(stop),
         }
     }
@@ -104,7 +100,11 @@ impl<W: Outside> NodeStore<W> for FilePlanner {
         let spent = self.spent();
         let free = self.slots.free_cells();
         let nodes = changes.nodes.as_slice();
-        decide(free, self.pages, spent, changes.room, nodes)?;
+        match decide(free, self.pages, spent, changes.room, nodes) {
+            Ok(()) => (),
+            Err(stop) => return Err(stop),
+        }
+        self.clear();
         match self.plan_nodes(alloc, w, header, nodes, &changes.counts) {
             Ok(plan) => Ok(plan),
             Err(stop) => Err(prepare_stop(stop)),
@@ -130,6 +130,20 @@ impl<W: Outside> NodeStore<W> for FilePlanner {
     }
 
     ghost known_right = { known_right };
+}
+
+/// A node without its subnodes.
+fn without_subs(alloc: Global, node: Option<NodeRec>) -> Option<NodeRec>
+    ensures { result ≡ content_of node }
+{
+    match node {
+        Some(node) => Some(NodeRec {
+            parent: node.parent,
+            blocks: node.blocks,
+            subs: Subs::new(alloc),
+        }),
+        None => None,
+    }
 }
 
 /// A stop of a reading, as a plan gives it.

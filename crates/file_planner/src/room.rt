@@ -1,7 +1,7 @@
 //! Whether changes have room.
-ghost use Rattle.std.specs.Prelude.{◌≡◌, ◌≤◌, ◌^◌, ℕ, List, Bool, min};
+ghost use Rattle.std.specs.Prelude.{◌≡◌, ◌≤◌, ◌^◌, ℕ, List, min, IfErr};
 ghost use Rattle.node_port.specs.Stops.{RoomDecides, size, subs_size};
-ghost use Rattle.file_planner.specs.Stopping.{one_node};
+ghost use Rattle.file_planner.specs.Stopping.{IsRoomStop, one_node};
 
 use node_port::{NodeRec, PrepareStop};
 use pst_base::{Nid, Subs};
@@ -55,7 +55,8 @@ pub(crate) fn decide(
     nodes: &[(Nid, Option<NodeRec>)],
 ) -> Result<(), PrepareStop>
     requires { room ≤ 2 ^ 60 }
-    ensures { (found : List ℕ) → RoomDecides (record { free = free; pages = pages; spent = spent; found = found }) room nodes.now result }
+    ensures decides { (found : List ℕ) → RoomDecides (record { free = free; pages = pages; spent = spent; found = found }) room nodes.now result }
+    ensures stops { IfErr result IsRoomStop }
 {
     if spent {
         return Err(PrepareStop::IdsSpent);
