@@ -13,3 +13,5 @@ pub mod OldLaws
 pub mod TreeSteps
 pub mod DrawSteps
 pub mod KeepLaws
+pub mod PlanSteps
+pub mod StayLaws
