@@ -132,7 +132,7 @@ held-caches {p} {found} {header} {world} {N} held =
     record { blocks = record { told = told; kept = ((held.1.known).cached).blocks }; nodes = record { told = told; kept = ((held.1.known).cached).nodes } }
 
 -- and the world tells its nodes
-pub held-tells : {p : FilePlanner} {found : List ℕ} {header : Header} {world : World} {N : port.Nodes} → Holds (Knows p) found header world N → (m : NodeMap) × TellsNodes world header p.caches m
+abbrev pub held-tells : {p : FilePlanner} {found : List ℕ} {header : Header} {world : World} {N : port.Nodes} → Holds (Knows p) found header world N → (m : NodeMap) × TellsNodes world header p.caches m
 held-tells {p} {found} {header} {world} {N} held =
     let is = (held.1.stands).file in
     (is.m, record { cached = held-caches held; lays = subst (λ (h : Header). Lays h (file_of world.here) is.m) held.1.own is.lays })
@@ -193,7 +193,6 @@ knows-on p q header file slots refs pages block page cached knows = record {
   cached = cached;
   known = λ m is.
       let known = knows.known m is in
-      let numbers : (λ key. refs_in q.refs key) ≡ (λ key. refs_in p.refs key) = λ i key. refs key i in
       record {
         size = ap length slots ∙ known.size;
         used = subst (IsCovered (occupied (places_of is.blocks is.nodes) 8192)) (sym slots) known.used;
@@ -236,3 +235,11 @@ drawn-on {header} {file} {m} is p q cs pieces sealed next e slots refs pages blo
     let three : IsDrawn is q.slots (refs_in q.refs) q.pages p.next_block p.next_page cs pieces sealed next e = subst (λ (n : ℕ). IsDrawn is q.slots (refs_in q.refs) n p.next_block p.next_page cs pieces sealed next e) (sym pages) two in
     let four : IsDrawn is q.slots (refs_in q.refs) q.pages q.next_block p.next_page cs pieces sealed next e = subst (λ (n : ℕ). IsDrawn is q.slots (refs_in q.refs) q.pages n p.next_page cs pieces sealed next e) (sym block) three in
     subst (λ (n : ℕ). IsDrawn is q.slots (refs_in q.refs) q.pages q.next_block n cs pieces sealed next e) (sym page) four
+
+-- what is held is held after both caches were emptied
+pub held-emptied : (p q : FilePlanner) (found : List ℕ) (header : Header) (world : World) {N : port.Nodes} → q.slots ≡ p.slots → ((key : ℕ) → refs_in q.refs key ≡ refs_in p.refs key) → q.pages ≡ p.pages → q.next_block ≡ p.next_block → q.next_page ≡ p.next_page
+    → q.caches.blocks ≡ [] → q.caches.nodes ≡ [] → Holds (Knows p) found header world N → Holds (Knows q) found header world N
+held-emptied p q found header world {N} slots refs pages block page no_blocks no_nodes held =
+    let file : List ℕ = file_of world.here in
+    let cached : AreCached header file q.caches = record { blocks = none-wrong (bodies file header.eof 0x80) q.caches.blocks no_blocks; nodes = none-wrong (bodies file header.eof 0x81) q.caches.nodes no_nodes } in
+    (held.0, record { stands = held.1.stands; own = held.1.own; known = knows-on p q header file slots refs pages block page cached held.1.known })

@@ -47,18 +47,26 @@ room-to before after held (prepare.Full free needed) is = tt
 room-to before after held prepare.IdsSpent is = tt
 
 -- a reading's stop decides nothing
-pub stop-decides : {R : Type 0} (has : Room) (room : ℕ) (cs : List (Nid × Option NodeRec)) (stop : KeepStop) → RoomDecides {R} has room cs (Err (prepare_stop stop))
-stop-decides has room cs keep.Fault = tt
-stop-decides has room cs (keep.Changed ib stored computed) = tt
-stop-decides has room cs keep.Memory = tt
+pub stop-decides : (R : Type 0) (has : Room) (room : ℕ) (cs : List (Nid × Option NodeRec)) (stop : KeepStop) → RoomDecides {R = R} has room cs (Err (prepare_stop stop))
+stop-decides R has room cs keep.Fault = tt
+stop-decides R has room cs (keep.Changed ib stored computed) = tt
+stop-decides R has room cs keep.Memory = tt
 
 -- what was decided is decided of any answer
-pub decides-on : {R S : Type 0} (has : Room) (room : ℕ) (cs : List (Nid × Option NodeRec)) (stop : PrepareStop) → RoomDecides {R} has room cs (Err stop) → RoomDecides {S} has room cs (Err stop)
-decides-on has room cs prepare.Fault is = tt
-decides-on has room cs (prepare.Changed ib stored computed) is = tt
-decides-on has room cs prepare.Memory is = tt
-decides-on has room cs (prepare.Full free needed) is = is
-decides-on has room cs prepare.IdsSpent is = is
+pub decides-on : (R S : Type 0) (has : Room) (room : ℕ) (cs : List (Nid × Option NodeRec)) (stop : PrepareStop) → RoomDecides {R = R} has room cs (Err stop) → RoomDecides {R = S} has room cs (Err stop)
+decides-on R S has room cs prepare.Fault is = tt
+decides-on R S has room cs (prepare.Changed ib stored computed) is = tt
+decides-on R S has room cs prepare.Memory is = tt
+decides-on R S has room cs (prepare.Full free needed) is = is
+decides-on R S has room cs prepare.IdsSpent is = is
+
+-- the same room decides the same
+pub decides-same : (R : Type 0) (free free' pages room : ℕ) (spent spent' : Bool) (found : List ℕ) (cs cs' : List (Nid × Option NodeRec)) (r : Result R PrepareStop) → free ≡ free' → spent ≡ spent' → cs ≡ cs'
+    → RoomDecides {R = R} (record { free = free; pages = pages; spent = spent; found = found }) room cs r → RoomDecides {R = R} (record { free = free'; pages = pages; spent = spent'; found = found }) room cs' r
+decides-same R free free' pages room spent spent' found cs cs' r frees spents same is =
+    let one : RoomDecides {R = R} (record { free = free'; pages = pages; spent = spent; found = found }) room cs r = subst (λ (n : ℕ). RoomDecides {R = R} (record { free = n; pages = pages; spent = spent; found = found }) room cs r) frees is in
+    let two : RoomDecides {R = R} (record { free = free'; pages = pages; spent = spent'; found = found }) room cs r = subst (λ (b : Bool). RoomDecides {R = R} (record { free = free'; pages = pages; spent = b; found = found }) room cs r) spents one in
+    subst (λ (l : List (Nid × Option NodeRec)). RoomDecides {R = R} (record { free = free'; pages = pages; spent = spent'; found = found }) room l r) same two
 
 -- ---- numbers
 
