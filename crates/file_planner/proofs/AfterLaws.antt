@@ -83,26 +83,26 @@ laid-low n (p ∷ ps) slot laid (inr c) = laid-low n ps slot laid.2 c
 -- no slot is covered twice beside the AMap pages of more regions than the places lie in
 pub standing-more : (ps : List Place) (m k : ℕ) → AllLaid m ps → Once (standing ps m) → Once (standing ps (m + k))
 standing-more ps m k laid once = once-of (standing ps (m + k)) (λ slot.
-  let a = tally_append slot ps (amap_places m) in
-  let b = tally_append slot ps (amap_places (m + k)) in
-  let few = tally-of (standing ps m) once slot in
-  elim (cases_lt slot (3968 * m)) [
-    | inl low ↦ let same = amap-same m k slot low in omega (arith, a, b, few, same)
-    | inr high ↦
-        let none = tally-none ps slot (λ c. let lt = laid-low m ps slot laid c in absurd (omega (arith, lt, high))) in
-        let most = amap-once (m + k) slot in
-        omega (arith, b, none, most)
-  ])
+    let a = tally_append slot ps (amap_places m) in
+    let b = tally_append slot ps (amap_places (m + k)) in
+    let few = tally-of (standing ps m) once slot in
+    elim (cases_lt slot (3968 * m)) [
+      | inl low ↦ let same = amap-same m k slot low in omega (arith, a, b, few, same)
+      | inr high ↦
+          let none = tally-none ps slot (λ c. let lt = laid-low m ps slot laid c in absurd (omega (arith, lt, high))) in
+          let most = amap-once (m + k) slot in
+          omega (arith, b, none, most)
+    ])
 
 -- fewer regions
 pub standing-fewer : (qs ps : List Place) (m k : ℕ) → Once (qs ++ standing ps (m + k)) → Once (qs ++ standing ps m)
 standing-fewer qs ps m k once = once_reordered (qs ++ standing ps (m + k)) (qs ++ standing ps m) (λ slot.
-  let a = tally_append slot qs (standing ps m) in
-  let b = tally_append slot qs (standing ps (m + k)) in
-  let c = tally_append slot ps (amap_places m) in
-  let d = tally_append slot ps (amap_places (m + k)) in
-  let e = amap-fewer m k slot in
-  omega (arith, a, b, c, d, e)) once
+    let a = tally_append slot qs (standing ps m) in
+    let b = tally_append slot qs (standing ps (m + k)) in
+    let c = tally_append slot ps (amap_places m) in
+    let d = tally_append slot ps (amap_places (m + k)) in
+    let e = amap-fewer m k slot in
+    omega (arith, a, b, c, d, e)) once
 
 once-rest : (p : Place) (ps : List Place) → Once (p ∷ ps) → Once ps
 unfolding IsTwice
@@ -158,16 +158,16 @@ standing-occupied ps slot c = elim (covers_either ps (amap_places 8192) slot c) 
 -- and beside all that stands no slot is covered twice
 pub once-beside : (ps qs : List Place) (used mid : List Bool) → length used ≡ 3968 * 8192 → IsCovered (occupied ps 8192) used → Once (standing ps 8192) → Taken used mid qs → AllLaid 8192 qs → Once (qs ++ standing ps 8192)
 once-beside ps qs used mid size covered once taken laid = once-of (qs ++ standing ps 8192) (λ slot.
-  let a = tally_append slot qs (standing ps 8192) in
-  let few = tally-of (standing ps 8192) once slot in
-  let own = tally-of qs taken.once slot in
-  elim (cases_lt 0 (tally slot qs)) [
-    | inl some ↦
-        let c = tally_some qs slot (omega (arith, some)) in
-        let none = tally-none (standing ps 8192) slot (λ other. taken-free ps qs used mid size covered taken laid slot c (standing-occupied ps slot other)) in
-        omega (arith, a, own, none)
-    | inr none ↦ omega (arith, a, few, none)
-  ])
+    let a = tally_append slot qs (standing ps 8192) in
+    let few = tally-of (standing ps 8192) once slot in
+    let own = tally-of qs taken.once slot in
+    elim (cases_lt 0 (tally slot qs)) [
+      | inl some ↦
+          let c = tally_some qs slot (omega (arith, some)) in
+          let none = tally-none (standing ps 8192) slot (λ other. taken-free ps qs used mid size covered taken laid slot c (standing-occupied ps slot other)) in
+          omega (arith, a, own, none)
+      | inr none ↦ omega (arith, a, few, none)
+    ])
 
 -- ---- the slots after
 
@@ -202,23 +202,23 @@ no-fixed slot free = tally-none (fixed_places 8192) slot (λ c. free (covers-fix
 -- with what is behind fixed pages in place of the places
 behind-covered : (ps new : List Place) (used : List Bool) → length used ≡ 3968 * 8192 → AllTame ps → IsCovered (new ++ occupied ps 8192) used → IsCovered ((all_behind ps ++ new) ++ fixed_places 8192) used
 behind-covered ps new used size tame covered = covered-as (new ++ occupied ps 8192) ((all_behind ps ++ new) ++ fixed_places 8192) used (λ slot below.
-  let a = tally_append slot (all_behind ps ++ new) (fixed_places 8192) in
-  let b = tally_append slot (all_behind ps) new in
-  let c = tally_append slot new (occupied ps 8192) in
-  let d = tally_append slot ps (fixed_places 8192) in
-  elim (fixed-cases slot) [
-    | inl fixed ↦ let x = some-fixed slot (length used) size below fixed in (λ some. omega (arith, a, b, x), λ some. omega (arith, c, d, x))
-    | inr free ↦ let e = all-free ps slot tame free in (λ some. omega (arith, a, b, c, d, e, some), λ some. omega (arith, a, b, c, d, e, some))
-  ]) covered
+    let a = tally_append slot (all_behind ps ++ new) (fixed_places 8192) in
+    let b = tally_append slot (all_behind ps) new in
+    let c = tally_append slot new (occupied ps 8192) in
+    let d = tally_append slot ps (fixed_places 8192) in
+    elim (fixed-cases slot) [
+      | inl fixed ↦ let x = some-fixed slot (length used) size below fixed in (λ some. omega (arith, a, b, x), λ some. omega (arith, c, d, x))
+      | inr free ↦ let e = all-free ps slot tame free in (λ some. omega (arith, a, b, c, d, e, some), λ some. omega (arith, a, b, c, d, e, some))
+    ]) covered
 
 covered-behind : (qs : List Place) (used : List Bool) → length used ≡ 3968 * 8192 → AllTame qs → IsCovered (all_behind qs ++ fixed_places 8192) used → IsCovered (occupied qs 8192) used
 covered-behind qs used size tame covered = covered-as (all_behind qs ++ fixed_places 8192) (occupied qs 8192) used (λ slot below.
-  let a = tally_append slot (all_behind qs) (fixed_places 8192) in
-  let b = tally_append slot qs (fixed_places 8192) in
-  elim (fixed-cases slot) [
-    | inl fixed ↦ let x = some-fixed slot (length used) size below fixed in (λ some. omega (arith, b, x), λ some. omega (arith, a, x))
-    | inr free ↦ let e = all-free qs slot tame free in (λ some. omega (arith, a, b, e, some), λ some. omega (arith, a, b, e, some))
-  ]) covered
+    let a = tally_append slot (all_behind qs) (fixed_places 8192) in
+    let b = tally_append slot qs (fixed_places 8192) in
+    elim (fixed-cases slot) [
+      | inl fixed ↦ let x = some-fixed slot (length used) size below fixed in (λ some. omega (arith, b, x), λ some. omega (arith, a, x))
+      | inr free ↦ let e = all-free qs slot tame free in (λ some. omega (arith, a, b, e, some), λ some. omega (arith, a, b, e, some))
+    ]) covered
 
 -- Where the new places are taken, and the freed ones are given back but for fixed pages, just what stands after is used.
 pub slots-after : (ps qs new freed : List Place) (used mid : List Bool) → length used ≡ 3968 * 8192 → IsCovered (occupied ps 8192) used → Once (standing ps 8192) → Taken used mid new → AllLaid 8192 new

@@ -61,11 +61,11 @@ recounts-sum slot es next (c ∷ cs) =
     let o : Option BlockEntry = entry_with entry_key c.key es in
     elim (cases_lt c.key next) [
       | inl lt ↦ rw (lt-ltb c.key next lt) (
-        let a = olds-append f es (edit_of o c) (recounts es next cs) in
-        let b = put-sum-append f (edit_of o c) (recounts es next cs) in
-        let d = tally_append slot (place_left o c) (left_places es next cs) in
-        let g = edit-left slot es c o refl in
-        omega (arith, a, b, d, g, rest))
+          let a = olds-append f es (edit_of o c) (recounts es next cs) in
+          let b = put-sum-append f (edit_of o c) (recounts es next cs) in
+          let d = tally_append slot (place_left o c) (left_places es next cs) in
+          let g = edit-left slot es c o refl in
+          omega (arith, a, b, d, g, rest))
       | inr le ↦ rw (le-ltb c.key next le) rest
     ]
 

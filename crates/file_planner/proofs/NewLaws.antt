@@ -90,7 +90,7 @@ puts-here bytes next (b ∷ bs) (e ∷ es) (p ∷ ps) apart rise are stand =
     let lt = (key-here next (b.0).bits apart rise.0).1 in (
       here-first bytes (puts_of (e ∷ es)) b e p are.0 stand.0 (ap (λ (t : Bool). if t then Some (Some e) else edit_at (key_of (b.0).bits) (puts_of es)) (eq-eqb (entry_key e) (key_of (b.0).bits) same)),
       each-weaker (IsHere bytes (puts_of es)) (IsHere bytes (puts_of (e ∷ es))) (next + 4) bs rise.1 (omega (arith, apart)) (λ c le is. here-later bytes (entry_key e) (Some e) (puts_of es) c (λ h. absurd (omega (arith, h, le, same, lt))) is)
-      (puts-here bytes (next + 4) bs es ps (omega (arith, apart)) rise.1 are.1 stand.1),
+          (puts-here bytes (next + 4) bs es ps (omega (arith, apart)) rise.1 are.1 stand.1),
     )
 
 -- and so in the edits of old blocks and these

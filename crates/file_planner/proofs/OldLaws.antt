@@ -65,7 +65,8 @@ recounts-more es next (x ∷ cs) c =
     elim (cases_lt x.key next) [
       | inl here ↦ rw (lt-ltb x.key next here) (
         ap (λ (l : List (ℕ × Option BlockEntry)). edit_of (entry_with entry_key x.key es) x ++ l) h.0 ∙ sym (append_assoc (edit_of (entry_with entry_key x.key es) x) (recounts es next cs) (recounts es next (c ∷ []))),
-        ap (λ (l : List Place). place_left (entry_with entry_key x.key es) x ++ l) h.1 ∙ sym (append_assoc (place_left (entry_with entry_key x.key es) x) (left_places es next cs) (left_places es next (c ∷ []))))
+        ap (λ (l : List Place). place_left (entry_with entry_key x.key es) x ++ l) h.1 ∙ sym (append_assoc (place_left (entry_with entry_key x.key es) x) (left_places es next cs) (left_places es next (c ∷ []))),
+      )
       | inr past ↦ rw (le-ltb x.key next past) h
     ]
 
@@ -77,7 +78,8 @@ pub one-edit : (es : List BlockEntry) (next : ℕ) (c : RefChange) (found : Opti
     → (new ≡ edits ++ recounts es next (c ∷ [])) × (more ≡ left ++ left_places es next (c ∷ []))
 one-edit es next c found edits new left more lt is one two = rw (lt-ltb c.key next lt) (
   one ∙ ap (λ (o : Option BlockEntry). edits ++ edit_of o c) is ∙ ap (λ (l : List (ℕ × Option BlockEntry)). edits ++ l) (sym (append-nil (edit_of (entry_with entry_key c.key es) c))),
-  two ∙ ap (λ (o : Option BlockEntry). left ++ place_left o c) is ∙ ap (λ (l : List Place). left ++ l) (sym (append-nil (place_left (entry_with entry_key c.key es) c))))
+  two ∙ ap (λ (o : Option BlockEntry). left ++ place_left o c) is ∙ ap (λ (l : List Place). left ++ l) (sym (append-nil (place_left (entry_with entry_key c.key es) c))),
+)
 
 take-next : (cs : List RefChange) (i : ℕ) (c d : RefChange) → i < length cs → c ≡ get_or cs i d → take (i + 1) cs ≡ take i cs ++ c ∷ []
 take-next cs i c d lt is =

@@ -137,16 +137,16 @@ behind-out ib len end slot above start whole far begins ends = (omega (arith, ab
 
 pub behind-fixed : (p : Place) (slot : ℕ) → IsTame p → IsFixed slot → one_at slot (behind_fixed p) ≡ 0
 behind-fixed p slot tame fixed = covers-none (behind_fixed p) slot (λ c.
-  let r : ℕ = slot_of p.ib / 3968 in
-  let is = behind-in p.ib p.len (3968 * r + fixed_slots r) slot tame.above tame.start tame.whole c.begins c.ends in
-  let far = is.0 in
-  let high = is.2 in
-  let low = is.1 in
-  let one = tame.one in
-  let same : slot / 3968 ≡ r = region-of r slot (omega (arith, far)) (omega (arith, high, one)) in
-  let P : ℕ → Type 0 = λ k. slot < 3968 * k + fixed_slots k in
-  let here : slot < 3968 * r + fixed_slots r = subst P same fixed in
-  absurd (omega (arith, here, far)))
+    let r : ℕ = slot_of p.ib / 3968 in
+    let is = behind-in p.ib p.len (3968 * r + fixed_slots r) slot tame.above tame.start tame.whole c.begins c.ends in
+    let far = is.0 in
+    let high = is.2 in
+    let low = is.1 in
+    let one = tame.one in
+    let same : slot / 3968 ≡ r = region-of r slot (omega (arith, far)) (omega (arith, high, one)) in
+    let P : ℕ → Type 0 = λ k. slot < 3968 * k + fixed_slots k in
+    let here : slot < 3968 * r + fixed_slots r = subst P same fixed in
+    absurd (omega (arith, here, far)))
 
 pub behind-free : (p : Place) (slot : ℕ) → IsTame p → (IsFixed slot → ⊥) → one_at slot (behind_fixed p) ≡ one_at slot p
 behind-free p slot tame free =

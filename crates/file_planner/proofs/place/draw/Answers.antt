@@ -15,12 +15,12 @@ returns-then-header-le17408-clause-stops g c =
     let old = g.W.Outside.view c.args.w.now in
     let Whole : Type 0 = CanDraw old c.args.header.now c.args.caches.now c.args.numbers c.args.sketch c.args.edits.items (free_cells_of c.args.slots.now) in
     subst (StopsKeeping old old Whole) (sym c.changed.ensures) (λ can.
-      let low = (can-reach can).0 in
-      let high = (can-reach can).1 in
-      elim c.then-header-le17408.branch [
-        | then-header-le17408-via-then-header-le17408 w ↦ let h = w.if-header-le17408.true in absurd (omega (arith, h, low))
-        | then-header-le17408-via-else-header-le17408+then-header-gt-LARGEST w ↦ let h = w.if-header-gt-LARGEST.true in absurd (omega (arith, h, high))
-      ])
+    let low = (can-reach can).0 in
+    let high = (can-reach can).1 in
+    elim c.then-header-le17408.branch [
+      | then-header-le17408-via-then-header-le17408 w ↦ let h = w.if-header-le17408.true in absurd (omega (arith, h, low))
+      | then-header-le17408-via-else-header-le17408+then-header-gt-LARGEST w ↦ let h = w.if-header-gt-LARGEST.true in absurd (omega (arith, h, high))
+    ])
 
 pub returns-in-Ok-clause-drawn : goal.returns-in-Ok-clause-drawn
 returns-in-Ok-clause-drawn g c = λ m tells counts cs sketched.

@@ -26,9 +26,9 @@ returns-then-many-saturating_mul-clause-stops g c =
     let most = c.saturating_mul.ensures in
     let cells = c.free_cells.ensures.count in
     subst (StopsKeeping old new Whole) (sym c.changed.ensures) (λ can.
-      let built = c.in-Ok.ensures.built can.tells.cached in
-      let fits = can-pages can left c.in_ok-many.many trees built.entries c.in-Ok.built.pieces.items built.sealed built.planned (omega arith) (omega (arith, one, two, sum)) in
-      absurd (omega (arith, fits, low, past, most, cells)))
+    let built = c.in-Ok.ensures.built can.tells.cached in
+    let fits = can-pages can left c.in_ok-many.many trees built.entries c.in-Ok.built.pieces.items built.sealed built.planned (omega arith) (omega (arith, one, two, sum)) in
+    absurd (omega (arith, fits, low, past, most, cells)))
 
 pub returns-in-Ok-plan-clause-drawn : goal.returns-in-Ok-plan-clause-drawn
 returns-in-Ok-plan-clause-drawn g c = λ m tells used counts cs sketched taken takes.

@@ -22,13 +22,13 @@ returns-then-self-lt4-clause-stops g c =
     let header = c.args.header.now in
     let Whole : Type 0 = (m : NodeMap) × (tells : TellsNodes old header p.caches m) × IsKnown tells.lays p.slots (refs_in p.refs) p.pages p.next_block p.next_page in
     subst (StopsKeeping old old Whole) (sym c.changed.ensures) (λ is.
-      let k = next-known header (blocks_in is.1.lays.blocks) p.next_block is.2.next_block c.requires.low in
-      let apart = k.0 in
-      let some = k.1 in
-      elim c.then-self-lt4.branch [
-        | then-self-lt4-via-then-self-lt4 w ↦ let h = w.if-self-lt4.true in absurd (omega (arith, h, some))
-        | then-self-lt4-via-else-self-lt4+then-self-ne0 w ↦ let h = w.if-self-ne0.true in absurd (h apart)
-      ])
+    let k = next-known header (blocks_in is.1.lays.blocks) p.next_block is.2.next_block c.requires.low in
+    let apart = k.0 in
+    let some = k.1 in
+    elim c.then-self-lt4.branch [
+      | then-self-lt4-via-then-self-lt4 w ↦ let h = w.if-self-lt4.true in absurd (omega (arith, h, some))
+      | then-self-lt4-via-else-self-lt4+then-self-ne0 w ↦ let h = w.if-self-ne0.true in absurd (h apart)
+    ])
 
 pub returns-in-Ok-plan-clause-keeps : goal.returns-in-Ok-plan-clause-keeps
 returns-in-Ok-plan-clause-keeps g c = λ m tells. c.draw-plan.ensures.keeps m (c.sketch_nodes.ensures.keeps m tells)
@@ -72,16 +72,16 @@ returns-in-Err-plan-clause-stops g c =
     let Then : Type 0 = CanDraw mid header q.caches numbers sketch edits (free_cells_of q.slots) in
     keeping-later old mid new Whole Then e.untouched
     (λ is.
-      let enough = c.requires.enough in
-      let low = c.requires.low in
-      let block = e.block in
-      let pages = e.pages in
-      let cells = ap free_cells_of e.slots in
-      let known : IsKnown is.1.lays q.slots (refs_in p.refs) q.pages q.next_block q.next_page =
-      subst (λ (s : List Bool). IsKnown is.1.lays s (refs_in p.refs) q.pages q.next_block q.next_page) (sym e.slots)
-      (subst (λ (n : ℕ). IsKnown is.1.lays p.slots (refs_in p.refs) n q.next_block q.next_page) (sym e.pages)
-      (subst (λ (n : ℕ). IsKnown is.1.lays p.slots (refs_in p.refs) p.pages n q.next_page) (sym e.block)
-      (subst (λ (n : ℕ). IsKnown is.1.lays p.slots (refs_in p.refs) p.pages p.next_block n) (sym e.page) is.2))) in
-      let sketched : IsSketched is.1.lays (refs_in p.refs) q.next_block c.args.nodes.now sketch edits = subst (λ (n : ℕ). IsSketched is.1.lays (refs_in p.refs) n c.args.nodes.now sketch edits) (sym e.block) (c.in-Ok.ensures.sketched is.0 is.1) in
-      can-after q.slots (refs_in p.refs) numbers c.args.nodes.now sketch edits (size c.args.nodes.now) e.untouched is.1 (e.keeps is.0 is.1) known sketched (omega (arith, low, block)) c.in-Ok.ensures.few (omega (arith, enough, pages, cells)))
+    let enough = c.requires.enough in
+    let low = c.requires.low in
+    let block = e.block in
+    let pages = e.pages in
+    let cells = ap free_cells_of e.slots in
+    let known : IsKnown is.1.lays q.slots (refs_in p.refs) q.pages q.next_block q.next_page =
+    subst (λ (s : List Bool). IsKnown is.1.lays s (refs_in p.refs) q.pages q.next_block q.next_page) (sym e.slots)
+    (subst (λ (n : ℕ). IsKnown is.1.lays p.slots (refs_in p.refs) n q.next_block q.next_page) (sym e.pages)
+    (subst (λ (n : ℕ). IsKnown is.1.lays p.slots (refs_in p.refs) p.pages n q.next_page) (sym e.block)
+    (subst (λ (n : ℕ). IsKnown is.1.lays p.slots (refs_in p.refs) p.pages p.next_block n) (sym e.page) is.2))) in
+    let sketched : IsSketched is.1.lays (refs_in p.refs) q.next_block c.args.nodes.now sketch edits = subst (λ (n : ℕ). IsSketched is.1.lays (refs_in p.refs) n c.args.nodes.now sketch edits) (sym e.block) (c.in-Ok.ensures.sketched is.0 is.1) in
+    can-after q.slots (refs_in p.refs) numbers c.args.nodes.now sketch edits (size c.args.nodes.now) e.untouched is.1 (e.keeps is.0 is.1) known sketched (omega (arith, low, block)) c.in-Ok.ensures.few (omega (arith, enough, pages, cells)))
     c.in-Err-plan.stop c.in-Err-plan.ensures.stops

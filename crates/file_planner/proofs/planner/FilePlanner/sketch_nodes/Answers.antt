@@ -58,7 +58,7 @@ returns-clause-sketched g c = λ m tells.
     let refs = c.as_slice-2.result.now in
     let es : List BlockEntry = blocks_in tells.lays.blocks in
     let P : FileTree → Type 0 = λ u. Caches mid u.eof u.kind caches.blocks → (xs : List BlockEntry) → HasTree key_of 24 block_of entry_key (file_of mid.here) u.eof u.kind u.root xs
-        → (c.in-Ok-old_edits.old.edits.items ≡ recounts xs next refs) × (c.in-Ok-old_edits.old.left.items ≡ left_places xs next refs) in
+    → (c.in-Ok-old_edits.old.edits.items ≡ recounts xs next refs) × (c.in-Ok-old_edits.old.left.items ≡ left_places xs next refs) in
     let made : P (block_tree_of header) = subst P is_t c.in-Ok-old_edits.ensures.edits in
     let has : HasTree key_of 24 block_of entry_key (file_of mid.here) header.eof 0x80 header.bbt es =
     subst (λ (i : Image). HasTree key_of 24 block_of entry_key (file_of i) header.eof 0x80 header.bbt es) (sym (c.plan_contents.ensures.untouched.stays.here after.cached.blocks.told.tells)) (has-blocks tells.lays) in

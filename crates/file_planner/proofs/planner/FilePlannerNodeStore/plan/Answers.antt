@@ -56,12 +56,13 @@ returns-in-Ok-plan_nodes-clause-plan g c = λ found.
     let plan = c.in-Ok-plan_nodes.plan in
     let header = c.args.header.now in
     let w = g.W.Outside.view c.plan_nodes.new.w in
-    let value = c.as_slice-nodes.ensures.value in
-    (c.in-Ok-plan_nodes.ensures.indexes,
+    let value = c.as_slice-nodes.ensures.value in (
+      c.in-Ok-plan_nodes.ensures.indexes,
       subst (λ (l : List (Nid × Option NodeRec)). PlansFor (Knows q) (KnowsAfter q plan.adopts) IsMade found header w plan.pieces.items plan.sealed plan.header l) value
-      (plans-when q found header (g.W.Outside.view c.args.w.now) w c.clear.new.self.caches c.as_slice-nodes.result.now plan.pieces.items plan.sealed plan.header plan.adopts c.clear.ensures.blocks c.clear.ensures.nodes c.plan_nodes.ensures.untouched
-      (subst (λ (l : List (Nid × Option NodeRec)). port.ascend 0 l ≡ true) (sym value) c.requires.order) (omega (arith, low, blocks)) (omega (arith, page_low, pages)) c.in-Ok-plan_nodes.ensures.room
-      (λ m tells. drawn-on tells.lays c.clear.new.self q c.as_slice-nodes.result.now plan.pieces.items plan.sealed plan.header plan.adopts c.plan_nodes.ensures.slots c.plan_nodes.ensures.refs c.plan_nodes.ensures.pages c.plan_nodes.ensures.block c.plan_nodes.ensures.page (c.in-Ok-plan_nodes.ensures.drawn m tells))))
+          (plans-when q found header (g.W.Outside.view c.args.w.now) w c.clear.new.self.caches c.as_slice-nodes.result.now plan.pieces.items plan.sealed plan.header plan.adopts c.clear.ensures.blocks c.clear.ensures.nodes c.plan_nodes.ensures.untouched
+          (subst (λ (l : List (Nid × Option NodeRec)). port.ascend 0 l ≡ true) (sym value) c.requires.order) (omega (arith, low, blocks)) (omega (arith, page_low, pages)) c.in-Ok-plan_nodes.ensures.room
+          (λ m tells. drawn-on tells.lays c.clear.new.self q c.as_slice-nodes.result.now plan.pieces.items plan.sealed plan.header plan.adopts c.plan_nodes.ensures.slots c.plan_nodes.ensures.refs c.plan_nodes.ensures.pages c.plan_nodes.ensures.block c.plan_nodes.ensures.page (c.in-Ok-plan_nodes.ensures.drawn m tells))),
+    )
 
 pub returns-in-Ok-plan_nodes-clause-full : goal.returns-in-Ok-plan_nodes-clause-full
 returns-in-Ok-plan_nodes-clause-full g c = λ found N held.
