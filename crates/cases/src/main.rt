@@ -17,10 +17,10 @@ mod world;
 use report::{Report, Tally};
 use running::run_case;
 use script::Script;
-use stops::bad_stop;
 use std::process::ExitCode;
 use std::rt::{Env, Files};
 use std::{env, fs, io};
+use stops::bad_stop;
 
 /// Runs the case that has begun, if one has, and prints its differences.
 fn end_case<R: Print + AllocGlobal>(report: &mut Report<R>, script: &mut Script) -> io::Result<()> {

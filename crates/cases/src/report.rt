@@ -91,7 +91,10 @@ impl<R: Print + AllocGlobal> Report<'_, R> {
         ensures { self.new.tally.differ ≡ min (self.old.tally.differ + 1) (2 ^ 64 - 1) }
     {
         self.begin(case)?;
-        print!(self.rt; "a stop at call {} of the disk, {:?} of FILE and {:?} of FILE.gate: got ", stop.call, stop.main, stop.side)?;
+        print!(self.rt;
+            "a stop at call {} of the disk, {:?} of FILE and {:?} of FILE.gate: got ",
+            stop.call, stop.main, stop.side
+        )?;
         self.show(stop.said.as_slice())?;
         println!(self.rt; "")
     }

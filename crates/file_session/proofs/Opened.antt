@@ -34,7 +34,6 @@ module _ (found : List ℕ) (rests : Image → Type 0) (first mid now : World) (
     (input : mid.tells → mid.input ≡ first.input)
     (said : mid.tells → mid.here.said ≡ first.here.said)
     (opening : LeavesOnly first mid (λ c. (c.said ≡ first.here.said) × ReadsAs found c T)) where
-
   stands : Image → Tree → Type 0
   stands c U = StandsFor (Stands found c) U
 
@@ -56,7 +55,7 @@ module _ (found : List ℕ) (rests : Image → Type 0) (first mid now : World) (
       let last_good : AllGood s.last = run_good (tree_after T s.turns) s.hand s.last after_good s.in_hand in
       let all_good : AllGood (s.turns ++ s.last) = good_both s.turns s.last turns_good last_good in
       let begins : LeavesOnly first mid (IsReached (ReadsAs found) first.here.said T (s.turns ++ s.last)) =
-          weaker (IsReached (ReadsAs found) first.here.said T (s.turns ++ s.last)) opening (λ c t is. at_start (s.turns ++ s.last) c is) in
+      weaker (IsReached (ReadsAs found) first.here.said T (s.turns ++ s.last)) opening (λ c t is. at_start (s.turns ++ s.last) c is) in
       record {
         taken = s.taken;
         input = λ t. sym (input (told t)) ∙ s.input t;
@@ -75,8 +74,8 @@ module _ (found : List ℕ) (rests : Image → Type 0) (first mid now : World) (
         front = λ t. let f = s.front t in (f.0, f.1 ∙ ap (λ l. l ++ take f.0 (texts s.turns)) (said (told t)));
         whole = λ no t. s.whole no t ∙ ap (λ l. l ++ texts s.turns) (said (told t));
         images = continues begins s.images
-        (λ c t is. subst (λ l. IsReached (ReadsAs found) l T (s.turns ++ s.last) c) (said (told t))
-        (reached_good (λ c U. StandsFor (Stands found c) U) (ReadsAs found) (λ c U. reads_good found c U) mid.here.said T (s.turns ++ s.last) c good all_good is));
+            (λ c t is. subst (λ l. IsReached (ReadsAs found) l T (s.turns ++ s.last) c) (said (told t))
+            (reached_good (λ c U. StandsFor (Stands found c) U) (ReadsAs found) (λ c U. reads_good found c U) mid.here.said T (s.turns ++ s.last) c good all_good is));
         ends_as = λ no. reads_good found now.here (tree_after T s.turns) (s.ends_as no) after_good;
         settled = s.settled;
         at_rest = s.at_rest;

@@ -16,7 +16,6 @@ use Rattle.file_layout.specs.declared.stops.PageRefusal.{PageRefusal}
 use Rattle.file_layout.specs.declared.stops.PageRefusal.TheVariants.{Outside, Faulty}
 use Rattle.file_layout.specs.declared.stops.OpenRefusal.{OpenRefusal}
 use Rattle.file_layout.specs.declared.stops.OpenRefusal.TheVariants as refusals
-
 use Rattle.message_obj.specs.declared.fault.MessageFault.{MessageFault}
 use Rattle.message_obj.specs.declared.fault.MessageFault.TheVariants as forms
 use Rattle.tree_look.specs.declared.stops.LookRefusal.{LookRefusal}

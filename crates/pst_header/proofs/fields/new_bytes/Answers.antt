@@ -11,8 +11,8 @@ is_new c =
     let len : length base ≡ 564 = omega arith in
     let fit : Fit (length base) new_cells = (omega arith, c.put_u32.ensures.fits, (omega arith, c.put_u16-4.ensures.fits, (omega arith, c.put_u16-3.ensures.fits, (omega arith, c.put_u8-2.ensures.fits, tt)))) in
     let is : written new_cells base ≡ c.put_u32.new.b =
-        sym (c.put_u32.ensures.written ∙ ap (replaced 0 (33 ∷ 66 ∷ 68 ∷ 78 ∷ []))
-        (c.put_u16-4.ensures.written ∙ ap (replaced 8 (83 ∷ 77 ∷ [])) (c.put_u16-3.ensures.written ∙ ap (replaced 10 (23 ∷ 0 ∷ [])) c.put_u8-2.ensures.written))) in
+    sym (c.put_u32.ensures.written ∙ ap (replaced 0 (33 ∷ 66 ∷ 68 ∷ 78 ∷ []))
+    (c.put_u16-4.ensures.written ∙ ap (replaced 8 (83 ∷ 77 ∷ [])) (c.put_u16-3.ensures.written ∙ ap (replaced 10 (23 ∷ 0 ∷ [])) c.put_u8-2.ensures.written))) in
     subst IsNew is (new-written base fit)
 
 pub returns-clause-magic : goal.returns-clause-magic
