@@ -1,0 +1,10 @@
+pub mod FormLaws
+pub mod KeepLaws
+pub mod FitLaws
+pub mod BoundLaws
+pub mod PutLaws
+pub mod ReadLaws
+pub mod MatchLaws
+pub mod PlanLaws
+pub mod TellLaws
+pub mod LoopLaws

@@ -1,1 +1,4 @@
 pub mod Plan
+pub mod Keep
+pub mod Told
+pub mod Put

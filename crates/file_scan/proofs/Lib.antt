@@ -2,4 +2,6 @@ pub mod BlockSteps
 pub mod NextLaws
 pub mod NodeSteps
 pub mod OpeningLaws
+pub mod RefSteps
 pub mod ScanLaws
+pub mod WideLaws

@@ -1,5 +1,5 @@
 -- The numbers that follow, as a loop over entries gathers them.
-use Rattle.std.proofs.Common.{◌≡◌, ◌∙◌, ℕ, ◌+◌, ◌≤◌, ◌<◌, max, min, List, [], ◌∷◌, length, drop, get_or, refl, sym, ap, arith}
+use Rattle.std.proofs.Common.{◌≡◌, ◌∙◌, ℕ, ◌+◌, ◌≤◌, ◌<◌, max, List, [], ◌∷◌, length, drop, get_or, refl, sym, ap, arith}
 use Rattle.std.proofs.lemmas.List.{drop_all}
 use Rattle.data_tree.proofs.ListingLaws.{drop-here}
 use Rattle.pst_base.specs.declared.ids.Bref.{Bref}

@@ -6,7 +6,6 @@ use Rattle.pst_header.specs.declared.header.Header.{Header}
 use Rattle.pst_header.specs.declared.header.HeaderRefusal.{HeaderRefusal}
 use Rattle.pst_header.specs.Format.{reading}
 use Rattle.gate_file.specs.Effective.{header_bytes}
-use Rattle.file_layout.specs.declared.stops.OpenRefusal.{OpenRefusal}
 use Rattle.file_layout.specs.declared.stops.OpenRefusal.TheVariants as refusals
 use Rattle.file_layout.specs.declared.stops.OpenStop.{OpenStop}
 use Rattle.file_layout.specs.declared.stops.OpenStop.TheVariants.{Refused, Fault, Changed, Memory}

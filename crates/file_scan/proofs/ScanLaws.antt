@@ -1,5 +1,5 @@
 -- A file lays one node map at most, and what is at fault leaves it none.
-use Rattle.std.proofs.Common.{Bool, true, false, ◌≡◌, ℕ, ◌≤◌, ◌<◌, zero, suc, ◌+◌, nat_lt, List, [], ◌∷◌, ◌++◌, map, take, drop, length, Option, Some, None, Result, Ok, Err, refl, sym, ap, subst, ◌∙◌, arith, inl, inr, if◌then◌else◌}
+use Rattle.std.proofs.Common.{Bool, true, false, ◌≡◌, ℕ, ◌≤◌, ◌<◌, zero, suc, nat_lt, List, [], ◌∷◌, ◌++◌, map, take, drop, length, Option, Some, None, Result, Ok, Err, refl, sym, ap, subst, ◌∙◌, arith, inl, inr, if◌then◌else◌}
 use Rattle.std.specs.List.{Contains}
 use Rattle.pst_base.specs.declared.ids.Bref.{Bref}
 use Rattle.pst_base.specs.declared.ids.Nid.{Nid}
@@ -315,7 +315,7 @@ places-stops header file blocks nodes (Refused (refusals.Node nid fault)) holdin
 
 pub lays-these : (header : Header) (file : List ℕ) (blocks nodes : Found) (lines : List NodeLine) (slots : List Bool) → Holding header file blocks nodes → header.eof ≤ length file → header.eof ≤ LARGEST
     → AreLines (found_in file (blocks_in blocks)) header.eof (nodes_in nodes) lines → ((slot : ℕ) → IsMeeting (standing (places_of blocks nodes) (regions_to header.eof)) slot → ⊥)
-    → IsCovered (occupied (places_of blocks nodes) (regions_to header.eof)) slots → LaysThese header file (blocks_in blocks) (blocks.pages ++ nodes.pages) lines slots
+    → IsCovered (occupied (places_of blocks nodes) 8192) slots → LaysThese header file (blocks_in blocks) (nodes_in nodes) (blocks.pages ++ nodes.pages) lines slots
 lays-these header file blocks nodes lines slots holding whole small are apart used = record {
   nodes = record { counters = header.indexes; nodes = are.nodes };
   lays = record {
@@ -332,6 +332,7 @@ lays-these header file blocks nodes lines slots holding whole small are apart us
   };
   lines_are = are.lines_are;
   blocks_are = refl;
+  entries_are = refl;
   pages_are = refl;
   used = used;
 }
@@ -392,7 +393,7 @@ pub lines-laid : (header : Header) (world : World) (blocks bs more : List BlockE
     → Gathered header (file_of world.here) blocks nodes pages → bs ≡ blocks → more ≡ blocks → ns ≡ nodes → ps ≡ pages → header.eof ≤ LARGEST
     → ((find : ℕ → Option (List ℕ)) → Holds world header.eof bs find → AreLines find header.eof ns lines)
     → ((slot : ℕ) → IsMeeting (standing (map page_place ps ++ map place_of more) (regions_to header.eof)) slot → ⊥)
-    → IsCovered (occupied (map page_place ps ++ map place_of more) (regions_to header.eof)) slots → LaysThese header (file_of world.here) blocks pages lines slots
+    → IsCovered (occupied (map page_place ps ++ map place_of more) 8192) slots → LaysThese header (file_of world.here) blocks nodes pages lines slots
 lines-laid header world blocks bs more nodes ns pages ps lines slots told all one other two three small are apart used =
     let file = file_of world.here in
     let regions = regions_to header.eof in
@@ -401,16 +402,17 @@ lines-laid header world blocks bs more nodes ns pages ps lines slots told all on
     let find = found_in file (blocks_in B) in
     let long = no_shorter world.here.main world.here.side in
     let whole = told.whole in
-    let laid : LaysThese header file (blocks_in B) (B.pages ++ N.pages) lines slots =
+    let laid : LaysThese header file (blocks_in B) (nodes_in N) (B.pages ++ N.pages) lines slots =
     lays-these header file B N lines slots all.holding (omega (arith, whole, long)) small
     (subst (λ (es : List NodeEntry). AreLines find header.eof es lines) (two ∙ all.nodes_are)
     (are find (subst (λ (es : List BlockEntry). Holds world header.eof es find) (sym (one ∙ all.blocks_are)) (holds-gathered header world blocks nodes pages told all))))
     (subst (λ (es : List Bref). (slot : ℕ) → IsMeeting (standing (map page_place es ++ map place_of (blocks_in B)) regions) slot → ⊥) (three ∙ all.pages_are)
     (subst (λ (es : List BlockEntry). (slot : ℕ) → IsMeeting (standing (map page_place ps ++ map place_of es) regions) slot → ⊥) (other ∙ all.blocks_are) apart))
-    (subst (λ (es : List Bref). IsCovered (occupied (map page_place es ++ map place_of (blocks_in B)) regions) slots) (three ∙ all.pages_are)
-    (subst (λ (es : List BlockEntry). IsCovered (occupied (map page_place ps ++ map place_of es) regions) slots) (other ∙ all.blocks_are) used)) in
-    subst (λ (es : List BlockEntry). LaysThese header file es pages lines slots) (sym all.blocks_are)
-    (subst (λ (es : List Bref). LaysThese header file (blocks_in B) es lines slots) (sym all.pages_are) laid)
+    (subst (λ (es : List Bref). IsCovered (occupied (map page_place es ++ map place_of (blocks_in B)) 8192) slots) (three ∙ all.pages_are)
+    (subst (λ (es : List BlockEntry). IsCovered (occupied (map page_place ps ++ map place_of es) 8192) slots) (other ∙ all.blocks_are) used)) in
+    subst (λ (es : List BlockEntry). LaysThese header file es nodes pages lines slots) (sym all.blocks_are)
+    (subst (λ (es : List NodeEntry). LaysThese header file (blocks_in B) es pages lines slots) (sym all.nodes_are)
+    (subst (λ (es : List Bref). LaysThese header file (blocks_in B) (nodes_in N) es lines slots) (sym all.pages_are) laid))
 
 -- ---- the header's end
 
@@ -446,12 +448,12 @@ eof-stops image header (Refused (refusals.Missing bid)) opened stops = absurd st
 eof-stops image header (Refused (refusals.Overlap ib)) opened stops = absurd stops
 eof-stops image header (Refused (refusals.Node nid fault)) opened stops = absurd stops
 
-pub scans-of : (image : Image) (header : Header) (blocks : List BlockEntry) (pages : List Bref) (lines : List NodeLine) (slots : List Bool) → opening image.main image.side ≡ Ok header
-    → LaysThese header (file_of image) blocks pages lines slots → Scans image lines
-scans-of image header blocks pages lines slots opened laid = record { header = header; opened = opened; nodes = laid.nodes; lays = laid.lays; listed = laid.lines_are }
+pub scans-of : (image : Image) (header : Header) (blocks : List BlockEntry) (entries : List NodeEntry) (pages : List Bref) (lines : List NodeLine) (slots : List Bool) → opening image.main image.side ≡ Ok header
+    → LaysThese header (file_of image) blocks entries pages lines slots → Scans image lines
+scans-of image header blocks entries pages lines slots opened laid = record { header = header; opened = opened; nodes = laid.nodes; lays = laid.lays; listed = laid.lines_are }
 
-pub scans-once : (image : Image) (header other : Header) (blocks : List BlockEntry) (pages : List Bref) (lines : List NodeLine) (slots : List Bool) (m : NodeMap) → opening image.main image.side ≡ Ok header
-    → LaysThese header (file_of image) blocks pages lines slots → opening image.main image.side ≡ Ok other → Lays other (file_of image) m → lines ≡ lines_of m
-scans-once image header other blocks pages lines slots m opened laid opens lays =
+pub scans-once : (image : Image) (header other : Header) (blocks : List BlockEntry) (entries : List NodeEntry) (pages : List Bref) (lines : List NodeLine) (slots : List Bool) (m : NodeMap) → opening image.main image.side ≡ Ok header
+    → LaysThese header (file_of image) blocks entries pages lines slots → opening image.main image.side ≡ Ok other → Lays other (file_of image) m → lines ≡ lines_of m
+scans-once image header other blocks entries pages lines slots m opened laid opens lays =
     let same : other ≡ header = ok_same {E = OpenRefusal} other header (sym opens ∙ opened) in
     laid.lines_are ∙ ap lines_of (lays-once header (file_of image) laid.nodes m laid.lays (subst (λ (h : Header). Lays h (file_of image) m) same lays))

@@ -23,7 +23,7 @@ use Rattle.file_layout.specs.declared.stops.OpenRefusal.TheVariants as refusals
 use Rattle.file_layout.specs.declared.stops.OpenStop.{OpenStop}
 use Rattle.file_layout.specs.declared.stops.OpenStop.TheVariants.{Refused, Fault, Changed, Memory}
 use Rattle.pst_header.specs.declared.header.Header.{Header}
-use Rattle.file_layout.specs.Nodes.{Node, NodeMap, node_at, AreNodes, block_tree, blocks_in, places_of, regions_to, LARGEST, Lays}
+use Rattle.file_layout.specs.Nodes.{Node, NodeMap, node_at, AreNodes, block_tree, blocks_in, nodes_in, places_of, LARGEST, Lays}
 use Rattle.file_scan.specs.Lines.{line_of, lines_of}
 use Rattle.file_scan.specs.Scan.{IsFirstBad, IsFirstStop, ib_of, HasBadBlock, IsFault}
 use Rattle.file_layout.specs.Trees.{Found, IsWhole}
@@ -100,6 +100,12 @@ StopsAtNodes Fault old eof blocks nodes = Unit {0}
 StopsAtNodes (Changed ib stored computed) old eof blocks nodes = (find : ℕ → Option (List ℕ)) → Holds old eof blocks find → ⊥
 StopsAtNodes (Refused refusal) old eof blocks nodes = (find : ℕ → Option (List ℕ)) → Holds old eof blocks find → IsStopOf (Refused refusal) find eof blocks nodes
 
+-- a stop that is the disk's or for memory: any other never comes where the nodes are read
+abbrev pub NeverStops : OpenStop → World → ℕ → List BlockEntry → List NodeEntry → Type 0
+NeverStops Memory old eof blocks nodes = Unit {0}
+NeverStops Fault old eof blocks nodes = Unit {0}
+NeverStops stop old eof blocks nodes = (find : ℕ → Option (List ℕ)) (are : List Node) → Holds old eof blocks find → AreNodes find eof nodes are → ⊥
+
 -- the lines are those of the nodes that the entries lead to
 pub record AreLines (find : ℕ → Option (List ℕ)) (eof : ℕ) (entries : List NodeEntry) (lines : List NodeLine) : Type 0 where
   pub nodes : List Node
@@ -151,11 +157,12 @@ StopsTrees Fault header file = Unit {0}
 StopsTrees (Changed ib stored computed) header file = ⊥
 StopsTrees (Refused refusal) header file = IsFault header file refusal × ((m : NodeMap) → Lays header file m → ⊥)
 
--- the file with this header lays a node map of these lines, its trees have these blocks and pages, and just their slots and those of the fixed pages are used
-pub record LaysThese (header : Header) (file : List ℕ) (blocks : List BlockEntry) (pages : List Bref) (lines : List NodeLine) (slots : List Bool) : Type 0 where
+-- the file with this header lays a node map of these lines, its trees have these blocks, nodes and pages, and just their slots and those of the fixed pages of 8192 regions are used
+pub record LaysThese (header : Header) (file : List ℕ) (blocks : List BlockEntry) (entries : List NodeEntry) (pages : List Bref) (lines : List NodeLine) (slots : List Bool) : Type 0 where
   pub nodes : NodeMap
   pub lays : Lays header file nodes
   pub lines_are : lines ≡ lines_of nodes
   pub blocks_are : blocks ≡ blocks_in lays.blocks
+  pub entries_are : entries ≡ nodes_in lays.nodes
   pub pages_are : pages ≡ lays.blocks.pages ++ lays.nodes.pages
-  pub used : IsCovered (occupied (places_of lays.blocks lays.nodes) (regions_to header.eof)) slots
+  pub used : IsCovered (occupied (places_of lays.blocks lays.nodes) 8192) slots

@@ -1,6 +1,6 @@
 //! The scan of a whole file: its nodes, and what a keeper needs of it, or why it is refused.
 //!
-//! Promises: `scan_nodes` gives the lines of the node map that the bytes lay (`Lays`) exactly where they lay one, and `scan_file` the used slots, the number of pages and both next numbers of such a file (`IsFound`). A refusal names what is at fault and excludes every node map. Over any world that tells what it holds; both write nothing, and a device's failure and want of memory are their only other answers.
+//! Promises: `scan_nodes` gives the lines of the node map that the bytes lay (`Lays`) exactly where they lay one, and `scan_file` the used slots, the number of pages, both next numbers and the references to blocks of such a file (`IsFound`). A refusal names what is at fault and excludes every node map. Over any world that tells what it holds; both write nothing, and a device's failure and want of memory are their only other answers.
 //!
 //! Leaves to others: how refusals are printed.
 #![tactic(auto)]
@@ -9,6 +9,7 @@ mod blocks;
 mod next;
 mod nodes;
 mod places;
+mod refs;
 mod scan;
 #[cfg(test)]
 mod tests;

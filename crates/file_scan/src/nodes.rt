@@ -103,7 +103,7 @@ fn place_of(blocks: &[BlockEntry], bid: Bid) -> u64
 }
 
 /// Where the block begins whose form is at fault; 0 for any other stop.
-fn place_in(blocks: &[BlockEntry], stop: MemOr<TreeStop>) -> u64
+pub(crate) fn place_in(blocks: &[BlockEntry], stop: MemOr<TreeStop>) -> u64
     ensures { rise_from 0 blocks.now ≡ true → result ≡ place_in blocks.now stop }
 {
     match stop {
@@ -113,7 +113,7 @@ fn place_in(blocks: &[BlockEntry], stop: MemOr<TreeStop>) -> u64
 }
 
 /// The stop of a scan at a node, where a block whose form is at fault begins at `place`.
-fn stop_at(place: u64, nid: Nid, stop: MemOr<TreeStop>) -> OpenStop
+pub(crate) fn stop_at(place: u64, nid: Nid, stop: MemOr<TreeStop>) -> OpenStop
     ensures { result ≡ stop_at place nid stop }
 {
     let refusal = match stop {

@@ -12,23 +12,11 @@ use file_layout::{OpenRefusal, OpenStop};
 use pst_base::{Bref, MemOr, Place};
 use std::alloc::{AllocError, Global};
 
-/// Where the first region begins.
-const FIRST: u64 = 0x4400;
-
-/// The length of a region, in bytes.
-const REGION: u64 = 253_952;
+/// The most regions that a file may have.
+const REGIONS: u32 = 8192;
 
 /// The length of a page, in bytes.
 const PAGE: u64 = 512;
-
-/// How many regions a file of `eof` bytes has, of which the last may be cut short; at least one.
-fn regions_to(eof: u64) -> u32
-    requires { eof ≤ LARGEST }
-    ensures value { result ≡ regions_to eof }
-    ensures few { result ≤ 8192 }
-{
-    ((eof.saturating_sub(FIRST) + (REGION - 1)) / REGION).max(1) as u32
-}
 
 /// Puts the places of pages behind those that are there.
 fn push_pages(places: &mut Vec<Place>, pages: &[Bref]) -> Result<(), AllocError>
@@ -57,7 +45,7 @@ fn push_blocks(places: &mut Vec<Place>, blocks: &[BlockEntry]) -> Result<(), All
     Ok(())
 }
 
-/// The slots on which these pages, these blocks and the fixed pages of a file stand, where no two of the pages, the blocks and the AMap pages meet.
+/// The slots on which these pages, these blocks and the fixed pages of all regions that a file may have stand, where no two of the pages, the blocks and the AMap pages of the file's own regions meet.
 pub(crate) fn used_slots(
     alloc: Global,
     eof: u64,
@@ -67,15 +55,15 @@ pub(crate) fn used_slots(
     requires small { eof ≤ LARGEST }
     requires pages { AllPages eof pages.now }
     requires placed { AllPlaced eof blocks.now }
-    ensures size { IfOk result (λ slots. length slots ≡ 3968 * regions_to eof) }
-    ensures used { IfOk result (IsCovered (occupied (map page_place pages.now ++ map place_of blocks.now) (regions_to eof))) }
+    ensures size { IfOk result (λ slots. length slots ≡ 3968 * 8192) }
+    ensures used { IfOk result (IsCovered (occupied (map page_place pages.now ++ map place_of blocks.now) 8192)) }
     ensures apart { IfOk result (λ _. (slot : ℕ) → IsMeeting (standing (map page_place pages.now ++ map place_of blocks.now) (regions_to eof)) slot → ⊥) }
     ensures overlap { IfErr result (λ stop. StopsAtMeeting stop (map page_place pages.now ++ map place_of blocks.now) (regions_to eof)) }
 {
     let mut places = Vec::new(alloc);
     push_pages(&mut places, pages)?;
     push_blocks(&mut places, blocks)?;
-    match Slots::rebuild(alloc, places.as_slice(), regions_to(eof)) {
+    match Slots::rebuild(alloc, places.as_slice(), REGIONS) {
         Ok(slots) => Ok(slots),
         Err(MemOr::Memory) => Err(OpenStop::Memory),
         Err(MemOr::Refused(overlap)) => {

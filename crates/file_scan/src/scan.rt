@@ -1,7 +1,7 @@
 //! A scan of a whole file.
 ghost use Rattle.std.specs.Prelude.{◌≡◌, ◌≤◌, ◌*◌, length, Ok, Err, IfOk, IfErr};
 ghost use Rattle.pst_outside.specs.Calls.{Rose, Untouched};
-ghost use Rattle.file_layout.specs.Nodes.{NodeMap, Lays, LARGEST, regions_to};
+ghost use Rattle.file_layout.specs.Nodes.{NodeMap, Lays, LARGEST};
 ghost use Rattle.file_layout.specs.Opening.{opening};
 ghost use Rattle.file_layout.specs.Trees.{file_of};
 ghost use Rattle.file_scan.specs.Found.{IsFound};
@@ -13,12 +13,14 @@ use crate::blocks::{check_eof, read_blocks};
 use crate::next::{next_block, next_page};
 use crate::nodes::{NodeLine, node_lines};
 use crate::places::used_slots;
+use crate::refs::count_refs;
 use alloc_map::Slots;
-use btree_pages::BlockEntry;
+use btree_pages::{BlockEntry, NodeEntry};
 use file_layout::{OpenStop, open_header, read_tree};
 use pst_base::Bref;
 use pst_header::Header;
 use pst_outside::Outside;
+use ref_counts::RefCounts;
 use std::alloc::Global;
 
 /// The kind of the node tree's pages.
@@ -29,7 +31,7 @@ const NODE_TREE: u8 = 0x81;
 pub struct FoundFile {
     /// The header that counts.
     pub header: Header,
-    /// The slots on which a block, a page of a tree or a fixed page stands.
+    /// The slots of all 8192 regions that a file may have, and on which of them a block, a page of a tree or a fixed page stands.
     pub slots: Slots,
     /// How many pages both trees have.
     pub pages: u64,
@@ -37,6 +39,8 @@ pub struct FoundFile {
     pub next_block: u64,
     /// The number of the next page.
     pub next_page: u64,
+    /// How often the nodes reach each block.
+    pub refs: RefCounts,
 }
 
 /// What a scan found.
@@ -45,6 +49,8 @@ struct Scanned {
     header: Header,
     /// The entries of the block tree.
     blocks: Vec<BlockEntry>,
+    /// The entries of the node tree.
+    nodes: Vec<NodeEntry>,
     /// The pages of the block tree, and then those of the node tree.
     pages: Vec<Bref>,
     /// What is told of the nodes.
@@ -67,7 +73,7 @@ pub fn scan_nodes<W: Outside>(alloc: Global, w: &mut W) -> Result<Vec<NodeLine>,
     Ok(scanned.lines)
 }
 
-/// What a keeper of a file needs of it, found by the same scan as `scan_nodes` does, with the same stops. Both next numbers stay at the greatest of 64 bits, where a file's ids leave none behind them.
+/// What a keeper of a file needs of it, found by the same scan as `scan_nodes` does, with the same stops. Blocks that name or list others are read once more, for the references. Both next numbers stay at the greatest of 64 bits, where a file's ids leave none behind them.
 pub fn scan_file<W: Outside>(alloc: Global, w: &mut W) -> Result<FoundFile, OpenStop>
     ensures found { IfOk result (λ found. (W.view w.new).tells → IsFound (W.view w.new).here found) }
     ensures refused { IfErr result (λ stop. (W.view w.new).tells → StopsScan stop (W.view w.new).here) }
@@ -75,20 +81,29 @@ pub fn scan_file<W: Outside>(alloc: Global, w: &mut W) -> Result<FoundFile, Open
     ensures same { Untouched (W.view w.old) (W.view w.new) }
 {
     let scanned = scan(alloc, w)?;
+    let refs = count_refs(
+        alloc,
+        w,
+        scanned.header.eof,
+        scanned.blocks.as_slice(),
+        scanned.nodes.as_slice(),
+    )?;
     Ok(FoundFile {
         header: scanned.header,
         pages: scanned.pages.len() as u64,
         next_block: next_block(&scanned.header, scanned.blocks.as_slice()),
         next_page: next_page(&scanned.header, scanned.pages.as_slice()),
         slots: scanned.slots,
+        refs,
     })
 }
 
 /// What is found of a file.
 fn scan<W: Outside>(alloc: Global, w: &mut W) -> Result<Scanned, OpenStop>
     ensures opened { IfOk result (λ scanned. (W.view w.new).tells → opening (W.view w.new).here.main (W.view w.new).here.side ≡ Ok scanned.header) }
-    ensures lays { IfOk result (λ scanned. (W.view w.new).tells → LaysThese scanned.header (file_of (W.view w.new).here) scanned.blocks.items scanned.pages.items scanned.lines.items scanned.slots) }
-    ensures size { IfOk result (λ scanned. length scanned.slots ≡ 3968 * regions_to scanned.header.eof) }
+    ensures lays { IfOk result (λ scanned. (W.view w.new).tells → LaysThese scanned.header (file_of (W.view w.new).here) scanned.blocks.items scanned.nodes.items scanned.pages.items scanned.lines.items scanned.slots) }
+    ensures whole { IfOk result (λ scanned. (W.view w.new).tells → scanned.header.eof ≤ length (W.view w.new).here.main) }
+    ensures size { IfOk result (λ scanned. length scanned.slots ≡ 3968 * 8192) }
     ensures refused { IfErr result (λ stop. (W.view w.new).tells → StopsScan stop (W.view w.new).here) }
     ensures fault { result ≡ Err OpenStop.Fault → Rose (W.view w.old).disk_faults (W.view w.new).disk_faults }
     ensures same { Untouched (W.view w.old) (W.view w.new) }
@@ -102,9 +117,9 @@ fn scan<W: Outside>(alloc: Global, w: &mut W) -> Result<Scanned, OpenStop>
 fn scan_trees<W: Outside>(alloc: Global, w: &mut W, header: &Header) -> Result<Scanned, OpenStop>
     requires whole { (W.view w.old).tells → header.now.eof ≤ length (W.view w.old).here.main }
     requires small { header.now.eof ≤ LARGEST }
-    ensures lays { IfOk result (λ scanned. (W.view w.new).tells → LaysThese header.now (file_of (W.view w.new).here) scanned.blocks.items scanned.pages.items scanned.lines.items scanned.slots) }
+    ensures lays { IfOk result (λ scanned. (W.view w.new).tells → LaysThese header.now (file_of (W.view w.new).here) scanned.blocks.items scanned.nodes.items scanned.pages.items scanned.lines.items scanned.slots) }
     ensures header { IfOk result (λ scanned. scanned.header ≡ header.now) }
-    ensures size { IfOk result (λ scanned. length scanned.slots ≡ 3968 * regions_to header.now.eof) }
+    ensures size { IfOk result (λ scanned. length scanned.slots ≡ 3968 * 8192) }
     ensures refused { IfErr result (λ stop. (W.view w.new).tells → StopsTrees stop header.now (file_of (W.view w.new).here)) }
     ensures fault { result ≡ Err OpenStop.Fault → Rose (W.view w.old).disk_faults (W.view w.new).disk_faults }
     ensures same { Untouched (W.view w.old) (W.view w.new) }
@@ -118,6 +133,7 @@ fn scan_trees<W: Outside>(alloc: Global, w: &mut W, header: &Header) -> Result<S
     Ok(Scanned {
         header: *header,
         blocks,
+        nodes,
         pages,
         lines,
         slots,

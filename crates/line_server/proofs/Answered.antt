@@ -1,12 +1,14 @@
 -- A piece at the front is answered.
-use Rattle.std.proofs.Common.{◌≡◌, ◌∙◌, ℕ, ◌+◌, ◌<◌, ◌≤◌, ap, sym, Bool, true, false, List, [], ◌∷◌, ◌++◌, length, get_or, take, drop, arith, refl}
+use Rattle.std.proofs.Common.{◌≡◌, ◌∙◌, ℕ, ◌+◌, ◌<◌, ◌≤◌, ap, sym, Bool, true, false, List, [], ◌∷◌, ◌++◌, length, get_or, take, drop, arith, refl, Result, Ok, Err, IfOk, IfErr}
 use Rattle.std.proofs.lemmas.List.{append-nil, drop_all}
 use Rattle.std.proofs.lemmas.Bool.{true≢false}
 use Rattle.pst_outside.specs.World.{World}
 use Rattle.line_server.specs.Lines.{Piece, line, too_long, further, cut, ending, full, last_piece, is_quit, NoFeedBelow, LINE_LIMIT}
-use Rattle.line_server.specs.Spoken.{IsSaidTo}
-use Rattle.line_server.specs.History.{Answering, Answers}
-use Rattle.line_server.specs.Step.{AnswersPiece, Passes, PassesOverlong}
+use Rattle.line_server.specs.Spoken.{IsSaidTo, spoken_text}
+use Rattle.line_server.specs.History.{Answering, Answers, Stopping, StopsAt}
+use Rattle.line_server.specs.Step.{AnswersPiece, Passes, PassesOverlong, StopsPiece}
+use Rattle.line_server.specs.Worlds.{Quiet}
+use Rattle.line_server.specs.declared.pieces.Answer.{Answer}
 use Rattle.line_server.proofs.Hearing.{quiet_started}
 use Rattle.line_server.proofs.PieceLaws.{feed_cuts, overlong_cuts, last_cuts, nothing_cuts}
 
@@ -57,3 +59,17 @@ overlong view answers is a v {held} {held'} {reply} {long} {long'} p = record {
   quiet = quiet_started (view v);
   quits = p.quits;
 }
+
+-- the answer to a piece that was passed
+pub passed : {S W Stop : Type 0} (view : W → World) (answers : Answering S W) (ended : Bool) (a b : S) (v w : W) (held held' : List ℕ) (long long' : Bool) (piece : Piece) (r : Result Answer Stop)
+    → Passes ended held long piece held' long' → Quiet (view v) (view w) → IfOk r (λ answer. Answers answers piece a v (spoken_text answer.spoken) b w × (answer.quit ≡ is_quit piece))
+    → IfOk r (λ answer. AnswersPiece view answers ended a v held long b w held' long' (spoken_text answer.spoken) answer.quit)
+passed view answers ended a b v w held held' long long' piece (Ok answer) passes quiet is = record { piece = piece; passes = passes; answer = is.0; quiet = quiet; quits = is.1 }
+passed view answers ended a b v w held held' long long' piece (Err stop) passes quiet is = tt
+
+-- and the stop at one
+pub stopped : {S W Stop : Type 0} (view : W → World) (stops : Stopping S W Stop) (ended : Bool) (a b : S) (v w : W) (held held' : List ℕ) (long long' : Bool) (piece : Piece) (r : Result Answer Stop)
+    → Passes ended held long piece held' long' → Quiet (view v) (view w) → IfErr r (λ stop. StopsAt stops piece a v stop b w)
+    → IfErr r (λ stop. StopsPiece view stops ended a v held long b w held' long' stop)
+stopped view stops ended a b v w held held' long long' piece (Ok answer) passes quiet is = tt
+stopped view stops ended a b v w held held' long long' piece (Err stop) passes quiet is = record { piece = piece; passes = passes; stopped = is; quiet = quiet }

@@ -44,4 +44,4 @@ listens_along {old} p q = record {
 
 -- where nothing is asked of it
 pub quiet_started : (world : World) → Quiet world world
-quiet_started world = record { counts = falls_started world; told = λ t. t; input = λ t. refl; said = λ t. refl }
+quiet_started world = record { counts = falls_started world; told = λ t. t; input = λ t. refl }

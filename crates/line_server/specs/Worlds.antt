@@ -11,12 +11,11 @@ pub record Listens (old new : World) : Type 0 where
   pub crash : NoMore old new
   pub time : Elapses old new
 
--- the input that is left and what was said are as before, and no count of faults falls
+-- the input that is left is as before, and no count of faults falls
 pub record Quiet (old new : World) : Type 0 where
   pub counts : NeverFall old new
   pub told : new.tells → old.tells
   pub input : new.tells → new.input ≡ old.input
-  pub said : new.tells → new.here.said ≡ old.here.said
 
 -- the text was said
 abbrev pub Speaks : List ℕ → World → World → Type 0

@@ -1,10 +1,10 @@
 //! The pieces of the input, and what is said to each.
-ghost use Rattle.std.specs.Prelude.{◌≡◌, ◌<◌, true, false, [], length};
+ghost use Rattle.std.specs.Prelude.{◌≡◌, ◌<◌, true, false, [], length, IfOk, IfErr};
 ghost use Rattle.line_server.specs.Lines.{line, ending, full, last_piece, is_quit, without_cr};
 ghost use Rattle.line_server.specs.Fronts.{StandsAt};
 ghost use Rattle.line_server.specs.Spoken.{spoken_text, IsSaidTo};
-ghost use Rattle.line_server.specs.History.{Answers};
-ghost use Rattle.line_server.specs.Step.{AnswersPiece, PassesOverlong};
+ghost use Rattle.line_server.specs.History.{Answers, StopsAt};
+ghost use Rattle.line_server.specs.Step.{AnswersPiece, PassesOverlong, StopsPiece};
 ghost use Rattle.line_server.specs.Worlds.{Quiet};
 
 use crate::answerer::LineAnswerer;
@@ -37,14 +37,17 @@ fn reply_to<W: Outside, A: LineAnswerer<W>>(
     answerer: &mut A,
     world: &mut W,
     bytes: &[u8],
-) -> Answer
-    ensures answers { Answers A.answers (line bytes.now) answerer.old world.old (spoken_text result.spoken) answerer.new world.new }
+) -> Result<Answer, A::Stop>
+    ensures answers { IfOk result (λ answer. Answers A.answers (line bytes.now) answerer.old world.old (spoken_text answer.spoken) answerer.new world.new × (answer.quit ≡ is_quit (line bytes.now))) }
+    ensures stops { IfErr result (λ stop. StopsAt A.stops (line bytes.now) answerer.old world.old stop answerer.new world.new) }
     ensures quiet { Quiet (W.view world.old) (W.view world.new) }
-    ensures quits { result.quit ≡ is_quit (line bytes.now) }
 {
-    Answer {
-        spoken: answerer.answer(alloc, world, bytes),
-        quit: bytes == b"quit".as_slice(),
+    match answerer.answer(alloc, world, bytes) {
+        Ok(spoken) => Ok(Answer {
+            spoken,
+            quit: bytes == b"quit".as_slice(),
+        }),
+        Err(stop) => Err(stop),
     }
 }
 
@@ -66,13 +69,13 @@ fn ending_answer<W: Outside, A: LineAnswerer<W>>(
     world: &mut W,
     front: &[u8],
     long: bool,
-) -> Answer
-    ensures answers { Answers A.answers (ending long front.now) answerer.old world.old (spoken_text result.spoken) answerer.new world.new }
+) -> Result<Answer, A::Stop>
+    ensures answers { IfOk result (λ answer. Answers A.answers (ending long front.now) answerer.old world.old (spoken_text answer.spoken) answerer.new world.new × (answer.quit ≡ is_quit (ending long front.now))) }
+    ensures stops { IfErr result (λ stop. StopsAt A.stops (ending long front.now) answerer.old world.old stop answerer.new world.new) }
     ensures quiet { Quiet (W.view world.old) (W.view world.new) }
-    ensures quits { result.quit ≡ is_quit (ending long front.now) }
 {
     if long {
-        nothing()
+        Ok(nothing())
     } else {
         reply_to(alloc, answerer, world, without_cr(front))
     }
@@ -100,13 +103,13 @@ fn last_answer<W: Outside, A: LineAnswerer<W>>(
     world: &mut W,
     front: &[u8],
     long: bool,
-) -> Answer
-    ensures answers { Answers A.answers (last_piece long front.now) answerer.old world.old (spoken_text result.spoken) answerer.new world.new }
+) -> Result<Answer, A::Stop>
+    ensures answers { IfOk result (λ answer. Answers A.answers (last_piece long front.now) answerer.old world.old (spoken_text answer.spoken) answerer.new world.new × (answer.quit ≡ is_quit (last_piece long front.now))) }
+    ensures stops { IfErr result (λ stop. StopsAt A.stops (last_piece long front.now) answerer.old world.old stop answerer.new world.new) }
     ensures quiet { Quiet (W.view world.old) (W.view world.new) }
-    ensures quits { result.quit ≡ is_quit (last_piece long front.now) }
 {
     if long {
-        nothing()
+        Ok(nothing())
     } else {
         reply_to(alloc, answerer, world, front)
     }
@@ -120,9 +123,10 @@ pub(crate) fn answer_feed<W: Outside, A: LineAnswerer<W>>(
     lines: &mut LineBuffer,
     long: &mut bool,
     feed: usize,
-) -> Answer
+) -> Result<Answer, A::Stop>
     requires { StandsAt (Front.Line feed) lines.old }
-    ensures { AnswersPiece W.view A.answers false answerer.old world.old lines.old long.old answerer.new world.new lines.new long.new (spoken_text result.spoken) result.quit }
+    ensures answers { IfOk result (λ answer. AnswersPiece W.view A.answers false answerer.old world.old lines.old long.old answerer.new world.new lines.new long.new (spoken_text answer.spoken) answer.quit) }
+    ensures stops { IfErr result (λ stop. StopsPiece W.view A.stops false answerer.old world.old lines.old long.old answerer.new world.new lines.new long.new stop) }
 {
     let held = lines.held();
     let answer = ending_answer(alloc, answerer, world, &held[..feed], *long);
@@ -149,10 +153,11 @@ pub(crate) fn answer_last<W: Outside, A: LineAnswerer<W>>(
     world: &mut W,
     lines: &mut LineBuffer,
     long: &mut bool,
-) -> Answer
+) -> Result<Answer, A::Stop>
     requires stands { StandsAt Front.Open lines.old }
     requires some { 0 < length lines.old }
-    ensures answers { AnswersPiece W.view A.answers true answerer.old world.old lines.old long.old answerer.new world.new lines.new long.new (spoken_text result.spoken) result.quit }
+    ensures answers { IfOk result (λ answer. AnswersPiece W.view A.answers true answerer.old world.old lines.old long.old answerer.new world.new lines.new long.new (spoken_text answer.spoken) answer.quit) }
+    ensures stops { IfErr result (λ stop. StopsPiece W.view A.stops true answerer.old world.old lines.old long.old answerer.new world.new lines.new long.new stop) }
 {
     let held = lines.held();
     let n = held.len();

@@ -1,8 +1,7 @@
 //! The turns of a server of lines.
-ghost use Rattle.std.specs.Prelude.{◌≡◌, IsNone, IfSome, true, [], IfOk, OnErr};
+ghost use Rattle.std.specs.Prelude.{◌≡◌, IfOk, OnErr};
 ghost use Rattle.line_server.specs.Fronts.{IsReady};
-ghost use Rattle.line_server.specs.Spoken.{spoken_text};
-ghost use Rattle.line_server.specs.Step.{AnswersPiece, Steps, Spoke};
+ghost use Rattle.line_server.specs.Step.{AnswersFront, Steps, Spoke};
 ghost use Rattle.line_server.specs.States.{state_of};
 ghost use Rattle.line_server.specs.Server.{ServerEnds, Starts};
 
@@ -37,17 +36,16 @@ impl Server {
         })
     }
 
-    /// Answers what stands at the front, or gives None where the input has ended and all of it was answered.
+    /// Answers what stands at the front, or gives None where the input has ended and all of it was answered. An `Err` is that of what answers lines.
     fn answer<W: Outside, A: LineAnswerer<W>>(
         &mut self,
         alloc: Global,
         answerer: &mut A,
         world: &mut W,
         front: Front,
-    ) -> Option<Answer>
+    ) -> Result<Option<Answer>, A::Stop>
         requires { IsReady front self.old.ended self.old.lines }
-        ensures some { IfSome result (λ a. AnswersPiece W.view A.answers self.old.ended answerer.old world.old self.old.lines self.old.long answerer.new world.new self.new.lines self.new.long (spoken_text a.spoken) a.quit) }
-        ensures none { IsNone result → (self.old.lines ≡ []) × (self.old.ended ≡ true) × (answerer.new ≡ answerer.old) × (world.new ≡ world.old) }
+        ensures answers { AnswersFront W.view A.answers A.stops self.old.ended answerer.old world.old self.old.lines self.old.long answerer.new world.new self.new.lines self.new.long result }
         ensures ended { self.new.ended ≡ self.old.ended }
     {
         match front {
@@ -59,19 +57,19 @@ impl Server {
                     &mut self.lines,
                     &mut self.long,
                     feed,
-                );
-                Some(answer)
+                )?;
+                Ok(Some(answer))
             }
             Front::Overlong => {
                 let answer = answer_overlong(&mut self.lines, &mut self.long);
-                Some(answer)
+                Ok(Some(answer))
             }
             Front::Open => {
                 if self.lines.held().len() == 0 {
-                    return None;
+                    return Ok(None);
                 }
-                let answer = answer_last(alloc, answerer, world, &mut self.lines, &mut self.long);
-                Some(answer)
+                let answer = answer_last(alloc, answerer, world, &mut self.lines, &mut self.long)?;
+                Ok(Some(answer))
             }
         }
     }
@@ -82,22 +80,23 @@ impl Server {
         alloc: Global,
         answerer: &mut A,
         world: &mut W,
-    ) -> Option<ServerEnd>
-        ensures { Steps W.view A.answers (state_of self.old) (state_of self.new) answerer.old world.old answerer.new world.new result }
+    ) -> Option<ServerEnd<A::Stop>>
+        ensures { Steps W.view A.answers A.stops (state_of self.old) (state_of self.new) answerer.old world.old answerer.new world.new result }
     {
         let front = match next_front(&mut self.lines, &mut self.ended, world) {
             Ok(front) => front,
             Err(Failed) => return Some(ServerEnd::Input),
         };
         match self.answer(alloc, answerer, world, front) {
-            Some(answer) => speak(world, &answer),
-            None => Some(ServerEnd::Done),
+            Ok(Some(answer)) => speak(world, &answer),
+            Ok(None) => Some(ServerEnd::Done),
+            Err(stop) => Some(ServerEnd::Stopped(stop)),
         }
     }
 }
 
 /// Says an answer. Gives how the server ends with it, if it does.
-fn speak<W: Outside>(world: &mut W, answer: &Answer) -> Option<ServerEnd>
+fn speak<W: Outside, S>(world: &mut W, answer: &Answer) -> Option<ServerEnd<S>>
     ensures { Spoke answer.now (W.view world.old) (W.view world.new) result }
 {
     match say_all(world, answer.spoken.text()) {
@@ -107,16 +106,16 @@ fn speak<W: Outside>(world: &mut W, answer: &Answer) -> Option<ServerEnd>
     }
 }
 
-/// Has lines answered, one after another, until the input ends, a line is `quit`, the input or the output fails, or 2^32 lines were taken. A line ends at an LF, and a CR before that is no part of it; what follows the last LF is a line too, if the input ends there. A line of more than 1,048,576 bytes, a CR included, is answered `no limit line`, and the rest of it is passed.
+/// Has lines answered, one after another, until the input ends, a line is `quit`, the input or the output fails, what answers them stops, or 2^32 lines were taken. A line ends at an LF, and a CR before that is no part of it; what follows the last LF is a line too, if the input ends there. A line of more than 1,048,576 bytes, a CR included, is answered `no limit line`, and the rest of it is passed.
 ///
 /// An `Err` comes of want of memory at the start, before anything is taken.
 pub fn serve<W: Outside, A: LineAnswerer<W>>(
     alloc: Global,
     answerer: &mut A,
     world: &mut W,
-) -> Result<ServerEnd, AllocError>
+) -> Result<ServerEnd<A::Stop>, AllocError>
     // The lines are those of the input; each has its turn, in their order, and its reply is said.
-    ensures ends { IfOk result (λ end. ServerEnds W.view A.answers answerer.old world.old answerer.new world.new end) }
+    ensures ends { IfOk result (λ end. ServerEnds W.view A.answers A.stops answerer.old world.old answerer.new world.new end) }
     ensures no_memory { OnErr result ((answerer.new ≡ answerer.old) × (world.new ≡ world.old)) }
 {
     let mut server = Server::start(alloc)?;

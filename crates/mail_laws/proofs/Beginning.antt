@@ -105,7 +105,7 @@ is_whole = record {
     ]
   ];
   store = refl;
-  contexts = λ f p e. let w = placed f p e in (root_values, ap at (sym w.0), ap (λ (x : FolderPlace). x.parent.bits) w.1);
+  contexts = λ f p e. let w = placed f p e in (root_values, ap at (sym w.0), λ no_root. ap (λ (x : FolderPlace). x.parent.bits) w.1);
   tables = λ f p e plain. let w = placed f p e in subst (λ x. IsSome (at (hierarchy x)) × IsSome (at (contents x))) w.0 (refl, refl);
   listed = λ f p t m e plain is row four.
       let w = placed f p e in

@@ -35,7 +35,7 @@ whole_message places at m n four listed held = record {
   typed = n.typed;
   rows_ascend = n.rows_ascend;
   store = n.store;
-  contexts = λ f p e. let c = n.contexts f p e in (c.0, c.1, c.2 (no_folder n m f p four e));
+  contexts = λ f p e. let c = n.contexts f p e in (c.0, c.1, λ no_root. c.2 no_root (no_folder n m f p four e));
   tables = n.tables;
   listed = λ f p t k e plain at row kind. elim (cases_eq k m) [
     | inl same ↦ rw same (listed f p t e plain at (rw same at row))
@@ -75,8 +75,8 @@ whole_folder places at f parent q n kind other_root eq plain_q row values folder
   rows_ascend = n.rows_ascend;
   store = n.store;
   contexts = λ g p e. elim (cases_eq g f) [
-    | inl same ↦ (values.0, ap at same ∙ values.1, values.2 ∙ ap (λ x. x.parent.bits) (is_here g p same e))
-    | inr other ↦ let w = n.contexts g p (was g p other e) in (w.0, w.1, w.2 other)
+    | inl same ↦ (values.0, ap at same ∙ values.1, λ no_root. values.2 ∙ ap (λ x. x.parent.bits) (is_here g p same e))
+    | inr other ↦ let w = n.contexts g p (was g p other e) in (w.0, w.1, λ no_root. w.2 no_root other)
   ];
   tables = λ g p e plain. elim (cases_eq g f) [
     | inl same ↦ subst (λ x. IsSome (at (hierarchy x)) × IsSome (at (contents x))) (sym same) (folders, messages)

@@ -313,7 +313,7 @@ fine_between T f from to p q r w ep plain_p no_root eq plain_q er plain_r =
     let c' : Ctx = record c.0 { parent = to } in
     let D = with_object f (Some (Context c')) nothing in
     let puts = puts_object T nothing f (Some (Context c')) in
-    let n = puts_context (λ x. x ≡ f) T.places (now_at T nothing) (now_at T D) (nearly (λ x. x ≡ f) T.places (now_at T nothing) w) f p c' ep (λ free. absurd (free refl)) puts in
+    let n = puts_context (λ x. x ≡ f) T.places (now_at T nothing) (now_at T D) (nearly (λ x. x ≡ f) T.places (now_at T nothing) w) f p c' ep (λ no_root free. absurd (free refl)) puts in
     let two = plain_id n f p ep plain_p in
     let from_still = plain_still T.places f to from q eq plain_q in
     let to_still = plain_still T.places f to to r er plain_r in

@@ -1,10 +1,11 @@
 -- After each command an opening finds the tree.
-use Rattle.std.proofs.Common.{◌≡◌, ℕ, ◌%◌, ◌==◌, ◌||◌, Bool, true, false, nat_le, List, Option, None, Some, IsSome, IfOk, is_some, arith, refl, sym, subst, ap, ◌∙◌, inl, inr}
+use Rattle.std.proofs.Common.{◌≡◌, ℕ, ◌%◌, ◌==◌, ◌||◌, Bool, true, false, nat_le, List, [], Option, None, Some, IsSome, IfOk, is_some, arith, refl, sym, subst, ap, ◌∙◌, inl, inr}
 use Rattle.std.specs.FinMap as map
 use Rattle.std.specs.Ordering.{nat_cmp}
 use Rattle.std.proofs.lemmas.Bool.{cases_Bool, cases_eq, false≢true, or_parts}
 use Rattle.std.proofs.lemmas.Option.{none-some, same_Some}
 use Rattle.mapi_values.specs.Characters.{folded}
+use Rattle.node_port.specs.Nodes.{node_at}
 use Rattle.mapi_values.specs.Keyed.{drop_key, put_key}
 use Rattle.mapi_values.specs.Messages.{Mes}
 use Rattle.mapi_values.specs.Properties.{put, remove_id}
@@ -24,22 +25,22 @@ use Rattle.mail_tree.specs.Tree.{Tree, object_at}
 use Rattle.mail_tree.specs.Values.{bytes_of, finished, folder_props, is_set_protected, is_unset_protected, message_props, name_of, text, with_props}
 use Rattle.command_text.specs.declared.reply.CommandRefusal.TheVariants.{Ids}
 use Rattle.mail_tree.specs.Changing.{Answer, Changed, ◌>>=◌, add_shown, associated, contents, context_at, drop_shown, hierarchy, newest, nothing, now_at, put_shown, table_at, with_object, with_rows, within_limits}
-use Rattle.mail_tree.specs.Columns.{hierarchy_table}
+use Rattle.mail_tree.specs.Columns.{contents_table, hierarchy_table}
 use Rattle.mail_tree.specs.Settling.{mirrored, settled, with_context}
 use Rattle.mail_tree.specs.Ids.{folder_kinds, is_spent, is_taken, message_kinds, new_id, next_index}
 use Rattle.mail_tree.specs.Folders.{Outcome, associated_in, changing, has_associated, has_rows, made_folder, making, making_folder, moved_between, moved_folder, moving, nid, place, removed_folder, renamed_folder, replied, siblings, unchanged, unless_full, unless_named, unless_protected, with_folder, without_folder, without_node}
 use Rattle.mail_tree.specs.Messages.{added_message, changed_message, copied_message, copy_of, copying, in_folder, is_crowded_message, is_overfull, making_message, message_in, moved_message, new_message, plain_message, removed_message, set_value, unset_value, with_message}
 use Rattle.mail_tree.specs.Step.{after, outcome}
 use Rattle.mail_tree.specs.Whole.{IsWhole}
-use Rattle.mail_tree.specs.Found.{IsFound}
+use Rattle.mail_tree.specs.Found.{AreOwned, BelongsAt, IsFound}
 use Rattle.mail_tree.proofs.AfterTree.{now_nothing, puts_object, puts_values}
 use Rattle.mail_laws.proofs.Closing.{plain_still}
 use Rattle.mail_laws.proofs.Depths.{AreReached, SameBut, made_reached, moved_reached, removed_reached}
 use Rattle.mail_tree.proofs.FineLaws.{cases_Option}
 use Rattle.mail_laws.proofs.FolderSteps.{fine_protected, no_rows, not_placed, with_new_folder}
-use Rattle.mail_laws.proofs.FoundSteps.{Finds, PlainIds, finds_add, finds_add_message, finds_drop_message, finds_elsewhere, finds_mirrored, finds_put_message, finds_values, found_after, get_other, kind_apart, named_place, then_finds}
+use Rattle.mail_laws.proofs.FoundSteps.{Finds, PlainIds, finds_add, finds_add_message, finds_drop_message, finds_elsewhere, finds_mirrored, finds_put_message, finds_values, found_after, get_other, kind_apart, named_place, owned_put, some_belongs, then_finds}
 use Rattle.mail_laws.proofs.Keeping.{from_fine, if_any, if_test, if_then, if_weaker, never_made}
-use Rattle.mail_tree.proofs.KeyedFinds.{find-drop_other, find-drop_same, find-put_other, find-put_same}
+use Rattle.mail_tree.proofs.KeyedFinds.{find-drop_other, find-drop_same, find-put_other, find-put_same, kept-put}
 use Rattle.mail_tree.proofs.KindsOfPuts.{beside_kind, same_folder, same_table}
 use Rattle.mail_laws.proofs.LawSteps.{before, reads_only}
 use Rattle.mail_laws.proofs.MessageSteps.{Before, fine_message_in, finished_folder, finished_id, home_of, new_message_id}
@@ -112,8 +113,9 @@ module _ (T : Tree) (w : Before T) (h : IsFound T) where
   start : Finds T T.places nothing
   start = record {
     listed = λ f p t r e plain is row s named. h.listed f p t r s e plain (sym (ap (λ g. g (hierarchy f)) (now_nothing T false)) ∙ is) row named;
-    told = λ f p c e plain is. let d = w.contexts f p e in let same : d.0 ≡ c = cc in ap (λ (x : Ctx). x.parent) (sym same) ∙ d.2;
+    told = λ f p c e plain no_root is. let d = w.contexts f p e in let same : d.0 ≡ c = cc in ap (λ (x : Ctx). x.parent) (sym same) ∙ d.2 no_root;
     apart = λ k three. map.get-empty nat_cmp k;
+    owned = λ q o e. h.owned q o (sym (ap (λ g. g q) (now_nothing T false)) ∙ e);
   }
 
   limited : {B : Type 0} (Q : B → Type 0) (D : Changed) (f : Unit {0} → Answer B) → IfOk (f tt) Q → IfOk (within_limits D >>= f) Q
@@ -129,8 +131,9 @@ module _ (T : Tree) (w : Before T) (h : IsFound T) where
   then_making places reached a kind index k = if_then (Finds T places) After a (making T places kind index) k (λ D s. limited After D _ (if_test After (is_spent index) Ids _ (s, reached)))
 
   -- a message is put, or goes
-  message_changes : (D D' : Changed) (m : ℕ) (o : Option Object) → m % 32 ≡ 4 → Finds T T.places D → Puts (now_at T D) (now_at T D') m o → ((k : ℕ) → (k ≡ m → ⊥) → map.get D'.objects k ≡ map.get D.objects k) → Finds T T.places D'
-  message_changes D D' m o four s puts gets = finds_elsewhere T T.places ids D D' m o s puts gets (λ e. omega arith) (λ e. omega arith) (λ e. omega arith)
+  message_changes : (D D' : Changed) (m : ℕ) (o : Option Object) → m % 32 ≡ 4 → Finds T T.places D → Puts (now_at T D) (now_at T D') m o → ((k : ℕ) → (k ≡ m → ⊥) → map.get D'.objects k ≡ map.get D.objects k)
+      → ((x : Object) → o ≡ Some x → BelongsAt T.places m x) → Finds T T.places D'
+  message_changes D D' m o four s puts gets fits = finds_elsewhere T T.places ids D D' m o s puts gets (λ e. omega arith) (λ e. omega arith) (λ e. omega arith) fits
 
   -- `rm`
   removes : (m : ℕ) → IfOk (removed_message T m) After
@@ -139,7 +142,7 @@ module _ (T : Tree) (w : Before T) (h : IsFound T) where
       let D = with_object m None nothing in let v = home_of T w m M k.0 in
       let a = drop_shown T (contents M.folder) m D in
       then_changing (a >>= settled T T.places M.folder) (replied Done) (then_finds T T.places ids a M.folder v.1 v.2 v.3
-      (finds_drop_message T T.places ids D M.folder m (message_changes nothing D m None k.1 start (puts_object T nothing m None) (λ x other. get_other nothing m x None other)))))
+      (finds_drop_message T T.places ids D M.folder m (message_changes nothing D m None k.1 start (puts_object T nothing m None) (λ x other. get_other nothing m x None other) (λ x e. absurd (none-some x e))))))
 
   -- `mv`
   moves : (m folder : ℕ) → IfOk (moved_message T m folder) After
@@ -152,7 +155,7 @@ module _ (T : Tree) (w : Before T) (h : IsFound T) where
         | inl b ↦ rw b (start, h.reached)
         | inr b ↦
             let o = Some (Message (in_folder folder M)) in let D = with_object m o nothing in let v = home_of T w m M k.0 in
-            let s = message_changes nothing D m o k.1 start (puts_object T nothing m o) (λ x other. get_other nothing m x o other) in
+            let s = message_changes nothing D m o k.1 start (puts_object T nothing m o) (λ x other. get_other nothing m x o other) (some_belongs T.places m (Message (in_folder folder M)) tt) in
             rw b (if_then (Finds T T.places) After (drop_shown T (contents M.folder) m D) _ (finds_drop_message T T.places ids D M.folder m s) (λ D' s'.
             let a = add_shown T (contents folder) m M.props D' in
             then_changing (a >>= settled T T.places M.folder >>= settled T T.places folder) (replied Done)
@@ -169,9 +172,9 @@ module _ (T : Tree) (w : Before T) (h : IsFound T) where
       let o = Some (Message M) in
       let D = with_object M.nid o D0 in
       let a = add_shown T (contents M.folder) M.nid M.props D in
-      let s0 : Finds T T.places D0 = record { listed = start.listed; told = start.told; apart = start.apart } in
+      let s0 : Finds T T.places D0 = record { listed = start.listed; told = start.told; apart = start.apart; owned = start.owned } in
       then_making T.places h.reached (a >>= settled T T.places M.folder) 4 index (then_finds T T.places ids a M.folder p found plain
-      (finds_add_message T T.places ids D M.folder M.nid M.props (message_changes D0 D M.nid o four s0 (puts_object T D0 M.nid o) (λ x other. get_other D0 M.nid x o other))))
+      (finds_add_message T T.places ids D M.folder M.nid M.props (message_changes D0 D M.nid o four s0 (puts_object T D0 M.nid o) (λ x other. get_other D0 M.nid x o other) (some_belongs T.places M.nid (Message M) tt))))
 
   -- `cp`
   copies : (m folder : ℕ) → IfOk (copied_message T m folder) After
@@ -220,7 +223,7 @@ module _ (T : Tree) (w : Before T) (h : IsFound T) where
       let D = with_message M N nothing in let v = home_of T w m M is in
       let four' : N.nid % 32 ≡ 4 = ap (λ x. x % 32) (finished_id (with_props props M) ∙ v.0) ∙ four in
       let folder : N.folder ≡ M.folder = finished_folder (with_props props M) in
-      let s = message_changes nothing D N.nid (Some (Message N)) four' start (puts_values T nothing N.nid (Message N) M.props N.props) (λ x other. get_other nothing N.nid x (Some (Message N)) other) in
+      let s = message_changes nothing D N.nid (Some (Message N)) four' start (puts_values T nothing N.nid (Message N) M.props N.props) (λ x other. get_other nothing N.nid x (Some (Message N)) other) (some_belongs T.places N.nid (Message N) tt) in
       let a = put_shown T (contents N.folder) N.nid N.props D in
       then_changing (a >>= settled T T.places N.folder) (replied Done) (then_finds T T.places ids a N.folder v.1 (ap (λ x. find_place x T.places) folder ∙ v.2) v.3
       (finds_put_message T T.places ids D N.folder N.nid N.props s))
@@ -272,6 +275,71 @@ module _ (T : Tree) (w : Before T) (h : IsFound T) where
     | inr other ↦ ids g p (put_was f parent g p other e) plain
   ]
 
+  -- what belongs where it stands does so still when a folder gets a place
+  belongs_more : (f parent k : ℕ) (o : Object) → BelongsAt T.places k o → BelongsAt (put_key place_id (place f parent) T.places) k o
+  belongs_more f parent k (Context c) (inl e) = inl e
+  belongs_more f parent k (Context c) (inr is) = inr (kept-put place_id k (place f parent) T.places is)
+  belongs_more f parent k (Table t) x = (x.0, plain_still T.places f parent x.0 x.1.0 x.1.1 x.1.2, x.2)
+  belongs_more f parent k (Message m) x = tt
+
+  owned_more : (f parent : ℕ) → AreOwned (put_key place_id (place f parent) T.places) (now_at T nothing)
+  owned_more f parent q o e = belongs_more f parent q o (start.owned q o e)
+
+  -- the nodes of a new folder belong to it
+  owned_new : (f parent : ℕ) (name : List ℕ) → AreOwned (put_key place_id (place f parent) T.places) (now_at T (with_folder f parent name nothing))
+  owned_new f parent name =
+      let Q = put_key place_id (place f parent) T.places in
+      let is = find-put_same place_id (place f parent) T.places in
+      let c : Object = Context (record { parent = parent; props = folder_props name; kept = [] }) in
+      let D1 = with_object f (Some c) nothing in
+      let D2 = with_object (hierarchy f) (Some (Table hierarchy_table)) D1 in
+      let D3 = with_object (contents f) (Some (Table contents_table)) D2 in
+      let D4 = with_object (associated f) (Some (Table contents_table)) D3 in
+      let own1 = owned_put Q (now_at T nothing) (now_at T D1) f (Some c) (puts_object T nothing f (Some c)) (some_belongs Q f c (inr (subst IsSome (sym is) refl))) (owned_more f parent) in
+      let own2 = owned_put Q (now_at T D1) (now_at T D2) (hierarchy f) (Some (Table hierarchy_table)) (puts_object T D1 (hierarchy f) (Some (Table hierarchy_table))) (some_belongs Q (hierarchy f) (Table hierarchy_table) (f, (place f parent, is, refl), inl refl)) own1 in
+      let own3 = owned_put Q (now_at T D2) (now_at T D3) (contents f) (Some (Table contents_table)) (puts_object T D2 (contents f) (Some (Table contents_table))) (some_belongs Q (contents f) (Table contents_table) (f, (place f parent, is, refl), inr (inl refl))) own2 in
+      owned_put Q (now_at T D3) (now_at T D4) (associated f) (Some (Table contents_table)) (puts_object T D3 (associated f) (Some (Table contents_table))) (some_belongs Q (associated f) (Table contents_table) (f, (place f parent, is, refl), inr (inr refl))) own3
+
+  -- where nodes of a folder went, none of them stands
+  left_of : (D : Changed) (q x : ℕ) (o : Object) → now_at T (with_object q None D) x ≡ Some o → (x ≡ q → ⊥) × (now_at T D x ≡ Some o)
+  left_of D q x o e =
+      let puts = puts_object T D q None in
+      elim (cases_eq x q) [
+        | inl same ↦ absurd (none-some o (sym (ap (now_at T (with_object q None D)) same ∙ puts.here) ∙ e))
+        | inr other ↦ (other, sym (puts.others x other) ∙ e)
+      ]
+
+  three_left : (f x : ℕ) (o : Object) → now_at T (with_object (contents f) None (with_object (hierarchy f) None (with_object f None nothing))) x ≡ Some o
+      → ((x ≡ f → ⊥) × (x ≡ hierarchy f → ⊥) × (x ≡ contents f → ⊥)) × (now_at T nothing x ≡ Some o)
+  three_left f x o e =
+      let D1 = with_object f None nothing in
+      let a = left_of (with_object (hierarchy f) None D1) (contents f) x o e in let b = left_of D1 (hierarchy f) x o a.1 in let c = left_of nothing f x o b.1 in
+      ((c.0, b.0, a.0), c.1)
+
+  folder_left : (f x : ℕ) (o : Object) (b : Bool) → is_taken T (associated f) ≡ b
+      → now_at T (without_node (associated f) b (with_object (contents f) None (with_object (hierarchy f) None (with_object f None nothing)))) x ≡ Some o → Elsewhere f x × (now_at T nothing x ≡ Some o)
+  folder_left f x o true taken e =
+      let a = left_of (with_object (contents f) None (with_object (hierarchy f) None (with_object f None nothing))) (associated f) x o e in let r = three_left f x o a.1 in
+      ((r.0.0, r.0.1, r.0.2, a.0), r.1)
+  folder_left f x o false taken e =
+      let r = three_left f x o e in
+      let free : is_some (object_at T (associated f)) ≡ false = (or_parts (is_some (object_at T (associated f))) (is_some (node_at T.others (associated f))) taken).0 in
+      ((r.0.0, r.0.1, r.0.2, λ same. false≢true (sym free ∙ ap (λ g. is_some (g (associated f))) (sym (now_nothing T false)) ∙ ap (λ y. is_some (now_at T nothing y)) (sym same) ∙ ap is_some r.1)), r.1)
+
+  belongs_less : (f q : ℕ) (o : Object) → Elsewhere f q → BelongsAt T.places q o → BelongsAt (drop_key place_id f T.places) q o
+  belongs_less f q (Context c) away (inl e) = inl e
+  belongs_less f q (Context c) away (inr is) = inr (subst IsSome (sym (find-drop_other place_id q f T.places away.0)) is)
+  belongs_less f q (Table t) away x =
+      let other : x.0 ≡ f → ⊥ = λ same. elim x.2 [
+        | inl e ↦ away.1 (e ∙ ap hierarchy same)
+        | inr r ↦ elim r [ inl e ↦ away.2 (e ∙ ap contents same) | inr e ↦ away.3 (e ∙ ap associated same) ]
+      ] in
+      (x.0, (x.1.0, find-drop_other place_id x.0 f T.places other ∙ x.1.1, x.1.2), x.2)
+  belongs_less f q (Message m) away x = tt
+
+  owned_less : (f : ℕ) → AreOwned (drop_key place_id f T.places) (now_at T (without_folder T f nothing))
+  owned_less f q o e = let x = folder_left f q o (is_taken T (associated f)) refl e in belongs_less f q o x.0 (start.owned q o x.1)
+
   same_context : (a b : Ctx) → ◌≡◌ {A = Option Object} (Some (Context a)) (Some (Context b)) → a ≡ b
   same_context a b e = cc
 
@@ -289,15 +357,16 @@ module _ (T : Tree) (w : Before T) (h : IsFound T) where
               let v = start.listed g p t r was plain (sym (now_still T D (hierarchy g) (with_untouched f parent (hierarchy g) name (table_elsewhere f g two (two_of g p was plain) other))) ∙ is) row s named in
               (v.0, find-put_other place_id r (place f parent) T.places (λ same. none-some (record { nid = nid r; parent = nid g; sort = s }) (sym none ∙ ap (λ x. find_place x T.places) (sym same) ∙ v.1)) ∙ v.1)
         ];
-        told = λ g p c e plain is. elim (cases_eq g f) [
+        told = λ g p c e plain no_root is. elim (cases_eq g f) [
           | inl same ↦
               let values : new.1.0 ≡ c = same_context new.1.0 c (sym (ap (now_at T D) same ∙ new.1.1) ∙ is) in
               ap (λ (x : Ctx). x.parent) (sym values) ∙ new.1.2 ∙ ap (λ (x : FolderPlace). x.parent.bits) (put_is f parent g p same e)
           | inr other ↦
               let was = put_was f parent g p other e in
-              start.told g p c was plain (sym (now_still T D g (with_untouched f parent g name (folder_elsewhere f g (two_of g p was plain) other))) ∙ is)
+              start.told g p c was plain no_root (sym (now_still T D g (with_untouched f parent g name (folder_elsewhere f g (two_of g p was plain) other))) ∙ is)
         ];
         apart = λ k three. with_untouched f parent k name (search_elsewhere f k two three);
+        owned = owned_new f parent name;
       }
 
   -- `mkdir`
@@ -338,10 +407,10 @@ module _ (T : Tree) (w : Before T) (h : IsFound T) where
   -- the row of a folder goes from its parent's table, the only one that lists it
   dropped : (places : List FolderPlace) (places_ids : PlainIds places) (f : ℕ) (p : FolderPlace) (D : Changed) → find_place f T.places ≡ Some p → SameBut f T.places places
       → ((g : ℕ) (q : FolderPlace) → find_place g places ≡ Some q → is_plain q ≡ true → ((r : FolderPlace) × (find_place g T.places ≡ Some r) × (is_plain r ≡ true)) × (now_at T D (hierarchy g) ≡ now_at T nothing (hierarchy g)))
-      → ((g : ℕ) (q : FolderPlace) (c : Ctx) → find_place g places ≡ Some q → is_plain q ≡ true → now_at T D g ≡ Some (Context c) → c.parent ≡ q.parent.bits)
-      → ((k : ℕ) → k % 32 ≡ 3 → map.get D.objects k ≡ None) → IfOk (drop_shown T (hierarchy p.parent.bits) f D) (Finds T places)
+      → ((g : ℕ) (q : FolderPlace) (c : Ctx) → find_place g places ≡ Some q → is_plain q ≡ true → (g ≡ ROOT → ⊥) → now_at T D g ≡ Some (Context c) → c.parent ≡ q.parent.bits)
+      → ((k : ℕ) → k % 32 ≡ 3 → map.get D.objects k ≡ None) → AreOwned places (now_at T D) → IfOk (drop_shown T (hierarchy p.parent.bits) f D) (Finds T places)
   unfolding drop_shown
-  dropped places places_ids f p D found same_but was told apart =
+  dropped places places_ids f p D found same_but was told apart owned =
       let from = p.parent.bits in
       if_then (λ t. now_at T D (hierarchy from) ≡ Some (Table t)) (Finds T places) (table_at T D (hierarchy from)) _ (if_table T D (hierarchy from)) (λ t is_t.
       let t' : Tbl = record { parent = t.parent; table = record t.table { rows = drop_row f t.table.rows } } in
@@ -366,8 +435,9 @@ module _ (T : Tree) (w : Before T) (h : IsFound T) where
                   away (ap (λ (x : FolderPlace). hierarchy x.parent.bits) (sym here)) in
                   (k.0, same_but r other ∙ k.1)
             ];
-        told = λ g q c e plain is. told g q c e plain (sym (puts.others g (kind_apart g from 13 (omega arith) (λ k. let two = (places_ids g q e plain).0 in omega arith))) ∙ is);
+        told = λ g q c e plain no_root is. told g q c e plain no_root (sym (puts.others g (kind_apart g from 13 (omega arith) (λ k. let two = (places_ids g q e plain).0 in omega arith))) ∙ is);
         apart = λ k three. get_other D (hierarchy from) k o (kind_apart k from 13 (omega arith) (λ e. omega arith)) ∙ apart k three;
+        owned = owned_put places (now_at T D) (now_at T D') (hierarchy from) o puts (some_belongs places (hierarchy from) (Table t') (owned (hierarchy from) (Table t) is_t)) owned;
       })
 
   -- `mvdir`
@@ -424,13 +494,15 @@ module _ (T : Tree) (w : Before T) (h : IsFound T) where
             elim (cases_eq g f) [ inl same ↦ (p, ap (λ x. find_place x T.places) same ∙ e, plain) | inr other ↦ (q, put_was f parent g q other is, plain_q) ],
             puts.others (hierarchy g) (λ same. kind_apart f g 13 (omega arith) (λ k. omega arith) (sym same)),
           ))
-          (λ g q d is plain_q at_g. elim (cases_eq g f) [
+          (λ g q d is plain_q other_root at_g. elim (cases_eq g f) [
             | inl same ↦
                 let values = same_context (record c { parent = parent }) d (sym (ap (now_at T D) same ∙ puts.here) ∙ at_g) in
                 ap (λ (x : Ctx). x.parent) (sym values) ∙ ap (λ (x : FolderPlace). x.parent.bits) (put_is f parent g q same is)
-            | inr other ↦ start.told g q d (put_was f parent g q other is) plain_q (sym (puts.others g other) ∙ at_g)
+            | inr other ↦ start.told g q d (put_was f parent g q other is) plain_q other_root (sym (puts.others g other) ∙ at_g)
           ])
           (λ k three. get_other nothing f k o (λ same. omega arith) ∙ map.get-empty nat_cmp k)
+          (owned_put (put_key place_id (place f parent) T.places) (now_at T nothing) (now_at T D) f o puts
+          (some_belongs (put_key place_id (place f parent) T.places) f (Context (record c { parent = parent })) (inr (subst IsSome (sym (find-put_same place_id (place f parent) T.places)) refl))) (owned_more f parent))
 
   -- `rmdir`
   removes_folder : (f : ℕ) → IfOk (removed_folder T f) After
@@ -464,8 +536,8 @@ module _ (T : Tree) (w : Before T) (h : IsFound T) where
                 rw none (then_moving places (removed_reached T.places f h.reached w.ascend childless) (a' >>= settled T places from) (replied Done) (then_finds T places places_ids a' from v.0 from_still v.2
                 (dropped places places_ids f p.0 D p.1 (λ x other. find-drop_other place_id x f T.places other)
                 (λ g q e plain. ((q, was g q e, plain), now_still T D (hierarchy g) (without_untouched T f (hierarchy g) (table_elsewhere f g two (places_ids g q e plain).0 (apart g q e)))))
-                (λ g q d e plain is. start.told g q d (was g q e) plain (sym (now_still T D g (without_untouched T f g (folder_elsewhere f g (places_ids g q e plain).0 (apart g q e)))) ∙ is))
-                (λ k three. without_untouched T f k (search_elsewhere f k two three)))))
+                (λ g q d e plain other_root is. start.told g q d (was g q e) plain other_root (sym (now_still T D g (without_untouched T f g (folder_elsewhere f g (places_ids g q e plain).0 (apart g q e)))) ∙ is))
+                (λ k three. without_untouched T f k (search_elsewhere f k two three)) (owned_less f))))
           ])))))
     ])
   ]

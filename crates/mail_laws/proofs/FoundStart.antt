@@ -1,24 +1,27 @@
 -- An opening finds the tree of a new store.
-use Rattle.std.proofs.Common.{◌≡◌, ◌≤◌, ℕ, ◌==◌, ◌%◌, List, [], ◌∷◌, IsSome, is_some, Some, arith, refl, sym, subst, ap, ◌∙◌, inl, inr}
-use Rattle.std.proofs.lemmas.Bool.{cases_Bool, eq-eqb, eqb-true, false≢true}
+use Rattle.std.proofs.Common.{◌≡◌, ◌≤◌, ℕ, ◌==◌, ◌%◌, ◌&&◌, ◌||◌, Bool, true, false, Option, None, List, [], ◌∷◌, IsSome, is_some, Some, arith, refl, sym, subst, ap, ◌∙◌, inl, inr}
+use Rattle.std.proofs.lemmas.Bool.{and_parts, cases_Bool, eq-eqb, eqb-true, false≢true, or_cases}
 use Rattle.std.proofs.lemmas.Option.{same_Some}
 use Rattle.std.specs.Cmp.{nat_cmp_total}
 use Rattle.std.specs.Ordering.{nat_cmp}
 use Rattle.std.specs.FinMap as map
 use Rattle.mapi_values.specs.Tables.{find_row}
 use Rattle.mail_objects.specs.Forms.{Tbl}
-use Rattle.mail_objects.specs.declared.object.Object.TheVariants.{Table}
+use Rattle.mail_objects.specs.declared.object.Object.{Object}
+use Rattle.mail_objects.specs.declared.object.Object.TheVariants.{Context, Message, Table}
+use Rattle.mail_tree.specs.declared.places.FolderPlace.{FolderPlace}
 use Rattle.mail_tree.specs.declared.places.Sort.{Sort}
 use Rattle.mail_tree.specs.declared.places.Sort.TheVariants.{Plain}
-use Rattle.mail_tree.specs.Places.{ROOT, find_place}
+use Rattle.mail_tree.specs.Places.{ROOT, find_place, is_plain}
 use Rattle.mail_tree.specs.Columns.{hierarchy_table}
-use Rattle.mail_tree.specs.Changing.{hierarchy}
+use Rattle.mail_tree.specs.Changing.{beside, hierarchy}
 use Rattle.mail_tree.specs.Folders.{nid, place}
 use Rattle.mail_tree.specs.Tree.{Tree, object_at}
 use Rattle.mail_tree.specs.Start.{DELETED, IsStart, SEARCH_ROOT, TOP, deleted_name, root_hierarchy, search_name, start_objects, start_places, start_row, top_name}
-use Rattle.mail_tree.specs.Found.{IsFound, StandsBelow, named_sort}
+use Rattle.mail_tree.specs.Found.{AreOwned, BelongsAt, IsFound, StandsBelow, named_sort}
 use Rattle.mail_tree.proofs.KindsOfPuts.{same_table}
-use Rattle.mail_laws.proofs.Starting.{four}
+use Rattle.mail_tree.proofs.FineLaws.{cases_Option}
+use Rattle.mail_laws.proofs.Starting.{find_passes, four}
 
 -- the root's table of folders
 listing : Tbl
@@ -40,6 +43,41 @@ listed_row r row = elim (cases_Bool (TOP == r)) [
   where
     P : ℕ → Type 0
     P x = (x ≡ ROOT → ⊥) × (x % 32 ≡ 2) × (find_place x start_places ≡ Some (place x ROOT))
+
+-- an object of the new store belongs at the id
+is_plain_one : Option FolderPlace → Bool
+is_plain_one None = false
+is_plain_one (Some p) = is_plain p
+
+belongs : ℕ → Object → Bool
+belongs q (Context c) = (q == 0x21) || is_some (find_place q start_places)
+belongs q (Table t) = is_plain_one (find_place (beside q 2) start_places) && ((q % 32 == 13) || ((q % 32 == 14) || (q % 32 == 15)))
+belongs q (Message m) = true
+
+belongs_is : (q : ℕ) (o : Object) → belongs q o ≡ true → BelongsAt start_places q o
+unfolding belongs is_plain_one
+belongs_is q (Context c) e = elim (or_cases (q == 0x21) (is_some (find_place q start_places)) e) [ inl t ↦ inl (eqb-true q 0x21 t) | inr is ↦ inr is ]
+belongs_is q (Message m) e = tt
+belongs_is q (Table t) e =
+    let p = and_parts (is_plain_one (find_place (beside q 2) start_places)) ((q % 32 == 13) || ((q % 32 == 14) || (q % 32 == 15))) e in
+    elim (cases_Option (find_place (beside q 2) start_places)) [
+      | inl none ↦ absurd (false≢true (ap is_plain_one (sym none) ∙ p.0))
+      | inr r ↦ (
+        beside q 2,
+        (r.0, r.1, ap is_plain_one (sym r.1) ∙ p.0),
+        elim (or_cases (q % 32 == 13) ((q % 32 == 14) || (q % 32 == 15)) p.1) [
+          | inl k ↦ let is = eqb-true (q % 32) 13 k in inl (omega arith)
+          | inr k ↦ elim (or_cases (q % 32 == 14) (q % 32 == 15) k) [
+            | inl l ↦ let is = eqb-true (q % 32) 14 l in inr (inl (omega arith))
+            | inr l ↦ let is = eqb-true (q % 32) 15 l in inr (inr (omega arith))
+          ]
+        ],
+      )
+    ]
+
+all_belong : (name : List ℕ) → AreOwned start_places (λ q. map.find nat_cmp q (start_objects name))
+unfolding start_objects root_hierarchy belongs is_plain_one
+all_belong name q o e = belongs_is q o (find_passes belongs (start_objects name) q o e refl)
 
 module _ (name : List ℕ) (T : Tree) (start : IsStart name T) where
   object_is : (q : ℕ) → object_at T q ≡ map.find nat_cmp q (start_objects name)
@@ -84,6 +122,7 @@ module _ (name : List ℕ) (T : Tree) (start : IsStart name T) where
         let k = four (λ f p. (n : ℕ) × (n ≤ 64) × StandsBelow start_places n f) (0, omega arith, refl) (1, omega arith, (λ e. omega arith, (place TOP ROOT, refl, refl))) (1, omega arith, (λ e. omega arith, (place SEARCH_ROOT ROOT, refl, refl)))
         (1, omega arith, (λ e. omega arith, (place DELETED ROOT, refl, refl))) f p (ap (find_place f) (sym start.places) ∙ e) in
         (k.0, k.1, subst (λ places. StandsBelow places k.0 f) (sym start.places) k.2);
+    owned = λ q o e. subst (λ places. BelongsAt places q o) (sym start.places) (all_belong name q o (sym (object_is q) ∙ e));
   }
 
 pub starts_found : (name : List ℕ) (T : Tree) → IsStart name T → IsFound T

@@ -24,7 +24,7 @@ use Rattle.mail_tree.specs.Settling.{counted, message_ids, mirrored, settled, un
 use Rattle.mail_tree.specs.Folders.{Outcome, nid}
 use Rattle.mail_tree.specs.Ids.{is_taken}
 use Rattle.mail_tree.specs.Step.{after}
-use Rattle.mail_tree.specs.Found.{IsFound, named_sort}
+use Rattle.mail_tree.specs.Found.{AreOwned, BelongsAt, IsFound, named_sort}
 use Rattle.mail_tree.proofs.AfterLaws.{get-without_changed}
 use Rattle.mail_tree.proofs.AfterTree.{after_now, puts_object, puts_values, tied}
 use Rattle.mail_laws.proofs.Depths.{AreReached}
@@ -43,11 +43,22 @@ PlainIds places = (f : ℕ) (p : FolderPlace) → find_place f places ≡ Some p
 abbrev pub Names : Tree → List FolderPlace → ℕ → ℕ → Type 0
 Names T places f r = (s : Sort) → named_sort T r ≡ Some s → (r ≡ ROOT → ⊥) × (find_place r places ≡ Some (record { nid = nid r; parent = nid f; sort = s }))
 
--- After changes the rows of folders name those that stand there, folders' values tell where they stand, and no search folder changed.
+-- After changes the rows of folders name those that stand there, the values of all but the root tell where they stand, no search folder changed, and each object belongs where it stands.
 pub record Finds (T : Tree) (places : List FolderPlace) (D : Changed) : Type 0 where
   pub listed : (f : ℕ) (p : FolderPlace) (t : Tbl) (r : ℕ) → find_place f places ≡ Some p → is_plain p ≡ true → now_at T D (hierarchy f) ≡ Some (Table t) → IsSome (find_row r t.table.rows) → Names T places f r
-  pub told : (f : ℕ) (p : FolderPlace) (c : Ctx) → find_place f places ≡ Some p → is_plain p ≡ true → now_at T D f ≡ Some (Context c) → c.parent ≡ p.parent.bits
+  pub told : (f : ℕ) (p : FolderPlace) (c : Ctx) → find_place f places ≡ Some p → is_plain p ≡ true → (f ≡ ROOT → ⊥) → now_at T D f ≡ Some (Context c) → c.parent ≡ p.parent.bits
   pub apart : (k : ℕ) → k % 32 ≡ 3 → map.get D.objects k ≡ None
+  pub owned : AreOwned places (now_at T D)
+
+-- what is put belongs there
+pub owned_put : (places : List FolderPlace) (at at' : ℕ → Option Object) (q : ℕ) (o : Option Object) → Puts at at' q o → ((x : Object) → o ≡ Some x → BelongsAt places q x) → AreOwned places at → AreOwned places at'
+owned_put places at at' q o puts fits owned k y e = elim (cases_eq k q) [
+  | inl same ↦ subst (λ z. BelongsAt places z y) (sym same) (fits y (sym puts.here ∙ ap at' (sym same) ∙ e))
+  | inr other ↦ owned k y (sym (puts.others k other) ∙ e)
+]
+
+pub some_belongs : (places : List FolderPlace) (q : ℕ) (y : Object) → BelongsAt places q y → (x : Object) → Some y ≡ Some x → BelongsAt places q x
+some_belongs places q y b x e = subst (BelongsAt places q) (same_Some y x e) b
 
 -- an id of another kind is none beside a folder
 pub kind_apart : (x f kind : ℕ) → kind < 32 → (x % 32 ≡ kind → ⊥) → x ≡ beside f kind → ⊥
@@ -66,11 +77,12 @@ named_place T places f parent p e plain up two no_root s named =
 module _ (T : Tree) (places : List FolderPlace) (ids : PlainIds places) where
   -- an object is put, or removed, that is none of a folder and no table of folders
   pub finds_elsewhere : (D D' : Changed) (q : ℕ) (o : Option Object) → Finds T places D → Puts (now_at T D) (now_at T D') q o → ((k : ℕ) → (k ≡ q → ⊥) → map.get D'.objects k ≡ map.get D.objects k)
-      → (q % 32 ≡ 2 → ⊥) → (q % 32 ≡ 3 → ⊥) → (q % 32 ≡ 13 → ⊥) → Finds T places D'
-  finds_elsewhere D D' q o s puts gets no_folder no_search no_table = record {
+      → (q % 32 ≡ 2 → ⊥) → (q % 32 ≡ 3 → ⊥) → (q % 32 ≡ 13 → ⊥) → ((x : Object) → o ≡ Some x → BelongsAt places q x) → Finds T places D'
+  finds_elsewhere D D' q o s puts gets no_folder no_search no_table fits = record {
     listed = λ f p t r e plain is row. s.listed f p t r e plain (sym (puts.others (hierarchy f) (λ same. no_table (ap (λ x. x % 32) (sym same) ∙ beside_kind f 13 (omega arith)))) ∙ is) row;
-    told = λ f p c e plain is. s.told f p c e plain (sym (puts.others f (λ same. no_folder (ap (λ x. x % 32) (sym same) ∙ (ids f p e plain).0))) ∙ is);
+    told = λ f p c e plain no_root is. s.told f p c e plain no_root (sym (puts.others f (λ same. no_folder (ap (λ x. x % 32) (sym same) ∙ (ids f p e plain).0))) ∙ is);
     apart = λ k three. gets k (λ same. no_search (ap (λ x. x % 32) (sym same) ∙ three)) ∙ s.apart k three;
+    owned = owned_put places (now_at T D) (now_at T D') q o puts fits s.owned;
   }
 
   -- a folder gets other values
@@ -79,15 +91,16 @@ module _ (T : Tree) (places : List FolderPlace) (ids : PlainIds places) where
       let new : Ctx = record c { props = props } in
       let puts = puts_values T D f (Context new) c.props props in record {
         listed = λ g p t r e plain is row. s.listed g p t r e plain (sym (puts.others (hierarchy g) (λ same. kind_apart f g 13 (omega arith) (λ k. omega arith) (sym same))) ∙ is) row;
-        told = λ g p d e plain is. elim (cases_eq g f) [
-          | inl same ↦ told_here g p d e plain (sym (ap (now_at T (with_context f c props D)) same ∙ puts.here) ∙ is) (ap (now_at T D) same ∙ at)
-          | inr other ↦ s.told g p d e plain (sym (puts.others g other) ∙ is)
+        told = λ g p d e plain no_root is. elim (cases_eq g f) [
+          | inl same ↦ told_here g p d e plain no_root (sym (ap (now_at T (with_context f c props D)) same ∙ puts.here) ∙ is) (ap (now_at T D) same ∙ at)
+          | inr other ↦ s.told g p d e plain no_root (sym (puts.others g other) ∙ is)
         ];
         apart = λ k three. get_other D f k (Some (Context new)) (λ same. omega arith) ∙ s.apart k three;
+        owned = owned_put places (now_at T D) (now_at T (with_context f c props D)) f (Some (Context new)) puts (some_belongs places f (Context new) (s.owned f (Context c) at)) s.owned;
       }
     where
-      told_here : (g : ℕ) (p : FolderPlace) (d : Ctx) → find_place g places ≡ Some p → is_plain p ≡ true → ◌≡◌ {A = Option Object} (Some (Context (record c { props = props }))) (Some (Context d)) → now_at T D g ≡ Some (Context c) → d.parent ≡ p.parent.bits
-      told_here g p d e plain same is = let one : record c { props = props } ≡ d = cc in ap (λ (x : Ctx). x.parent) (sym one) ∙ s.told g p c e plain is
+      told_here : (g : ℕ) (p : FolderPlace) (d : Ctx) → find_place g places ≡ Some p → is_plain p ≡ true → (g ≡ ROOT → ⊥) → ◌≡◌ {A = Option Object} (Some (Context (record c { props = props }))) (Some (Context d)) → now_at T D g ≡ Some (Context c) → d.parent ≡ p.parent.bits
+      told_here g p d e plain no_root same is = let one : record c { props = props } ≡ d = cc in ap (λ (x : Ctx). x.parent) (sym one) ∙ s.told g p c e plain no_root is
 
   -- a table of folders gets other rows, and each new one names a folder that stands there
   pub finds_rows : (D D' : Changed) (f : ℕ) (t t' : Tbl) → f % 32 ≡ 2 → Finds T places D → now_at T D (hierarchy f) ≡ Some (Table t) → Puts (now_at T D) (now_at T D') (hierarchy f) (Some (Table t'))
@@ -104,8 +117,9 @@ module _ (T : Tree) (places : List FolderPlace) (ids : PlainIds places) where
           ]
       | inr other ↦ s.listed g p u r e plain (sym (puts.others (hierarchy g) other) ∙ is) row
     ];
-    told = λ g p c e plain is. s.told g p c e plain (sym (puts.others g (kind_apart g f 13 (omega arith) (λ k. let two' = (ids g p e plain).0 in omega arith))) ∙ is);
+    told = λ g p c e plain no_root is. s.told g p c e plain no_root (sym (puts.others g (kind_apart g f 13 (omega arith) (λ k. let two' = (ids g p e plain).0 in omega arith))) ∙ is);
     apart = λ k three. gets k (kind_apart k f 13 (omega arith) (λ e. omega arith)) ∙ s.apart k three;
+    owned = owned_put places (now_at T D) (now_at T D') (hierarchy f) (Some (Table t')) puts (some_belongs places (hierarchy f) (Table t') (s.owned (hierarchy f) (Table t) at)) s.owned;
   }
 
   -- a row is put
@@ -132,26 +146,28 @@ module _ (T : Tree) (places : List FolderPlace) (ids : PlainIds places) where
       ])
 
   -- rows of messages change
-  finds_message_table : (D : Changed) (f : ℕ) (o : Option Object) → Finds T places D → Finds T places (with_object (contents f) o D)
-  finds_message_table D f o s =
+  finds_message_table : (D : Changed) (f : ℕ) (t : Tbl) (rows : List (ℕ × List Val)) → Finds T places D → now_at T D (contents f) ≡ Some (Table t) → Finds T places (with_object (contents f) (Some (with_rows rows t)) D)
+  finds_message_table D f t rows s at =
+      let o = Some (with_rows rows t) in
       let kind = beside_kind f 14 (omega arith) in
       finds_elsewhere D (with_object (contents f) o D) (contents f) o s (puts_object T D (contents f) o) (λ k other. get_other D (contents f) k o other) (λ e. omega arith) (λ e. omega arith) (λ e. omega arith)
+      (some_belongs places (contents f) (with_rows rows t) (s.owned (contents f) (Table t) at))
 
   pub finds_put_message : (D : Changed) (f id : ℕ) (props : List Val) → Finds T places D → IfOk (put_shown T (contents f) id props D) (Finds T places)
   unfolding put_shown
-  finds_put_message D f id props s = if_then (λ t. Unit {0}) (Finds T places) (table_at T D (contents f)) _ (if_any (table_at T D (contents f))) (λ t u. finds_message_table D f (Some (with_rows (shown_row id props t.table) t)) s)
+  finds_put_message D f id props s = if_then (λ t. now_at T D (contents f) ≡ Some (Table t)) (Finds T places) (table_at T D (contents f)) _ (if_table T D (contents f)) (λ t at. finds_message_table D f t (shown_row id props t.table) s at)
 
   pub finds_add_message : (D : Changed) (f id : ℕ) (props : List Val) → Finds T places D → IfOk (add_shown T (contents f) id props D) (Finds T places)
   unfolding add_shown
-  finds_add_message D f id props s = if_then (λ t. Unit {0}) (Finds T places) (table_at T D (contents f)) _ (if_any (table_at T D (contents f))) (λ t u.
+  finds_add_message D f id props s = if_then (λ t. now_at T D (contents f) ≡ Some (Table t)) (Finds T places) (table_at T D (contents f)) _ (if_table T D (contents f)) (λ t at.
       elim (cases_Bool (overfills t.table.rows (shown_row id props t.table))) [
         | inl b ↦ rw b tt
-        | inr b ↦ rw b (finds_message_table D f (Some (with_rows (shown_row id props t.table) t)) s)
+        | inr b ↦ rw b (finds_message_table D f t (shown_row id props t.table) s at)
       ])
 
   pub finds_drop_message : (D : Changed) (f id : ℕ) → Finds T places D → IfOk (drop_shown T (contents f) id D) (Finds T places)
   unfolding drop_shown
-  finds_drop_message D f id s = if_then (λ t. Unit {0}) (Finds T places) (table_at T D (contents f)) _ (if_any (table_at T D (contents f))) (λ t u. finds_message_table D f (Some (with_rows (drop_row id t.table.rows) t)) s)
+  finds_drop_message D f id s = if_then (λ t. now_at T D (contents f) ≡ Some (Table t)) (Finds T places) (table_at T D (contents f)) _ (if_table T D (contents f)) (λ t at. finds_message_table D f t (drop_row id t.table.rows) s at)
 
   -- the row of a folder shows it
   pub finds_mirrored : (D : Changed) (f : ℕ) (p : FolderPlace) → find_place f places ≡ Some p → is_plain p ≡ true → Finds T places D → IfOk (mirrored T f D) (Finds T places)
@@ -159,7 +175,7 @@ module _ (T : Tree) (places : List FolderPlace) (ids : PlainIds places) where
   finds_mirrored D f p e plain s = elim (cases_Bool (f == ROOT)) [
     | inl b ↦ rw b s
     | inr b ↦ rw b (if_then (λ c. now_at T D f ≡ Some (Context c)) (Finds T places) (context_at T D f) _ (if_context T D f) (λ c at.
-        let up = s.told f p c e plain at in
+        let up = s.told f p c e plain (eqb-false f ROOT b) at in
         let two = ids f p e plain in
         finds_put D c.parent f c.props (ap (λ x. x % 32) up ∙ two.1) s (named_place T places f c.parent p e plain (sym up) two.0 (eqb-false f ROOT b))))
   ]
@@ -201,4 +217,5 @@ pub found_after : (T : Tree) (o : Outcome) → Finds T o.places o.changed → Ar
 found_after T o s reached = record {
   listed = λ f p t r sort e plain is row named. s.listed f p t r e plain (ap (λ g. g (hierarchy f)) (after_now T o) ∙ is) row sort (sym (named_still T o s.apart r) ∙ named);
   reached = reached;
+  owned = λ q x e. s.owned q x (ap (λ g. g q) (after_now T o) ∙ e);
 }

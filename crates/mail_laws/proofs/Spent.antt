@@ -94,7 +94,7 @@ fine_planned T M crowded p w four found plain =
             let q = w.parents F p found no_root in let u = folders_of w p.parent.bits q.0 q.1 q.2 in (
               u.0,
               p2.others (hierarchy c.0.parent) (λ e. omega (arith, beside_kind F 14 (omega arith), beside_kind c.0.parent 13 (omega arith)))
-                  ∙ p1.others (hierarchy c.0.parent) (λ e. omega (arith, beside_kind c.0.parent 13 (omega arith))) ∙ ap (λ x. now_at T nothing (hierarchy x)) c.2 ∙ u.1,
+                  ∙ p1.others (hierarchy c.0.parent) (λ e. omega (arith, beside_kind c.0.parent 13 (omega arith))) ∙ ap (λ x. now_at T nothing (hierarchy x)) (c.2 no_root) ∙ u.1,
             )),
       );
       table = (record { parent = t.0.parent; table = record t.0.table { rows = row } }, p2.here, each);
@@ -190,7 +190,7 @@ module _ (T : Tree) (f parent : ℕ) (name : List ℕ) (two : f % 32 ≡ 2) wher
                 (λ e. omega (arith, parent_two, beside_kind f 14 (omega arith))) (λ e. omega (arith, parent_two, beside_kind f 15 (omega arith))) ∙ c.1,
             (λ no_root.
                 let r = w.parents parent q found no_root in let u = folders_of w q.parent.bits r.0 r.1 r.2 in
-                let at : now_at T nothing (hierarchy c.0.parent) ≡ Some (Table u.0) = ap (λ x. now_at T nothing (hierarchy x)) c.2 ∙ u.1 in
+                let at : now_at T nothing (hierarchy c.0.parent) ≡ Some (Table u.0) = ap (λ x. now_at T nothing (hierarchy x)) (c.2 no_root) ∙ u.1 in
                 let v = still_table c.0.parent u.0 at in shown_table c.0.parent v.0 v.1),
           )
     ]

@@ -27,7 +27,7 @@ use Rattle.mail_tree.proofs.AfterTree.{tied}
 use Rattle.mail_tree.proofs.KindsOfPuts.{same_table}
 
 -- what all objects of a list pass is passed by the one at an id
-find_passes : (P : ℕ → Object → Bool) (es : List (ℕ × Object)) (q : ℕ) (o : Object) → map.find nat_cmp q es ≡ Some o → list_all (λ e. P e.0 e.1) es ≡ true → P q o ≡ true
+pub find_passes : (P : ℕ → Object → Bool) (es : List (ℕ × Object)) (q : ℕ) (o : Object) → map.find nat_cmp q es ≡ Some o → list_all (λ e. P e.0 e.1) es ≡ true → P q o ≡ true
 find_passes P [] q o e all = absurd (none-some o e)
 find_passes P (x ∷ es) q o e all =
     let parts = and_parts (P x.0 x.1) (list_all (λ e. P e.0 e.1) es) all in
@@ -97,8 +97,8 @@ is_whole name = record {
   typed = λ q o e. find_passes fits_id (start_objects name) q o e refl;
   rows_ascend = λ q t e. find_passes rows_rise (start_objects name) q (Table t) e refl;
   store = refl;
-  contexts = four (λ f p. (c : Ctx) × (at name f ≡ Some (Context c)) × (c.parent ≡ p.parent.bits))
-      (root_context, refl, refl) (folder_context top_name, refl, refl) (folder_context search_name, refl, refl) (folder_context deleted_name, refl, refl);
+  contexts = four (λ f p. (c : Ctx) × (at name f ≡ Some (Context c)) × ((f ≡ ROOT → ⊥) → c.parent ≡ p.parent.bits))
+      (root_context, refl, λ no. refl) (folder_context top_name, refl, λ no. refl) (folder_context search_name, refl, λ no. refl) (folder_context deleted_name, refl, λ no. refl);
   tables = four (λ f p. is_plain p ≡ true → IsSome (at name (hierarchy f)) × IsSome (at name (contents f))) (λ plain. (refl, refl)) (λ plain. (refl, refl)) (λ plain. (refl, refl)) (λ plain. (refl, refl));
   listed = λ f p t m e plain.
       four (λ f p. at name (contents f) ≡ Some (Table t) → IsSome (find_row m t.table.rows) → m % 32 ≡ 4 → (M : Mes) × (at name m ≡ Some (Message M)) × (M.folder ≡ f))

@@ -119,7 +119,7 @@ pub fn keeps_tables()
     ensures { KeepsTables }
 {}
 
-/// The folders of a new store are those that its tables of folders list from the root down, each at most 64 folders below it; where a store's folders are so, they are so after every command.
+/// The folders of a new store are those that its tables of folders list from the root down, each at most 64 folders below it, and its objects are theirs; where a store is so, it is so after every command.
 pub fn stays_found()
     ensures { StaysFound }
 {}

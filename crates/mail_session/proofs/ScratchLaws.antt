@@ -6,13 +6,14 @@ use Rattle.pst_outside.specs.World.{World}
 use Rattle.line_server.specs.declared.end.ServerEnd.{ServerEnd}
 use Rattle.line_server.specs.declared.end.ServerEnd.TheVariants as server_ends
 use Rattle.line_server.proofs.PieceLaws.{nothing_cuts}
-use Rattle.line_server.specs.History.{Turn, Turns}
+use Rattle.line_server.specs.History.{Hushes, Turn, Turns}
 use Rattle.line_server.specs.Lines.{Piece, up_to_quit}
 use Rattle.line_server.specs.Server.{ServerEnds}
+use Rattle.mail_session.specs.declared.answers.NoStop.{NoStop}
 use Rattle.mail_session.specs.declared.exit.Status.{Status}
 use Rattle.mail_session.specs.declared.exit.Status.TheVariants.{Done, Input, Output, Memory, Lines}
 use Rattle.mail_session.specs.declared.mailbox.Mailbox.{Mailbox}
-use Rattle.mail_session.specs.Mailboxes.{BoxAnswers}
+use Rattle.mail_session.specs.Mailboxes.{BoxAnswers, BoxStops}
 use Rattle.mail_session.specs.Boxes.{Holds, IsSession, NAME}
 use Rattle.mail_session.specs.Run.{Run}
 use Rattle.mail_session.specs.Scratch.{ScratchEnds, status_of}
@@ -54,14 +55,18 @@ is_session view whole ps rs a b v w start turns =
     let run = runs view whole ps rs a b v w turns start.0 start.2 in
     inr (start.0, run.0, start.1, run.1, session_in_order start.0 ps rs run.0 start.1 run.1)
 
+-- a mailbox says nothing itself
+hushes : {W : Type 0} (view : W → World) → Hushes view BoxAnswers BoxStops
+hushes view = record { answering = λ a b v w bytes said is told. ap (λ x. (view x).here.said) is.1; stopping = λ a b v w bytes stop is told. absurd is }
+
 -- how a session ends whose server ended so
-ended_as : {W : Type 0} (view : W → World) (a b : Mailbox) (first now : W) (end : ServerEnd) (status : Status)
+ended_as : {W : Type 0} (view : W → World) (a b : Mailbox) (first now : W) (end : ServerEnd NoStop) (status : Status)
     → (status ≡ Done) ⊎ (status ≡ Input) ⊎ (status ≡ Output) ⊎ (status ≡ Memory) ⊎ (status ≡ Lines)
     → (status ≡ Done → end ≡ server_ends.Done) → (status ≡ Input → end ≡ server_ends.Input) → (status ≡ Output → end ≡ server_ends.Output) → (end ≡ server_ends.Output → status ≡ Output)
     → (status ≡ Lines → end ≡ server_ends.Lines) → (status ≡ Memory → ⊥)
-    → ((T : Tree) × IsStart NAME T × Holds a.store T) → ServerEnds view BoxAnswers a first b now end → ScratchEnds (view first) (view now) status
-ended_as view a b first now end status statuses done input output is_output lines memory start e = record {
-  keeps = keeps_turns view _ e.done e.replies a b first now (view first) e.turns (keeps_started (view first));
+    → ((T : Tree) × IsStart NAME T × Holds a.store T) → (e : ServerEnds view BoxAnswers BoxStops a first b now end) → now ≡ e.last → ScratchEnds (view first) (view now) status
+ended_as view a b first now end status statuses done input output is_output lines memory start e at_end = record {
+  keeps = subst (λ x. KeepsDisk (view first) (view x)) (sym at_end) (keeps_turns view _ e.done e.replies a e.behind first e.last (view first) e.turns (keeps_started (view first)));
   taken = e.taken;
   input = e.input;
   all = e.all;
@@ -70,9 +75,9 @@ ended_as view a b first now end status statuses done input output is_output line
   left = e.left;
   cuts = e.cuts;
   replies = e.replies;
-  run = is_session view _ e.done e.replies a b first now start e.turns;
-  front = e.front;
-  whole = λ no. e.whole (λ is. no (is_output is));
+  run = is_session view _ e.done e.replies a e.behind first e.last start e.turns;
+  front = e.front (hushes view);
+  whole = λ no. e.whole (hushes view) (λ is. no (is_output is));
   statuses = statuses;
   finished = λ is. e.finished (done is);
   input_failed = λ is. e.input_failed (input is);
@@ -82,16 +87,17 @@ ended_as view a b first now end status statuses done input output is_output line
   few = e.few;
 }
 
-pub scratch_ends : {W : Type 0} (view : W → World) (a b : Mailbox) (first now : W) (end : ServerEnd)
-    → ((T : Tree) × IsStart NAME T × Holds a.store T) → ServerEnds view BoxAnswers a first b now end → ScratchEnds (view first) (view now) (status_of end)
+pub scratch_ends : {W : Type 0} (view : W → World) (a b : Mailbox) (first now : W) (end : ServerEnd NoStop)
+    → ((T : Tree) × IsStart NAME T × Holds a.store T) → ServerEnds view BoxAnswers BoxStops a first b now end → ScratchEnds (view first) (view now) (status_of end)
 scratch_ends view a b first now server_ends.Done start e =
-    ended_as view a b first now server_ends.Done Done (inl refl) (λ is. refl) (λ is. absurd (cc)) (λ is. absurd (cc)) (λ is. absurd (cc)) (λ is. absurd (cc)) (λ is. cc) start e
+    ended_as view a b first now server_ends.Done Done (inl refl) (λ is. refl) (λ is. absurd (cc)) (λ is. absurd (cc)) (λ is. absurd (cc)) (λ is. absurd (cc)) (λ is. cc) start e e.closes.1
 scratch_ends view a b first now server_ends.Input start e =
-    ended_as view a b first now server_ends.Input Input (inr (inl refl)) (λ is. absurd (cc)) (λ is. refl) (λ is. absurd (cc)) (λ is. absurd (cc)) (λ is. absurd (cc)) (λ is. cc) start e
+    ended_as view a b first now server_ends.Input Input (inr (inl refl)) (λ is. absurd (cc)) (λ is. refl) (λ is. absurd (cc)) (λ is. absurd (cc)) (λ is. absurd (cc)) (λ is. cc) start e e.closes.1
 scratch_ends view a b first now server_ends.Output start e =
-    ended_as view a b first now server_ends.Output Output (inr (inr (inl refl))) (λ is. absurd (cc)) (λ is. absurd (cc)) (λ is. refl) (λ is. refl) (λ is. absurd (cc)) (λ is. cc) start e
+    ended_as view a b first now server_ends.Output Output (inr (inr (inl refl))) (λ is. absurd (cc)) (λ is. absurd (cc)) (λ is. refl) (λ is. refl) (λ is. absurd (cc)) (λ is. cc) start e e.closes.1
 scratch_ends view a b first now server_ends.Lines start e =
-    ended_as view a b first now server_ends.Lines Lines (inr (inr (inr (inr refl)))) (λ is. absurd (cc)) (λ is. absurd (cc)) (λ is. absurd (cc)) (λ is. absurd (cc)) (λ is. refl) (λ is. cc) start e
+    ended_as view a b first now server_ends.Lines Lines (inr (inr (inr (inr refl)))) (λ is. absurd (cc)) (λ is. absurd (cc)) (λ is. absurd (cc)) (λ is. absurd (cc)) (λ is. refl) (λ is. cc) start e e.closes.1
+scratch_ends view a b first now (server_ends.Stopped never) start e = elim never [ ]
 
 -- there was no memory for a session
 pub ends_by_memory : (world : World) → ScratchEnds world world Memory

@@ -7,17 +7,19 @@ use Rattle.line_server.specs.declared.end.ServerEnd.{ServerEnd}
 use Rattle.line_server.specs.declared.end.ServerEnd.TheVariants as server_ends
 use Rattle.line_server.specs.Lines.{Piece, is_quit, lines}
 use Rattle.line_server.specs.Server.{LINES}
+use Rattle.mail_session.specs.declared.answers.NoStop.{NoStop}
 use Rattle.mail_session.specs.declared.exit.Status.{Status}
 use Rattle.mail_session.specs.declared.exit.Status.TheVariants.{Done, Input, Output, Memory, Lines}
 use Rattle.mail_session.specs.Boxes.{IsSession}
 use Rattle.mail_session.specs.Worlds.{KeepsDisk}
 
 -- the status of a session whose server of lines ended so
-abbrev pub status_of : ServerEnd → Status
+abbrev pub status_of : ServerEnd NoStop → Status
 status_of server_ends.Done = Done
 status_of server_ends.Input = Input
 status_of server_ends.Output = Output
 status_of server_ends.Lines = Lines
+status_of (server_ends.Stopped never) = elim never [ ]
 
 -- How a session in memory ends, over any world: its replies are those of a run from the tree of a new store over lines that are the first
 -- of those that it has taken.

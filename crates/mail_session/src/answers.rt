@@ -49,12 +49,20 @@ pub(crate) fn answer_line(alloc: Global, mailbox: &mut Mailbox, bytes: &[u8]) ->
     }
 }
 
+/// What stops a session in memory: nothing.
+#[derive(Drop)]
+pub(crate) enum NoStop {}
+
 impl<W: Outside> LineAnswerer<W> for Mailbox {
-    ghost use Rattle.mail_session.specs.Mailboxes.{BoxAnswers};
+    type Stop = NoStop;
+
+    ghost use Rattle.mail_session.specs.Mailboxes.{BoxAnswers, BoxStops};
 
     ghost answers = { BoxAnswers };
 
-    fn answer(&mut self, alloc: Global, _world: &mut W, line: &[u8]) -> Spoken {
-        answer_line(alloc, self, line)
+    ghost stops = { BoxStops };
+
+    fn answer(&mut self, alloc: Global, _world: &mut W, line: &[u8]) -> Result<Spoken, NoStop> {
+        Ok(answer_line(alloc, self, line))
     }
 }

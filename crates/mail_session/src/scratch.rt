@@ -2,6 +2,7 @@
 ghost use Rattle.std.specs.Prelude.{◌≡◌};
 ghost use Rattle.mail_session.specs.Scratch.{ScratchEnds, status_of};
 
+use crate::answers::NoStop;
 use crate::exit::Status;
 use crate::mailbox::Mailbox;
 use line_server::{ServerEnd, serve};
@@ -9,7 +10,7 @@ use pst_outside::Outside;
 use std::alloc::{AllocError, Global};
 
 /// The status of a session that ended so.
-fn status_of(end: ServerEnd) -> Status
+fn status_of(end: ServerEnd<NoStop>) -> Status
     ensures { result ≡ status_of end }
 {
     match end {
@@ -17,6 +18,7 @@ fn status_of(end: ServerEnd) -> Status
         ServerEnd::Input => Status::Input,
         ServerEnd::Output => Status::Output,
         ServerEnd::Lines => Status::Lines,
+        ServerEnd::Stopped(never) => match never {},
     }
 }
 

@@ -8,7 +8,7 @@ use Rattle.mail_objects.specs.Forms.{Ctx, Tbl}
 use Rattle.mail_objects.specs.declared.object.Object.{Object}
 use Rattle.mail_objects.specs.declared.object.Object.TheVariants.{Context, Table}
 use Rattle.mail_tree.specs.declared.places.FolderPlace.{FolderPlace}
-use Rattle.mail_tree.specs.Places.{find_place, is_plain}
+use Rattle.mail_tree.specs.Places.{ROOT, find_place, is_plain}
 use Rattle.mail_tree.specs.Changing.{beside, contents, hierarchy}
 use Rattle.mail_tree.specs.Whole.{HasRow, fits_id}
 use Rattle.mail_tree.proofs.Nearly.{AreNearly, Puts, folder_kind, plain_id, puts_suiting}
@@ -38,7 +38,7 @@ same_folder f g kind a b e = omega arith
 
 module _ (E : ℕ → Type 0) (places : List FolderPlace) (at at' : ℕ → Option Object) (n : AreNearly E places at) where
   -- a folder gets other values, with its parent
-  pub puts_context : (f : ℕ) (p : FolderPlace) (c : Ctx) → find_place f places ≡ Some p → ((E f → ⊥) → c.parent ≡ p.parent.bits) → Puts at at' f (Some (Context c)) → AreNearly E places at'
+  pub puts_context : (f : ℕ) (p : FolderPlace) (c : Ctx) → find_place f places ≡ Some p → ((f ≡ ROOT → ⊥) → (E f → ⊥) → c.parent ≡ p.parent.bits) → Puts at at' f (Some (Context c)) → AreNearly E places at'
   puts_context f p c e parent puts =
       let kind = folder_kind p.sort f (n.kinds f p e) in
       let (above, below) = low f kind in
@@ -46,7 +46,7 @@ module _ (E : ℕ → Type 0) (places : List FolderPlace) (at at' : ℕ → Opti
         typed = some_fits f (Context c) (folder_fits f c kind);
         rows_ascend = λ t e. cc;
         store = λ e. refl;
-        context = λ r e'. (c, refl, λ free. parent free ∙ ap (λ x. x.parent.bits) (same_Some p r (sym e ∙ e')));
+        context = λ r e'. (c, refl, λ no_root free. parent no_root free ∙ ap (λ x. x.parent.bits) (same_Some p r (sym e ∙ e')));
         folders = λ g r e' plain same. absurd (omega (arith, beside_kind g 13 (omega arith)));
         messages = λ g r e' plain same. absurd (omega (arith, beside_kind g 14 (omega arith)));
         message = λ free four. omega arith;

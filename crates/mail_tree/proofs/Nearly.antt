@@ -29,7 +29,7 @@ pub record AreNearly (E : ℕ → Type 0) (places : List FolderPlace) (at : ℕ 
   pub typed : (q : ℕ) (o : Object) → at q ≡ Some o → fits_id q o ≡ true
   pub rows_ascend : (q : ℕ) (t : Tbl) → at q ≡ Some (Table t) → keys_ascend (λ r. r.0) 0 t.table.rows ≡ true
   pub store : IsSome (at 0x21)
-  pub contexts : (f : ℕ) (p : FolderPlace) → find_place f places ≡ Some p → (c : Ctx) × (at f ≡ Some (Context c)) × ((E f → ⊥) → c.parent ≡ p.parent.bits)
+  pub contexts : (f : ℕ) (p : FolderPlace) → find_place f places ≡ Some p → (c : Ctx) × (at f ≡ Some (Context c)) × ((f ≡ ROOT → ⊥) → (E f → ⊥) → c.parent ≡ p.parent.bits)
   pub tables : (f : ℕ) (p : FolderPlace) → find_place f places ≡ Some p → is_plain p ≡ true → IsSome (at (hierarchy f)) × IsSome (at (contents f))
   pub listed : (f : ℕ) (p : FolderPlace) (t : Tbl) (m : ℕ) → find_place f places ≡ Some p → is_plain p ≡ true → at (contents f) ≡ Some (Table t)
       → IsSome (find_row m t.table.rows) → m % 32 ≡ 4 → (E m → ⊥) → (M : Mes) × (at m ≡ Some (Message M)) × (M.folder ≡ f)
@@ -45,7 +45,7 @@ nearly E places at w = record {
   typed = w.typed;
   rows_ascend = w.rows_ascend;
   store = w.store;
-  contexts = λ f p e. let c = w.contexts f p e in (c.0, c.1, λ free. c.2);
+  contexts = λ f p e. let c = w.contexts f p e in (c.0, c.1, λ no_root free. c.2 no_root);
   tables = w.tables;
   listed = λ f p t m e plain at row kind free. w.listed f p t m e plain at row kind;
   held = λ m M e free. w.held m M e;
@@ -61,7 +61,7 @@ whole places at n = record {
   typed = n.typed;
   rows_ascend = n.rows_ascend;
   store = n.store;
-  contexts = λ f p e. let c = n.contexts f p e in (c.0, c.1, c.2 (λ x. x));
+  contexts = λ f p e. let c = n.contexts f p e in (c.0, c.1, λ no_root. c.2 no_root (λ x. x));
   tables = n.tables;
   listed = λ f p t m e plain at row kind. n.listed f p t m e plain at row kind (λ x. x);
   held = λ m M e. n.held m M e (λ x. x);
@@ -107,7 +107,7 @@ pub record Suits (E : ℕ → Type 0) (places : List FolderPlace) (at : ℕ → 
   pub typed : (x : Object) → o ≡ Some x → fits_id q x ≡ true
   pub rows_ascend : (t : Tbl) → o ≡ Some (Table t) → keys_ascend (λ r. r.0) 0 t.table.rows ≡ true
   pub store : q ≡ 0x21 → IsSome o
-  pub context : (p : FolderPlace) → find_place q places ≡ Some p → (c : Ctx) × (o ≡ Some (Context c)) × ((E q → ⊥) → c.parent ≡ p.parent.bits)
+  pub context : (p : FolderPlace) → find_place q places ≡ Some p → (c : Ctx) × (o ≡ Some (Context c)) × ((q ≡ ROOT → ⊥) → (E q → ⊥) → c.parent ≡ p.parent.bits)
   pub folders : (f : ℕ) (p : FolderPlace) → find_place f places ≡ Some p → is_plain p ≡ true → q ≡ hierarchy f
       → IsSome o × ((g : ℕ) (r : FolderPlace) → find_place g places ≡ Some r → (g ≡ ROOT → ⊥) → (E g → ⊥) → r.parent.bits ≡ f → HasRow o g)
   pub messages : (f : ℕ) (p : FolderPlace) → find_place f places ≡ Some p → is_plain p ≡ true → q ≡ contents f
@@ -160,7 +160,7 @@ module _ (E : ℕ → Type 0) (places : List FolderPlace) (at at' : ℕ → Opti
     ];
     contexts = λ f p e. elim (cases_eq f q) [
       | inl same ↦ let w = suits.context p (subst (λ x. find_place x places ≡ Some p) same e) in
-          (w.0, ap at' same ∙ puts.here ∙ w.1, λ free. w.2 (λ x. free (subst E (sym same) x)))
+          (w.0, ap at' same ∙ puts.here ∙ w.1, λ no_root free. w.2 (λ root. no_root (same ∙ root)) (λ x. free (subst E (sym same) x)))
       | inr other ↦ let w = n.contexts f p e in (w.0, puts.others f other ∙ w.1, w.2)
     ];
     tables = λ f p e plain. (

@@ -72,7 +72,7 @@ module _ (T : Tree) (places : List FolderPlace) (f : ℕ) (p : FolderPlace) (D :
   other_values c props at =
       let v = w.contexts f p e in
       let same : v.0 ≡ c = cc in
-      whole places _ (puts_context (λ x. ⊥) places (now_at T D) _ (nearly (λ x. ⊥) places (now_at T D) w) f p (record c { props = props }) e (λ free. subst (λ x. x.parent ≡ p.parent.bits) same v.2)
+      whole places _ (puts_context (λ x. ⊥) places (now_at T D) _ (nearly (λ x. ⊥) places (now_at T D) w) f p (record c { props = props }) e (λ no_root free. subst (λ x. x.parent ≡ p.parent.bits) same (v.2 no_root))
       (puts_values T D f (Context (record c { props = props })) c.props props))
 
   fine_counted : is_plain p ≡ true → Fine (counted T places f D) (λ D'. AreWhole places (now_at T D'))
@@ -90,7 +90,7 @@ module _ (T : Tree) (places : List FolderPlace) (f : ℕ) (p : FolderPlace) (D :
         let c = w.contexts f p e in let q = w.parents f p e (eqb-false f ROOT t) in let t' = folders_of w p.parent.bits q.0 q.1 q.2 in
         let ascend = w.rows_ascend (hierarchy p.parent.bits) t'.0 t'.1 in
         let row = shown_row f c.0.props t'.0.table in
-        rw (t, c.1, c.2, t'.1) (whole places _ (puts_folders (λ x. ⊥) places (now_at T D) _ (nearly (λ x. ⊥) places (now_at T D) w) p.parent.bits q.0
+        rw (t, c.1, c.2 (eqb-false f ROOT t), t'.1) (whole places _ (puts_folders (λ x. ⊥) places (now_at T D) _ (nearly (λ x. ⊥) places (now_at T D) w) p.parent.bits q.0
         (record { parent = t'.0.parent; table = record t'.0.table { rows = row } }) q.1 q.2 (put-ascends (λ r. r.0) 0 (f, mirror t'.0.table.columns c.0.props) t'.0.table.rows (omega arith) ascend)
         (λ g r eg free parent has. kept-put (λ r. r.0) g (f, mirror t'.0.table.columns c.0.props) t'.0.table.rows (subst (λ x. IsSome (find_row g x.table.rows)) (same_table has.0 t'.0 (sym has.1 ∙ t'.1)) has.2))
         (puts_object T D (hierarchy p.parent.bits) (Some (with_rows row t'.0)))))

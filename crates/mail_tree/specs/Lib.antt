@@ -11,3 +11,4 @@ pub mod Step
 pub mod Whole
 pub mod Start
 pub mod Found
+pub mod Standing

@@ -42,9 +42,9 @@ pub record AreWhole (places : List FolderPlace) (at : ℕ → Option Object) : T
   pub typed : (q : ℕ) (o : Object) → at q ≡ Some o → fits_id q o ≡ true
   -- the rows of each table ascend by id
   pub rows_ascend : (q : ℕ) (t : Tbl) → at q ≡ Some (Table t) → keys_ascend (λ r. r.0) 0 t.table.rows ≡ true
-  -- the store's values, each folder's with its parent, and the tables of each plain folder are there
+  -- the store's values, each folder's, of which all but the root's name its parent, and the tables of each plain folder are there
   pub store : IsSome (at 0x21)
-  pub contexts : (f : ℕ) (p : FolderPlace) → find_place f places ≡ Some p → (c : Ctx) × (at f ≡ Some (Context c)) × (c.parent ≡ p.parent.bits)
+  pub contexts : (f : ℕ) (p : FolderPlace) → find_place f places ≡ Some p → (c : Ctx) × (at f ≡ Some (Context c)) × ((f ≡ ROOT → ⊥) → c.parent ≡ p.parent.bits)
   pub tables : (f : ℕ) (p : FolderPlace) → find_place f places ≡ Some p → is_plain p ≡ true → IsSome (at (hierarchy f)) × IsSome (at (contents f))
   -- each row of a message in a plain folder's table names a message in it
   pub listed : (f : ℕ) (p : FolderPlace) (t : Tbl) (m : ℕ) → find_place f places ≡ Some p → is_plain p ≡ true → at (contents f) ≡ Some (Table t)

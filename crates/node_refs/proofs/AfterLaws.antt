@@ -7,7 +7,7 @@ use Rattle.file_blocks.specs.Blocks.{entry_key}
 use Rattle.lays_kept.specs.Renewed.{EachLeads}
 use Rattle.tree_edit.specs.Edits.{edited, AreEdits, entry_with}
 use Rattle.node_layout.specs.Lookups.{edit_at, Each, sum_of, AllIn}
-use Rattle.node_refs.specs.Reach.{node_keys}
+use Rattle.node_reach.specs.Reach.{node_keys}
 use Rattle.node_refs.specs.Counts.{uses, AreRefs, taken, put, refs_after, FreesUnused}
 use Rattle.node_layout.specs.Joined.{node_id}
 use Rattle.node_refs.proofs.CountLaws.{left-reach, counted-after, none-unused}

@@ -7,7 +7,7 @@ use Rattle.file_blocks.specs.Blocks.{entry_key}
 use Rattle.lays_kept.specs.Grown.{NeedsOnly}
 use Rattle.tree_edit.specs.Edits.{under, over, given, edited, AreEdits, entry_with}
 use Rattle.node_layout.specs.Lookups.{edit_at, or_old, Each, sum_of, AllIn}
-use Rattle.node_refs.specs.Reach.{node_keys}
+use Rattle.node_reach.specs.Reach.{node_keys}
 use Rattle.data_tree.specs.Keys.{count_of}
 use Rattle.node_refs.specs.Counts.{is_edit, sum_if, sum_put, is_edited, uses, AreRefs, taken, put, refs_after, FreesUnused, NoneUnused}
 use Rattle.node_layout.specs.Joined.{node_id, AreLeft, AllNeedOnly}

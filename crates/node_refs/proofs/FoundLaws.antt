@@ -13,7 +13,7 @@ use Rattle.subnode_tree.specs.Subnodes.{is_leaf, is_inner, entries_of, listed_as
 use Rattle.file_layout.specs.Nodes.{Node, node_at}
 use Rattle.data_tree.specs.Keys.{keys_of, named_in, under, led_from, data_keys}
 use Rattle.subnode_tree.specs.Keys.{Entry, listed_in, ok_entries, each_keys, sub_keys_from, sub_keys}
-use Rattle.node_refs.specs.Reach.{node_keys, AgreeOn, AllFound}
+use Rattle.node_reach.specs.Reach.{node_keys, AgreeOn, AllFound}
 use Rattle.node_layout.specs.Lookups.{AllIn}
 
 found-front : (find : ℕ → Option (List ℕ)) (xs ys : List ℕ) → AllFound find (xs ++ ys) → AllFound find xs

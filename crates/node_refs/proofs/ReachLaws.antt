@@ -14,7 +14,7 @@ use Rattle.file_layout.specs.Nodes.{node_at}
 use Rattle.lays_kept.specs.Grown.{restricted, NeedsOnly}
 use Rattle.data_tree.specs.Keys.{keys_of, named_in, under, led_from, data_keys}
 use Rattle.subnode_tree.specs.Keys.{Entry, listed_in, ok_entries, each_keys, sub_keys_from, sub_keys}
-use Rattle.node_refs.specs.Reach.{node_keys, AgreeOn}
+use Rattle.node_reach.specs.Reach.{node_keys, AgreeOn}
 use Rattle.node_layout.specs.Lookups.{AllIn}
 
 all-front : (find g : ℕ → Option (List ℕ)) (xs ys : List ℕ) → AgreeOn find g (xs ++ ys) → AgreeOn find g xs

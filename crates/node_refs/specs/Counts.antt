@@ -5,7 +5,7 @@ use Rattle.btree_pages.specs.declared.entry.NodeEntry.{NodeEntry}
 use Rattle.file_blocks.specs.Blocks.{entry_key}
 use Rattle.tree_edit.specs.Edits.{entry_with, of_some}
 use Rattle.node_layout.specs.Lookups.{edit_at, or_old, sum_of}
-use Rattle.node_refs.specs.Reach.{node_keys}
+use Rattle.node_reach.specs.Reach.{node_keys}
 use Rattle.data_tree.specs.Keys.{count_of}
 use Rattle.node_layout.specs.Joined.{node_id, Recounts}
 

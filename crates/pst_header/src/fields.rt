@@ -1,13 +1,14 @@
 //! The header's fields, read from its bytes and written into them, each a word of `Format`.
 ghost use Rattle.std.specs.Prelude.{◌≡◌, length};
 ghost use Rattle.pst_base.specs.Cells.{Fit, written};
-ghost use Rattle.pst_header.specs.Format.{blanked, crc_cells, full_of, header_of, index_cells, indexes_of, own_cells, partial_of, root_cells, with_crcs, with_fields};
+ghost use Rattle.pst_base.specs.Fields.{number_at};
+ghost use Rattle.pst_header.specs.Format.{IsWritable, blanked, crc_cells, full_of, header_of, index_cells, indexes_of, own_cells, partial_of, root_cells, with_crcs, with_fields};
 
 use crate::header::Header;
 use crate::layout::{
-    AMAP_FREE, AMAP_LAST, BBT_BID, BBT_IB, CRC_FULL, CRC_PARTIAL, CRYPT, EOF, FULL, INDEXES,
-    MAGIC_CLIENT, MAPS, NBT_BID, NBT_IB, NEXT_BLOCK, NEXT_PAGE, PARTIAL, PMAP_FREE, UNIQUE,
-    VERSION,
+    AMAP_FREE, AMAP_LAST, BBT_BID, BBT_IB, CLIENT_VERSION, CRC_FULL, CRC_PARTIAL, CRYPT, EOF,
+    FREE_MAPS, FULL, INDEXES, IS_PST, IS_STORE, MAGIC, MAGIC_CLIENT, MAPS, NBT_BID, NBT_IB,
+    NEXT_BLOCK, NEXT_PAGE, PARTIAL, PLATFORMS, PMAP_FREE, SENTINEL, UNICODE, UNIQUE, VERSION,
 };
 use pst_base::{
     Bid, Bref, crc, part, put_u8, put_u16, put_u32, put_u64, u8_at, u16_at, u32_at, u64_at,
@@ -177,4 +178,30 @@ pub(crate) fn header(b: &[u8; 564]) -> Header
         maps: u8_at(b, MAPS),
         kept: kept_bytes(b),
     }
+}
+
+/// The bytes of a new header around its fields: the magic numbers, the version, that of the client and of the two platforms, no free map of a file of more than 128 regions, and the sentinel.
+fn new_bytes() -> [u8; 564]
+    ensures magic { number_at 4 MAGIC result ≡ IS_PST }
+    ensures client { number_at 2 MAGIC_CLIENT result ≡ IS_STORE }
+    ensures version { number_at 2 VERSION result ≡ UNICODE }
+    ensures plain { number_at 1 CRYPT result ≡ 0 }
+{
+    let mut b = [0; 564];
+    b[FREE_MAPS..SENTINEL].fill(0xff);
+    put_u8(&mut b, SENTINEL, 0x80);
+    put_u16(&mut b, CLIENT_VERSION, 19);
+    put_u16(&mut b, PLATFORMS, 0x0101);
+    put_u8(&mut b, CRYPT, 0);
+    put_u16(&mut b, VERSION, UNICODE);
+    put_u16(&mut b, MAGIC_CLIENT, IS_STORE);
+    put_u32(&mut b, MAGIC, IS_PST);
+    b
+}
+
+/// The header of a new file, whose fields but wVer are 0. It can be written, with any numbers in the other fields.
+pub fn new_header() -> Header
+    ensures { IsWritable result }
+{
+    header(&new_bytes())
 }

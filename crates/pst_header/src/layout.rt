@@ -8,6 +8,10 @@ pub const CRC_PARTIAL: usize = 4;
 pub const MAGIC_CLIENT: usize = 8;
 /// wVer, 2 bytes.
 pub const VERSION: usize = 10;
+/// wVerClient, 2 bytes, which no reader relies on.
+pub const CLIENT_VERSION: usize = 12;
+/// bPlatformCreate and bPlatformAccess, 1 byte each.
+pub const PLATFORMS: usize = 14;
 /// bidNextP, 8 bytes.
 pub const NEXT_PAGE: usize = 32;
 /// dwUnique, 4 bytes.
@@ -34,6 +38,10 @@ pub const BBT_BID: usize = 232;
 pub const BBT_IB: usize = 240;
 /// fAMapValid, 1 byte.
 pub const MAPS: usize = 248;
+/// rgbFM and rgbFP, 128 bytes each, which a writer of today fills with FFh.
+pub const FREE_MAPS: usize = 256;
+/// bSentinel, 1 byte.
+pub const SENTINEL: usize = 512;
 /// bCryptMethod, 1 byte.
 pub const CRYPT: usize = 513;
 /// bidNextB, 8 bytes.

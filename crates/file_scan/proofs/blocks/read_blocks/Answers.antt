@@ -1,4 +1,4 @@
-use Rattle.std.proofs.Common.{List, [], sym, subst}
+use Rattle.std.proofs.Common.{sym, subst}
 use Rattle.std.proofs.lemmas.Result.{err_from_is_err_and}
 use Rattle.pst_outside.specs.World.{Image}
 use Rattle.btree_pages.specs.Entries.{block_of}
@@ -7,7 +7,6 @@ use Rattle.file_layout.specs.Nodes.{block_tree}
 use Rattle.file_layout.specs.Trees.{root_seat}
 use Rattle.file_layout.specs.Walk.{AddsBefore, AddsReached}
 use Rattle.file_layout.specs.declared.stops.OpenStop.{OpenStop}
-use Rattle.file_layout.specs.declared.stops.OpenStop.TheVariants.{Refused}
 use Rattle.file_scan.proofs.ScanLaws.{block-stops}
 use Rattle.file_scan.proofs.blocks.read_blocks.Goals as goal
 

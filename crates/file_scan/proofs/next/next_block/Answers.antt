@@ -1,7 +1,7 @@
-use Rattle.std.proofs.Common.{◌≡◌, ◌∙◌, ◌+◌, max, length, drop, get_or, ap, arith}
+use Rattle.std.proofs.Common.{◌≡◌, ◌∙◌, ◌+◌, max, drop, get_or, ap, arith}
 use Rattle.btree_pages.specs.declared.entry.BlockEntry.{BlockEntry}
 use Rattle.file_layout.specs.Numbers.{past_blocks, counted_to}
-use Rattle.file_scan.proofs.NextLaws.{blocks-next, blocks-end}
+use Rattle.file_scan.proofs.NextLaws.{blocks-next}
 use Rattle.file_scan.proofs.next.next_block.Goals as goal
 
 abbrev no_block : BlockEntry

@@ -1,4 +1,4 @@
-use Rattle.std.proofs.Common.{◌≡◌, ◌∙◌, ◌+◌, max, length, drop, get_or, ap, arith}
+use Rattle.std.proofs.Common.{◌≡◌, ◌∙◌, ◌+◌, max, drop, get_or, ap, arith}
 use Rattle.pst_base.specs.declared.ids.Bref.{Bref}
 use Rattle.file_layout.specs.Numbers.{past_pages, counted_to}
 use Rattle.file_scan.proofs.NextLaws.{pages-next, pages-end}

@@ -59,7 +59,7 @@ returns-clause-lays g c = λ told.
     let all = gathered header (g.W.Outside.view c.read_blocks.new.w).here mid.here c.in_ok-blocks.blocks.items c.new-nodes.result.items c.read_tree.new.entries.items c.in_ok-blocks.pages.items c.read_tree.new.pages.items
     (c.in_ok-read_tree.ensures.same.stays.here there) c.new-nodes.ensures.items has tree.0 tree.1 tree.2 in
     let tells = tells-here (untouched_then c.in_ok-blocks.ensures.same c.in_ok-read_tree.ensures.same) c.requires.whole there in
-    subst (λ (i : Image). LaysThese header (file_of i) c.in_ok-blocks.blocks.items c.read_tree.new.pages.items c.in_ok-lines.lines.items c.in_ok-slots.slots) (sym (c.in_ok-lines.ensures.same.stays.here told))
+    subst (λ (i : Image). LaysThese header (file_of i) c.in_ok-blocks.blocks.items c.read_tree.new.entries.items c.read_tree.new.pages.items c.in_ok-lines.lines.items c.in_ok-slots.slots) (sym (c.in_ok-lines.ensures.same.stays.here told))
     (lines-laid header mid c.in_ok-blocks.blocks.items c.as_slice.result.now c.as_slice-4.result.now c.read_tree.new.entries.items c.as_slice-2.result.now c.read_tree.new.pages.items c.as_slice-3.result.now c.in_ok-lines.lines.items c.in_ok-slots.slots
     tells all c.as_slice.ensures.value c.as_slice-4.ensures.value c.as_slice-2.ensures.value c.as_slice-3.ensures.value c.requires.small c.in_ok-lines.ensures.lines c.in_ok-slots.ensures.apart c.in_ok-slots.ensures.used)
 

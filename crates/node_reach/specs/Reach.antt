@@ -1,12 +1,19 @@
 -- The blocks that a node reaches, as their keys: each place that names one gives it once.
-use Rattle.std.specs.Prelude.{◌≡◌, ℕ, ◌+◌, List, [], ◌∷◌, ◌++◌, Option, Some}
+use Rattle.std.specs.Prelude.{◌≡◌, ℕ, ◌+◌, List, [], ◌∷◌, ◌++◌, Option, Some, Result, Ok}
 use Rattle.btree_pages.specs.declared.entry.NodeEntry.{NodeEntry}
-use Rattle.data_tree.specs.Keys.{count_of, data_keys}
+use Rattle.data_tree.specs.declared.source.TreeStop.{TreeStop}
+use Rattle.data_tree.specs.Keys.{count_of, data_keys, data_keys_read}
+use Rattle.data_tree.specs.Tree.{and_then}
+use Rattle.subnode_tree.specs.KeyReads.{sub_keys_read}
 use Rattle.subnode_tree.specs.Keys.{sub_keys}
 
 -- the blocks that a node reaches
 unfoldable pub node_keys : (ℕ → Option (List ℕ)) → NodeEntry → List ℕ
 node_keys find e = data_keys find e.content ++ sub_keys find e.subnodes
+
+-- the same as a reading, which has the faults of the ids' own
+abbrev pub node_keys_read : (ℕ → Option (List ℕ)) → ℕ → NodeEntry → Result (List ℕ) TreeStop
+node_keys_read find eof e = and_then (data_keys_read find e.content) (λ content. and_then (sub_keys_read find eof e.subnodes) (λ subs. Ok (content ++ subs)))
 
 -- ---- counts
 

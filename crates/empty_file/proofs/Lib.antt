@@ -1,0 +1,5 @@
+pub mod Rising
+pub mod Apart
+pub mod Laid
+pub mod Joined
+pub mod Outcomes

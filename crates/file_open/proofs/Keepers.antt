@@ -1,0 +1,168 @@
+-- The keeper of a file from its scan to the end of an opening.
+use Rattle.std.proofs.Common.{◌≡◌, inr, ◌∙◌, ℕ, ◌^◌, ◌||◌, nat_le, Bool, true, false, List, take, Result, Ok, Err, IfErr, arith, refl, sym, ap, subst}
+use Rattle.std.specs.Result.{IsErrAnd}
+use Rattle.pst_outside.specs.World.{Image, World}
+use Rattle.pst_outside.specs.Calls.{Untouched}
+use Rattle.pst_header.specs.declared.header.Header.{Header}
+use Rattle.pst_header.specs.Format.{reading}
+use Rattle.gate_file.specs.Effective.{effective, header_bytes}
+use Rattle.gate_file.specs.Gate.{SameStore}
+use Rattle.file_blocks.specs.Blocks.{file_of}
+use Rattle.file_blocks.proofs.FileLaws.{no_shorter}
+use Rattle.file_layout.specs.Opening.{opening}
+use Rattle.file_scan.specs.Found.{IsFound}
+use Rattle.file_scan.specs.declared.scan.FoundFile.{FoundFile}
+use Rattle.node_port.specs.Nodes.{Nodes}
+use Rattle.node_port.specs.Stops.{Room}
+use Rattle.lays_kept.specs.Stands.{AreThose, Stands}
+use Rattle.lays_kept.proofs.Opened.{front_is, opens_parts, stands_opens}
+use Rattle.pst_commit.specs.Keeping.{Holds}
+use Rattle.pst_commit.proofs.Holding.{same_header}
+use Rattle.pst_commit.proofs.Outcomes.{stands_over}
+use Rattle.mail_tree.specs.declared.places.FolderPlace.{FolderPlace}
+use Rattle.tree_look.specs.Faults.{Stops}
+use Rattle.mail_tree.specs.Standing.{HasTree}
+use Rattle.tree_look.specs.Walk.{Looks}
+use Rattle.tree_look.specs.declared.stops.LookStop.{LookStop}
+use Rattle.file_open.specs.Opening.{IsKept, IsOpened, LaysNodes, ReadsFresh, StopsOpening, spent_in}
+use Rattle.file_open.specs.Stops.{of_look}
+use Rattle.file_open.specs.declared.stops.FileRefusal.TheVariants.{Ids}
+use Rattle.file_open.specs.declared.stops.FileStop.{FileStop}
+use Rattle.file_open.specs.declared.stops.FileStop.TheVariants.{Refused}
+use Rattle.file_open.proofs.Files.{header_once, laid_found, look_stops, same_spent, some_nodes, spent_excludes, spent_found}
+
+-- files that lay nodes stand for them, whatever their header vouches for, as long as it is the one that was found
+abbrev pub laid_stands : {image : Image} {N : Nodes} {last : List ℕ} (bytes : List ℕ) → LaysNodes image N last → bytes ≡ take 564 (file_of image) → Stands bytes image N last
+laid_stands {image} bytes laid front =
+    let parts = opens_parts image.main image.side laid.header laid.opened in
+    record {
+      main = parts.0;
+      side = parts.1;
+      file = record {
+        header = laid.header;
+        long = omega (arith, parts.0, no_shorter image.main image.side);
+        read = parts.2;
+        m = laid.m;
+        lays = laid.lays;
+        those = laid.those;
+        counters = laid.counters;
+        maps = inr (inr (sym front));
+      };
+    }
+
+pub kept : (knows : Header → List ℕ → Type 0) (bytes : List ℕ) (world : World) (found : FoundFile) → world.tells → bytes ≡ take 564 (file_of world.here)
+    → ((image : Image) → IsFound image found → knows found.header (file_of image)) → IsKept knows bytes found.header world found
+kept knows bytes world found told front knowing = record {
+  own = refl;
+  front = front;
+  holds = λ is N those. (told, record { stands = laid_stands bytes (laid_found world.here found is N those) front; own = refl; known = knowing world.here is });
+}
+
+-- a file that was scanned, as it was at the start, with its keeper
+pub record Scanned (knows : Header → List ℕ → Type 0) (bytes : List ℕ) (header : Header) (found : FoundFile) (old mid : World) : Type 0 where
+  pub here : mid.here ≡ old.here
+  pub is : IsFound mid.here found
+  pub made : IsKept knows bytes header mid found
+
+pub scanned : {knows : Header → List ℕ → Type 0} {bytes : List ℕ} {header : Header} {found : FoundFile} {old scan mid : World} → Untouched old scan → Untouched scan mid
+    → (scan.tells → IsFound scan.here found) → (mid.tells → IsKept knows bytes header mid found) → mid.tells → Scanned knows bytes header found old mid
+scanned {found = found} first then is made told =
+    let before = then.stays.told told in
+    record {
+      here = then.stays.here told ∙ first.stays.here before;
+      is = subst (λ (i : Image). IsFound i found) (sym (then.stays.here told)) (is before);
+      made = made told;
+    }
+
+-- a stop that is passed on
+pub passed_on : {A : Type 0} (P : FileStop → Type 0) (stop : FileStop) (result : Result A FileStop) → IsErrAnd result (λ e. e ≡ stop) → P stop → IfErr result P
+passed_on P stop (Ok y) h p = absurd h
+passed_on P stop (Err e) h p = rw h p
+
+-- the bytes of the header that counts
+pub counted : (image : Image) (header : Header) (bytes : List ℕ) → opening image.main image.side ≡ Ok header → bytes ≡ header_bytes image.main image.side
+    → (bytes ≡ take 564 (file_of image)) × (reading bytes ≡ Ok header)
+counted image header bytes opens are =
+    let front : bytes ≡ take 564 (file_of image) = are ∙ sym (front_is image.main image.side) in
+    (front, ap reading front ∙ (opens_parts image.main image.side header opens).2)
+
+-- after a look at the tree of a file that was scanned
+module _ {knows : Header → List ℕ → Type 0} {bytes : List ℕ} {header : Header} {found : FoundFile} {mid : World} (is : IsFound mid.here found) (made : IsKept knows bytes header mid found) where
+  abbrev those : (N : Nodes) × AreThose is.nodes N
+  those = some_nodes is.nodes
+
+  abbrev laid : LaysNodes mid.here those.0 found.header.indexes
+  laid = laid_found mid.here found is those.0 those.1
+
+  abbrev has_spent : Bool
+  has_spent = nat_le (2 ^ 61) found.next_block || nat_le (2 ^ 61) found.next_page
+
+  spent_is : has_spent ≡ spent_in mid.here those.0 found.header.indexes laid
+  spent_is = spent_found mid.here found is those.0 those.1
+
+  -- the tree was refused
+  pub refused_tree : (stop : LookStop) → ((N : Nodes) → Holds knows bytes header mid N → Stops N stop) → StopsOpening mid.here (of_look stop)
+  refused_tree stop stops = look_stops mid.here those.0 found.header.indexes laid stop (stops those.0 (made.holds is those.0 those.1))
+
+  -- the tree was found
+  pub opened : {knows' : Header → List ℕ → Type 0} {bytes' : List ℕ} {header' : Header} {room room' : Room} {now : World} (places : List FolderPlace)
+      → Looks (Holds knows bytes header mid) (Holds knows' bytes' header' now) header.indexes header'.indexes room room' mid now → room.found ≡ bytes → room'.found ≡ bytes'
+      → ((N : Nodes) → Holds knows bytes header mid N → HasTree N places) → IsOpened knows' bytes' header' mid.here now places
+  opened {knows'} {bytes'} {header'} {now = now} places looks was has trees =
+      let before = made.holds is those.0 those.1 in
+      let held : Holds knows' bytes' header' now those.0 = looks.stays those.0 before in
+      record {
+        nodes = those.0;
+        laid = record {
+          header = found.header;
+          opened = is.opened;
+          m = is.nodes;
+          lays = is.lays;
+          those = those.1;
+          counters = ap (λ (h : Header). h.indexes) (sym made.own) ∙ sym looks.counters;
+        };
+        own =
+            header_once now.here found.header ((held.1.stands).file).header
+            (subst (λ (i : Image). opening i.main i.side ≡ Ok found.header) (sym (looks.world.stays.here held.0)) is.opened) (stands_opens held.1.stands)
+            ∙ held.1.own;
+        front = sym has ∙ ap (λ (r : Room). r.found) looks.space ∙ was ∙ made.front;
+        held = held;
+        tree = trees those.0 before;
+      }
+
+  -- numbers are left
+  pub fresh : {knows' : Header → List ℕ → Type 0} {bytes' : List ℕ} {header' : Header} {now : World} {places : List FolderPlace} → IsOpened knows' bytes' header' mid.here now places → has_spent ≡ false → ReadsFresh mid.here places
+  fresh {header' = header'} o left = record {
+    reads = record { nodes = o.nodes; last = header'.indexes; laid = o.laid; tree = o.tree };
+    left = same_spent mid.here o.nodes those.0 header'.indexes found.header.indexes o.laid laid ∙ sym spent_is ∙ left;
+  }
+
+  -- or none
+  pub spent_stops : {knows' : Header → List ℕ → Type 0} {bytes' : List ℕ} {header' : Header} {now : World} (places : List FolderPlace) → IsOpened knows' bytes' header' mid.here now places → has_spent ≡ true → StopsOpening mid.here (Refused Ids)
+  spent_stops {header' = header'} places o spent = (
+    (places, (record { nodes = o.nodes; last = header'.indexes; laid = o.laid; tree = o.tree }, same_spent mid.here o.nodes those.0 header'.indexes found.header.indexes o.laid laid ∙ sym spent_is ∙ spent)),
+    spent_excludes mid.here those.0 found.header.indexes laid (sym spent_is ∙ spent),
+  )
+
+-- what is held of a store is held where its gate is closed
+pub still_opened : {knows : Header → List ℕ → Type 0} {bytes : List ℕ} {header : Header} {old : Image} {mid now : World} {places : List FolderPlace} → IsOpened knows bytes header old mid places → SameStore mid.here now.here → now.tells → IsOpened knows bytes header old now places
+still_opened {knows} {bytes} {header} {old} {mid} {now} o same told =
+    let held = o.held.1 in
+    let stands : Stands bytes now.here o.nodes header.indexes = stands_over held.stands same in
+    record {
+      nodes = o.nodes;
+      laid = o.laid;
+      own = o.own;
+      front = o.front;
+      held = (
+        told,
+        record {
+          stands = stands;
+          own =
+              same_header (stands.file).header header (reading (take 564 (effective now.here.main now.here.side))) (stands.file).read
+              (ap (λ (f : List ℕ). reading (take 564 f)) same.store ∙ ((held.stands).file).read ∙ ap Ok held.own);
+          known = subst (knows header) (sym same.store) held.known;
+        },
+      );
+      tree = o.tree;
+    }

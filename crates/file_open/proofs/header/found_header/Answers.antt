@@ -1,0 +1,23 @@
+use Rattle.std.proofs.Common.{◌≡◌, Ok, sym, subst}
+use Rattle.pst_outside.specs.World.{Image}
+use Rattle.file_layout.specs.Opening.{opening}
+use Rattle.lays_kept.proofs.Opened.{opens_parts}
+use Rattle.file_open.proofs.Keepers.{counted}
+use Rattle.file_open.proofs.header.found_header.Goals as goal
+
+pub counted_header-requires : goal.counted_header-requires
+counted_header-requires g c = λ told. let i = (g.W.Outside.view c.args.w.now).here in (opens_parts i.main i.side c.args.header.now (c.requires told)).0
+
+pub returns-then-not-is_header-clause-stops : goal.returns-then-not-is_header-clause-stops
+returns-then-not-is_header-clause-stops g c = λ told.
+    let now = (g.W.Outside.view c.counted_header.new.w).here in
+    let same = c.counted_header.ensures.same.stays in
+    let parts = counted now c.args.header.now c.in_ok-bytes.bytes (subst (λ (i : Image). opening i.main i.side ≡ Ok c.args.header.now) (sym (same.here told)) (c.requires (same.told told))) (c.in_ok-bytes.ensures.bytes told) in
+    let is = c.is_header.ensures.reads.1 parts.1 in
+    absurd (cc (is, c.if-not-is_header.true))
+
+pub returns-clause-bytes : goal.returns-clause-bytes
+returns-clause-bytes g c = λ told.
+    let now = (g.W.Outside.view c.counted_header.new.w).here in
+    let same = c.counted_header.ensures.same.stays in
+    (counted now c.args.header.now c.in_ok-bytes.bytes (subst (λ (i : Image). opening i.main i.side ≡ Ok c.args.header.now) (sym (same.here told)) (c.requires (same.told told))) (c.in_ok-bytes.ensures.bytes told)).0

@@ -1,0 +1,44 @@
+use Rattle.std.proofs.Common.{◌∙◌, refl, sym, subst}
+use Rattle.pst_outside.specs.World.{Image}
+use Rattle.file_open.specs.Opening.{IsOpened, ReadsFresh, StopsOpening}
+use Rattle.file_open.specs.Stops.{of_look, of_scan}
+use Rattle.file_open.specs.declared.stops.FileRefusal.TheVariants.{Ids}
+use Rattle.file_open.specs.declared.stops.FileStop.TheVariants.{Refused}
+use Rattle.file_open.proofs.Files.{scan_stops}
+use Rattle.file_open.proofs.Keepers.{fresh, opened, passed_on, refused_tree, scanned, spent_stops}
+use Rattle.file_open.proofs.open.look_file.Goals as goal
+
+pub returns-in_err-found-clause-refused : goal.returns-in_err-found-clause-refused
+returns-in_err-found-clause-refused g c =
+    let stop = c.in_err-found.field-0.0 in
+    passed_on (λ s. (g.W.Outside.view c.scan_file.new.w).tells → StopsOpening (g.W.Outside.view c.args.w.now).here s) (of_scan stop) c.from_residual.result c.from_residual.ensures.1
+    (λ told.
+    subst (λ (i : Image). StopsOpening i (of_scan stop)) (c.scan_file.ensures.same.stays.here told)
+    (scan_stops (g.W.Outside.view c.scan_file.new.w).here stop (c.in_err-found.ensures.refused told)))
+
+pub returns-in_err-places-clause-refused : goal.returns-in_err-places-clause-refused
+returns-in_err-places-clause-refused g c =
+    let stop = c.in_err-places.field-0.0 in
+    passed_on (λ s. (g.W.Outside.view c.look_folders.new.w).tells → StopsOpening (g.W.Outside.view c.args.w.now).here s) (of_look stop) c.from_residual-in_err-places.result c.from_residual-in_err-places.ensures.1
+    (λ told.
+    let s = scanned c.scan_file.ensures.same c.keep.ensures.same c.in_ok-found.ensures.found c.in_ok-keeper.ensures.kept (c.look_folders.ensures.looks.world.stays.told told) in
+    subst (λ (i : Image). StopsOpening i (of_look stop)) s.here (refused_tree s.is s.made stop c.in_err-places.ensures.found))
+
+pub returns-then-spent-clause-refused : goal.returns-then-spent-clause-refused
+returns-then-spent-clause-refused g c = λ told.
+    let s = scanned c.scan_file.ensures.same c.keep.ensures.same c.in_ok-found.ensures.found c.in_ok-keeper.ensures.kept (c.look_folders.ensures.looks.world.stays.told told) in
+    subst (λ (i : Image). StopsOpening i (Refused Ids)) s.here
+    (spent_stops s.is s.made c.in_ok-places.places (opened s.is s.made c.in_ok-places.places c.look_folders.ensures.looks refl refl c.in_ok-places.ensures.found) (sym c.is_spent-spent.ensures ∙ c.if-spent.true))
+
+pub returns-clause-reads : goal.returns-clause-reads
+returns-clause-reads g c = λ told.
+    let s = scanned c.scan_file.ensures.same c.keep.ensures.same c.in_ok-found.ensures.found c.in_ok-keeper.ensures.kept (c.look_folders.ensures.looks.world.stays.told told) in
+    subst (λ (i : Image). ReadsFresh i c.in_ok-places.places) s.here
+    (fresh s.is s.made (opened s.is s.made c.in_ok-places.places c.look_folders.ensures.looks refl refl c.in_ok-places.ensures.found) (sym c.is_spent-spent.ensures ∙ c.if-spent.false))
+
+pub returns-clause-opened : goal.returns-clause-opened
+returns-clause-opened g c = λ told.
+    let s = scanned c.scan_file.ensures.same c.keep.ensures.same c.in_ok-found.ensures.found c.in_ok-keeper.ensures.kept (c.look_folders.ensures.looks.world.stays.told told) in
+    let k = c.look_folders.new.keeper in
+    subst (λ (i : Image). IsOpened (g.S.NodeStore.knows k.store) k.found k.header i (g.W.Outside.view c.look_folders.new.w) c.in_ok-places.places) s.here
+    (opened s.is s.made c.in_ok-places.places c.look_folders.ensures.looks refl refl c.in_ok-places.ensures.found)

@@ -1,0 +1,87 @@
+-- What an opening answers.
+use Rattle.std.specs.Prelude.{◌≡◌, ℕ, true, false, Bool, List, take, Ok}
+use Rattle.pst_outside.specs.World.{Image, World}
+use Rattle.pst_header.specs.declared.header.Header.{Header}
+use Rattle.file_blocks.specs.Blocks.{file_of}
+use Rattle.file_layout.specs.Nodes.{Lays, NodeMap}
+use Rattle.file_layout.specs.Numbers.{is_spent}
+use Rattle.file_layout.specs.Opening.{opening}
+use Rattle.node_port.specs.Nodes.{Nodes}
+use Rattle.lays_kept.specs.Stands.{AreThose}
+use Rattle.pst_commit.specs.Keeping.{Holds}
+use Rattle.file_scan.specs.Found.{IsFound}
+use Rattle.file_scan.specs.Scan.{IsRefused}
+use Rattle.file_scan.specs.declared.scan.FoundFile.{FoundFile}
+use Rattle.mail_tree.specs.declared.places.FolderPlace.{FolderPlace}
+use Rattle.tree_look.specs.Faults.{HasFault}
+use Rattle.mail_tree.specs.Standing.{HasTree}
+use Rattle.file_open.specs.declared.stops.FileRefusal.{FileRefusal}
+use Rattle.file_open.specs.declared.stops.FileRefusal.TheVariants as refusals
+use Rattle.file_open.specs.declared.stops.FileStop.{FileStop}
+use Rattle.file_open.specs.declared.stops.FileStop.TheVariants as stops
+
+-- ---- what the two files are
+
+-- the files open with a header under which they lay these nodes, with these counters
+pub record LaysNodes (image : Image) (N : Nodes) (last : List ℕ) : Type 0 where
+  pub header : Header
+  pub opened : opening image.main image.side ≡ Ok header
+  pub m : NodeMap
+  pub lays : Lays header (file_of image) m
+  pub those : AreThose m N
+  pub counters : header.indexes ≡ last
+
+-- a number for blocks or pages is used up in files that lay nodes
+abbrev pub spent_in : (image : Image) (N : Nodes) (last : List ℕ) → LaysNodes image N last → Bool
+spent_in image N last laid = is_spent laid.header (laid.lays).blocks (laid.lays).nodes
+
+-- The two files are read as a tree whose folders stand at these places.
+pub record Reads (image : Image) (places : List FolderPlace) : Type 0 where
+  pub nodes : Nodes
+  pub last : List ℕ
+  pub laid : LaysNodes image nodes last
+  pub tree : HasTree nodes places
+
+-- the same, and numbers are left
+pub record ReadsFresh (image : Image) (places : List FolderPlace) : Type 0 where
+  pub reads : Reads image places
+  pub left : spent_in image reads.nodes reads.last reads.laid ≡ false
+
+-- ---- why they are no such tree
+
+-- what a refusal says of the two files
+abbrev pub IsFileRefused : Image → FileRefusal → Type 0
+IsFileRefused image (refusals.Scan refusal) = IsRefused image refusal
+IsFileRefused image (refusals.Look refusal) = (N : Nodes) × (last : List ℕ) × LaysNodes image N last × HasFault N refusal
+IsFileRefused image refusals.Ids = (places : List FolderPlace) × ((r : Reads image places) × (spent_in image r.nodes r.last r.laid ≡ true))
+
+-- what a stop of an opening says of files whose bytes are told: a refusal excludes every tree
+abbrev pub StopsOpening : Image → FileStop → Type 0
+StopsOpening image (stops.Refused refusal) = IsFileRefused image refusal × ((places : List FolderPlace) → ReadsFresh image places → ⊥)
+StopsOpening image stops.Fault = Unit {0}
+StopsOpening image (stops.Changed ib stored computed) = ⊥
+StopsOpening image stops.Memory = Unit {0}
+
+-- the disk failed, or there was no memory
+abbrev pub IsCalm : FileStop → Type 0
+IsCalm (stops.Refused refusal) = ⊥
+IsCalm stops.Fault = Unit {0}
+IsCalm (stops.Changed ib stored computed) = ⊥
+IsCalm stops.Memory = Unit {0}
+
+-- ---- what a keeper holds
+
+-- The keeper of a file that was scanned: whatever nodes the file lays it holds, under the header that was found, whose bytes it has.
+pub record IsKept (knows : Header → List ℕ → Type 0) (bytes : List ℕ) (header : Header) (world : World) (found : FoundFile) : Type 0 where
+  pub own : header ≡ found.header
+  pub front : bytes ≡ take 564 (file_of world.here)
+  pub holds : (is : IsFound world.here found) (N : Nodes) → AreThose is.nodes N → Holds knows bytes header world N
+
+-- The keeper of an opened file holds the nodes that the files laid at the start, with the header that they opened with and its bytes; the nodes have a tree whose folders stand at these places.
+pub record IsOpened (knows : Header → List ℕ → Type 0) (bytes : List ℕ) (header : Header) (old : Image) (now : World) (places : List FolderPlace) : Type 0 where
+  pub nodes : Nodes
+  pub laid : LaysNodes old nodes header.indexes
+  pub own : laid.header ≡ header
+  pub front : bytes ≡ take 564 (file_of old)
+  pub held : Holds knows bytes header now nodes
+  pub tree : HasTree nodes places

@@ -1,0 +1,97 @@
+//! An opening: the scan, the keeper, the tree, the numbers, and last the gate.
+ghost use Rattle.std.specs.Prelude.{◌≡◌, ◌≤◌, ℕ, List, length, Err, IfOk, IfErr, OnOk};
+ghost use Rattle.pst_outside.specs.Calls.{NeverFall, Rose, Settled, Untouched};
+ghost use Rattle.gate_file.specs.Gate.{IsShut, SameStore};
+ghost use Rattle.node_port.specs.Nodes.{Nodes};
+ghost use Rattle.lays_kept.specs.Stands.{Stands};
+ghost use Rattle.pst_commit.specs.Commit.{LeavesNodes};
+ghost use Rattle.file_open.specs.Opening.{IsOpened, ReadsFresh, StopsOpening};
+
+use crate::keep::{is_spent, keep};
+use crate::stops::{FileRefusal, FileStop};
+use crate::store::FoundStore;
+use file_scan::scan_file;
+use gate_file::SIDE_LEN;
+use mail_tree::Places;
+use pst_commit::{FileKeeper, close_gate};
+use pst_outside::{Outside, Part};
+use std::alloc::Global;
+use tree_look::look_folders;
+
+/// An opened file: the keeper of its nodes, and the places of the folders of their tree.
+#[derive(Drop)]
+pub struct OpenedFile<S> {
+    pub keeper: FileKeeper<S>,
+    pub places: Places,
+}
+
+/// Opens a file without writing: the gate may be left open, so the keeper is to be read from alone. The stops are those of `open_file`.
+pub fn look_file<W: Outside, S: FoundStore<W> + Drop>(
+    alloc: Global,
+    w: &mut W,
+) -> Result<OpenedFile<S>, FileStop>
+    ensures reads { IfOk result (λ o. (W.view w.new).tells → ReadsFresh (W.view w.old).here o.places) }
+    ensures opened { IfOk result (λ o. (W.view w.new).tells → IsOpened (S.knows o.keeper.store) o.keeper.found o.keeper.header (W.view w.old).here (W.view w.new) o.places) }
+    ensures refused { IfErr result (λ stop. (W.view w.new).tells → StopsOpening (W.view w.old).here stop) }
+    ensures fault { result ≡ Err FileStop.Fault → Rose (W.view w.old).disk_faults (W.view w.new).disk_faults }
+    ensures same { Untouched (W.view w.old) (W.view w.new) }
+{
+    let found = scan_file(alloc, w)?;
+    let spent = is_spent(&found);
+    let mut keeper = keep(alloc, w, found)?;
+    let places = look_folders(alloc, &mut keeper, w)?;
+    if spent {
+        return Err(FileStop::Refused(FileRefusal::Ids));
+    }
+    Ok(OpenedFile { keeper, places })
+}
+
+/// The length of the gate's file, of a file that opens.
+fn side_len<W: Outside>(w: &mut W) -> Result<u64, FileStop>
+    requires { (W.view w.old).tells → length (W.view w.old).here.side ≤ 580 }
+    ensures len { IfOk result (λ n. (W.view w.new).tells → length (W.view w.new).here.side ≡ n) }
+    ensures size { IfOk result (λ n. n ≤ 580) }
+    ensures stops { IfErr result (λ stop. (W.view w.new).tells → stop ≡ FileStop.Fault) }
+    ensures fault { result ≡ Err FileStop.Fault → Rose (W.view w.old).disk_faults (W.view w.new).disk_faults }
+    ensures same { Untouched (W.view w.old) (W.view w.new) }
+{
+    let len = w.len(Part::Side)?;
+    if len > SIDE_LEN {
+        return Err(FileStop::Changed {
+            ib: 0,
+            stored: SIDE_LEN,
+            computed: len,
+        });
+    }
+    Ok(len)
+}
+
+/// Opens a file for writing: its tree is that of its bytes, and the gate that a stop has left is closed last.
+///
+/// `Refused` names the first thing that is wrong: with the header, the file's length, the pages, blocks, nodes and places as `file_scan` finds them, with the folders, tables and messages as `tree_look` does, and last that a next number is used up. `Fault` comes where the disk failed, `Memory` where there was none, and `Changed` where something isn't as it was found before, never over a world that tells.
+pub fn open_file<W: Outside, S: FoundStore<W> + Drop>(
+    alloc: Global,
+    w: &mut W,
+) -> Result<OpenedFile<S>, FileStop>
+    ensures reads { IfOk result (λ o. (W.view w.new).tells → ReadsFresh (W.view w.old).here o.places) }
+    ensures opened { IfOk result (λ o. (W.view w.new).tells → IsOpened (S.knows o.keeper.store) o.keeper.found o.keeper.header (W.view w.old).here (W.view w.new) o.places) }
+    ensures refused { IfErr result (λ stop. (W.view w.new).tells → StopsOpening (W.view w.old).here stop) }
+    ensures fault { result ≡ Err FileStop.Fault → Rose (W.view w.old).disk_faults (W.view w.new).disk_faults }
+    // The files stand for the same afterwards, and nothing is pending if nothing was.
+    ensures store { (W.view w.new).tells → SameStore (W.view w.old).here (W.view w.new).here }
+    ensures shut { OnOk result ((W.view w.new).tells → IsShut (W.view w.new).here.side) }
+    ensures settled { Settled (W.view w.old) → OnOk result (Settled (W.view w.new)) }
+    // Whatever but the disk's failure stops an opening does so before anything is written.
+    ensures clean { IfErr result (λ stop. (stop ≡ FileStop.Fault → ⊥) → Untouched (W.view w.old) (W.view w.new)) }
+    // A crash at any moment leaves the same nodes.
+    ensures any_moment { Settled (W.view w.old) → (found : List ℕ) (N : Nodes) (last : List ℕ) → ((W.view w.old).tells → Stands found (W.view w.old).here N last)
+        → LeavesNodes (W.view w.old) (W.view w.new) found N last }
+    ensures told { (W.view w.new).tells → (W.view w.old).tells }
+    ensures input { (W.view w.new).tells → (W.view w.new).input ≡ (W.view w.old).input }
+    ensures counts { NeverFall (W.view w.old) (W.view w.new) }
+{
+    let opened = look_file::<W, S>(alloc, w)?;
+    let side_len = side_len(w)?;
+    close_gate(w, side_len)?;
+    Ok(opened)
+}

@@ -1,0 +1,49 @@
+use Rattle.std.proofs.Common.{refl, subst, sym}
+use Rattle.store_session.specs.Session.{HasCause, StoreSessionEnds}
+use Rattle.store_session.specs.declared.session.SessionEnd.TheVariants.{Memory}
+use Rattle.store_session.proofs.Ending.{ends_by_memory, has_cause, session_ends}
+use Rattle.store_session.proofs.StoreKeeps.{has_stands, has_tree, line_answers, line_stops, stands_for, store_keeps}
+use Rattle.store_session.proofs.session.run_session.Goals as goal
+
+pub returns-in-Ok-clause-ends : goal.returns-in-Ok-clause-ends
+returns-in-Ok-clause-ends g c = λ T h tells.
+    let view = g.W.Outside.view in
+    let holds = g.K.NodeReader.holds in
+    let last = g.K.NodeReader.last in
+    let room = g.K.NodeReader.room in
+    let disk = g.K.NodeReader.has_disk in
+    let stands = g.K.Keeper.stands in
+    let rests = g.K.Keeper.rests in
+    let found = (room c.args.store.keeper).found in
+    subst (λ e. StoreSessionEnds (stands_for view holds last room disk stands rests found) rests (view c.args.world.now) (view c.serve.new.world) T e) (sym c.end_of.ensures)
+    (session_ends view disk (has_tree view holds last room disk stands rests found) (stands_for view holds last room disk stands rests found) rests
+    (line_answers view holds last room disk stands rests) (line_stops view holds last room disk stands rests)
+    (store_keeps view holds last room disk stands rests g.met.K.NodeReader.holds_on g.met.K.Keeper.held_stands g.met.K.Keeper.stands_on g.met.K.Keeper.rests_on found)
+    (record { store = c.args.store }) c.serve.new.answerer c.args.world.now c.serve.new.world T (h, refl) tells c.in-Ok.end c.in-Ok.ensures.ends)
+
+pub returns-in-Ok-clause-cause : goal.returns-in-Ok-clause-cause
+returns-in-Ok-clause-cause g c =
+    let view = g.W.Outside.view in
+    let holds = g.K.NodeReader.holds in
+    let last = g.K.NodeReader.last in
+    let room = g.K.NodeReader.room in
+    let disk = g.K.NodeReader.has_disk in
+    let stands = g.K.Keeper.stands in
+    let rests = g.K.Keeper.rests in
+    subst (λ e. HasCause disk (view c.args.world.now) (view c.serve.new.world) e) (sym c.end_of.ensures)
+    (has_cause view disk (line_answers view holds last room disk stands rests) (line_stops view holds last room disk stands rests) (λ a b v w bytes stop is. is.cause)
+    (record { store = c.args.store }) c.serve.new.answerer c.args.world.now c.serve.new.world c.in-Ok.end c.in-Ok.ensures.ends)
+
+pub returns-clause-ends : goal.returns-clause-ends
+returns-clause-ends g c = λ T h tells.
+    let view = g.W.Outside.view in
+    let holds = g.K.NodeReader.holds in
+    let last = g.K.NodeReader.last in
+    let room = g.K.NodeReader.room in
+    let disk = g.K.NodeReader.has_disk in
+    let stands = g.K.Keeper.stands in
+    let rests = g.K.Keeper.rests in
+    let found = (room c.args.store.keeper).found in
+    subst (λ w. StoreSessionEnds (stands_for view holds last room disk stands rests found) rests (view c.args.world.now) (view w) T Memory) (sym c.in-Err.ensures.no_memory.1)
+    (ends_by_memory (stands_for view holds last room disk stands rests found) rests (view c.args.world.now) T h.settled h.at_rest
+    (has_stands view holds last room disk stands rests g.met.K.Keeper.held_stands found (record { store = c.args.store }) c.args.world.now T (h, refl)))

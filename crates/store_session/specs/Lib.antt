@@ -1,0 +1,6 @@
+pub mod Carrying
+pub mod Keeping
+pub mod Lines
+pub mod Run
+pub mod Session
+pub mod Turns

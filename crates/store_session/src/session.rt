@@ -1,0 +1,79 @@
+//! A session over a store.
+ghost use Rattle.std.specs.Prelude.{◌≡◌, true};
+ghost use Rattle.pst_outside.specs.Calls.{NeverFall};
+ghost use Rattle.mail_store.specs.Planning.{StandsFor};
+ghost use Rattle.mail_tree.specs.Tree.{Tree};
+ghost use Rattle.store_session.specs.Carrying.{Has};
+ghost use Rattle.store_session.specs.Session.{HasCause, StoreSessionEnds, end_of};
+
+use crate::answerer::StoreAnswerer;
+use crate::carrying::StoreStop;
+use line_server::{ServerEnd, serve};
+use mail_store::Store;
+use node_port::Saver;
+use pst_outside::Outside;
+use std::alloc::{AllocError, Global};
+
+/// How a session over a store ended.
+#[derive(Clone, Copy, Debug, PartialEq, Eq)]
+pub enum SessionEnd {
+    /// The input was read to its end or to `quit`.
+    Done,
+    /// The input failed.
+    Input,
+    /// The output failed.
+    Output,
+    /// As many lines were taken as a session takes, 2^32.
+    Lines,
+    /// The disk failed, with one line in hand.
+    Disk,
+    /// What stands at the offset `ib` isn't as it was found before: the two numbers that the check compared.
+    Changed { ib: u64, stored: u64, computed: u64 },
+    /// There was no memory for a session: nothing was taken, and nothing said.
+    Memory,
+}
+
+/// The end of a session whose server of lines ended so.
+fn end_of(end: ServerEnd<StoreStop>) -> SessionEnd
+    ensures { result ≡ end_of end }
+{
+    match end {
+        ServerEnd::Done => SessionEnd::Done,
+        ServerEnd::Input => SessionEnd::Input,
+        ServerEnd::Output => SessionEnd::Output,
+        ServerEnd::Lines => SessionEnd::Lines,
+        ServerEnd::Stopped(StoreStop::Disk) => SessionEnd::Disk,
+        ServerEnd::Stopped(
+            StoreStop::Changed {
+                ib,
+                stored,
+                computed,
+            },
+        ) => SessionEnd::Changed {
+            ib,
+            stored,
+            computed,
+        },
+    }
+}
+
+/// A session over a store: takes lines until the input ends, a line is `quit`, a device fails, something changed, or 2^32 lines were taken.
+pub fn run_session<W: Outside, K: Saver<W> + Drop>(
+    alloc: Global,
+    store: Store<K>,
+    world: &mut W,
+) -> SessionEnd
+    // From a store that has a tree, where the world tells what a disk holds: the replies are those of a run, and a stop at any moment leaves the tree after some of its turns.
+    ensures ends { (T : Tree) → Has (K.holds store.keeper (W.view world.old)) (K.last store.keeper) store.places K.rests (W.view world.old) T → (K.has_disk ≡ true → (W.view world.new).tells)
+        → StoreSessionEnds (λ c U. StandsFor (K.stands (K.room store.keeper).found c) U) K.rests (W.view world.old) (W.view world.new) T result }
+    ensures cause { HasCause K.has_disk (W.view world.old) (W.view world.new) result }
+    ensures no_memory { result ≡ SessionEnd.Memory → world.new ≡ world.old }
+    ensures told { (W.view world.new).tells → (W.view world.old).tells }
+    ensures counts { NeverFall (W.view world.old) (W.view world.new) }
+{
+    let mut answerer = StoreAnswerer { store };
+    match serve(alloc, &mut answerer, world) {
+        Ok(end) => end_of(end),
+        Err(AllocError) => SessionEnd::Memory,
+    }
+}

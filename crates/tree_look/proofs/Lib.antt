@@ -1,0 +1,3 @@
+pub mod Excludes
+pub mod Found
+pub mod Steps

@@ -1,0 +1,16 @@
+use Rattle.std.proofs.Common.{◌∙◌, inl, inr, refl, sym, ap}
+use Rattle.message_obj.specs.Message.{is_formed}
+use Rattle.message_obj.proofs.OneLaws.{same-message}
+use Rattle.tree_look.proofs.forms.mail_of.Goals as goal
+
+pub returns-else-is_formed : goal.returns-else-is_formed
+returns-else-is_formed c = (
+  λ m s.
+      let same = same-message c.args.nid.bits c.args.node.now m c.in-Ok.message s.message c.in-Ok.ensures in
+      let formed = ap is_formed same in
+      cc (s.formed, formed, c.is_formed.ensures, c.if-is_formed.false),
+  inr (refl, (c.in-Ok.message, c.in-Ok.ensures, sym c.is_formed.ensures ∙ c.if-is_formed.false)),
+)
+
+pub returns-in-Err-Refused : goal.returns-in-Err-Refused
+returns-in-Err-Refused c = let refused = rw c.in-Err-Refused.field-0-is at c.in-Err-Refused.ensures in ((λ m s. refused.1 m s.message), inl refused.0)

@@ -1,0 +1,7 @@
+pub mod Rows
+pub mod Ids
+pub mod Gather
+pub mod Owned
+pub mod Made
+pub mod One
+pub mod Again
