@@ -1,5 +1,6 @@
 -- A file as a source of pages.
-use Rattle.std.proofs.Common.{◌≡◌, ℕ, List, Option, Some, None, Result, Ok, Err, IfErr, refl, sym, ap, subst, ◌∙◌, arith, inl}
+use Rattle.std.proofs.Common.{◌≡◌, ◌≤◌, ◌+◌, ◌-◌, ◌*◌, ℕ, List, length, Option, Some, None, Result, Ok, Err, IfOk, IfErr, refl, sym, ap, subst, ◌∙◌, arith, inl}
+use Rattle.std.proofs.Math.Nat.{mul-le-mul_right}
 use Rattle.pst_base.specs.declared.ids.Bref.{Bref}
 use Rattle.pst_base.specs.declared.stops.PageFault.TheVariants.{Count}
 use Rattle.pst_base.specs.declared.stops.MemOr.{MemOr}
@@ -16,10 +17,14 @@ use Rattle.page_cache.specs.declared.cache.Cached.{Cached}
 use Rattle.page_cache.specs.Cache.{Holds}
 use Rattle.tree_edit.specs.Shapes.{Shape, IsWhole}
 use Rattle.tree_edit.specs.Pages.{seen, shown, shapes}
+use Rattle.tree_edit.specs.declared.plan.Child.{Child}
+use Rattle.tree_edit.specs.declared.plan.PlanPage.{PlanPage}
+use Rattle.tree_edit.specs.Edits.{edited, puts}
+use Rattle.tree_edit.specs.Plans.{IsPlan}
 use Rattle.tree_edit.specs.Source.{Source, StopsOn}
 use Rattle.tree_search.specs.Search.{StopsIn}
 use Rattle.file_pages.specs.InFile.{bodies}
-use Rattle.file_pages.specs.Told.{no_page, or_no_page, Caches, Gives, HasTree, StopsUnless}
+use Rattle.file_pages.specs.Told.{no_page, or_no_page, Caches, Gives, HasTree, PlansIn, StopsUnless}
 
 -- ---- what is no page shows nothing
 
@@ -48,6 +53,39 @@ pub tree-given : {E : Type 0} (rule : ℕ → ℕ) (size : ℕ) (entry_of : List
     → (t : HasTree rule size entry_of key file eof kind root es) → IsWhole (shapes rule size entry_of find) key root es t.0
 tree-given {E} rule size entry_of key file eof kind root es find same t =
     subst (λ (f : Bref → Option (Shape E)). IsWhole f key root es t.0) (sym (shapes-total rule size entry_of find (bodies file eof kind) same)) t.1
+
+-- ---- plans
+
+-- two clauses of one answer
+pub ok-both : {X T : Type 0} (r : Result X T) (P Q : X → Type 0) → IfOk r P → IfOk r Q → IfOk r (λ x. P x × Q x)
+ok-both (Ok x) P Q p q = (p, q)
+ok-both (Err e) P Q p q = tt
+
+-- what is planned for the tree of a root, of which each page shows this
+abbrev pub PlansOver : {E : Type 0} → (Bref → Option (Shape E)) → (E → ℕ) → Bref → List (ℕ × Option E) → List (PlanPage E) → List Bref → Child → Type 0
+PlansOver {E} find key root ds pages freed top = (es : List E) (ps : List Bref) → IsWhole find key root es ps → IsPlan find key pages freed top (edited key es ds) ps
+
+abbrev pub SparesOver : {E : Type 0} → (Bref → Option (Shape E)) → (E → ℕ) → Bref → List (ℕ × Option E) → List (PlanPage E) → List Bref → Type 0
+SparesOver {E} find key root ds pages freed = (es : List E) (ps : List Bref) → (whole : IsWhole find key root es ps) → length pages ≤ length freed + (whole.level - 1 + 3) * puts key es ds
+
+spare-most : (level few pages freed : ℕ) → level ≤ 7 → pages ≤ freed + (level - 1 + 3) * few → pages ≤ freed + 9 * few
+spare-most level few pages freed low spare =
+    let nine : level - 1 + 3 ≤ 9 = omega arith in
+    let most : (level - 1 + 3) * few ≤ 9 * few = mul-le-mul_right few nine in
+    omega (arith, spare, most)
+
+-- of what a file gives it is planned for the file
+pub plans-in : {E : Type 0} (rule : ℕ → ℕ) (size : ℕ) (entry_of : List ℕ → E) (key : E → ℕ) (file : List ℕ) (eof kind : ℕ) (root : Bref) (ds : List (ℕ × Option E)) (pages : List (PlanPage E)) (freed : List Bref) (top : Child)
+    → PlansOver (shapes rule size entry_of (given file eof kind)) key root ds pages freed top → SparesOver (shapes rule size entry_of (given file eof kind)) key root ds pages freed
+    → PlansIn rule size entry_of key file eof kind root ds pages freed top
+plans-in {E} rule size entry_of key file eof kind root ds pages freed top plans spares =
+    let same : shapes rule size entry_of (given file eof kind) ≡ shapes rule size entry_of (bodies file eof kind) = shapes-total rule size entry_of (given file eof kind) (bodies file eof kind) (λ at. refl) in
+    let over : PlansOver (shapes rule size entry_of (bodies file eof kind)) key root ds pages freed top = subst (λ (f : Bref → Option (Shape E)). PlansOver f key root ds pages freed top) same plans in
+    let spare : SparesOver (shapes rule size entry_of (bodies file eof kind)) key root ds pages freed = subst (λ (f : Bref → Option (Shape E)). SparesOver f key root ds pages freed) same spares in
+    record {
+      plan = over;
+      spare = λ es ps whole. spare-most whole.level (puts key es ds) (length pages) (length freed) whole.low_enough (spare es ps whole);
+    }
 
 -- what a world tells of its pages it tells on
 pub caches-still : {old new : World} {eof kind : ℕ} {cached : List (ℕ × Cached)} → Untouched old new → Caches old eof kind cached → Caches new eof kind cached

@@ -1,5 +1,5 @@
 -- What a world tells of a file's pages, and why a look into one of its trees stops.
-use Rattle.std.specs.Prelude.{◌≡◌, ℕ, List, replicate, Option, None, Some}
+use Rattle.std.specs.Prelude.{◌≡◌, ◌≤◌, ◌+◌, ◌*◌, ℕ, List, length, replicate, Option, None, Some}
 use Rattle.pst_base.specs.declared.ids.Bref.{Bref}
 use Rattle.pst_base.specs.declared.stops.MemOr.{MemOr}
 use Rattle.pst_base.specs.declared.stops.MemOr.TheVariants.{Memory, Refused}
@@ -13,6 +13,10 @@ use Rattle.page_cache.specs.declared.cache.Cached.{Cached}
 use Rattle.page_cache.specs.Cache.{Holds}
 use Rattle.tree_edit.specs.Shapes.{IsWhole}
 use Rattle.tree_edit.specs.Pages.{shapes}
+use Rattle.tree_edit.specs.declared.plan.Child.{Child}
+use Rattle.tree_edit.specs.declared.plan.PlanPage.{PlanPage}
+use Rattle.tree_edit.specs.Edits.{edited, puts}
+use Rattle.tree_edit.specs.Plans.{IsPlan}
 use Rattle.file_pages.specs.InFile.{bodies}
 
 -- a content that is no page of a tree
@@ -37,6 +41,12 @@ pub record Gives (world : World) (eof kind : ℕ) (cached : List (ℕ × Cached)
 -- the pages of a kind below a root in a file are a tree of these entries
 abbrev pub HasTree : {E : Type 0} → (ℕ → ℕ) → ℕ → (List ℕ → E) → (E → ℕ) → List ℕ → ℕ → ℕ → Bref → List E → Type 0
 HasTree rule size entry_of key file eof kind root es = (ps : List Bref) × IsWhole (shapes rule size entry_of (bodies file eof kind)) key root es ps
+
+-- What edits come to is right for the tree of a root in a file, and has few pages: at most nine for each entry that is put under a new key, beside as many as are freed.
+pub record PlansIn {E : Type 0} (rule : ℕ → ℕ) (size : ℕ) (entry_of : List ℕ → E) (key : E → ℕ) (file : List ℕ) (eof kind : ℕ) (root : Bref) (ds : List (ℕ × Option E)) (pages : List (PlanPage E)) (freed : List Bref) (top : Child) : Type 0 where
+  pub plan : (es : List E) (ps : List Bref) → IsWhole (shapes rule size entry_of (bodies file eof kind)) key root es ps
+      → IsPlan (shapes rule size entry_of (bodies file eof kind)) key pages freed top (edited key es ds) ps
+  pub spare : (es : List E) (ps : List Bref) → IsWhole (shapes rule size entry_of (bodies file eof kind)) key root es ps → length pages ≤ length freed + 9 * puts key es ds
 
 -- a fault shows in the disk's count, and what was found changed never comes where this is so
 abbrev pub StopsUnless : World → World → Type 0 → MemOr SourceStop → Type 0

@@ -9,9 +9,9 @@ use Rattle.alloc_map.specs.Standing.{amap_place, amap_places, standing}
 use Rattle.btree_pages.specs.declared.entry.BlockEntry.{BlockEntry}
 use Rattle.btree_pages.specs.declared.entry.NodeEntry.{NodeEntry}
 use Rattle.file_layout.specs.Trees.{IsPlace}
-use Rattle.file_layout.specs.Nodes.{Lays, places_of, regions_to}
+use Rattle.file_layout.specs.Nodes.{Lays, NodeMap, places_of, regions_to}
 use Rattle.lays_kept.specs.declared.Piece.{Piece}
-use Rattle.lays_kept.specs.Kept.{Each, SameAt, IsClear}
+use Rattle.lays_kept.specs.Kept.{Each, SameAt, IsClear, HoldsEach, Scattered}
 use Rattle.lays_kept.specs.Once.{Once}
 use Rattle.lays_kept.specs.Tally.{one_at, tally}
 use Rattle.lays_kept.proofs.Beside.{IsWhole}
@@ -23,7 +23,7 @@ use Rattle.node_port.specs.declared.node.NodeRec.{NodeRec}
 use Rattle.node_port.specs.Nodes as port
 use Rattle.lays_kept.specs.Stands.{FileStands, IsPlan}
 use Rattle.lays_kept.proofs.Renewing.{renewed}
-use Rattle.node_layout.specs.Joined.{TreePlan, places_in, IsPlanned}
+use Rattle.node_layout.specs.Joined.{TreePlan, places_in, IsPlanned, HasPlanned}
 use Rattle.node_layout.specs.Pieces.{piece_place, EachStands}
 use Rattle.node_layout.specs.Commit.{IsNext, HasRoom, Shows}
 use Rattle.node_layout.proofs.JoinLaws.{joined}
@@ -70,18 +70,12 @@ regions-grow a b le = omega (arith, le)
 
 -- ---- the whole
 
--- What a planner gives makes a plan that can be committed, and that comes to the changed nodes.
-pub planned-commits : (found file : List ℕ) (N : port.Nodes) (last : List ℕ) (stands : FileStands found file N last) (new : Header) (sealed : List ℕ) (growth planned : List Piece) (blocks : TreePlan BlockEntry) (nodes : TreePlan NodeEntry) (cs : List (Nid × Option NodeRec))
-    → port.ascend 0 cs ≡ true → (plan : IsPlanned stands.lays blocks nodes) → IsNext stands.header new sealed blocks nodes
-    → HasRoom stands.lays new growth planned (places_in blocks ++ (places_in nodes ++ plan.block_places))
-    → ((bytes : List ℕ) → new.eof ≤ length bytes → Each (SameAt file bytes) (places_of (stands.lays).blocks (stands.lays).nodes) → EachStands bytes planned → Shows stands.lays new blocks nodes cs bytes)
-    → IsPlan found file (growth ++ planned) sealed N last (port.changed N cs) new.indexes
-planned-commits found file N last stands new sealed growth planned blocks nodes cs up plan next room shows =
-    let header : Header = stands.header in
-    let is : Lays header file stands.m = stands.lays in
+-- the pieces of a plan meet nothing that stands
+pub planned-beside : {header : Header} {file : List ℕ} {m : NodeMap} (is : Lays header file m) (new : Header) (growth planned : List Piece) (places : List Place) → header.eof ≤ new.eof → HasRoom is new growth planned places
+    → Each (λ p. IsClear (growth ++ planned) p.ib p.len) (standing (places_of is.blocks is.nodes) (regions_to header.eof))
+planned-beside {header} {file} {m} is new growth planned places longer room =
     let old : List Place = places_of is.blocks is.nodes in
-    let C : Place → Type 0 = λ p. IsClear (growth ++ planned) p.ib p.len in
-    let few : regions_to header.eof ≤ regions_to new.eof = regions-grow header.eof new.eof next.longer in
+    let few : regions_to header.eof ≤ regions_to new.eof = regions-grow header.eof new.eof longer in
     let k : ℕ = regions_to new.eof - regions_to header.eof in
     let sum : regions_to header.eof + k ≡ regions_to new.eof = omega (arith, few) in
     let fewer : Once (map piece_place planned ++ standing old (regions_to header.eof)) = once_reordered (map piece_place planned ++ standing old (regions_to new.eof)) (map piece_place planned ++ standing old (regions_to header.eof))
@@ -93,44 +87,62 @@ planned-commits found file N last stands new sealed growth planned blocks nodes 
     let e = amaps-fewer slot (regions_to header.eof) k in
     let f = ap (λ (n : ℕ). tally slot (amap_places n)) sum in
     omega (arith, a, b, c, d, e, f)) room.once in
-    let wholes : Each IsWhole (standing old (regions_to header.eof)) = each_append IsWhole old (amap_places (regions_to header.eof)) (lays_wholes header file stands.m is) (amaps-whole (regions_to header.eof)) in
-    let beside : Each C (standing old (regions_to header.eof)) = clear-all growth planned (standing old (regions_to header.eof)) room.beside (pieces-beside planned (standing old (regions_to header.eof)) room.wholes wholes fewer) in
+    let wholes : Each IsWhole (standing old (regions_to header.eof)) = each_append IsWhole old (amap_places (regions_to header.eof)) (lays_wholes header file m is) (amaps-whole (regions_to header.eof)) in
+    clear-all growth planned (standing old (regions_to header.eof)) room.beside (pieces-beside planned (standing old (regions_to header.eof)) room.wholes wholes fewer)
+
+-- A file in which the pieces stand, behind the new header, has what was planned.
+pub planned-has : {header : Header} {file : List ℕ} {m : NodeMap} (is : Lays header file m) (new : Header) (sealed : List ℕ) (growth planned : List Piece) (blocks : TreePlan BlockEntry) (nodes : TreePlan NodeEntry) (block_places : List Place) (cs : List (Nid × Option NodeRec))
+    → 564 ≤ length file → IsNext header new sealed blocks nodes → HasRoom is new growth planned (places_in blocks ++ (places_in nodes ++ block_places))
+    → ((bytes : List ℕ) → new.eof ≤ length bytes → Each (SameAt file bytes) (places_of is.blocks is.nodes) → EachStands bytes planned → Shows is new blocks nodes cs bytes)
+    → (mid : List ℕ) → Scattered (growth ++ planned) file mid → HoldsEach mid (growth ++ planned) → HasPlanned is blocks nodes new (sealed ++ drop 564 mid) block_places cs
+planned-has {header} {file} {m} is new sealed growth planned blocks nodes block_places cs long next room shows mid writes holds =
+    let old : List Place = places_of is.blocks is.nodes in
+    let C : Place → Type 0 = λ p. IsClear (growth ++ planned) p.ib p.len in
+    let beside : Each C (standing old (regions_to header.eof)) = planned-beside is new growth planned (places_in blocks ++ (places_in nodes ++ block_places)) next.longer room in
     let apart = pieces-apart planned (standing old (regions_to new.eof)) room.wholes room.once in
+    let bytes : List ℕ = sealed ++ drop 564 mid in
+    let size = next.size in
+    let longer = writes.longer in
+    let grown = room.grows mid writes holds in
+    let len : length bytes ≡ length mid = omega (arith, length-append sealed (drop 564 mid), length-drop 564 mid, size, long, longer) in
+    let head : take 564 bytes ≡ sealed = take_at sealed (drop 564 mid) 564 size in
+    let kept : Each (SameAt file bytes) old = same-behind sealed file mid header.eof size old (lays_places header file m is)
+    (scattered_same (growth ++ planned) file mid header.eof writes is.long_enough old (lays_places header file m is) (each_front C old (amap_places (regions_to header.eof)) beside)) in
+    let stood : EachStands bytes planned = stand-behind sealed mid planned size room.wholes (pieces-stand mid growth planned apart holds) in
+    let here = shows bytes (omega (arith, grown, len)) kept stood in
     record {
-      stands = stands;
-      front = clear-append growth planned 0 564 room.front (clear-front planned room.wholes);
-      beside = beside;
-      makes = λ mid writes holds.
-          let bytes : List ℕ = sealed ++ drop 564 mid in
-          let size = next.size in
-          let long = stands.long in
-          let longer = writes.longer in
-          let grown = room.grows mid writes holds in
-          let len : length bytes ≡ length mid = omega (arith, length-append sealed (drop 564 mid), length-drop 564 mid, size, long, longer) in
-          let head : take 564 bytes ≡ sealed = take_at sealed (drop 564 mid) 564 size in
-          let kept : Each (SameAt file bytes) old = same-behind sealed file mid header.eof size old (lays_places header file stands.m is)
-          (scattered_same (growth ++ planned) file mid header.eof writes is.long_enough old (lays_places header file stands.m is) (each_front C old (amap_places (regions_to header.eof)) beside)) in
-          let stood : EachStands bytes planned = stand-behind sealed mid planned size room.wholes (pieces-stand mid growth planned apart holds) in
-          let here = shows bytes (omega (arith, grown, len)) kept stood in
-          renewed found (joined header new file bytes stands.m N is blocks nodes cs stands.those up plan (record {
-            long = omega (arith, len, long, longer);
-            read = ap reading head ∙ next.read;
-            unmapped = next.unmapped;
-            long_enough = omega (arith, grown, len);
-            small_enough = next.small_enough;
-            longer = next.longer;
-            bbt = next.bbt;
-            nbt = next.nbt;
-            kept = kept;
-            block_pages = here.block_pages;
-            node_pages = here.node_pages;
-            stand = here.stand;
-            changes = here.changes;
-            once = once_reordered (map piece_place planned ++ standing old (regions_to new.eof)) ((places_in blocks ++ (places_in nodes ++ plan.block_places)) ++ standing old (regions_to new.eof))
-                (λ slot.
-                let a = tally_append slot (map piece_place planned) (standing old (regions_to new.eof)) in
-                let b = tally_append slot (places_in blocks ++ (places_in nodes ++ plan.block_places)) (standing old (regions_to new.eof)) in
-                let c = room.same slot in
-                omega (arith, a, b, c)) room.once;
-          }));
+      long = omega (arith, len, long, longer);
+      read = ap reading head ∙ next.read;
+      unmapped = next.unmapped;
+      long_enough = omega (arith, grown, len);
+      small_enough = next.small_enough;
+      longer = next.longer;
+      bbt = next.bbt;
+      nbt = next.nbt;
+      kept = kept;
+      block_pages = here.block_pages;
+      node_pages = here.node_pages;
+      stand = here.stand;
+      changes = here.changes;
+      once = once_reordered (map piece_place planned ++ standing old (regions_to new.eof)) ((places_in blocks ++ (places_in nodes ++ block_places)) ++ standing old (regions_to new.eof))
+          (λ slot.
+          let a = tally_append slot (map piece_place planned) (standing old (regions_to new.eof)) in
+          let b = tally_append slot (places_in blocks ++ (places_in nodes ++ block_places)) (standing old (regions_to new.eof)) in
+          let c = room.same slot in
+          omega (arith, a, b, c)) room.once;
     }
+
+-- What a planner gives makes a plan that can be committed, and that comes to the changed nodes.
+pub planned-commits : (found file : List ℕ) (N : port.Nodes) (last : List ℕ) (stands : FileStands found file N last) (new : Header) (sealed : List ℕ) (growth planned : List Piece) (blocks : TreePlan BlockEntry) (nodes : TreePlan NodeEntry) (cs : List (Nid × Option NodeRec))
+    → port.ascend 0 cs ≡ true → (plan : IsPlanned stands.lays blocks nodes) → IsNext stands.header new sealed blocks nodes
+    → HasRoom stands.lays new growth planned (places_in blocks ++ (places_in nodes ++ plan.block_places))
+    → ((bytes : List ℕ) → new.eof ≤ length bytes → Each (SameAt file bytes) (places_of (stands.lays).blocks (stands.lays).nodes) → EachStands bytes planned → Shows stands.lays new blocks nodes cs bytes)
+    → IsPlan found file (growth ++ planned) sealed N last (port.changed N cs) new.indexes
+planned-commits found file N last stands new sealed growth planned blocks nodes cs up plan next room shows = record {
+  stands = stands;
+  front = clear-append growth planned 0 564 room.front (clear-front planned room.wholes);
+  beside = planned-beside stands.lays new growth planned (places_in blocks ++ (places_in nodes ++ plan.block_places)) next.longer room;
+  makes = λ mid writes holds.
+      renewed found (joined stands.header new file (sealed ++ drop 564 mid) stands.m N stands.lays blocks nodes cs stands.those up plan
+      (planned-has stands.lays new sealed growth planned blocks nodes plan.block_places cs stands.long next room shows mid writes holds));
+}

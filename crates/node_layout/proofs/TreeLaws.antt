@@ -110,6 +110,8 @@ module _ {E : Type 0} (entry_of : List ℕ → E) (key : E → ℕ) (t : FileTre
         found = u.found;
         tree = u.tree;
         entries = u.entries;
+        named = λ ib.
+            let a = plan.counted ib in let b = after.2 ib in let c = ap (tally ib) u.pages in omega (arith, a, b, c);
         places = λ slot.
             let f : ℕ → ℕ = λ ib. one_at slot (record { ib = ib; len = 512 }) in
             let counts : (k : ℕ) → tally k (after.0 ++ freed) ≡ tally k (old.pages ++ names name 0 pages) = λ k.

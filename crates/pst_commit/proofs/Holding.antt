@@ -28,7 +28,7 @@ still_held {knows} {knows'} {header} {used} {used'} {cells} {cells'} {v} {w} fou
       subst (λ c. Keeps knows' found header c N) (sym (looks.world.stays.here told)) (record {
         stands = held.1.stands;
         own = held.1.own;
-        known = looks.known (file_of v.here) held.1.known;
+        known = looks.known found N held;
       }),
     )
 

@@ -17,7 +17,7 @@ use Rattle.node_port.specs.Nodes.{Nodes, changed}
 use Rattle.node_port.specs.Stops.{Room}
 use Rattle.lays_kept.specs.declared.Piece.{Piece}
 use Rattle.lays_kept.specs.Kept.{HoldsEach, Scattered}
-use Rattle.lays_kept.specs.Saved.{region_end, SameTrees, LaysSame, HasMaps}
+use Rattle.lays_kept.specs.Saved.{region_end, SameTrees, HasMaps}
 use Rattle.lays_kept.specs.Stands.{IsPlan, Stands}
 
 -- ---- what is held
@@ -55,14 +55,13 @@ pub record HasRoom (image : Image) (room : Room) : Type 0 where
 abbrev pub room_with : ℕ × ℕ × Bool → List ℕ → Room
 room_with cells found = record { free = cells.0; pages = cells.1; spent = cells.2; found = found }
 
--- What is known of files with a header is right: it has the used slots and the room of each that lays nodes. It stays known of a file that lays the same nodes by the same trees.
+-- What is known of files with a header is right: it has the used slots and the room of each that lays nodes.
 pub record IsKnowledge (knows : Header → List ℕ → Type 0) (used : List Bool) (cells : ℕ × ℕ × Bool) : Type 0 where
   pub measured : (header : Header) (file : List ℕ) (m : NodeMap) (is : Lays header file m) → knows header file → IsMeasured header is.blocks is.nodes used cells
-  pub stays : (old new : Header) (file other : List ℕ) → LaysSame old new file other → knows old file → knows new other
 
--- A call that only looks: what was known of files with the header is known still, the used slots and the room are the same, and the world is untouched.
+-- A call that only looks: what was known of the file that is held is known still, the used slots and the room are the same, and the world is untouched.
 pub record LooksOn (knows knows' : Header → List ℕ → Type 0) (header : Header) (used used' : List Bool) (cells cells' : ℕ × ℕ × Bool) (old new : World) : Type 0 where
-  pub known : (file : List ℕ) → knows header file → knows' header file
+  pub known : (found : List ℕ) (N : Nodes) → Holds knows found header old N → knows' header (file_of old.here)
   pub slots : used' ≡ used
   pub room : cells' ≡ cells
   pub world : Untouched old new

@@ -124,7 +124,9 @@ impl<W: Outside, S: NodeStore<W>> Saver<W> for FileKeeper<S> {
     fn save(&mut self, w: &mut W) -> Result<(), Failed> {
         let regions = count_regions(self.header.eof, self.store.slots().regions());
         let unmapped = unmap(w, &self.header, region_end(regions))?;
+        self.store.stay();
         self.header = save_maps(w, &unmapped, self.store.slots(), regions)?;
+        self.store.stay();
         Ok(())
     }
 }

@@ -4,6 +4,7 @@ ghost use Rattle.pst_header.specs.declared.header.Header.{Header as Head};
 ghost use Rattle.pst_header.specs.Format.{IsWritable};
 ghost use Rattle.node_port.specs.Nodes.{Nodes, ascend, content_of, IsNext, node_at};
 ghost use Rattle.node_port.specs.Stops.{KeepStops, PrepareStops, RoomDecides, Tells};
+ghost use Rattle.lays_kept.specs.Saved.{LaysSame};
 ghost use Rattle.pst_commit.specs.Keeping.{Holds, IsKnowledge, LooksOn, PlansFor, room_with};
 
 use alloc_map::Slots;
@@ -26,7 +27,7 @@ pub struct CommitPlan<A> {
 
 /// What reads the nodes of a file with a header, and plans changes of them. It is used with one world, and with the header that it knows.
 ///
-/// `Fault` comes where the disk failed, `Memory` where there was no memory, and `Changed` where something isn't as it was found before, so never where the file stands for nodes. No call but `adopt` changes what is known, and none writes.
+/// `Fault` comes where the disk failed, `Memory` where there was no memory, and `Changed` where something isn't as it was found before, so never where the file stands for nodes. No call but `adopt` and `stay` changes what is known, and none writes.
 pub trait NodeStore<W: Outside> {
     /// What the planner knows after a commit.
     type Adopts: Drop;
@@ -91,6 +92,7 @@ pub trait NodeStore<W: Outside> {
     ) -> Result<CommitPlan<Self::Adopts>, PrepareStop>
         requires order { IsTrue (ascend 0 changes.nodes.items) }
         requires room { changes.room ≤ 2 ^ 60 }
+        requires writable { IsWritable header.now }
         ensures plan { (found : List ℕ) → IfOk result (λ p. (p.header.indexes ≡ changes.counts.last) × PlansFor (knows self.new) (knows_after self.new p.adopts) becomes found header.now (W.view w.new) p.pieces.items p.sealed p.header changes.nodes.items) }
         ensures full { (found : List ℕ) → Tells (Holds (knows self.old) found header.now (W.view w.old)) (λ N. RoomDecides (room_with (cells self.old) found) changes.room changes.nodes.items result) }
         ensures stops { (found : List ℕ) → IfErr result (PrepareStops true (W.view w.old).disk_faults (W.view w.new).disk_faults (Holds (knows self.old) found header.now (W.view w.old))) }
@@ -100,10 +102,16 @@ pub trait NodeStore<W: Outside> {
     fn adopt(&mut self, adopts: Self::Adopts)
         ensures { (header : Head) (file : List ℕ) → knows_after self.old adopts header file → knows self.new header file };
 
+    /// The trees stay, under another header, while other bytes may have been written beside them. Takes no memory.
+    fn stay(&mut self)
+        ensures known { (old new : Head) (file other : List ℕ) → LaysSame old new file other → knows self.old old file → knows self.new new other }
+        ensures slots { used self.new ≡ used self.old }
+        ensures room { cells self.new ≡ cells self.old };
+
     /// The used slots.
     fn slots(&self) -> &Slots
         ensures { result.now ≡ used self.now };
 
-    // What is known is right, and stays so where the trees stay.
+    // What is known is right.
     ghost known_right: { (s : Self) → IsKnowledge (knows s) (used s) (cells s) };
 }

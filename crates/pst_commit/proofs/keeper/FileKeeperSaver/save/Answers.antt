@@ -31,10 +31,10 @@ returns-in_err-self-clause-any_moment g c = λ N held settled shut.
     let mid = g.W.Outside.view c.unmap.new.w in
     let unmapped = c.in_ok-unmapped.unmapped in
     let first = c.in_ok-unmapped.ensures.keeps k.found N can in
-    let known : mid.tells → g.S.NodeStore.knows k.store unmapped (file_of mid.here)
-    = λ t. right.stays k.header unmapped (file_of old.here) (file_of mid.here) (first.1 t) held.1.known in
+    let known : mid.tells → g.S.NodeStore.knows c.stay.new.self unmapped (file_of mid.here)
+    = λ t. c.stay.ensures.known k.header unmapped (file_of old.here) (file_of mid.here) (first.1 t) held.1.known in
     let uses : mid.tells → UsesJust unmapped (file_of mid.here) c.slots-2.result.now
-    = λ t. subst (UsesJust unmapped (file_of mid.here)) (sym c.slots-2.ensures) (uses_just right unmapped (file_of mid.here) (known t)) in
+    = λ t. subst (UsesJust unmapped (file_of mid.here)) (sym c.slots-2.ensures) (uses_just (g.met.S.NodeStore.known_right c.stay.new.self) unmapped (file_of mid.here) (known t)) in
     let none = c.in_ok-unmapped.ensures.maps in
     let reach : unmapped.eof ≡ region_end regions = c.in_ok-unmapped.ensures.eof ∙ c.region_end.ensures in
     let next_can : CanSave k.found unmapped (region_end regions) mid N = subst (λ e. CanSave k.found unmapped e mid N) c.region_end.ensures first.0 in
@@ -54,10 +54,10 @@ returns-clause-any_moment g c = λ N held settled shut.
     let mid = g.W.Outside.view c.unmap.new.w in
     let unmapped = c.in_ok-unmapped.unmapped in
     let first = c.in_ok-unmapped.ensures.keeps k.found N can in
-    let known : mid.tells → g.S.NodeStore.knows k.store unmapped (file_of mid.here)
-    = λ t. right.stays k.header unmapped (file_of old.here) (file_of mid.here) (first.1 t) held.1.known in
+    let known : mid.tells → g.S.NodeStore.knows c.stay.new.self unmapped (file_of mid.here)
+    = λ t. c.stay.ensures.known k.header unmapped (file_of old.here) (file_of mid.here) (first.1 t) held.1.known in
     let uses : mid.tells → UsesJust unmapped (file_of mid.here) c.slots-2.result.now
-    = λ t. subst (UsesJust unmapped (file_of mid.here)) (sym c.slots-2.ensures) (uses_just right unmapped (file_of mid.here) (known t)) in
+    = λ t. subst (UsesJust unmapped (file_of mid.here)) (sym c.slots-2.ensures) (uses_just (g.met.S.NodeStore.known_right c.stay.new.self) unmapped (file_of mid.here) (known t)) in
     let none = c.in_ok-unmapped.ensures.maps in
     let reach : unmapped.eof ≡ region_end regions = c.in_ok-unmapped.ensures.eof ∙ c.region_end.ensures in
     let next_can : CanSave k.found unmapped (region_end regions) mid N = subst (λ e. CanSave k.found unmapped e mid N) c.region_end.ensures first.0 in
@@ -78,10 +78,10 @@ returns-clause-same g c = λ shut disk N held.
     let mid = g.W.Outside.view c.unmap.new.w in
     let unmapped = c.in_ok-unmapped.unmapped in
     let first = c.in_ok-unmapped.ensures.keeps k.found N can in
-    let known : mid.tells → g.S.NodeStore.knows k.store unmapped (file_of mid.here)
-    = λ t. right.stays k.header unmapped (file_of old.here) (file_of mid.here) (first.1 t) held.1.known in
+    let known : mid.tells → g.S.NodeStore.knows c.stay.new.self unmapped (file_of mid.here)
+    = λ t. c.stay.ensures.known k.header unmapped (file_of old.here) (file_of mid.here) (first.1 t) held.1.known in
     let uses : mid.tells → UsesJust unmapped (file_of mid.here) c.slots-2.result.now
-    = λ t. subst (UsesJust unmapped (file_of mid.here)) (sym c.slots-2.ensures) (uses_just right unmapped (file_of mid.here) (known t)) in
+    = λ t. subst (UsesJust unmapped (file_of mid.here)) (sym c.slots-2.ensures) (uses_just (g.met.S.NodeStore.known_right c.stay.new.self) unmapped (file_of mid.here) (known t)) in
     let none = c.in_ok-unmapped.ensures.maps in
     let reach : unmapped.eof ≡ region_end regions = c.in_ok-unmapped.ensures.eof ∙ c.region_end.ensures in
     let next_can : CanSave k.found unmapped (region_end regions) mid N = subst (λ e. CanSave k.found unmapped e mid N) c.region_end.ensures first.0 in
@@ -90,7 +90,7 @@ returns-clause-same g c = λ shut disk N held.
     let last = c.in_ok-self.ensures.keeps k.found N none reach next_can uses in
     let before : mid.tells = c.save_maps.ensures.told told in
     let laid : LaysSame unmapped next (file_of mid.here) (file_of new.here) = (last.1 told).0 in
-    (told, rests_keeps (g.S.NodeStore.knows k.store) (last.0.rests told) (right.stays unmapped next (file_of mid.here) (file_of new.here) laid (known before)))
+    (told, rests_keeps (g.S.NodeStore.knows c.stay-2.new.self) (last.0.rests told) (c.stay-2.ensures.known unmapped next (file_of mid.here) (file_of new.here) laid (known before)))
 
 pub returns-clause-saved : goal.returns-clause-saved
 returns-clause-saved g c = λ N held shut told.
@@ -105,10 +105,10 @@ returns-clause-saved g c = λ N held shut told.
     let mid = g.W.Outside.view c.unmap.new.w in
     let unmapped = c.in_ok-unmapped.unmapped in
     let first = c.in_ok-unmapped.ensures.keeps k.found N can in
-    let known : mid.tells → g.S.NodeStore.knows k.store unmapped (file_of mid.here)
-    = λ t. right.stays k.header unmapped (file_of old.here) (file_of mid.here) (first.1 t) held.1.known in
+    let known : mid.tells → g.S.NodeStore.knows c.stay.new.self unmapped (file_of mid.here)
+    = λ t. c.stay.ensures.known k.header unmapped (file_of old.here) (file_of mid.here) (first.1 t) held.1.known in
     let uses : mid.tells → UsesJust unmapped (file_of mid.here) c.slots-2.result.now
-    = λ t. subst (UsesJust unmapped (file_of mid.here)) (sym c.slots-2.ensures) (uses_just right unmapped (file_of mid.here) (known t)) in
+    = λ t. subst (UsesJust unmapped (file_of mid.here)) (sym c.slots-2.ensures) (uses_just (g.met.S.NodeStore.known_right c.stay.new.self) unmapped (file_of mid.here) (known t)) in
     let none = c.in_ok-unmapped.ensures.maps in
     let reach : unmapped.eof ≡ region_end regions = c.in_ok-unmapped.ensures.eof ∙ c.region_end.ensures in
     let next_can : CanSave k.found unmapped (region_end regions) mid N = subst (λ e. CanSave k.found unmapped e mid N) c.region_end.ensures first.0 in

@@ -1,0 +1,17 @@
+pub mod SlotLaws
+pub mod AfterLaws
+pub mod RecountLaws
+pub mod NewLaws
+pub mod PageLaws
+pub mod PlacedLaws
+pub mod DrawnLaws
+pub mod FreedLaws
+pub mod KnownLaws
+pub mod ComesLaws
+pub mod RoomLaws
+pub mod OldLaws
+pub mod TreeSteps
+pub mod DrawSteps
+pub mod KeepLaws
+pub mod PlanSteps
+pub mod StayLaws

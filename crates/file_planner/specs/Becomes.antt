@@ -1,0 +1,34 @@
+-- What a plan makes of a file, beside its nodes.
+use Rattle.std.specs.Prelude.{◌≡◌, ◌+◌, ◌*◌, ◌%◌, ◌^◌, ◌++◌, ℕ, List, length, take, Ok}
+use Rattle.pst_base.specs.declared.places.Place.{Place}
+use Rattle.pst_header.specs.declared.header.Header.{Header}
+use Rattle.pst_header.specs.Format.{reading}
+use Rattle.alloc_map.specs.Ends.{IsEndFor}
+use Rattle.alloc_map.specs.Standing.{occupied, IsCovered}
+use Rattle.alloc_map.specs.Taken.{IsBlockPlace, IsPagePlace, Takes}
+use Rattle.file_layout.specs.Nodes.{NodeMap, Lays, blocks_in, places_of}
+use Rattle.file_layout.specs.Numbers.{next_block, next_page}
+use Rattle.std.specs.Prelude.{Bool}
+
+-- New blocks and pages stand at the least free places beside all that stood, the blocks first. The header gives the next numbers on by 4 for each block and by 1 for each page, and its own count by 1; it vouches for no maps, and ends the file at the least end of a region that has room for all.
+pub record IsMade (old new : List ℕ) : Type 0 where
+  pub before : Header
+  pub was : reading (take 564 old) ≡ Ok before
+  pub m : NodeMap
+  pub lays : Lays before old m
+  pub after : Header
+  pub is : reading (take 564 new) ≡ Ok after
+  -- the places of new blocks, and of new pages
+  pub blocks : List Place
+  pub pages : List Place
+  pub used : List Bool
+  pub covered : IsCovered (occupied (places_of lays.blocks lays.nodes) 8192) used
+  pub mid : List Bool
+  pub place_blocks : Takes IsBlockPlace used blocks mid
+  pub now : List Bool
+  pub place_pages : Takes IsPagePlace mid pages now
+  pub end : IsEndFor before.eof (pages ++ blocks) after.eof
+  pub unmapped : after.maps ≡ 0
+  pub unique : after.unique ≡ (before.unique + 1) % 2 ^ 32
+  pub next_block : after.next_block ≡ next_block before (blocks_in lays.blocks) + 4 * length blocks
+  pub next_page : after.next_page ≡ next_page before (lays.blocks.pages ++ lays.nodes.pages) + length pages

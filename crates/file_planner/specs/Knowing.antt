@@ -1,0 +1,66 @@
+-- What a planner knows of a file.
+use Rattle.std.specs.Prelude.{◌≡◌, ◌≤◌, ◌+◌, ◌*◌, ◌^◌, ◌||◌, nat_le, ℕ, Bool, List, ◌++◌, length}
+use Rattle.pst_header.specs.declared.header.Header.{Header}
+use Rattle.alloc_map.specs.Cells.{free_cells_of}
+use Rattle.alloc_map.specs.Standing.{occupied, IsCovered}
+use Rattle.alloc_map.specs.Taken.{Taken}
+use Rattle.file_blocks.specs.Blocks.{found_in}
+use Rattle.file_layout.specs.Nodes.{NodeMap, Lays, blocks_in, nodes_in, places_of}
+use Rattle.file_layout.specs.Numbers.{next_block, next_page}
+use Rattle.file_layout.specs.Trees.{Found}
+use Rattle.file_pages.specs.InFile.{bodies}
+use Rattle.page_cache.specs.Cache.{Holds}
+use Rattle.node_refs.specs.Counts.{AreRefs}
+use Rattle.node_store.specs.declared.node.PageCaches.{PageCaches}
+use Rattle.ref_counts.specs.Tables.{refs_in}
+use Rattle.ref_counts.specs.Changes.{HasRoomFor, change_of, number_by}
+use Rattle.file_planner.specs.declared.planner.FilePlanner.{FilePlanner}
+use Rattle.file_planner.specs.declared.planner.PlanEffects.{PlanEffects}
+
+-- ---- a file
+
+-- The used slots, the numbers of references, the number of pages and the next numbers are those of a file with these trees.
+pub record IsKnownBy (header : Header) (file : List ℕ) (blocks nodes : Found) (slots : List Bool) (counts : ℕ → ℕ) (many block page : ℕ) : Type 0 where
+  pub size : length slots ≡ 3968 * 8192
+  pub used : IsCovered (occupied (places_of blocks nodes) 8192) slots
+  pub refs : AreRefs (found_in file (blocks_in blocks)) (nodes_in nodes) counts
+  pub pages : many ≡ length blocks.pages + length nodes.pages
+  pub next_block : block ≡ next_block header (blocks_in blocks)
+  pub next_page : page ≡ next_page header (blocks.pages ++ nodes.pages)
+
+-- the same of a file that lays nodes
+abbrev pub IsKnown : {header : Header} {file : List ℕ} {m : NodeMap} → Lays header file m → List Bool → (ℕ → ℕ) → ℕ → ℕ → ℕ → Type 0
+IsKnown {header} {file} {m} is slots counts pages block page = IsKnownBy header file is.blocks is.nodes slots counts pages block page
+
+-- the caches have no other pages than those of a file
+pub record AreCached (header : Header) (file : List ℕ) (caches : PageCaches) : Type 0 where
+  pub blocks : Holds (bodies file header.eof 0x80) caches.blocks
+  pub nodes : Holds (bodies file header.eof 0x81) caches.nodes
+
+-- what a planner has is right for a file with a header
+pub record Knows (p : FilePlanner) (header : Header) (file : List ℕ) : Type 0 where
+  pub cached : AreCached header file p.caches
+  pub known : (m : NodeMap) (is : Lays header file m) → IsKnown is p.slots (refs_in p.refs) p.pages p.next_block p.next_page
+
+-- a next number may no more be given
+abbrev pub spent : ℕ → ℕ → Bool
+spent block page = nat_le (2 ^ 61) block || nat_le (2 ^ 61) page
+
+-- the free cells, the pages of both trees, and whether a next number is used up
+abbrev pub cells_of : FilePlanner → ℕ × ℕ × Bool
+cells_of p = (free_cells_of p.slots, p.pages, spent p.next_block p.next_page)
+
+-- ---- after a commit
+
+-- the number of a key after changes
+abbrev pub number_now : ℕ → FilePlanner → PlanEffects → ℕ
+number_now key p e = number_by (change_of key e.refs.items) (refs_in p.refs key)
+
+-- With the places of a plan taken, and those given back that it frees, the slots and the new numbers are right for a file with a header.
+pub record KnowsAfter (p : FilePlanner) (e : PlanEffects) (header : Header) (file : List ℕ) : Type 0 where
+  pub mid : List Bool
+  pub after : List Bool
+  pub takes : Taken p.slots mid e.taken.items
+  pub frees : Taken after mid e.freed.items
+  pub room : HasRoomFor p.refs e.refs.items
+  pub known : (m : NodeMap) (is : Lays header file m) → IsKnown is after (λ key. number_now key p e) e.pages e.next_block e.next_page

@@ -1,0 +1,10 @@
+pub mod Freed
+pub mod Recounts
+pub mod Knowing
+pub mod Drawn
+pub mod Becomes
+pub mod Trees
+pub mod Gathered
+pub mod Draws
+pub mod Laws
+pub mod Stopping

@@ -1,0 +1,17 @@
+//! The planner of commits of a file: it reads nodes on demand, and plans changes of them.
+//!
+//! A plan that is carried out makes the file lay the changed nodes under the new header, and what the planner adopts is right for it. A plan that is given up leaves nothing. `Full` and `IdsSpent` come just where the numbers say so, before anything is read.
+//!
+//! It leaves to others how a file comes to be known at first, and that blocks which no node reaches leave the trees.
+#![tactic(auto)]
+
+mod draw;
+mod freed;
+mod old;
+mod place;
+mod planner;
+mod planning;
+mod room;
+mod trees;
+
+pub use planner::{FilePlanner, PlanEffects};

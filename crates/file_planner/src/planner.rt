@@ -1,0 +1,166 @@
+//! What is known of a file, and of a file after a commit.
+ghost use Rattle.std.specs.Prelude.{◌≡◌};
+ghost use Rattle.node_port.specs.Nodes.{content_of};
+ghost use Rattle.file_planner.specs.Stopping.{prepare_stop};
+
+use crate::room::decide;
+use alloc_map::Slots;
+use node_port::{Changes, KeepStop, NodeRec, PrepareStop};
+use node_store::{PageCaches, next_node, read_node};
+use pst_base::{Nid, Place, Subs};
+use pst_commit::{CommitPlan, NodeStore};
+use pst_header::Header;
+use pst_outside::Outside;
+use ref_counts::{RefChange, RefCounts};
+use std::alloc::Global;
+
+/// Reads a file's nodes and plans changes of them. It knows the file's used slots, how often each block is referred to, the pages of both trees by number, and the numbers of the next block and page; and it has caches of pages.
+#[derive(Drop)]
+pub struct FilePlanner {
+    pub(crate) caches: PageCaches,
+    pub(crate) slots: Slots,
+    pub(crate) refs: RefCounts,
+    /// How many pages both trees have.
+    pub(crate) pages: u64,
+    /// The number of the next block.
+    pub(crate) next_block: u64,
+    /// The number of the next page.
+    pub(crate) next_page: u64,
+}
+
+/// What a planner knows after a commit.
+#[derive(Drop)]
+pub struct PlanEffects {
+    /// The places of new pages and blocks.
+    pub(crate) taken: Vec<Place>,
+    /// The places that are free then, but for fixed pages.
+    pub(crate) freed: Vec<Place>,
+    pub(crate) refs: Vec<RefChange>,
+    pub(crate) pages: u64,
+    pub(crate) next_block: u64,
+    pub(crate) next_page: u64,
+}
+
+impl<W: Outside> NodeStore<W> for FilePlanner {
+    ghost use Rattle.file_planner.specs.Becomes.{IsMade};
+    ghost use Rattle.file_planner.specs.Knowing.{Knows, KnowsAfter, cells_of};
+    ghost use Rattle.file_planner.specs.Laws.{known_right};
+
+    type Adopts = PlanEffects;
+
+    ghost knows = { Knows };
+
+    ghost knows_after = { KnowsAfter };
+
+    ghost becomes = { IsMade };
+
+    ghost used = { λ p. p.slots };
+
+    ghost cells = { cells_of };
+
+    fn node(
+        &mut self,
+        alloc: Global,
+        w: &mut W,
+        header: &Header,
+        nid: Nid,
+    ) -> Result<Option<NodeRec>, KeepStop> {
+        read_node(alloc, w, header, nid, &mut self.caches)
+    }
+
+    fn content(
+        &mut self,
+        alloc: Global,
+        w: &mut W,
+        header: &Header,
+        nid: Nid,
+    ) -> Result<Option<NodeRec>, KeepStop> {
+        match read_node(alloc, w, header, nid, &mut self.caches) {
+            Ok(node) => Ok(without_subs(alloc, node)),
+            Err(stop) => Err(stop),
+        }
+    }
+
+    fn next(
+        &mut self,
+        w: &mut W,
+        header: &Header,
+        nid: Option<Nid>,
+    ) -> Result<Option<Nid>, KeepStop> {
+        next_node(w, header, nid, &mut self.caches)
+    }
+
+    fn plan(
+        &mut self,
+        alloc: Global,
+        w: &mut W,
+        header: &Header,
+        changes: Changes,
+    ) -> Result<CommitPlan<PlanEffects>, PrepareStop> {
+        let spent = self.spent();
+        let free = self.slots.free_cells();
+        let nodes = changes.nodes.as_slice();
+        match decide(free, self.pages, spent, changes.room, nodes) {
+            Ok(()) => (),
+            Err(stop) => return Err(stop),
+        }
+        self.clear();
+        match self.plan_nodes(alloc, w, header, nodes, &changes.counts) {
+            Ok(plan) => Ok(plan),
+            Err(stop) => Err(prepare_stop(stop)),
+        }
+    }
+
+    fn adopt(&mut self, adopts: PlanEffects) {
+        self.slots.retake(adopts.taken.as_slice());
+        self.slots.release(adopts.freed.as_slice());
+        self.refs.adopt(adopts.refs.as_slice());
+        self.pages = adopts.pages;
+        self.next_block = adopts.next_block;
+        self.next_page = adopts.next_page;
+        self.clear();
+    }
+
+    fn stay(&mut self) {
+        self.clear();
+    }
+
+    fn slots(&self) -> &Slots {
+        &self.slots
+    }
+
+    ghost known_right = { known_right };
+}
+
+/// A node without its subnodes.
+fn without_subs(alloc: Global, node: Option<NodeRec>) -> Option<NodeRec>
+    ensures { result ≡ content_of node }
+{
+    match node {
+        Some(node) => Some(NodeRec {
+            parent: node.parent,
+            blocks: node.blocks,
+            subs: Subs::new(alloc),
+        }),
+        None => None,
+    }
+}
+
+/// A stop of a reading, as a plan gives it.
+fn prepare_stop(stop: KeepStop) -> PrepareStop
+    ensures { result ≡ prepare_stop stop }
+{
+    match stop {
+        KeepStop::Fault => PrepareStop::Fault,
+        KeepStop::Changed {
+            ib,
+            stored,
+            computed,
+        } => PrepareStop::Changed {
+            ib,
+            stored,
+            computed,
+        },
+        KeepStop::Memory => PrepareStop::Memory,
+    }
+}
