@@ -32,7 +32,7 @@ returns-clause-plan g c =
     let root = c.args.root in
     IfOk-weaker c.change.result
     (λ plan. ((find : Bref → Option (List ℕ)) → Held find → PlansOver (shapes rule size entry_of find) key root ds plan.pages.items plan.freed.items plan.root)
-        × ((find : Bref → Option (List ℕ)) → Held find → SparesOver (shapes rule size entry_of find) key root ds plan.pages.items plan.freed.items))
+    × ((find : Bref → Option (List ℕ)) → Held find → SparesOver (shapes rule size entry_of find) key root ds plan.pages.items plan.freed.items))
     (λ plan. Caches old eof kind c.args.pages.now.cache.now → PlansIn rule size entry_of key file eof kind root ds plan.pages.items plan.freed.items plan.root)
     (λ plan is caches. plans-in rule size entry_of key file eof kind root ds plan.pages.items plan.freed.items plan.root (is.0 (given file eof kind) (gives caches)) (is.1 (given file eof kind) (gives caches)))
     (ok-both c.change.result
