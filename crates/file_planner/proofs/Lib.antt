@@ -15,3 +15,4 @@ pub mod DrawSteps
 pub mod KeepLaws
 pub mod PlanSteps
 pub mod StayLaws
+pub mod FoundLaws

@@ -42,7 +42,7 @@ use Rattle.file_planner.specs.declared.planner.PlanEffects.{PlanEffects}
 pub record IsSketch {header : Header} {file : List ℕ} {m : NodeMap} (is : Lays header file m) (counts : ℕ → ℕ) (block : ℕ) (cs : List (Nid × Option NodeRec)) (edits : List (ℕ × Option NodeEntry)) (blocks : List (Bid × List ℕ)) (refs : List RefChange) : Type 0 where
   pub taken : List ℕ
   pub put : List ℕ
-  pub contents : PlansContents (found_in file (blocks_in is.blocks)) (nodes_in is.nodes) cs edits blocks taken put
+  pub contents : PlansContents (found_in file (blocks_in is.blocks)) header.eof block (nodes_in is.nodes) cs edits blocks taken put
   pub changed : AreRefChanges counts taken put refs
   pub rise : Rise block blocks
   pub node_edits : AreEdits node_id 0 (2 ^ 64) edits

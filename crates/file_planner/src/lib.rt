@@ -2,10 +2,11 @@
 //!
 //! A plan that is carried out makes the file lay the changed nodes under the new header, and what the planner adopts is right for it. A plan that is given up leaves nothing. `Full` and `IdsSpent` come just where the numbers say so, before anything is read.
 //!
-//! It leaves to others how a file comes to be known at first, and that blocks which no node reaches leave the trees.
+//! It is made of what a scan of a file found. It leaves to others the scan, and that blocks which no node reaches leave the trees.
 #![tactic(auto)]
 
 mod draw;
+mod found;
 mod freed;
 mod old;
 mod place;

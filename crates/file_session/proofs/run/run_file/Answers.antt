@@ -1,0 +1,25 @@
+use Rattle.std.proofs.Common.{◌≡◌, ap, sym, subst, inl, inr, ◌∙◌}
+use Rattle.store_session.specs.declared.session.SessionEnd.{SessionEnd as End}
+use Rattle.file_session.specs.FileRun.{FileRunEnds}
+use Rattle.file_session.proofs.Opened.{ends_opened, ends_unopened, refused_is, same_end}
+use Rattle.file_session.proofs.run.run_file.Goals as goal
+
+pub returns-in-Ok-clause-ends : goal.returns-in-Ok-clause-ends
+returns-in-Ok-clause-ends g c = λ end is settled tells.
+    let first = g.W.Outside.view c.args.world.now in
+    let mid = g.W.Outside.view c.open_file.new.w in
+    let now = g.W.Outside.view c.run_session.new.world in
+    let told : now.tells → mid.tells = c.run_session.ensures.told in
+    let o = c.in-Ok.opened.keeper in
+    subst (λ e. FileRunEnds first now e) (same_end c.run_session.result end is)
+    (inr (ends_opened (g.S.NodeStore.knows o.store) o.found o.header c.in-Ok.opened.places first mid now c.run_session.result
+    (c.in-Ok.ensures.opened (told tells)) tells told c.in-Ok.ensures.input (c.in-Ok.ensures.settled settled) c.in-Ok.ensures.shut (c.in-Ok.ensures.any_moment settled) c.run_session.ensures.ends))
+
+pub returns-in-Err-clause-refused : goal.returns-in-Err-clause-refused
+returns-in-Err-clause-refused g c = λ refusal is.
+    refused_is (g.W.Outside.view c.args.world.now) (g.W.Outside.view c.open_file.new.w) c.in-Err.stop refusal (sym c.unopened.ensures ∙ is) c.in-Err.ensures.clean c.in-Err.ensures.refused
+
+pub returns-in-Err-clause-ends : goal.returns-in-Err-clause-ends
+returns-in-Err-clause-ends g c = λ end is settled tells.
+    inl (ends_unopened (g.W.Outside.view c.args.world.now) (g.W.Outside.view c.open_file.new.w) c.in-Err.stop end (sym c.unopened.ensures ∙ is) tells
+    (c.in-Err.ensures.refused tells) c.in-Err.ensures.input (λ t. (c.in-Err.ensures.store t).said) (c.in-Err.ensures.any_moment settled))

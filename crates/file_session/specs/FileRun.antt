@@ -1,0 +1,41 @@
+-- How a session over a file ends.
+use Rattle.std.specs.Prelude.{◌≡◌, ◌⊎◌, List, ℕ, take}
+use Rattle.pst_outside.specs.World.{Image, World}
+use Rattle.pst_outside.specs.Calls.{LeavesOnly}
+use Rattle.gate_file.specs.Gate.{IsShut}
+use Rattle.file_blocks.specs.Blocks.{file_of}
+use Rattle.lays_kept.specs.Stands.{Stands}
+use Rattle.mail_tree.specs.Found.{IsFound}
+use Rattle.mail_tree.specs.Tree.{Tree}
+use Rattle.mail_tree.specs.Whole.{IsWhole}
+use Rattle.mail_store.specs.Planning.{StandsFor}
+use Rattle.store_session.specs.Session.{StoreSessionEnds}
+use Rattle.store_session.specs.declared.session.SessionEnd.{SessionEnd}
+use Rattle.store_session.specs.declared.session.SessionEnd.TheVariants.{Disk, Memory}
+
+-- the header that counts, as bytes
+abbrev pub front_of : Image → List ℕ
+front_of image = take 564 (file_of image)
+
+-- The two files of an image are read as the tree: they lay nodes that show it, with its counters, and an opening finds it from the root down. The maps are right wherever the header vouches for them, but in a file whose header is still the one that was found.
+pub record ReadsAs (found : List ℕ) (image : Image) (T : Tree) : Type 0 where
+  pub stands : StandsFor (Stands found image) T
+  pub whole : IsWhole T
+  pub is_found : IsFound T
+
+-- The opening gave nothing: no line was taken and nothing was said, and a stop at any moment leaves the tree that the files were read as.
+pub record EndsUnopened (first now : World) (end : SessionEnd) : Type 0 where
+  pub ends : (end ≡ Disk) ⊎ (end ≡ Memory)
+  pub input : now.tells → now.input ≡ first.input
+  pub said : now.tells → now.here.said ≡ first.here.said
+  pub images : (T : Tree) → ReadsAs (front_of first.here) first.here T → LeavesOnly first now (λ c. (c.said ≡ first.here.said) × ReadsAs (front_of first.here) c T)
+
+-- The files were opened as a tree, and this is how the session over it ended: its replies are those of a run from the tree, and a stop at any moment leaves files that are read as the tree after some of its turns, among them each whose reply had begun.
+pub record EndsOpened (first now : World) (end : SessionEnd) : Type 0 where
+  pub start : Tree
+  pub reads : ReadsAs (front_of first.here) first.here start
+  pub session : StoreSessionEnds (ReadsAs (front_of first.here)) (λ image. IsShut image.side) first now start end
+
+-- how a session over a file ends that wasn't refused
+abbrev pub FileRunEnds : World → World → SessionEnd → Type 0
+FileRunEnds first now end = EndsUnopened first now end ⊎ EndsOpened first now end

@@ -1,0 +1,67 @@
+//! A session over a file.
+ghost use Rattle.std.specs.Prelude.{◌≡◌, List, true};
+ghost use Rattle.pst_outside.specs.Calls.{NeverFall, Settled, Untouched};
+ghost use Rattle.mail_tree.specs.declared.places.FolderPlace.{FolderPlace};
+ghost use Rattle.file_open.specs.Opening.{IsFileRefused, ReadsFresh};
+ghost use Rattle.file_open.specs.declared.stops.FileRefusal.{FileRefusal as Refusals};
+ghost use Rattle.store_session.specs.Session.{HasCause};
+ghost use Rattle.store_session.specs.declared.session.SessionEnd.{SessionEnd as End};
+ghost use Rattle.file_session.specs.Stops.{unopened};
+ghost use Rattle.file_session.specs.FileRun.{FileRunEnds};
+
+use file_open::{FileRefusal, FileStop, FoundStore, open_file};
+use mail_store::Store;
+use pst_outside::Outside;
+use std::alloc::Global;
+use store_session::{SessionEnd, run_session};
+
+/// How a session over a file went.
+#[derive(Clone, Copy, Debug, PartialEq, Eq)]
+pub enum FileRun {
+    /// The file was refused, and nothing was said.
+    Refused(FileRefusal),
+    /// It ended so.
+    Ended(SessionEnd),
+}
+
+/// The end of a session whose opening gave nothing.
+fn unopened(stop: FileStop) -> FileRun
+    ensures { result ≡ unopened stop }
+{
+    match stop {
+        FileStop::Refused(refusal) => FileRun::Refused(refusal),
+        FileStop::Fault => FileRun::Ended(SessionEnd::Disk),
+        FileStop::Changed {
+            ib,
+            stored,
+            computed,
+        } => FileRun::Ended(SessionEnd::Changed {
+            ib,
+            stored,
+            computed,
+        }),
+        FileStop::Memory => FileRun::Ended(SessionEnd::Memory),
+    }
+}
+
+/// Opens the two files, and answers the lines of the input over the tree that they are read as: takes lines until the input ends, a line is `quit`, a device fails, something changed, or 2^32 lines were taken. Each reply is made before its command is committed, and said after it.
+pub fn run_file<W: Outside, S: FoundStore<W> + Drop>(alloc: Global, world: &mut W) -> FileRun
+    ensures refused { (refusal : Refusals) → result ≡ FileRun.Refused refusal → Untouched (W.view world.old) (W.view world.new)
+        × ((W.view world.new).tells → IsFileRefused (W.view world.old).here refusal × ((places : List FolderPlace) → ReadsFresh (W.view world.old).here places → ⊥)) }
+    // The replies are those of a run, and a stop at any moment leaves the tree after some of its turns.
+    ensures ends { (end : End) → result ≡ FileRun.Ended end → Settled (W.view world.old) → (W.view world.new).tells → FileRunEnds (W.view world.old) (W.view world.new) end }
+    ensures cause { (end : End) → result ≡ FileRun.Ended end → HasCause true (W.view world.old) (W.view world.new) end }
+    ensures told { (W.view world.new).tells → (W.view world.old).tells }
+    ensures counts { NeverFall (W.view world.old) (W.view world.new) }
+{
+    match open_file::<W, S>(alloc, world) {
+        Ok(opened) => {
+            let store = Store {
+                keeper: opened.keeper,
+                places: opened.places,
+            };
+            FileRun::Ended(run_session(alloc, store, world))
+        }
+        Err(stop) => unopened(stop),
+    }
+}
