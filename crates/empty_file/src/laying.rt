@@ -51,7 +51,7 @@ impl From<AllocError> for LayStop {
 ///
 /// The file has one region, and so 271,360 bytes: the header; at 4200h the page that older readers look for, at 4400h and 4600h the region's map pages, at 4C00h and 4E00h the roots of the block tree and of the node tree, without entries; and a zero as its last byte. The header vouches for no maps.
 ///
-/// `NotEmpty` comes just where one of the two has bytes; then nothing is written. `Memory` comes before anything is written. `Fault` comes only where the disk failed.
+/// Where one of the two has bytes, nothing is written and the answer is `NotEmpty`, or `Fault` where the disk failed before that was known. `Memory` comes before anything is written. `Fault` comes only where the disk failed.
 pub fn lay_empty<W: Outside>(alloc: Global, w: &mut W) -> Result<FoundFile, LayStop>
     ensures laid { IfOk result (λ found. (W.view w.new).tells → IsFoundEmpty (W.view w.new).here found) }
     ensures header { IfOk result (λ found. IsFirst found.header) }
