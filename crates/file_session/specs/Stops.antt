@@ -1,4 +1,8 @@
--- What a stop of an opening comes to.
+-- What a stop comes to: of an opening, and of the plan of a new store.
+use Rattle.node_port.specs.declared.keeper.PrepareStop.{PrepareStop}
+use Rattle.node_port.specs.declared.keeper.PrepareStop.TheVariants as prepare
+use Rattle.file_session.specs.declared.make.FileMade.{FileMade}
+use Rattle.file_session.specs.declared.make.FileMade.TheVariants as made
 use Rattle.file_open.specs.declared.stops.FileStop.{FileStop}
 use Rattle.file_open.specs.declared.stops.FileStop.TheVariants as stops
 use Rattle.store_session.specs.declared.session.SessionEnd.TheVariants.{Disk, Changed, Memory}
@@ -11,3 +15,11 @@ unopened (stops.Refused refusal) = Refused refusal
 unopened stops.Fault = Ended Disk
 unopened (stops.Changed ib stored computed) = Ended (Changed ib stored computed)
 unopened stops.Memory = Ended Memory
+
+-- the end of a new store whose plan isn't made: room and numbers are there, so what is left is want of memory
+abbrev pub of_plan : PrepareStop → FileMade
+of_plan prepare.Fault = made.Disk
+of_plan (prepare.Changed ib stored computed) = made.Changed ib stored computed
+of_plan prepare.Memory = made.Memory
+of_plan (prepare.Full free need) = made.Memory
+of_plan prepare.IdsSpent = made.Memory

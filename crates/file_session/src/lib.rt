@@ -1,10 +1,12 @@
 //! Sessions over the two files of a store, from the opening to the end.
 //!
-//! Promises: `run_file` opens the files and answers the lines of the input over the tree that they are read as (`EndsOpened`): the replies are those of a run from that tree, and a stop at any moment since the call's start, the opening's own writes included, leaves files that are read as the tree after some of the turns, among them each whose reply had begun. A refusal names what is at fault and leaves the world untouched.
+//! Promises: `run_file` opens the files and answers the lines of the input over the tree that they are read as (`EndsOpened`): the replies are those of a run from that tree, and a stop at any moment since the call's start, the opening's own writes included, leaves files that are read as the tree after some of the turns, among them each whose reply had begun. A refusal names what is at fault and leaves the world untouched. `make_file` makes files that are read as the tree of a new store.
 //!
-//! Leaves to others: the words of the command line, how refusals are printed, and how the files of a new store are made.
+//! Leaves to others: the words of the command line, and how refusals are printed.
 #![tactic(auto)]
 
+mod make;
 mod run;
 
+pub use make::{FileMade, make_file};
 pub use run::{FileRun, run_file};

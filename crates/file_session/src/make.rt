@@ -1,0 +1,128 @@
+//! A new store in a file.
+ghost use Rattle.std.specs.Prelude.{◌≡◌, ◌⊎◌, ℕ, IsTrue};
+ghost use Rattle.pst_outside.specs.Calls.{NeverFall, Rose, Settled, Untouched};
+ghost use Rattle.gate_file.specs.Gate.{IsShut};
+ghost use Rattle.empty_file.specs.Empty.{HasBytes, IsFirst};
+ghost use Rattle.empty_file.specs.Known.{IsFoundEmpty};
+ghost use Rattle.node_port.specs.Nodes.{ascend, changed, no_nodes};
+ghost use Rattle.lays_kept.specs.Stands.{Stands};
+ghost use Rattle.mail_tree.specs.Start.{IsStart};
+ghost use Rattle.mail_tree.specs.Tree.{Tree};
+ghost use Rattle.file_session.specs.FileRun.{ReadsAs, front_of};
+ghost use Rattle.file_session.specs.Stops.{of_plan};
+
+use empty_file::{LayStop, lay_empty};
+use file_open::FoundStore;
+use file_scan::FoundFile;
+use mapi_values::Units;
+use new_store::{NewStore, new_store};
+use node_port::{Changes, Keeper, PrepareStop};
+use pst_commit::FileKeeper;
+use pst_header::write;
+use pst_outside::{Failed, Outside};
+use std::alloc::{AllocError, Global};
+
+/// How the making of a store in a file went.
+#[derive(Clone, Copy, Debug, PartialEq, Eq)]
+pub enum FileMade {
+    /// The store is there.
+    Made,
+    /// One of the two files has bytes already.
+    NotEmpty,
+    /// The disk failed.
+    Disk,
+    /// What stands at the offset `ib` isn't as it was written: the two numbers that the check compared.
+    Changed { ib: u64, stored: u64, computed: u64 },
+    /// There was no memory.
+    Memory,
+}
+
+/// The end for a plan that isn't made. A file without nodes has room and numbers for those of a new store.
+fn of_plan(stop: PrepareStop) -> FileMade
+    ensures { result ≡ of_plan stop }
+{
+    match stop {
+        PrepareStop::Fault => FileMade::Disk,
+        PrepareStop::Changed {
+            ib,
+            stored,
+            computed,
+        } => FileMade::Changed {
+            ib,
+            stored,
+            computed,
+        },
+        PrepareStop::Memory | PrepareStop::Full { .. } | PrepareStop::IdsSpent => FileMade::Memory,
+    }
+}
+
+/// Commits the nodes of a new store to a file without nodes.
+fn commit_nodes<W: Outside, S: FoundStore<W> + Drop>(
+    alloc: Global,
+    w: &mut W,
+    found: FoundFile,
+    store: NewStore,
+) -> FileMade
+    requires first { IsFirst found.header }
+    requires order { IsTrue (ascend 0 store.nodes.items) }
+    requires laid { (W.view w.old).tells → IsFoundEmpty (W.view w.old).here found }
+    requires shut { (W.view w.old).tells → IsShut (W.view w.old).here.side }
+    ensures made { result ≡ FileMade.Made → (W.view w.new).tells → Stands (front_of (W.view w.new).here) (W.view w.new).here (changed no_nodes store.nodes.items) store.counts.last }
+    ensures said { Settled (W.view w.old) → result ≡ FileMade.Made → (W.view w.new).tells → (W.view w.new).here.said ≡ (W.view w.old).here.said }
+    ensures some { result ≡ FileMade.NotEmpty → ⊥ }
+    ensures fault { result ≡ FileMade.Disk → Rose (W.view w.old).disk_faults (W.view w.new).disk_faults }
+    ensures not_changed { (ib stored computed : ℕ) → result ≡ FileMade.Changed ib stored computed → (W.view w.new).tells → ⊥ }
+    ensures told { (W.view w.new).tells → (W.view w.old).tells }
+    ensures input { (W.view w.new).tells → (W.view w.new).input ≡ (W.view w.old).input }
+    ensures counts { NeverFall (W.view w.old) (W.view w.new) }
+{
+    let header = found.header;
+    let Ok(planner) = S::from_found(alloc, found) else {
+        return FileMade::Memory;
+    };
+    let mut keeper = FileKeeper {
+        store: planner,
+        header,
+        found: write(&header),
+    };
+    let changes = Changes {
+        nodes: store.nodes,
+        counts: store.counts,
+        room: 0,
+    };
+    match keeper.prepare(alloc, w, changes) {
+        Ok(ready) => match keeper.apply(w, ready) {
+            Ok(()) => FileMade::Made,
+            Err(Failed) => FileMade::Disk,
+        },
+        Err(stop) => of_plan(stop),
+    }
+}
+
+/// Makes a new store of a name in the two files, which are empty before: lays a file without nodes, and commits the store's nodes to it. What a stop within it leaves is no file yet.
+pub fn make_file<W: Outside, S: FoundStore<W> + Drop>(
+    alloc: Global,
+    w: &mut W,
+    name: &Units,
+) -> FileMade
+    ensures made { result ≡ FileMade.Made → (W.view w.new).tells → (T : Tree) × IsStart name.now T × ReadsAs (front_of (W.view w.new).here) (W.view w.new).here T }
+    ensures said { Settled (W.view w.old) → result ≡ FileMade.Made → (W.view w.new).tells → (W.view w.new).here.said ≡ (W.view w.old).here.said }
+    ensures not_empty { result ≡ FileMade.NotEmpty → Untouched (W.view w.old) (W.view w.new) × ((W.view w.new).tells → HasBytes (W.view w.new).here) }
+    // Files that have bytes stay as they are.
+    ensures kept { (W.view w.old).tells → HasBytes (W.view w.old).here → Untouched (W.view w.old) (W.view w.new) × ((result ≡ FileMade.NotEmpty) ⊎ (result ≡ FileMade.Disk) ⊎ (result ≡ FileMade.Memory)) }
+    ensures fault { result ≡ FileMade.Disk → Rose (W.view w.old).disk_faults (W.view w.new).disk_faults }
+    ensures not_changed { (ib stored computed : ℕ) → result ≡ FileMade.Changed ib stored computed → (W.view w.new).tells → ⊥ }
+    ensures told { (W.view w.new).tells → (W.view w.old).tells }
+    ensures input { (W.view w.new).tells → (W.view w.new).input ≡ (W.view w.old).input }
+    ensures counts { NeverFall (W.view w.old) (W.view w.new) }
+{
+    let Ok(store) = new_store(alloc, name) else {
+        return FileMade::Memory;
+    };
+    match lay_empty(alloc, w) {
+        Ok(found) => commit_nodes::<W, S>(alloc, w, found, store),
+        Err(LayStop::NotEmpty) => FileMade::NotEmpty,
+        Err(LayStop::Fault) => FileMade::Disk,
+        Err(LayStop::Memory) => FileMade::Memory,
+    }
+}
