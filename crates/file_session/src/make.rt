@@ -99,7 +99,7 @@ fn commit_nodes<W: Outside, S: FoundStore<W> + Drop>(
     }
 }
 
-/// Makes a new store of a name in the two files, which are empty before: lays a file without nodes, and commits the store's nodes to it. What a stop within it leaves is no file yet.
+/// Makes a new store of a name in the two files, which are empty before: lays a file without nodes, and commits the store's nodes to it. What a stop or a failure within it leaves can be a file without nodes, which is no store; the next call then answers `NotEmpty`.
 pub fn make_file<W: Outside, S: FoundStore<W> + Drop>(
     alloc: Global,
     w: &mut W,
