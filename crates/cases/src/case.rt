@@ -26,10 +26,16 @@ pub struct Case<'a> {
     pub turn: Option<(u64, Vec<u8>)>,
     /// What must be said.
     pub said: Vec<u8>,
+    /// Lines that must be among those said; where there is one, others may be said too.
+    pub has: Vec<&'a str>,
     /// How the call must end.
     pub exit: Exit,
     /// Whether FILE or FILE.gate may be changed.
     pub writes: bool,
+    /// Whether the case is also cut off at each call of its disk.
+    pub stops: bool,
+    /// The lines by which what a stop leaves is looked at.
+    pub looks: Vec<u8>,
 }
 
 impl<'a> Case<'a> {
@@ -47,11 +53,14 @@ impl<'a> Case<'a> {
             fails: FailPlan::none(alloc),
             turn: None,
             said: Vec::new(alloc),
+            has: Vec::new(alloc),
             exit: Exit {
                 status: 0,
                 changed: None,
             },
             writes: false,
+            stops: false,
+            looks: Vec::new(alloc),
         }
     }
 
@@ -69,6 +78,11 @@ impl<'a> Case<'a> {
             "fails" => self.fail(words)?,
             "turns" => self.turn = Some((words.number()?, words.bytes(alloc)?)),
             "dead" => self.fails.dead_from = Some(words.number()?),
+            "stops" => self.stops = true,
+            "look" => {
+                self.looks.extend_from_slice(words.rest().as_bytes())?;
+                self.looks.push(b'\n')?;
+            }
             _ => return Err(Trouble::Spelling),
         }
         Ok(())
@@ -86,8 +100,9 @@ impl<'a> Case<'a> {
     }
 
     /// Follows a line about what must come of the call.
-    pub fn expect(&mut self, verb: &str, words: &mut Words) -> Result<(), Trouble> {
+    pub fn expect(&mut self, verb: &str, words: &mut Words<'a>) -> Result<(), Trouble> {
         match verb {
+            "has" => self.has.push(words.rest())?,
             "status" => self.exit.status = words.byte()?,
             "changed" => {
                 let ib = words.number()?;

@@ -8,6 +8,7 @@ mod edits;
 mod report;
 mod running;
 mod script;
+mod stops;
 mod texts;
 mod trouble;
 mod words;
@@ -19,6 +20,7 @@ use script::Script;
 use std::process::ExitCode;
 use std::rt::{Env, Files};
 use std::{env, fs, io};
+use stops::bad_stop;
 
 /// Runs the case that has begun, if one has, and prints its differences.
 fn end_case<R: Print + AllocGlobal>(report: &mut Report<R>, script: &mut Script) -> io::Result<()> {
@@ -32,6 +34,11 @@ fn end_case<R: Print + AllocGlobal>(report: &mut Report<R>, script: &mut Script)
     let outcome = run_case(report.rt.alloc(), &case, words)?;
     report.compare(&case, &outcome)?;
     script.leave(outcome);
+    if case.stops {
+        if let Some(stop) = bad_stop(report.rt.alloc(), &case, words)? {
+            report.bad_stop(&case, &stop)?;
+        }
+    }
     Ok(())
 }
 

@@ -1,8 +1,9 @@
 //! Prints what differs, and counts it.
-ghost use Rattle.std.specs.Prelude.{◌≡◌, ◌<◌, ◌+◌, ◌-◌, ◌^◌, min, OnOk};
+ghost use Rattle.std.specs.Prelude.{◌≡◌, ◌<◌, ◌+◌, ◌-◌, ◌^◌, min, [], OnOk};
 
 use crate::case::Case;
 use crate::running::{Outcome, first_difference};
+use crate::stops::BadStop;
 use std::{io, str};
 
 /// How many cases were run, and how many differences were found.
@@ -31,10 +32,12 @@ impl<R: Print + AllocGlobal> Report<'_, R> {
     /// Prints where what came of a case isn't what must.
     pub fn compare(&mut self, case: &Case, outcome: &Outcome) -> io::Result<()>
         // A case that raises no count was answered by what it says, with the status that it says.
-        ensures said { OnOk result (self.old.tally.differ < 2 ^ 64 - 1 → self.new.tally.differ ≡ self.old.tally.differ → case.now.said.items ≡ outcome.now.said.items) }
+        ensures said { OnOk result (self.old.tally.differ < 2 ^ 64 - 1 → case.now.has.items ≡ [] → self.new.tally.differ ≡ self.old.tally.differ → case.now.said.items ≡ outcome.now.said.items) }
         ensures exit { OnOk result (self.old.tally.differ < 2 ^ 64 - 1 → self.new.tally.differ ≡ self.old.tally.differ → case.now.exit ≡ outcome.now.exit) }
     {
-        if case.said.as_slice() != outcome.said.as_slice() {
+        if !case.has.is_empty() {
+            self.compare_lines(case, outcome)?;
+        } else if case.said.as_slice() != outcome.said.as_slice() {
             let at = first_difference(case.said.as_slice(), outcome.said.as_slice());
             self.reply(case, at.number, at.wanted, at.got)?;
         }
@@ -47,6 +50,18 @@ impl<R: Print + AllocGlobal> Report<'_, R> {
         if !same && !case.writes {
             self.begin(case)?;
             println!(self.rt; "wanted the files as they were, got others")?;
+        }
+        Ok(())
+    }
+
+    /// Prints each line that must be said and isn't.
+    fn compare_lines(&mut self, case: &Case, outcome: &Outcome) -> io::Result<()> {
+        for line in case.has.iter() {
+            let mut said = outcome.said.as_slice().split(|byte| *byte == b'\n');
+            if !said.any(|other| other == line.as_bytes()) {
+                self.begin(case)?;
+                println!(self.rt; "wanted a line `{line}`")?;
+            }
         }
         Ok(())
     }
@@ -68,6 +83,19 @@ impl<R: Print + AllocGlobal> Report<'_, R> {
         self.show(wanted)?;
         print!(self.rt; ", got ")?;
         self.show(got)?;
+        println!(self.rt; "")
+    }
+
+    /// Prints that a stop left what no whole lines leave.
+    pub fn bad_stop(&mut self, case: &Case, stop: &BadStop) -> io::Result<()>
+        ensures { self.new.tally.differ ≡ min (self.old.tally.differ + 1) (2 ^ 64 - 1) }
+    {
+        self.begin(case)?;
+        print!(self.rt;
+            "a stop at call {} of the disk, {:?} of FILE and {:?} of FILE.gate: got ",
+            stop.call, stop.main, stop.side
+        )?;
+        self.show(stop.said.as_slice())?;
         println!(self.rt; "")
     }
 

@@ -30,8 +30,23 @@ fn split(alloc: Global, line: &str) -> Result<Vec<String>, AllocError> {
     Ok(words)
 }
 
-/// The world of a case.
-fn world(alloc: Global, case: &Case) -> Result<CaseWorld, AllocError> {
+/// With what a call of the program begins.
+#[derive(Clone, Copy, Debug)]
+pub struct Start<'a> {
+    /// The words of the command line.
+    pub words: &'a str,
+    pub main: &'a [u8],
+    pub side: &'a [u8],
+    pub input: &'a [u8],
+}
+
+/// The world of a case, with these files and this input.
+fn world(
+    alloc: Global,
+    case: &Case,
+    start: Start,
+    fails: FailPlan,
+) -> Result<CaseWorld, AllocError> {
     let turn = match &case.turn {
         Some((at, mask)) => Some(Turn {
             at: *at,
@@ -40,15 +55,9 @@ fn world(alloc: Global, case: &Case) -> Result<CaseWorld, AllocError> {
         }),
         None => None,
     };
-    let fails = FailPlan {
-        takes: Vec::from_slice(alloc, case.fails.takes.as_slice())?,
-        says: Vec::from_slice(alloc, case.fails.says.as_slice())?,
-        disks: Vec::from_slice(alloc, case.fails.disks.as_slice())?,
-        dead_from: case.fails.dead_from,
-    };
-    let input = Bytes::from_slice(alloc, case.input.as_slice())?;
-    let main = Bytes::from_slice(alloc, case.main.as_slice())?;
-    let side = Bytes::from_slice(alloc, case.side.as_slice())?;
+    let input = Bytes::from_slice(alloc, start.input)?;
+    let main = Bytes::from_slice(alloc, start.main)?;
+    let side = Bytes::from_slice(alloc, start.side)?;
     let copy = Bytes::new(alloc);
     Ok(CaseWorld {
         world: MemWorld::new(alloc, input, main, side, copy, fails)?,
@@ -72,11 +81,34 @@ fn run_over<L: Ledger>(alloc: Global, words: &[String], world: &mut CaseWorld, b
     run(alloc, words, world, &mut steps)
 }
 
-/// Runs a case whose words are these.
-pub fn run_case(alloc: Global, case: &Case, line: &str) -> Result<Outcome, AllocError> {
-    let words = split(alloc, line)?;
-    let mut world = world(alloc, case)?;
+/// Calls the program over a world of a case in which these calls fail, and gives how it ended and the world that it left.
+pub fn call(
+    alloc: Global,
+    case: &Case,
+    start: Start,
+    fails: FailPlan,
+) -> Result<(Exit, CaseWorld), AllocError> {
+    let words = split(alloc, start.words)?;
+    let mut world = world(alloc, case, start, fails)?;
     let exit = run_over::<Brand>(alloc, words.as_slice(), &mut world, Blank::new(1));
+    Ok((exit, world))
+}
+
+/// Runs a case whose words are these.
+pub fn run_case(alloc: Global, case: &Case, words: &str) -> Result<Outcome, AllocError> {
+    let fails = FailPlan {
+        takes: Vec::from_slice(alloc, case.fails.takes.as_slice())?,
+        says: Vec::from_slice(alloc, case.fails.says.as_slice())?,
+        disks: Vec::from_slice(alloc, case.fails.disks.as_slice())?,
+        dead_from: case.fails.dead_from,
+    };
+    let start = Start {
+        words,
+        main: case.main.as_slice(),
+        side: case.side.as_slice(),
+        input: case.input.as_slice(),
+    };
+    let (exit, world) = call(alloc, case, start, fails)?;
     Ok(Outcome {
         exit,
         said: Vec::from_slice(alloc, world.world.said())?,

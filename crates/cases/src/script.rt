@@ -100,10 +100,10 @@ impl<'a> Script<'a> {
             "gate" => self.begin_side(words),
             "load" => self.load(rt, words.word()?),
             "copy" => self.copy(words),
-            "run" | "takes" | "says" | "fails" | "dead" | "turns" => {
+            "run" | "takes" | "says" | "fails" | "dead" | "turns" | "stops" | "look" => {
                 self.case()?.arrange(alloc, verb, words)
             }
-            "status" | "changed" | "writes" => self.case()?.expect(verb, words),
+            "status" | "changed" | "writes" | "has" => self.case()?.expect(verb, words),
             _ => edit(alloc, self.target()?, verb, words),
         }
     }

@@ -18,3 +18,4 @@ pub use command::{Command, LineRefusal};
 pub use printing::reply_text;
 pub use reading::read_line;
 pub use reply::{CommandRefusal, DataLine, DataLines, LastLine, Limit, Reply};
+pub use words::read_name;

@@ -1,4 +1,7 @@
+pub mod Asking
 pub mod Boxes
+pub mod Ends
+pub mod Files
 pub mod Info
 pub mod Mailboxes
 pub mod Nodes

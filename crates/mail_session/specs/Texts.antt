@@ -16,6 +16,14 @@ use Rattle.file_layout.specs.declared.stops.PageRefusal.{PageRefusal}
 use Rattle.file_layout.specs.declared.stops.PageRefusal.TheVariants.{Outside, Faulty}
 use Rattle.file_layout.specs.declared.stops.OpenRefusal.{OpenRefusal}
 use Rattle.file_layout.specs.declared.stops.OpenRefusal.TheVariants as refusals
+use Rattle.message_obj.specs.declared.fault.MessageFault.{MessageFault}
+use Rattle.message_obj.specs.declared.fault.MessageFault.TheVariants as forms
+use Rattle.tree_look.specs.declared.stops.LookRefusal.{LookRefusal}
+use Rattle.tree_look.specs.declared.stops.LookRefusal.TheVariants as looks
+use Rattle.tree_look.specs.declared.stops.TreeFault.{TreeFault}
+use Rattle.tree_look.specs.declared.stops.TreeFault.TheVariants as trees
+use Rattle.file_open.specs.declared.stops.FileRefusal.{FileRefusal}
+use Rattle.file_open.specs.declared.stops.FileRefusal.TheVariants as files
 
 -- the number in lower-case hexadecimal digits, behind `0x`
 abbrev pub hex : ℕ → List ℕ
@@ -101,3 +109,37 @@ node_line node = line (codes "- " ++ hex node.nid.bits ++ codes " " ++ hex node.
 -- the line of each node, and how many they are
 abbrev pub nodes_text : List NodeLine → List ℕ
 nodes_text nodes = flat_map node_line nodes ++ line (codes "ok " ++ decimal (length nodes))
+
+-- the word for what is wrong with the bytes of a node
+abbrev pub form_word : MessageFault → List ℕ
+form_word forms.Heap = codes "heap"
+form_word forms.Bth = codes "bth"
+form_word forms.Pc = codes "pc"
+form_word forms.Tc = codes "tc"
+form_word forms.Attach = codes "attach"
+
+-- the word for how folders and tables don't fit together
+abbrev pub tree_word : TreeFault → List ℕ
+tree_word trees.Missing = codes "missing"
+tree_word trees.Table = codes "table"
+tree_word trees.Parent = codes "parent"
+tree_word trees.Depth = codes "depth"
+tree_word trees.Cycle = codes "cycle"
+
+-- the line of what is wrong with folders, tables and messages
+abbrev pub look_line : LookRefusal → List ℕ
+look_line (looks.Node nid fault) = line (codes "refused node " ++ hex nid.bits ++ codes " " ++ form_word fault)
+look_line (looks.Tree nid fault) = line (codes "refused tree " ++ hex nid.bits ++ codes " " ++ tree_word fault)
+
+-- the line of an opening's refusal
+abbrev pub file_line : FileRefusal → List ℕ
+file_line (files.Scan refusal) = refusal_line refusal
+file_line (files.Look refusal) = look_line refusal
+file_line files.Ids = line (codes "refused ids")
+
+-- what `new` says of a file that is there, and of one that it made
+abbrev pub not_empty_line : List ℕ
+not_empty_line = line (codes "refused not-empty")
+
+abbrev pub made_line : List ℕ
+made_line = line (codes "made")

@@ -5,14 +5,26 @@ use Rattle.std.specs.String.{string_bytes}
 use Rattle.std.specs.declared.string.String.{String}
 use Rattle.std.specs.Global.{Global}
 use Rattle.mail_session.specs.declared.words.Form.{Form}
-use Rattle.mail_session.specs.declared.words.Form.TheVariants.{Info, Nodes, Scratch}
+use Rattle.command_text.specs.Words.{name_of}
+use Rattle.mail_session.specs.declared.words.Form.TheVariants.{Info, New, Nodes, Run, Scratch}
 
 -- the bytes of each word
 abbrev pub spelled : List (String Global) → List (List ℕ)
 spelled words = map string_bytes words
 
--- `scratch` alone, or `info` or `nodes` and a file
+-- `new` with a name, if it is one
+abbrev pub new_form : Option (List ℕ) → Option Form
+new_form None = None
+new_form (Some name) = Some New
+
+-- `scratch` alone; `info`, `nodes` or `run` and a file; or `new`, a file and a name
 abbrev pub form_of : List (List ℕ) → Option Form
 form_of (word ∷ []) = if pointwise nat_eq word (codes "scratch") then Some Scratch else None
-form_of (word ∷ file ∷ []) = if pointwise nat_eq word (codes "info") then Some Info else if pointwise nat_eq word (codes "nodes") then Some Nodes else None
+form_of (word ∷ file ∷ []) = if pointwise nat_eq word (codes "info") then Some Info else if pointwise nat_eq word (codes "nodes") then Some Nodes else if pointwise nat_eq word (codes "run") then Some Run else None
+form_of (word ∷ file ∷ name ∷ []) = if pointwise nat_eq word (codes "new") then new_form (name_of name) else None
 form_of words = None
+
+-- the units of the name that the third word spells, if it does
+abbrev pub third_name : List (List ℕ) → Option (List ℕ)
+third_name (word ∷ file ∷ name ∷ []) = name_of name
+third_name words = None

@@ -1,35 +1,58 @@
 //! The call of the program.
-ghost use Rattle.std.specs.Prelude.{◌≡◌, ◌↔◌, None, Some, IsSome};
-ghost use Rattle.mail_session.specs.Words.{form_of, spelled};
+ghost use Rattle.std.specs.Prelude.{◌≡◌, ◌↔◌, ◌⊎◌, ℕ, List, None, Some, IsSome};
+ghost use Rattle.mail_session.specs.Asking.{IsNaming};
+ghost use Rattle.mail_session.specs.Ends.{EndsFor};
+ghost use Rattle.mail_session.specs.Files.{NewEnds, RunEnds};
+ghost use Rattle.mail_session.specs.Words.{form_of, spelled, third_name};
 ghost use Rattle.mail_session.specs.Statuses.{EndsAs};
 ghost use Rattle.mail_session.specs.Info.{InfoEnds};
 ghost use Rattle.mail_session.specs.Nodes.{NodesEnds};
 ghost use Rattle.mail_session.specs.Scratch.{ScratchEnds};
 
 use crate::exit::{Exit, Status};
+use crate::files::{make, run_lines};
 use crate::info::info;
 use crate::nodes::nodes;
 use crate::scratch::scratch;
-use crate::words::{Form, read_words};
+use crate::words::{Asked, Form, read_words};
 use pst_base::{Ledger, Steps};
 use pst_outside::Outside;
-use std::alloc::Global;
+use std::alloc::{AllocError, Global};
+
+/// Does what was asked for.
+fn answer<W: Outside>(alloc: Global, world: &mut W, asked: Asked) -> Status
+    ensures { EndsFor asked world.old world.new (W.view world.old) (W.view world.new) result }
+{
+    match asked {
+        Asked::Plain(Form::Info) => info(alloc, world),
+        Asked::Plain(Form::Nodes) => nodes(alloc, world),
+        Asked::Plain(Form::Run) => run_lines(alloc, world),
+        Asked::Plain(Form::Scratch) => scratch(alloc, world),
+        Asked::Plain(Form::New) | Asked::Nothing => Status::Words,
+        Asked::New(name) => make(alloc, world, &name),
+    }
+}
 
 /// Does what the words of the command line ask for, over a world, and answers how it ended. The words are those without the program's name.
 ///
-/// Status 2 comes exactly where the words have none of the forms, and then nothing was asked of the world. The other statuses come as `InfoEnds`, `NodesEnds` and `ScratchEnds` say.
+/// Status 2 comes exactly where the words have none of the forms, and then nothing was asked of the world; where there is no memory to read the name of `new`, 7 may come in its place. The other statuses come as `InfoEnds`, `NewEnds`, `NodesEnds`, `RunEnds` and `ScratchEnds` say.
 pub fn run<W: Outside, L: Ledger>(
     alloc: Global,
     words: &[String],
     world: &mut W,
     steps: &mut Steps<L>,
 ) -> Exit
-    ensures words { (result.status ≡ 2) ↔ (form_of (spelled words.now) ≡ None) }
+    ensures words { result.status ≡ 2 → form_of (spelled words.now) ≡ None }
+    ensures no_words { form_of (spelled words.now) ≡ None → (result.status ≡ 2) ⊎ ((result.status ≡ 7) × IsNaming (spelled words.now)) }
     ensures untouched { form_of (spelled words.now) ≡ None → world.new ≡ world.old }
     // `info`: what is said is the text of the files' bytes, and its status theirs.
     ensures info { form_of (spelled words.now) ≡ Some Form.Info → EndsAs (InfoEnds (W.view world.old) (W.view world.new)) result.status }
     // `nodes`: what is said is the text of the one node map that the files lay, or of a refusal that holds of them.
     ensures nodes { form_of (spelled words.now) ≡ Some Form.Nodes → EndsAs (NodesEnds (W.view world.old) (W.view world.new)) result.status }
+    // `run`: the replies are those of the tree that the files are read as, and a stop at any moment since the call's start leaves files that are read as the tree after some of them, among them each whose reply had begun.
+    ensures run { form_of (spelled words.now) ≡ Some Form.Run → EndsAs (RunEnds (W.view world.old) (W.view world.new)) result.status }
+    // `new`: what is made is read as the tree of a new store of that name.
+    ensures new { (name : List ℕ) → form_of (spelled words.now) ≡ Some Form.New → third_name (spelled words.now) ≡ Some name → EndsAs (NewEnds name (W.view world.old) (W.view world.new)) result.status }
     // `scratch`: the replies are those of a plain tree.
     ensures scratch { form_of (spelled words.now) ≡ Some Form.Scratch → EndsAs (ScratchEnds (W.view world.old) (W.view world.new)) result.status }
     ensures no_memory { form_of (spelled words.now) ≡ Some Form.Scratch → result.status ≡ 7 → world.new ≡ world.old }
@@ -37,10 +60,8 @@ pub fn run<W: Outside, L: Ledger>(
     ensures steps { steps.new ≡ steps.old }
 {
     let _steps = steps;
-    match read_words(words) {
-        Some(Form::Info) => info(alloc, world).exit(),
-        Some(Form::Nodes) => nodes(alloc, world).exit(),
-        Some(Form::Scratch) => scratch(alloc, world).exit(),
-        None => Status::Words.exit(),
-    }
+    let Ok(asked) = read_words(alloc, words) else {
+        return Status::Memory.exit();
+    };
+    answer(alloc, world, asked).exit()
 }

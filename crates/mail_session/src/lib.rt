@@ -8,6 +8,8 @@
 mod answers;
 mod call;
 mod exit;
+mod file_texts;
+mod files;
 mod info;
 mod mailbox;
 mod nodes;

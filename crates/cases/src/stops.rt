@@ -1,0 +1,138 @@
+//! Stops: a case is cut off at each call of its disk, and what each outcome of a crash opens as is compared with what whole lines leave.
+use crate::case::Case;
+use crate::running::{Start, call};
+use pst_base::Bytes;
+use pst_outside::{FailPlan, Part, Pick};
+use std::alloc::{AllocError, Global};
+
+/// How many calls of the disk a case may have that is cut off at each.
+const MOST_CALLS: u64 = 100_000;
+
+/// The outcomes of a crash that are looked at, of each of the two files.
+const PICKS: [Pick; 3] = [Pick::Old, Pick::New, Pick::Junk];
+
+/// An outcome of a crash that opens as none that may be.
+#[derive(Drop)]
+pub struct BadStop {
+    /// The number of the call from which on the disk failed.
+    pub call: u64,
+    pub main: Pick,
+    pub side: Pick,
+    /// What was said of the outcome.
+    pub said: Vec<u8>,
+}
+
+/// What a session over two files says to the lines by which a case looks at them.
+fn look(alloc: Global, case: &Case, main: &[u8], side: &[u8]) -> Result<Vec<u8>, AllocError> {
+    let start = Start {
+        words: "run FILE",
+        main,
+        side,
+        input: case.looks.as_slice(),
+    };
+    let (_, w) = call(alloc, case, start, FailPlan::none(alloc))?;
+    Vec::from_slice(alloc, w.world.said())
+}
+
+/// Where the first n lines of an input end.
+fn end_of(input: &[u8], n: usize) -> usize {
+    if n == 0 {
+        return 0;
+    }
+    let mut left = n;
+    for (i, byte) in input.iter().enumerate() {
+        if *byte == b'\n' {
+            left -= 1;
+            if left == 0 {
+                return i + 1;
+            }
+        }
+    }
+    input.len()
+}
+
+/// What is said to the lines that look, after none of the case's lines, after one, and so on to all.
+fn looks_between(alloc: Global, case: &Case, words: &str) -> Result<Vec<Vec<u8>>, AllocError> {
+    let lines = case.input.iter().filter(|byte| **byte == b'\n').count();
+    let mut looks = Vec::new(alloc);
+    for n in 0..=lines {
+        let start = Start {
+            words,
+            main: case.main.as_slice(),
+            side: case.side.as_slice(),
+            input: &case.input.as_slice()[..end_of(case.input.as_slice(), n)],
+        };
+        let (_, w) = call(alloc, case, start, FailPlan::none(alloc))?;
+        let (main, side) = (w.world.content(Part::Main), w.world.content(Part::Side));
+        looks.push(look(alloc, case, main, side)?)?;
+    }
+    Ok(looks)
+}
+
+/// How many replies have begun: each ends with a line that begins with `ok` or `no`.
+fn begun(said: &[u8]) -> usize {
+    let mut count = 0usize;
+    let mut open = 0usize;
+    for line in said.split(|byte| *byte == b'\n') {
+        if line.starts_with(b"ok") || line.starts_with(b"no") {
+            count = count.saturating_add(1);
+            open = 0;
+        } else if !line.is_empty() {
+            open = 1;
+        }
+    }
+    count.saturating_add(open)
+}
+
+/// The first outcome of a crash at the moment at which a world is that isn't what some lines leave, among them each whose reply had begun.
+fn bad_outcome(
+    alloc: Global,
+    case: &Case,
+    looks: &[Vec<u8>],
+    w: &crate::world::CaseWorld,
+) -> Result<Option<(Pick, Pick, Vec<u8>)>, AllocError> {
+    let least = begun(w.world.said());
+    for main in PICKS {
+        let main_left: Bytes = w.world.crash(alloc, Part::Main, main)?;
+        for side in PICKS {
+            let side_left = w.world.crash(alloc, Part::Side, side)?;
+            let said = look(alloc, case, main_left.as_slice(), side_left.as_slice())?;
+            let is_whole = looks
+                .iter()
+                .skip(least)
+                .any(|look| look.as_slice() == said.as_slice());
+            if !is_whole {
+                return Ok(Some((main, side, said)));
+            }
+        }
+    }
+    Ok(None)
+}
+
+/// The first stop of a case that leaves what no whole lines leave; `None` where there is none.
+pub fn bad_stop(alloc: Global, case: &Case, words: &str) -> Result<Option<BadStop>, AllocError> {
+    let looks = looks_between(alloc, case, words)?;
+    for number in 0..MOST_CALLS {
+        let mut fails = FailPlan::none(alloc);
+        fails.dead_from = Some(number);
+        let start = Start {
+            words,
+            main: case.main.as_slice(),
+            side: case.side.as_slice(),
+            input: case.input.as_slice(),
+        };
+        let (_, w) = call(alloc, case, start, fails)?;
+        if let Some((main, side, said)) = bad_outcome(alloc, case, looks.as_slice(), &w)? {
+            return Ok(Some(BadStop {
+                call: number,
+                main,
+                side,
+                said,
+            }));
+        }
+        if w.disk_faults == 0 {
+            return Ok(None);
+        }
+    }
+    Ok(None)
+}

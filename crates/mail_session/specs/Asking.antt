@@ -1,0 +1,22 @@
+-- What was read of the words of the command line.
+use Rattle.std.specs.Prelude.{◌≡◌, ℕ, List, [], ◌∷◌, codes, Option, None, Some}
+use Rattle.mail_session.specs.Words.{form_of, third_name}
+use Rattle.mail_session.specs.declared.words.Asked.{Asked}
+use Rattle.mail_session.specs.declared.words.Asked.TheVariants as asked
+use Rattle.mail_session.specs.declared.words.Form.TheVariants.{New}
+
+-- these words, if they are a name, ask for a new file of that name
+abbrev pub NamesNew : Option (List ℕ) → Asked → Type 0
+NamesNew name (asked.Plain form) = ⊥
+NamesNew name (asked.New units) = name ≡ Some units
+NamesNew name asked.Nothing = name ≡ None
+
+-- the words have that form, and `new` that name
+abbrev pub AsksFor : List (List ℕ) → Asked → Type 0
+AsksFor words (asked.Plain form) = (form_of words ≡ Some form) × (form ≡ New → ⊥)
+AsksFor words (asked.New units) = (form_of words ≡ Some New) × (third_name words ≡ Some units)
+AsksFor words asked.Nothing = form_of words ≡ None
+
+-- `new`, a file and a third word
+abbrev pub IsNaming : List (List ℕ) → Type 0
+IsNaming words = (file : List ℕ) × (name : List ℕ) × (words ≡ codes "new" ∷ file ∷ name ∷ [])

@@ -1,0 +1,61 @@
+-- How `new` and `run` over a file end.
+use Rattle.std.specs.Prelude.{◌≡◌, ◌⊎◌, ℕ, List, ◌++◌, take}
+use Rattle.pst_outside.specs.World.{World}
+use Rattle.pst_outside.specs.Calls.{NeverFall, Rose, Settled}
+use Rattle.empty_file.specs.Empty.{HasBytes}
+use Rattle.mail_tree.specs.Start.{IsStart}
+use Rattle.mail_tree.specs.Tree.{Tree}
+use Rattle.mail_tree.specs.declared.places.FolderPlace.{FolderPlace}
+use Rattle.file_open.specs.Opening.{IsFileRefused, ReadsFresh}
+use Rattle.file_open.specs.declared.stops.FileRefusal.{FileRefusal}
+use Rattle.store_session.specs.Session.{HasCause}
+use Rattle.store_session.specs.declared.session.SessionEnd.{SessionEnd}
+use Rattle.store_session.specs.declared.session.SessionEnd.TheVariants as ends
+use Rattle.file_session.specs.FileRun.{FileRunEnds, ReadsAs, front_of}
+use Rattle.mail_session.specs.Texts.{file_line, made_line, not_empty_line}
+use Rattle.mail_session.specs.Worlds.{KeepsDisk}
+use Rattle.mail_session.specs.declared.exit.ChangedAt.{ChangedAt}
+use Rattle.mail_session.specs.declared.exit.Status.{Status}
+use Rattle.mail_session.specs.declared.exit.Status.TheVariants.{Done, Refused, Disk, Input, Output, Memory, Lines, Changed}
+
+-- ---- run
+
+-- the status of a session that ended so
+abbrev pub status_of_end : SessionEnd → Status
+status_of_end ends.Done = Done
+status_of_end ends.Input = Input
+status_of_end ends.Output = Output
+status_of_end ends.Lines = Lines
+status_of_end ends.Disk = Disk
+status_of_end (ends.Changed ib stored computed) = Changed (record { ib = ib; stored = stored; computed = computed })
+status_of_end ends.Memory = Memory
+
+-- The files were refused, which holds of them, and no tree can be read from them; the disk stays, and the line of the refusal is said.
+pub record EndsRefused (old new : World) (status : Status) : Type 0 where
+  pub keeps : KeepsDisk old new
+  pub input : new.tells → new.input ≡ old.input
+  pub refusal : FileRefusal
+  pub holds : new.tells → IsFileRefused old.here refusal × ((places : List FolderPlace) → ReadsFresh old.here places → ⊥)
+  pub statuses : (status ≡ Refused) ⊎ ((status ≡ Output) × Rose old.out_faults new.out_faults) ⊎ (status ≡ Memory)
+  pub front : new.tells → (k : ℕ) × (new.here.said ≡ old.here.said ++ take k (file_line refusal))
+  pub whole : status ≡ Refused → new.tells → new.here.said ≡ old.here.said ++ file_line refusal
+  pub silent : status ≡ Memory → new.tells → new.here.said ≡ old.here.said
+
+-- How a call of `run FILE` ends, over any world: the files were refused; or else the status has its cause, and where the world tells and nothing was pending at the start, the session over them ended as `FileRunEnds` says.
+abbrev pub RunEnds : World → World → Status → Type 0
+RunEnds old new status = EndsRefused old new status ⊎ ((end : SessionEnd) × (status ≡ status_of_end end) × HasCause true old new end × (Settled old → new.tells → FileRunEnds old new end))
+
+-- ---- new
+
+-- How a call of `new FILE NAME` ends, over any world. What is made is read as the tree of a new store of that name. Files that have bytes stay as they are, and only they are refused.
+pub record NewEnds (name : List ℕ) (old new : World) (status : Status) : Type 0 where
+  pub counts : NeverFall old new
+  pub input : new.tells → new.input ≡ old.input
+  pub made : status ≡ Done → new.tells → (T : Tree) × IsStart name T × ReadsAs (front_of new.here) new.here T
+  pub said : Settled old → status ≡ Done → new.tells → new.here.said ≡ old.here.said ++ made_line
+  pub refused : status ≡ Refused → new.tells → HasBytes old.here × (new.here.said ≡ old.here.said ++ not_empty_line)
+  pub kept : old.tells → HasBytes old.here → KeepsDisk old new × (status ≡ Done → ⊥)
+  pub disk_failed : status ≡ Disk → Rose old.disk_faults new.disk_faults
+  pub output_failed : status ≡ Output → Rose old.out_faults new.out_faults
+  pub not_changed : (at : ChangedAt) → status ≡ Changed at → new.tells → ⊥
+  pub statuses : (status ≡ Done) ⊎ (status ≡ Refused) ⊎ (status ≡ Disk) ⊎ (status ≡ Output) ⊎ (status ≡ Memory) ⊎ ((at : ChangedAt) × (status ≡ Changed at))
