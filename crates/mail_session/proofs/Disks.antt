@@ -23,6 +23,7 @@ keeps_started world = record {
   counts = record { in_faults = omega arith; out_faults = omega arith; disk_faults = omega arith };
   written = refl;
   told = λ t. t;
+  same = λ t. same_disk world.here;
   disk = started world (HasDiskOf world) (λ told. inl (same_disk world.here)) (λ c left. inr (c, left, same_disk c));
 }
 
@@ -32,6 +33,7 @@ keeps_listens {old} so_far call = record {
   counts = falls_along so_far.counts call.counts;
   written = call.stays.written ∙ so_far.written;
   told = λ t. so_far.told (call.stays.told t);
+  same = λ t. subst (SameDisk old.here) (sym (call.stays.here t)) (so_far.same (call.stays.told t));
   disk = goes_on so_far.disk call.time
       (λ t. subst (HasDiskOf old) (sym (call.stays.here t)) (so_far.disk.here (call.stays.told t)))
       (λ c left. at_end so_far.disk c (call.crash c left));
@@ -43,6 +45,7 @@ keeps_says {old} so_far counts stays moments = record {
   counts = falls_along so_far.counts counts;
   written = stays.written ∙ so_far.written;
   told = λ t. so_far.told (stays.told t);
+  same = λ t. same_disk_along (so_far.same (stays.told t)) (stays.here t);
   disk = continues so_far.disk moments (λ c told some.
       elim some.was [
         | inl left ↦ disk_along old (at_end so_far.disk some.from left) some.disk
@@ -56,6 +59,7 @@ keeps_untouched {old} so_far call = record {
   counts = falls_along so_far.counts call.counts;
   written = call.stays.written ∙ so_far.written;
   told = λ t. so_far.told (call.stays.told t);
+  same = λ t. subst (SameDisk old.here) (sym (call.stays.here t)) (so_far.same (call.stays.told t));
   disk = goes_on so_far.disk call.time
       (λ t. subst (HasDiskOf old) (sym (call.stays.here t)) (so_far.disk.here (call.stays.told t)))
       (λ c left. at_end so_far.disk c (call.crash c left));
@@ -71,6 +75,7 @@ keeps_along {old} p q = record {
   counts = falls_along p.counts q.counts;
   written = q.written ∙ p.written;
   told = λ t. p.told (q.told t);
+  same = λ t. same_disk_along (p.same (q.told t)) (q.same t);
   disk = continues p.disk q.disk (λ c told h.
       elim h [
         | inl here ↦ disk_along old (p.disk.here (q.told told)) here

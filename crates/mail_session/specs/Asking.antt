@@ -1,5 +1,6 @@
 -- What was read of the words of the command line.
-use Rattle.std.specs.Prelude.{◌≡◌, ℕ, List, [], ◌∷◌, codes, Option, None, Some}
+use Rattle.std.specs.Prelude.{◌≡◌, ℕ, Bool, false, List, [], ◌∷◌, codes, nat_eq, Option, None, Some}
+use Rattle.std.specs.Cmp.Lexicographic.{pointwise}
 use Rattle.mail_session.specs.Words.{form_of, third_name}
 use Rattle.mail_session.specs.declared.words.Asked.{Asked}
 use Rattle.mail_session.specs.declared.words.Asked.TheVariants as asked
@@ -18,5 +19,6 @@ AsksFor words (asked.New units) = (form_of words ≡ Some New) × (third_name wo
 AsksFor words asked.Nothing = form_of words ≡ None
 
 -- `new`, a file and a third word
-abbrev pub IsNaming : List (List ℕ) → Type 0
-IsNaming words = (file : List ℕ) × (name : List ℕ) × (words ≡ codes "new" ∷ file ∷ name ∷ [])
+abbrev pub is_naming : List (List ℕ) → Bool
+is_naming (word ∷ file ∷ name ∷ []) = pointwise nat_eq word (codes "new")
+is_naming words = false

@@ -7,10 +7,11 @@ use Rattle.pst_outside.specs.Calls.{NeverFall, LeavesOnly}
 abbrev pub HasDiskOf : World → Image → Type 0
 HasDiskOf world c = SameDisk world.here c ⊎ ((d : Image) × world.may_leave d × SameDisk d c)
 
--- Nothing changed but the input that is left and what has been said: nothing was written, and at each moment the disk is one
--- that was there before.
+-- Nothing changed but the input that is left and what has been said: nothing was written, the disk is the same, and at each moment it
+-- is one that was there before.
 pub record KeepsDisk (old new : World) : Type 0 where
   pub counts : NeverFall old new
   pub written : new.written ≡ old.written
   pub told : new.tells → old.tells
+  pub same : new.tells → SameDisk old.here new.here
   pub disk : LeavesOnly old new (HasDiskOf old)

@@ -1,6 +1,6 @@
 //! The call of the program.
-ghost use Rattle.std.specs.Prelude.{◌≡◌, ◌↔◌, ◌⊎◌, ℕ, List, None, Some, IsSome};
-ghost use Rattle.mail_session.specs.Asking.{IsNaming};
+ghost use Rattle.std.specs.Prelude.{◌≡◌, ◌↔◌, ◌⊎◌, ℕ, true, List, None, Some, IsSome};
+ghost use Rattle.mail_session.specs.Asking.{is_naming};
 ghost use Rattle.mail_session.specs.Ends.{EndsFor};
 ghost use Rattle.mail_session.specs.Files.{NewEnds, RunEnds};
 ghost use Rattle.mail_session.specs.Words.{form_of, spelled, third_name};
@@ -43,7 +43,7 @@ pub fn run<W: Outside, L: Ledger>(
     steps: &mut Steps<L>,
 ) -> Exit
     ensures words { result.status ≡ 2 → form_of (spelled words.now) ≡ None }
-    ensures no_words { form_of (spelled words.now) ≡ None → (result.status ≡ 2) ⊎ ((result.status ≡ 7) × IsNaming (spelled words.now)) }
+    ensures no_words { form_of (spelled words.now) ≡ None → (result.status ≡ 2) ⊎ ((result.status ≡ 7) × (is_naming (spelled words.now) ≡ true)) }
     ensures untouched { form_of (spelled words.now) ≡ None → world.new ≡ world.old }
     // `info`: what is said is the text of the files' bytes, and its status theirs.
     ensures info { form_of (spelled words.now) ≡ Some Form.Info → EndsAs (InfoEnds (W.view world.old) (W.view world.new)) result.status }

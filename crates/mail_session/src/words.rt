@@ -1,7 +1,7 @@
 //! The words of the command line.
-ghost use Rattle.std.specs.Prelude.{◌≡◌, ℕ, List, [], ◌∷◌, IfOk, OnErr};
-ghost use Rattle.mail_session.specs.Words.{form_of, spelled};
-ghost use Rattle.mail_session.specs.Asking.{AsksFor, IsNaming, NamesNew};
+ghost use Rattle.std.specs.Prelude.{◌≡◌, true, IfOk, OnErr};
+ghost use Rattle.mail_session.specs.Words.{spelled};
+ghost use Rattle.mail_session.specs.Asking.{AsksFor, NamesNew, is_naming};
 ghost use Rattle.command_text.specs.Words.{name_of};
 
 use command_text::read_name;
@@ -49,7 +49,7 @@ fn read_new(alloc: Global, name: &str) -> Result<Asked, AllocError>
 /// The form of the words. Only a name wants memory.
 pub(crate) fn read_words(alloc: Global, words: &[String]) -> Result<Asked, AllocError>
     ensures form { IfOk result (AsksFor (spelled words.now)) }
-    ensures memory { OnErr result (IsNaming (spelled words.now)) }
+    ensures memory { OnErr result (is_naming (spelled words.now) ≡ true) }
 {
     match words {
         [word] if word.as_str() == "scratch" => Ok(Asked::Plain(Form::Scratch)),
