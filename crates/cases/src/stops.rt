@@ -1,6 +1,9 @@
 //! Stops: a case is cut off at each call of its disk, and what each outcome of a crash opens as is compared with what whole lines leave.
+ghost use Rattle.std.specs.Prelude.{◌≤◌, length};
+
 use crate::case::Case;
 use crate::running::{Start, call};
+use crate::world::CaseWorld;
 use pst_base::Bytes;
 use pst_outside::{FailPlan, Part, Pick};
 use std::alloc::{AllocError, Global};
@@ -35,17 +38,16 @@ fn look(alloc: Global, case: &Case, main: &[u8], side: &[u8]) -> Result<Vec<u8>,
 }
 
 /// Where the first n lines of an input end.
-fn end_of(input: &[u8], n: usize) -> usize {
-    if n == 0 {
-        return 0;
-    }
+fn end_of(input: &[u8], n: usize) -> usize
+    ensures { result ≤ length input.now }
+{
     let mut left = n;
     for (i, byte) in input.iter().enumerate() {
+        if left == 0 {
+            return i;
+        }
         if *byte == b'\n' {
             left -= 1;
-            if left == 0 {
-                return i + 1;
-            }
         }
     }
     input.len()
@@ -84,25 +86,52 @@ fn begun(said: &[u8]) -> usize {
     count.saturating_add(open)
 }
 
+/// What a crash may leave of a file.
+#[derive(Drop)]
+struct Left {
+    pick: Pick,
+    bytes: Bytes,
+}
+
+/// The outcomes of a crash of a file that differ.
+fn outcomes(alloc: Global, w: &CaseWorld, part: Part) -> Result<Vec<Left>, AllocError> {
+    let mut outcomes: Vec<Left> = Vec::new(alloc);
+    for pick in PICKS {
+        let bytes = w.world.crash(alloc, part, pick)?;
+        let is_known = outcomes
+            .iter()
+            .any(|left| left.bytes.as_slice() == bytes.as_slice());
+        if !is_known {
+            outcomes.push(Left { pick, bytes })?;
+        }
+    }
+    Ok(outcomes)
+}
+
 /// The first outcome of a crash at the moment at which a world is that isn't what some lines leave, among them each whose reply had begun.
 fn bad_outcome(
     alloc: Global,
     case: &Case,
     looks: &[Vec<u8>],
-    w: &crate::world::CaseWorld,
-) -> Result<Option<(Pick, Pick, Vec<u8>)>, AllocError> {
+    w: &CaseWorld,
+    call: u64,
+) -> Result<Option<BadStop>, AllocError> {
     let least = begun(w.world.said());
-    for main in PICKS {
-        let main_left: Bytes = w.world.crash(alloc, Part::Main, main)?;
-        for side in PICKS {
-            let side_left = w.world.crash(alloc, Part::Side, side)?;
-            let said = look(alloc, case, main_left.as_slice(), side_left.as_slice())?;
+    let sides = outcomes(alloc, w, Part::Side)?;
+    for main in &outcomes(alloc, w, Part::Main)? {
+        for side in &sides {
+            let said = look(alloc, case, main.bytes.as_slice(), side.bytes.as_slice())?;
             let is_whole = looks
                 .iter()
                 .skip(least)
                 .any(|look| look.as_slice() == said.as_slice());
             if !is_whole {
-                return Ok(Some((main, side, said)));
+                return Ok(Some(BadStop {
+                    call,
+                    main: main.pick,
+                    side: side.pick,
+                    said,
+                }));
             }
         }
     }
@@ -122,13 +151,8 @@ pub fn bad_stop(alloc: Global, case: &Case, words: &str) -> Result<Option<BadSto
             input: case.input.as_slice(),
         };
         let (_, w) = call(alloc, case, start, fails)?;
-        if let Some((main, side, said)) = bad_outcome(alloc, case, looks.as_slice(), &w)? {
-            return Ok(Some(BadStop {
-                call: number,
-                main,
-                side,
-                said,
-            }));
+        if let Some(stop) = bad_outcome(alloc, case, looks.as_slice(), &w, number)? {
+            return Ok(Some(stop));
         }
         if w.disk_faults == 0 {
             return Ok(None);
