@@ -90,13 +90,15 @@ impl<'a> Case<'a> {
 
     /// Has one call of the world fail.
     fn fail(&mut self, words: &mut Words) -> Result<(), Trouble> {
-        let calls = match words.word()? {
-            "take" => &mut self.fails.takes,
-            "say" => &mut self.fails.says,
-            "disk" => &mut self.fails.disks,
+        let device = words.word()?;
+        let number = words.number()?;
+        match device {
+            "take" => self.fails.takes.push(number)?,
+            "say" => self.fails.says.push(number)?,
+            "disk" => self.fails.disks.push(number)?,
             _ => return Err(Trouble::Spelling),
-        };
-        Ok(calls.push(words.number()?)?)
+        }
+        Ok(())
     }
 
     /// Follows a line about what must come of the call.

@@ -1,4 +1,4 @@
-use Rattle.cases.proofs.running.run_case.Given as goal
+use Rattle.cases.proofs.running.call.Given as goal
 
 -- the ledger of the steps is the one that is opened here
 abbrev pub ghosts-run_over : goal.ghosts-run_over
