@@ -1,0 +1,5 @@
+pub mod EntryLaws
+pub mod KeyLaws
+pub mod ListLaws
+pub mod ReadLaws
+pub mod RoomLaws
