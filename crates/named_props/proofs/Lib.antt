@@ -3,3 +3,4 @@ pub mod KeyLaws
 pub mod ListLaws
 pub mod ReadLaws
 pub mod RoomLaws
+pub mod WriteLaws

@@ -2,7 +2,6 @@
 use Rattle.std.proofs.Common.{◌≡◌, ℕ, suc, zero, ◌+◌, ◌*◌, ◌/◌, ◌%◌, ◌<◌, ◌≤◌, ◌==◌, ◌&&◌, Bool, true, false, List, [], ◌∷◌, ◌++◌, length, map, take, drop, get_or, refl, sym, ap, ◌∙◌, arith, length-append}
 use Rattle.std.specs.List.{flat_map, list_all}
 use Rattle.std.specs.Simd.{first_chunks}
-use Rattle.std.proofs.Math.Seq.{take-append_seam}
 use Rattle.std.proofs.lemmas.Bool.{and_from, and_parts, eqb-true}
 use Rattle.std.proofs.Math.Bool.{and-false}
 use Rattle.std.proofs.lemmas.List.{drop_at, take_at}
@@ -46,8 +45,8 @@ chunks-pieces f k [] all = refl
 chunks-pieces f k (x ∷ xs) all =
     let parts = and_parts (length (f x) == k) (have_length f k xs) all in
     let len : length (f x) ≡ k = eqb-true (length (f x)) k parts.0 in
-    let front : take k (f x ++ flat_map f xs) ≡ f x = take_at k (f x) (flat_map f xs) len in
-    let back : drop k (f x ++ flat_map f xs) ≡ flat_map f xs = drop_at k (f x) (flat_map f xs) len in
+    let front : take k (f x ++ flat_map f xs) ≡ f x = take_at (f x) (flat_map f xs) k len in
+    let back : drop k (f x ++ flat_map f xs) ≡ flat_map f xs = drop_at (f x) (flat_map f xs) k len in
     rw (front, back) (ap (λ ys. f x ∷ ys) (chunks-pieces f k xs parts.1))
 
 pub length-first_chunks : (k n : ℕ) (xs : List ℕ) → length (first_chunks k n xs) ≡ n

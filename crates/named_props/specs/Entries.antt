@@ -1,5 +1,5 @@
 -- The entries of the names of properties, and the bytes that they have.
-use Rattle.std.specs.Prelude.{ℕ, ◌+◌, ◌*◌, ◌/◌, ◌%◌, ◌==◌, ◌&&◌, ◌++◌, Bool, List, length, map, nat_le, Option, None, Some, if◌then◌else◌}
+use Rattle.std.specs.Prelude.{ℕ, ◌+◌, ◌*◌, ◌/◌, ◌%◌, ◌^◌, ◌==◌, ◌&&◌, ◌++◌, Bool, List, length, map, nat_le, nat_lt, Option, None, Some, if◌then◌else◌}
 use Rattle.std.specs.List.{list_all}
 use Rattle.std.specs.Simd.{first_chunks}
 use Rattle.byteorder.specs.Endian.{little_bytes}
@@ -16,6 +16,10 @@ greatest_guid = 32767
 -- both indices of an entry are ones that a name may have
 abbrev pub in_range : NameEntry → Bool
 in_range e = nat_le e.guid greatest_guid && nat_le e.index greatest_index
+
+-- the id of an entry has 4 bytes
+abbrev pub fits_id : NameEntry → Bool
+fits_id e = nat_lt e.id (2 ^ 32)
 
 -- the entry in 8 bytes: its id (4), a word whose bit 0 says that the id is the place of a string and whose other bits are the index of the GUID (2), the index of the property (2)
 unfoldable pub entry_of : List ℕ → NameEntry

@@ -13,7 +13,7 @@ mod names;
 mod read;
 //#[cfg(test)]
 //mod tests;
-//mod write;
+mod write;
 
 pub use add::NamesFull;
 pub use entries::NameEntries;
@@ -21,4 +21,4 @@ pub use entry::NameEntry;
 pub use guids::{Guids, PS_MAPI, PS_PUBLIC_STRINGS};
 pub use names::Names;
 pub use read::{NamesFault, read_names};
-//pub use write::write_names;
+pub use write::write_names;
