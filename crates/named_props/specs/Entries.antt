@@ -6,10 +6,11 @@ use Rattle.byteorder.specs.Endian.{little_bytes}
 use Rattle.pst_base.specs.Fields.{number_at}
 use Rattle.named_props.specs.declared.entry.NameEntry.{NameEntry}
 
--- the greatest index that a property may have, and the greatest that a GUID may have
+-- the greatest index that a property may have
 abbrev pub greatest_index : ℕ
 greatest_index = 32766
 
+-- the greatest index that a GUID may have
 abbrev pub greatest_guid : ℕ
 greatest_guid = 32767
 

@@ -5,14 +5,14 @@ ghost use Rattle.named_props.specs.Holding.{IsWritable, binary, binary_buckets, 
 ghost use Rattle.named_props.specs.Finding.{name_at};
 ghost use Rattle.named_props.specs.Adding.{Begins, FindsOrAdds, RefusesFull, bucket_of, is_full, is_too_long, lengthens_past, new_entry, next_index, with_name};
 
+use crate::buckets::{bucket_of, bucket_with};
 use crate::entries::NameEntries;
 use crate::entry::{ENTRY_LEN, GREATEST_INDEX, NameEntry};
 use crate::guids::GUID_LEN;
 use crate::names::Names;
-use crate::read::bytes_at;
-use mapi_values::tags::{FIRST_NAMED_ID, PTYP_BINARY};
-use mapi_values::{Props, Tag, Value};
-use pst_base::{Bytes, MemOr};
+use crate::values::bytes_at;
+use mapi_values::tags::FIRST_NAMED_ID;
+use pst_base::MemOr;
 use std::alloc::{AllocError, Global};
 
 /// There is no room for another name: the index of its property or of its GUID would be above the greatest, or a value would be longer than a value may be.
@@ -23,10 +23,6 @@ pub struct NamesFull;
 const GREATEST_GUID: usize = 32767;
 /// A value has fewer bytes ([MS-PST] 2.3.3.3).
 const TOO_LONG: usize = 0x1_0000_0000;
-/// The id of the first bucket ([MS-PST] 2.4.7.5), and how many there are.
-const FIRST_BUCKET: u16 = 0x1000;
-const BUCKETS: u32 = 251;
-
 /// The index after the greatest of a property, or 0 where there is none.
 fn next_index(entries: &NameEntries) -> u16
     ensures { result ≡ next_index entries.now }
@@ -36,29 +32,6 @@ fn next_index(entries: &NameEntries) -> u16
         next = next.max(entry.index + 1);
     }
     next
-}
-
-/// The id of the bucket of an entry.
-fn bucket_of(entry: &NameEntry) -> u16
-    requires { IsTrue (in_range entry.now) }
-    ensures { result ≡ bucket_of entry.now }
-{
-    FIRST_BUCKET + ((entry.id ^ u32::from(entry.word())) % BUCKETS) as u16
-}
-
-/// The value that is the bucket of an entry, with the entry at its end.
-fn bucket_with(alloc: Global, entry: &NameEntry, props: &Props) -> Result<Value, AllocError>
-    requires range { IsTrue (in_range entry.now) }
-    requires short { is_too_long (length (bytes_at (bucket_of entry.now) props.now) + 8) ≡ false }
-    ensures { IfOk result (λ v. v ≡ binary (bucket_of entry.now) (bytes_at (bucket_of entry.now) props.now ++ bytes_of entry.now)) }
-{
-    let id = bucket_of(entry);
-    let old = bytes_at(props, id);
-    let mut bytes = Vec::with_capacity(alloc, old.len() + ENTRY_LEN)?;
-    bytes.extend_from_slice(old)?;
-    entry.push_to(&mut bytes)?;
-    let kind = PTYP_BINARY;
-    Ok(Value::new(Tag { id, kind }, Bytes::from_vec(bytes)))
 }
 
 impl Names {

@@ -6,13 +6,15 @@
 #![tactic(auto)]
 
 mod add;
+mod buckets;
 mod entries;
 mod entry;
 mod guids;
 mod names;
 mod read;
-//#[cfg(test)]
-//mod tests;
+#[cfg(test)]
+mod tests;
+mod values;
 mod write;
 
 pub use add::NamesFull;

@@ -2,25 +2,14 @@
 ghost use Rattle.std.specs.Prelude.{◌≡◌, ◌*◌, ◌^◌, ◌<◌, ◌==◌, IfOk, IsTrue, Some, length, true};
 ghost use Rattle.std.specs.List.{flat_map, list_all};
 ghost use Rattle.named_props.specs.Entries.{bytes_of, fits_id, in_range};
-ghost use Rattle.named_props.specs.Holding.{IsWritable, binary, names_of, written};
+ghost use Rattle.named_props.specs.Holding.{IsWritable, names_of, written};
 
 use crate::entry::NameEntry;
 use crate::names::Names;
-use mapi_values::tags::{
-    PID_TAG_NAMEID_STREAM_ENTRY, PID_TAG_NAMEID_STREAM_GUID, PTYP_BINARY,
-};
-use mapi_values::{Props, Tag, Value};
-use pst_base::Bytes;
+use crate::values::binary;
+use mapi_values::Props;
+use mapi_values::tags::{PID_TAG_NAMEID_STREAM_ENTRY, PID_TAG_NAMEID_STREAM_GUID};
 use std::alloc::{AllocError, Global};
-
-/// The binary value with this id and these bytes.
-fn binary(id: u16, bytes: Vec<u8>) -> Value
-    requires { length bytes.items < 2 ^ 32 }
-    ensures { result ≡ binary id bytes.items }
-{
-    let kind = PTYP_BINARY;
-    Value::new(Tag { id, kind }, Bytes::from_vec(bytes))
-}
 
 /// The bytes of GUIDs, one after the other.
 fn guid_bytes(alloc: Global, guids: &[[u8; 16]]) -> Result<Vec<u8>, AllocError>

@@ -3,17 +3,16 @@ use Rattle.std.proofs.lemmas.Bool.{leb-false}
 use Rattle.named_props.specs.Adding.{bucket_of}
 use Rattle.named_props.specs.Entries.{bytes_of}
 use Rattle.named_props.specs.Holding.{bytes_at}
-use Rattle.named_props.proofs.EntryLaws.{fits-binary, length-bytes_of}
-use Rattle.named_props.proofs.add.bucket_with.Goals as goal
+use Rattle.named_props.proofs.EntryLaws.{length-bytes_of}
+use Rattle.named_props.proofs.buckets.bucket_with.Goals as goal
 
-pub new-requires : goal.new-requires
-new-requires c =
+pub binary-requires : goal.binary-requires
+binary-requires c =
     let e = c.args.entry.now in
     let old : length c.bytes_at-old.result.now ≡ length (bytes_at (bucket_of e) c.args.props.now) =
         rw c.bucket_of-id.ensures at c.bytes_at-old.ensures.len in
-    let made = ap length c.from_vec.ensures in
     let pushed = ap length c.in_ok-push_to.ensures.bytes in
     let extended = ap length c.in_ok-extend_from_slice.ensures.items in
     let empty = ap length c.in_ok-bytes.ensures.items in
     let short = leb-false (2 ^ 32) (length (bytes_at (bucket_of e) c.args.props.now) + 8) c.requires.short in
-    fits-binary (length c.from_vec.result) (omega (arith, made, pushed, extended, empty, old, short, length-append {A = ℕ}, length-bytes_of e))
+    omega (arith, pushed, extended, empty, old, short, length-append {A = ℕ}, length-bytes_of e)
