@@ -1,4 +1,5 @@
 pub mod EntryLaws
+pub mod FoundLaws
 pub mod KeyLaws
 pub mod ListLaws
 pub mod ReadLaws

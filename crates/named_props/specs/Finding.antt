@@ -1,6 +1,6 @@
 -- Which name a property has.
-use Rattle.std.specs.Prelude.{ℕ, ◌+◌, ◌-◌, ◌==◌, ◌&&◌, Bool, false, not, List, Option, None, Some, if◌then◌else◌}
-use Rattle.std.specs.List.{find, list_any, slice_get}
+use Rattle.std.specs.Prelude.{ℕ, ◌+◌, ◌-◌, ◌==◌, ◌&&◌, Bool, false, not, List, length, nat_lt, Option, None, Some, if◌then◌else◌}
+use Rattle.std.specs.List.{find, list_all, list_any, slice_get}
 use Rattle.std.specs.Option.{option_map}
 use Rattle.std.specs.Str.{bytes_eq}
 use Rattle.named_props.specs.declared.entry.NameEntry.{NameEntry}
@@ -30,3 +30,7 @@ name_at guids entries guid id = option_map property_of (find (is_named guids gui
 -- some name, of a number or of a string, is that of this property
 abbrev pub is_property_named : List NameEntry → ℕ → Bool
 is_property_named entries property = list_any (λ e. property_of e == property) entries
+
+-- each entry names no GUID, or one that has the index
+abbrev pub guids_known : List (List ℕ) → List NameEntry → Bool
+guids_known guids entries = list_all (λ e. nat_lt e.guid (3 + length guids)) entries

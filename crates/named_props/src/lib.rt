@@ -10,6 +10,7 @@ mod buckets;
 mod entries;
 mod entry;
 mod guids;
+mod law;
 mod names;
 mod read;
 #[cfg(test)]
@@ -21,6 +22,7 @@ pub use add::NamesFull;
 pub use entries::NameEntries;
 pub use entry::NameEntry;
 pub use guids::{Guids, PS_MAPI, PS_PUBLIC_STRINGS};
+pub use law::finds_what_was_added;
 pub use names::Names;
 pub use read::{NamesFault, read_names};
 pub use write::write_names;
