@@ -1,6 +1,5 @@
 -- Entries and their bytes.
-use Rattle.std.proofs.Common.{◌≡◌, ℕ, ◌+◌, ◌*◌, ◌/◌, ◌%◌, ◌^◌, ◌<◌, ◌≤◌, ◌==◌, Bool, true, false, List, [], ◌∷◌, ◌++◌, length, refl, ap, sym, ◌∙◌, subst, arith, append-nil, length-append}
-use Rattle.std.specs.Prelude.{IsTrue, nat_lt}
+use Rattle.std.proofs.Common.{◌≡◌, ℕ, ◌+◌, ◌*◌, ◌/◌, ◌%◌, ◌^◌, ◌<◌, ◌≤◌, ◌==◌, Bool, true, false, [], ◌++◌, length, ap, sym, ◌∙◌, arith, append-nil, length-append}
 use Rattle.std.proofs.lemmas.Bool.{and_parts, eq-eqb, leb-true, lt-ltb, ne_eqb}
 use Rattle.byteorder.specs.Endian.{little_bytes}
 use Rattle.byteorder.specs.Numbers.{length-bytes_low_first}
@@ -18,9 +17,14 @@ fits-binary n h = lt-ltb n (2 ^ 32) h
 pub length-bytes_of : (e : NameEntry) → length (bytes_of e) ≡ 8
 unfolding bytes_of
 length-bytes_of e =
-    omega (arith, length-append (little_bytes 4 e.id) (little_bytes 2 (word_of e) ++ little_bytes 2 e.index),
-        length-append (little_bytes 2 (word_of e)) (little_bytes 2 e.index),
-        length-bytes_low_first 0 4 e.id, length-bytes_low_first 0 2 (word_of e), length-bytes_low_first 0 2 e.index)
+    omega (
+      arith,
+      length-append (little_bytes 4 e.id) (little_bytes 2 (word_of e) ++ little_bytes 2 e.index),
+      length-append (little_bytes 2 (word_of e)) (little_bytes 2 e.index),
+      length-bytes_low_first 0 4 e.id,
+      length-bytes_low_first 0 2 (word_of e),
+      length-bytes_low_first 0 2 e.index,
+    )
 
 same-entry : (a b c d w x y z : ℕ) (s t : Bool) → a ≡ w → s ≡ t → c ≡ y → d ≡ z
     → let e : NameEntry = record { id = a; string = s; guid = c; index = d } in let f : NameEntry = record { id = w; string = t; guid = y; index = z } in e ≡ f
@@ -49,10 +53,10 @@ entry_of-bytes_of e small range =
     let tail = little_bytes 2 (word_of e) ++ little_bytes 2 e.index in
     let id_is : number_at 4 0 (little_bytes 4 e.id ++ tail) ≡ e.id = number_at-first 4 e.id tail (omega arith) in
     let word_is : number_at 2 4 (little_bytes 4 e.id ++ tail) ≡ word_of e =
-        number_at-next 2 0 4 e.id tail ∙ number_at-first 2 (word_of e) (little_bytes 2 e.index) (word-fits e.guid e.string guid) in
+    number_at-next 2 0 4 e.id tail ∙ number_at-first 2 (word_of e) (little_bytes 2 e.index) (word-fits e.guid e.string guid) in
     let index_is : number_at 2 6 (little_bytes 4 e.id ++ tail) ≡ e.index =
-        number_at-next 2 2 4 e.id tail ∙ number_at-next 2 0 2 (word_of e) (little_bytes 2 e.index)
-        ∙ ap (number_at 2 0) (sym (append-nil (little_bytes 2 e.index))) ∙ number_at-first 2 e.index [] (omega arith) in
+    number_at-next 2 2 4 e.id tail ∙ number_at-next 2 0 2 (word_of e) (little_bytes 2 e.index)
+    ∙ ap (number_at 2 0) (sym (append-nil (little_bytes 2 e.index))) ∙ number_at-first 2 e.index [] (omega arith) in
     same-entry _ 0 _ _ e.id 0 e.guid e.index _ e.string id_is
-        (ap (λ (w : ℕ). w % 2 == 1) word_is ∙ word-string e.guid e.string)
-        (ap (λ (w : ℕ). w / 2) word_is ∙ word-guid e.guid e.string) index_is
+    (ap (λ (w : ℕ). w % 2 == 1) word_is ∙ word-string e.guid e.string)
+    (ap (λ (w : ℕ). w / 2) word_is ∙ word-guid e.guid e.string) index_is

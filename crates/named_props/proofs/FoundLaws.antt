@@ -1,7 +1,7 @@
 -- A name that was added is found, and those that were there stay.
-use Rattle.std.proofs.Common.{◌≡◌, ℕ, suc, zero, ◌+◌, ◌-◌, ◌<◌, ◌≤◌, ◌==◌, ◌&&◌, ◌||◌, Bool, true, false, List, [], ◌∷◌, ◌++◌, length, get_or, Option, None, Some, refl, sym, ap, ◌∙◌, subst, arith, inl, inr, if◌then◌else◌, length-append}
-use Rattle.std.specs.Prelude.{max, nat_lt, not}
-use Rattle.std.specs.List.{find, list_all, list_any, position, slice_get}
+use Rattle.std.proofs.Common.{◌≡◌, ℕ, suc, zero, ◌+◌, ◌-◌, ◌<◌, ◌≤◌, ◌==◌, Bool, true, false, List, [], ◌∷◌, ◌++◌, length, Option, None, Some, refl, sym, ap, ◌∙◌, subst, arith, inl, inr, if◌then◌else◌, length-append}
+use Rattle.std.specs.Prelude.{nat_lt}
+use Rattle.std.specs.List.{find, position, slice_get}
 use Rattle.std.specs.Option.{is_some, option_map, option_or, unwrap_or}
 use Rattle.std.specs.Str.{bytes_eq}
 use Rattle.std.proofs.Math.Seq.{get_or-append_seam}
@@ -14,7 +14,7 @@ use Rattle.std.proofs.lemmas.Slice.Eq.{bytes_eq-Decides}
 use Rattle.named_props.specs.declared.entry.NameEntry.{NameEntry}
 use Rattle.named_props.specs.declared.guids.TheConstants.{PS_MAPI, PS_PUBLIC_STRINGS}
 use Rattle.named_props.specs.declared.names.Names.{Names}
-use Rattle.named_props.specs.Adding.{added, guid_index, index_in, new_entry, next_index, with_guid, with_name}
+use Rattle.named_props.specs.Adding.{added, guid_index, index_in, new_entry, next_index, with_guid}
 use Rattle.named_props.specs.Finding.{guid_at, guids_known, is_guid, is_named, is_property_named, name_at, property_of}
 
 -- ---- the index of a GUID leads to it
@@ -95,8 +95,11 @@ new-leads guids guid = either (index_in guids guid) refl
     either : (o : Option ℕ) → index_in guids guid ≡ o → is_guid guid (guid_at (if is_some o then guids else guids ++ guid ∷ []) (unwrap_or o (3 + length guids))) ≡ true
     either (Some i) is = index-leads guids guid i is
     either None is =
-        rw (guid_at-stream (guids ++ guid ∷ []) (3 + length guids) (length guids) refl,
-            slice_get-get_or (guids ++ guid ∷ []) (length guids) [] (omega (arith, length-append guids (guid ∷ []))), get_or-append_seam guids guid [] []) (bytes_eq-same guid)
+        rw (
+          guid_at-stream (guids ++ guid ∷ []) (3 + length guids) (length guids) refl,
+          slice_get-get_or (guids ++ guid ∷ []) (length guids) [] (omega (arith, length-append guids (guid ∷ []))),
+          get_or-append_seam guids guid [] [],
+        ) (bytes_eq-same guid)
 
 -- ---- names in longer lists
 

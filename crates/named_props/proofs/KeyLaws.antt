@@ -1,9 +1,8 @@
 -- What stands under a key after an element was put or dropped.
-use Rattle.std.proofs.Common.{◌≡◌, ℕ, suc, zero, ◌<◌, ◌≤◌, ◌==◌, ◌&&◌, Bool, true, false, List, [], ◌∷◌, Option, None, Some, arith, refl, sym, ap, subst, inl, inr}
+use Rattle.std.proofs.Common.{◌≡◌, ℕ, suc, ◌<◌, ◌≤◌, ◌==◌, Bool, true, List, [], ◌∷◌, Some, arith, refl, sym, ap, subst, inl, inr}
 use Rattle.std.specs.Prelude.{nat_le, nat_lt, not}
 use Rattle.std.specs.List.{list_all}
-use Rattle.std.proofs.lemmas.Bool.{and_from, and_parts, cases_Bool, eq-eqb, eqb-true, leb-true, ltb-true, ne_eqb, true≢false}
-use Rattle.std.proofs.Math.Option.{some-injective}
+use Rattle.std.proofs.lemmas.Bool.{and_parts, cases_Bool, eq-eqb, eqb-true, leb-true, ltb-true, ne_eqb, true≢false}
 use Rattle.mapi_values.specs.Keyed.{drop_key, find_key, keys_ascend, put_key}
 
 -- what is found passes what all elements pass, and has the key

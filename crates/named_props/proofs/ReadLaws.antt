@@ -1,20 +1,18 @@
 -- Names that were read can be written.
-use Rattle.std.proofs.Common.{◌≡◌, ℕ, ◌+◌, ◌*◌, ◌/◌, ◌%◌, ◌^◌, ◌<◌, ◌≤◌, ◌==◌, ◌&&◌, ◌||◌, Bool, true, false, List, [], ◌∷◌, length, map, Option, Some, None, refl, sym, ap, ◌∙◌, subst, get_or, arith, inl, inr, if◌then◌else◌}
-use Rattle.std.specs.Prelude.{IsTrue, nat_le, nat_lt, not}
+use Rattle.std.proofs.Common.{◌≡◌, ℕ, ◌/◌, ◌^◌, ◌<◌, ◌==◌, ◌||◌, Bool, true, false, List, length, map, Option, Some, None, refl, sym, ap, subst, get_or, arith, inl, inr}
+use Rattle.std.specs.Prelude.{nat_le, nat_lt, not}
 use Rattle.std.specs.List.{list_all}
-use Rattle.std.specs.Simd.{first_chunks}
-use Rattle.std.proofs.lemmas.Bool.{and_parts, cases_Bool, eqb-true, leb-true, lt-leb, ltb-true, or_cases, or_right, true≢false}
+use Rattle.std.proofs.lemmas.Bool.{cases_Bool, eqb-true, lt-leb, ltb-true, or_cases, true≢false}
 use Rattle.std.proofs.Math.Bool.{and-false}
-use Rattle.std.proofs.lemmas.List.{length-map}
 use Rattle.mapi_values.specs.Properties.{IsProps, all_fit, ascend_from, find, remove_id}
 use Rattle.mapi_values.specs.Values.{Val, fits, in_field, value_fits}
 use Rattle.mapi_values.proofs.KeyedLaws.{drop-all, drop-ascends}
 use Rattle.named_props.specs.declared.entry.NameEntry.{NameEntry}
 use Rattle.named_props.specs.declared.names.Names.{Names}
-use Rattle.named_props.specs.Entries.{all_in_range, entries_of, entry_of, greatest_guid, greatest_index, guids_of, in_range}
-use Rattle.named_props.specs.Holding.{IsWritable, binary_buckets, bytes_at, bytes_or_none, entry_stream, guid_stream, is_binary_if, is_bucket, is_form, is_stream, names_in, names_of}
+use Rattle.named_props.specs.Entries.{all_in_range, entry_of, greatest_guid, greatest_index, in_range}
+use Rattle.named_props.specs.Holding.{IsWritable, binary_buckets, bytes_at, bytes_or_none, entry_stream, guid_stream, is_binary_if, is_bucket, is_stream}
 use Rattle.named_props.proofs.KeyLaws.{drop-gone, find-passes}
-use Rattle.named_props.proofs.ListLaws.{all-both, length-first_chunks, not-all}
+use Rattle.named_props.proofs.ListLaws.{all-both, not-all}
 
 -- an entry with an index above the greatest
 pub none-in_range : (bss : List (List ℕ)) (i : ℕ) (d : List ℕ) (e : NameEntry) → i < length bss → e ≡ entry_of (get_or bss i d) → greatest_index < e.index → all_in_range (map entry_of bss) ≡ None
@@ -59,8 +57,8 @@ buckets-only vs kinds = all-both (is_binary_if (λ id. is_stream id || is_bucket
 others-only : (vs : List Val) → ascend_from 0 vs ≡ true → list_all (λ v. not (is_stream v.id)) (remove_id 3 (remove_id 2 vs)) ≡ true
 others-only vs ascend =
     all-both (λ v. not (v.id == 2)) (λ v. not (v.id == 3)) (λ v. not (is_stream v.id)) (remove_id 3 (remove_id 2 vs)) (λ v a b. both (v.id == 2) (v.id == 3) a b)
-        (drop-all (λ v. v.id) (λ v. not (v.id == 2)) 3 (remove_id 2 vs) (drop-gone (λ v. v.id) 0 2 vs ascend))
-        (drop-gone (λ v. v.id) 0 3 (remove_id 2 vs) (drop-ascends (λ v. v.id) 0 2 vs ascend))
+    (drop-all (λ v. v.id) (λ v. not (v.id == 2)) 3 (remove_id 2 vs) (drop-gone (λ v. v.id) 0 2 vs ascend))
+    (drop-gone (λ v. v.id) 0 3 (remove_id 2 vs) (drop-ascends (λ v. v.id) 0 2 vs ascend))
   where
     both : (a b : Bool) → not a ≡ true → not b ≡ true → not (a || b) ≡ true
     both true b h k = h

@@ -1,22 +1,21 @@
 -- What room for a new name means for the values that it lengthens.
-use Rattle.std.proofs.Common.{◌≡◌, ℕ, ◌+◌, ◌*◌, ◌^◌, ◌<◌, ◌≤◌, Bool, true, false, List, [], ◌∷◌, ◌++◌, length, Option, Some, None, refl, sym, ap, ◌∙◌, subst, arith, length-append}
-use Rattle.std.specs.Prelude.{◌&&◌, ◌||◌, if◌then◌else◌, IsTrue, nat_le, nat_lt, not}
-use Rattle.std.specs.List.{list_all}
+use Rattle.std.proofs.Common.{◌≡◌, ℕ, ◌+◌, ◌*◌, ◌^◌, ◌<◌, ◌≤◌, true, false, List, [], ◌∷◌, ◌++◌, length, Option, Some, None, refl, arith, length-append}
+use Rattle.std.specs.Prelude.{◌&&◌, if◌then◌else◌, nat_lt, not}
 use Rattle.std.specs.Option.{is_none, is_some}
 use Rattle.std.proofs.lemmas.Bool.{leb-false, ne_eqb, or_parts, or_right}
 use Rattle.mapi_values.specs.Values.{Val}
 use Rattle.mapi_values.proofs.KeyedLaws.{put-all}
 use Rattle.named_props.specs.declared.entry.NameEntry.{NameEntry}
 use Rattle.named_props.specs.declared.names.Names.{Names}
-use Rattle.named_props.specs.Adding.{added, bucket_of, guid_index, index_in, is_full, is_too_long, lengthens_past, new_entry, next_index, with_entry, with_guid, with_name}
-use Rattle.named_props.specs.Entries.{bytes_of, greatest_guid, greatest_index, word_of}
+use Rattle.named_props.specs.Adding.{bucket_of, guid_index, index_in, is_full, is_too_long, lengthens_past, new_entry, next_index, with_entry, with_name}
+use Rattle.named_props.specs.Entries.{bytes_of, greatest_guid, greatest_index}
 use Rattle.named_props.specs.Holding.{IsWritable, binary, binary_buckets, bytes_at, is_binary_if, is_bucket, is_stream}
 
 pub room-entry : (n : Names) (guid : List ℕ) (number : ℕ) → is_full n guid number ≡ false → lengthens_past n guid (new_entry n guid number) ≡ false
 unfolding is_full
 room-entry n guid number h =
     (or_parts (nat_lt greatest_guid (guid_index n.guids guid)) (lengthens_past n guid (new_entry n guid number))
-        (or_parts (nat_lt greatest_index (next_index n.entries)) _ h).1).1
+    (or_parts (nat_lt greatest_index (next_index n.entries)) _ h).1).1
 
 room-values : (n : Names) (guid : List ℕ) (e : NameEntry) → lengthens_past n guid e ≡ false
     → (is_none (index_in n.guids guid) && is_too_long (16 * (length n.guids + 1))) ≡ false

@@ -1,17 +1,16 @@
 -- Names that were written are read again.
-use Rattle.std.proofs.Common.{◌≡◌, ℕ, ◌+◌, ◌*◌, ◌/◌, ◌%◌, ◌^◌, ◌<◌, ◌≤◌, ◌==◌, ◌&&◌, ◌||◌, Bool, true, false, List, [], ◌∷◌, length, map, Option, Some, None, refl, sym, ap, ◌∙◌, subst, arith}
-use Rattle.std.specs.Prelude.{IsTrue, nat_lt, not}
+use Rattle.std.proofs.Common.{◌≡◌, ℕ, ◌/◌, ◌%◌, ◌^◌, ◌<◌, ◌==◌, ◌||◌, Bool, true, false, List, [], ◌∷◌, length, map, Some, refl, ap, ◌∙◌, arith}
+use Rattle.std.specs.Prelude.{not}
 use Rattle.std.specs.List.{flat_map, list_all}
 use Rattle.std.specs.Simd.{first_chunks}
 use Rattle.std.proofs.lemmas.Bool.{and_from, and_parts, eq-eqb, ltb-true}
-use Rattle.mapi_values.specs.Keyed.{find_key}
-use Rattle.mapi_values.specs.Properties.{find, put, remove_id}
+use Rattle.mapi_values.specs.Properties.{put, remove_id}
 use Rattle.mapi_values.specs.Values.{Val}
 use Rattle.mapi_values.proofs.KeyedLaws.{put-all}
 use Rattle.named_props.specs.declared.entry.NameEntry.{NameEntry}
 use Rattle.named_props.specs.declared.names.Names.{Names}
 use Rattle.named_props.specs.Entries.{bytes_of, entries_of, entry_of, fits_id, guids_of, in_range}
-use Rattle.named_props.specs.Holding.{IsWritable, binary, binary_buckets, bytes_at, bytes_or_none, entry_stream, guid_stream, is_binary_if, is_bucket, is_form, is_stream, names_in, names_of, written}
+use Rattle.named_props.specs.Holding.{IsWritable, binary, bytes_or_none, entry_stream, guid_stream, is_binary_if, is_bucket, is_form, is_stream, names_in, names_of, written}
 use Rattle.named_props.proofs.EntryLaws.{entry_of-bytes_of, length-bytes_of}
 use Rattle.named_props.proofs.KeyLaws.{drop-put_new, find-put_other, find-put_same}
 use Rattle.named_props.proofs.ListLaws.{all-both, chunks-pieces, have_length, length-pieces}
@@ -72,16 +71,18 @@ others-back : (n : Names) → IsWritable n → remove_id 3 (remove_id 2 (written
 unfolding written
 others-back n w =
     ap (remove_id 3) (drop-put_new id_of (guid_value n) (put (entry_value n) n.props)
-        (put-all id_of (λ v. not (v.id == 2)) (entry_value n) n.props refl (apart (λ id. id == 2) (λ v. left (v.id == 2) (v.id == 3)))))
+    (put-all id_of (λ v. not (v.id == 2)) (entry_value n) n.props refl (apart (λ id. id == 2) (λ v. left (v.id == 2) (v.id == 3)))))
     ∙ drop-put_new id_of (entry_value n) n.props (apart (λ id. id == 3) (λ v. right (v.id == 2) (v.id == 3)))
   where
     left : (a b : Bool) → not (a || b) ≡ true → not a ≡ true
     left true b h = h
     left false b h = refl
+
     right : (a b : Bool) → not (a || b) ≡ true → not b ≡ true
     right true true h = h
     right true false h = refl
     right false b h = h
+
     apart : (one : ℕ → Bool) → ((v : Val) → not (is_stream v.id) ≡ true → not (one v.id) ≡ true) → list_all (λ v. not (one v.id)) n.props ≡ true
     apart one each = all-both (λ v. not (is_stream v.id)) (λ v. not (is_stream v.id)) (λ v. not (one v.id)) n.props (λ v a b. each v a) w.others w.others
 
@@ -90,7 +91,7 @@ unfolding written
 kinds-written n w =
     let test : Val → Bool = is_binary_if (λ id. is_stream id || is_bucket id) in
     put-all id_of test (guid_value n) (put (entry_value n) n.props) refl (put-all id_of test (entry_value n) n.props refl
-        (all-both (λ v. not (is_stream v.id)) (is_binary_if is_bucket) test n.props (λ v a b. both (is_stream v.id) (is_bucket v.id) (v.kind == 258) a b) w.others w.buckets))
+    (all-both (λ v. not (is_stream v.id)) (is_binary_if is_bucket) test n.props (λ v a b. both (is_stream v.id) (is_bucket v.id) (v.kind == 258) a b) w.others w.buckets))
   where
     both : (s b k : Bool) → not s ≡ true → (not b || k) ≡ true → (not (s || b) || k) ≡ true
     both true b k none h = cc
@@ -110,13 +111,13 @@ form-written n w long range fit =
     let guids = ap length (guid_stream-written n) ∙ length-pieces (λ g. g) 16 n.guids long in
     let entries = ap length (entry_stream-written n) ∙ length-pieces bytes_of 8 n.entries (entries-long n.entries) in
     and_from (list_all (is_binary_if (λ id. is_stream id || is_bucket id)) (written n)) _ (kinds-written n w)
-        (and_from (length (guid_stream (written n)) % 16 == 0) _ (eq-eqb (length (guid_stream (written n)) % 16) 0 (omega (arith, guids)))
-            (and_from (length (entry_stream (written n)) % 8 == 0) _ (eq-eqb (length (entry_stream (written n)) % 8) 0 (omega (arith, entries)))
-                (ap (list_all in_range) (ap entries_of (entry_stream-written n) ∙ entries-back n.entries range fit) ∙ range)))
+    (and_from (length (guid_stream (written n)) % 16 == 0) _ (eq-eqb (length (guid_stream (written n)) % 16) 0 (omega (arith, guids)))
+    (and_from (length (entry_stream (written n)) % 8 == 0) _ (eq-eqb (length (entry_stream (written n)) % 8) 0 (omega (arith, entries)))
+    (ap (list_all in_range) (ap entries_of (entry_stream-written n) ∙ entries-back n.entries range fit) ∙ range)))
 
 pub names_of-written : (n : Names) → IsWritable n → have_length (λ g. g) 16 n.guids ≡ true → list_all in_range n.entries ≡ true → list_all fits_id n.entries ≡ true
     → names_of (written n) ≡ Some n
 unfolding names_of
 names_of-written n w long range fit =
     rw (form-written n w long range fit) (ap Some (same-names (names_in (written n)) n (ap guids_of (guid_stream-written n) ∙ guids-back n.guids long)
-        (ap entries_of (entry_stream-written n) ∙ entries-back n.entries range fit) (others-back n w)))
+    (ap entries_of (entry_stream-written n) ∙ entries-back n.entries range fit) (others-back n w)))

@@ -47,9 +47,8 @@ impl Names {
     pub fn has_name(&self, property: u16) -> bool
         ensures { result ≡ is_property_named self.now.entries property }
     {
-        self.entries
-            .as_slice()
-            .iter()
-            .any(|entry| u32::from(FIRST_NAMED_ID) + u32::from(entry.index) == u32::from(property))
+        self.entries.as_slice().iter().any(|entry| u32::from(FIRST_NAMED_ID)
+            + u32::from(entry.index)
+            == u32::from(property))
     }
 }

@@ -19,10 +19,7 @@ fn value(alloc: Global, tag: Tag, bytes: &[u8]) -> Result<Value, Fail> {
     if !fits(kind, bytes.len()) {
         return Err(Fail::from("a length that the kind hasn't"));
     }
-    Ok(Value::new(
-        Tag { id: tag.id, kind },
-        Bytes::from_slice(alloc, bytes)?,
-    ))
+    Ok(Value::new(Tag { id: tag.id, kind }, Bytes::from_slice(alloc, bytes)?))
 }
 
 /// The values of a new store's names.
@@ -71,6 +68,12 @@ fn names_get_their_entries_and_buckets(rt: HostRuntime) -> Result<(), Fail> {
         values = next;
     }
     assert!(rt; has(&values, 2, &APPOINTMENT));
-    assert!(rt; has(&values, 3, &[1, 0x85, 0, 0, 6, 0, 0, 0, 1, 0x85, 0, 0, 2, 0, 1, 0]));
+    assert!(rt;
+        has(
+            &values,
+            3,
+            &[1, 0x85, 0, 0, 6, 0, 0, 0, 1, 0x85, 0, 0, 2, 0, 1, 0]
+        )
+    );
     Ok(())
 }

@@ -1,4 +1,4 @@
-use Rattle.std.proofs.Common.{◌^◌, ◌<◌, length}
+use Rattle.std.proofs.Common.{length}
 use Rattle.named_props.proofs.EntryLaws.{fits-binary}
 use Rattle.named_props.proofs.values.binary.Goals as goal
 

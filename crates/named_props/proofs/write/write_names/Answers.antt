@@ -1,5 +1,4 @@
-use Rattle.std.proofs.Common.{◌≡◌, ◌*◌, ◌^◌, ◌<◌, ◌∙◌, ap, arith, length, refl, true}
-use Rattle.std.specs.List.{flat_map}
+use Rattle.std.proofs.Common.{ap, arith, length, refl}
 use Rattle.named_props.specs.Entries.{bytes_of}
 use Rattle.named_props.specs.Holding.{written}
 use Rattle.named_props.proofs.ListLaws.{length-pieces}
@@ -21,10 +20,19 @@ binary-requires-2 c =
 pub returns-clause-values : goal.returns-clause-values
 unfolding written
 returns-clause-values c =
-    rw (c.in_ok-put-2.ensures.ok, c.binary-2.ensures, c.in_ok-put.ensures.ok, c.binary.ensures, c.in_ok-guids.ensures.bytes, c.in_ok-entries.ensures.bytes,
-        c.as_slice.ensures.value, c.as_slice-2.ensures.value, c.in_ok-props.ensures) refl
+    rw (
+      c.in_ok-put-2.ensures.ok,
+      c.binary-2.ensures,
+      c.in_ok-put.ensures.ok,
+      c.binary.ensures,
+      c.in_ok-guids.ensures.bytes,
+      c.in_ok-entries.ensures.bytes,
+      c.as_slice.ensures.value,
+      c.as_slice-2.ensures.value,
+      c.in_ok-props.ensures,
+    ) refl
 
 pub returns-clause-reads : goal.returns-clause-reads
 returns-clause-reads c =
     rw (returns-clause-values c) (names_of-written c.args.n.now c.requires (rw c.as_slice.ensures.value at c.in_ok-guids.ensures.each)
-        c.as_slice-2.ensures.range (rw c.as_slice-2.ensures.value at c.in_ok-entries.ensures.fit))
+    c.as_slice-2.ensures.range (rw c.as_slice-2.ensures.value at c.in_ok-entries.ensures.fit))

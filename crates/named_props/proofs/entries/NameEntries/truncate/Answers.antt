@@ -1,4 +1,3 @@
-use Rattle.std.proofs.Common.{take}
 use Rattle.named_props.specs.Entries.{in_range}
 use Rattle.named_props.proofs.ListLaws.{all-take}
 use Rattle.named_props.proofs.entries.NameEntries.truncate.Goals as goal

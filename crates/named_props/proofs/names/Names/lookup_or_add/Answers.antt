@@ -11,4 +11,4 @@ returns-clause-buckets c = rw c.in_ok-add.ensures.ok (with_entry-buckets c.in-So
 pub returns-clause-writable : goal.returns-clause-writable
 returns-clause-writable c =
     rw (c.in_ok-add.ensures.ok, c.in-Some-new_entry.ensures.entry)
-        (with_name-writable c.args.self.now c.args.guid _ (room-entry c.args.self.now c.args.guid c.args.id c.in-Some-new_entry.ensures.room))
+    (with_name-writable c.args.self.now c.args.guid _ (room-entry c.args.self.now c.args.guid c.args.id c.in-Some-new_entry.ensures.room))
