@@ -8,7 +8,7 @@ use Rattle.mapi_values.specs.Values.{Val}
 use Rattle.named_props.specs.declared.names.Names.{Names}
 use Rattle.named_props.specs.Entries.{bytes_of, entries_of, guids_of, in_range}
 
--- the id of the stream of GUIDs or of that of entries
+-- the id of the stream of GUIDs, or of that of entries
 abbrev pub is_stream : ℕ → Bool
 is_stream id = (id == pid_tag_nameid_stream_guid.id) || (id == pid_tag_nameid_stream_entry.id)
 
@@ -37,10 +37,11 @@ bytes_at id vs = bytes_or_none (find id vs)
 abbrev pub binary : ℕ → List ℕ → Val
 binary number bs = record { id = number; kind = ptyp_binary; bytes = bs }
 
--- the bytes of both streams
+-- the bytes of the stream of GUIDs
 abbrev pub guid_stream : List Val → List ℕ
 guid_stream vs = bytes_at pid_tag_nameid_stream_guid.id vs
 
+-- the bytes of the stream of entries
 abbrev pub entry_stream : List Val → List ℕ
 entry_stream vs = bytes_at pid_tag_nameid_stream_entry.id vs
 

@@ -1,9 +1,9 @@
 //! Adding names.
-ghost use Rattle.std.specs.Prelude.{◌≡◌, ℕ, ◌+◌, ◌*◌, ◌≤◌, ◌<◌, ◌^◌, ◌++◌, IfOk, IfErr, IfSome, IsTrue, MatchOption, Ok, OnErr, OnOk, Some, true, false, length};
-ghost use Rattle.named_props.specs.Entries.{bytes_of, in_range};
-ghost use Rattle.named_props.specs.Holding.{IsWritable, binary, binary_buckets, bytes_at};
+ghost use Rattle.std.specs.Prelude.{◌≡◌, ℕ, IfErr, IfOk, IfSome, IsTrue, MatchOption, OnErr, OnOk, false, true};
+ghost use Rattle.named_props.specs.Entries.{in_range};
+ghost use Rattle.named_props.specs.Holding.{IsWritable, binary_buckets};
 ghost use Rattle.named_props.specs.Finding.{name_at};
-ghost use Rattle.named_props.specs.Adding.{Begins, FindsOrAdds, RefusesFull, bucket_of, is_full, is_too_long, lengthens_past, new_entry, next_index, with_name};
+ghost use Rattle.named_props.specs.Adding.{Begins, FindsOrAdds, RefusesFull, is_full, lengthens_past, new_entry, next_index, with_name};
 
 use crate::buckets::{bucket_of, bucket_with};
 use crate::entries::NameEntries;
@@ -23,6 +23,7 @@ pub struct NamesFull;
 const GREATEST_GUID: usize = 32767;
 /// A value has fewer bytes ([MS-PST] 2.3.3.3).
 const TOO_LONG: usize = 0x1_0000_0000;
+
 /// The index after the greatest of a property, or 0 where there is none.
 fn next_index(entries: &NameEntries) -> u16
     ensures { result ≡ next_index entries.now }
@@ -50,7 +51,8 @@ impl Names {
     /// The entry that the number `id` under a GUID gets as a new name, if there is room for it.
     #[tactic(auto, unfolding(crate::specs::Adding::is_full))]
     fn new_entry(&self, guid: &[u8; 16], id: u32) -> Option<NameEntry>
-        ensures room { MatchOption result (is_full self.now guid.now id ≡ true) (λ e. is_full self.now guid.now id ≡ false) }
+        ensures room { MatchOption result (is_full self.now guid.now id ≡ true)
+            (λ _. is_full self.now guid.now id ≡ false) }
         ensures entry { IfSome result (λ e. e ≡ new_entry self.now guid.now id) }
         ensures range { IfSome result (λ e. IsTrue (in_range e)) }
     {
@@ -110,9 +112,11 @@ impl Names {
         id: u32,
     ) -> Result<u16, MemOr<NamesFull>>
         requires { IsTrue (binary_buckets self.old.props) }
-        ensures ok { IfOk result (λ property. FindsOrAdds (name_at self.old.guids self.old.entries guid id) self.old guid id property self.new) }
+        ensures ok { let found = name_at self.old.guids self.old.entries guid id in
+            IfOk result (λ property. FindsOrAdds found self.old guid id property self.new) }
         // A name that is there takes no memory.
-        ensures there { (property : ℕ) → name_at self.old.guids self.old.entries guid id ≡ Some property → result ≡ Ok property }
+        ensures there { (property : ℕ) → name_at self.old.guids self.old.entries guid id ≡ Some property
+            → result ≡ Ok property }
         ensures full { IfErr result (λ e. RefusesFull e self.old guid id) }
         ensures err { OnErr result (self.new ≡ self.old) }
 

@@ -1,5 +1,5 @@
 //! What follows of adding a name.
-ghost use Rattle.std.specs.Prelude.{◌≡◌, ℕ, ◌+◌, List, None, Some, false, true};
+ghost use Rattle.std.specs.Prelude.{◌≡◌, ℕ, ◌+◌, List, false, true};
 ghost use Rattle.named_props.specs.declared.names.Names.{Names};
 ghost use Rattle.named_props.specs.Finding.{guids_known, is_property_named, name_at};
 ghost use Rattle.named_props.specs.Adding.{added, next_index};

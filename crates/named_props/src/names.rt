@@ -1,6 +1,5 @@
 //! The names of properties, and which name a property has.
-ghost use Rattle.std.specs.Prelude.{◌≡◌, ◌+◌, IfSome, Option};
-ghost use Rattle.std.specs.List.{find};
+ghost use Rattle.std.specs.Prelude.{◌≡◌};
 ghost use Rattle.named_props.specs.Finding.{is_named, is_property_named, name_at};
 
 use crate::entries::NameEntries;

@@ -1,5 +1,5 @@
 //! Writing names.
-ghost use Rattle.std.specs.Prelude.{◌≡◌, ◌*◌, ◌^◌, ◌<◌, ◌==◌, IfOk, IsTrue, Some, length, true};
+ghost use Rattle.std.specs.Prelude.{◌≡◌, ◌==◌, IfOk, IsTrue, Some, length, true};
 ghost use Rattle.std.specs.List.{flat_map, list_all};
 ghost use Rattle.named_props.specs.Entries.{bytes_of, fits_id, in_range};
 ghost use Rattle.named_props.specs.Holding.{IsWritable, names_of, written};
