@@ -8,8 +8,8 @@ use pst_base::Bytes;
 use std::alloc::Global;
 use std::test::Fail;
 
-/// The GUID of the names of appointments ([MS-OXPROPS] 1.3.2).
-const APPOINTMENT: [u8; 16] = [
+/// The GUID of names that many kinds of objects have ([MS-OXPROPS] 1.3.2).
+const PSETID_COMMON: [u8; 16] = [
     0x08, 0x20, 0x06, 0x00, 0x00, 0x00, 0x00, 0x00, 0xC0, 0x00, 0x00, 0x00, 0x00, 0x00, 0x00, 0x46,
 ];
 
@@ -56,8 +56,8 @@ fn has(props: &Props, id: u16, bytes: &[u8]) -> bool {
 #[test]
 fn names_get_their_entries_and_buckets(rt: HostRuntime) -> Result<(), Fail> {
     let rows: [([u8; 16], u16, u16, [u8; 8]); 3] = [
-        (APPOINTMENT, 0x8000, 0x10AA, [1, 0x85, 0, 0, 6, 0, 0, 0]),
-        (APPOINTMENT, 0x8000, 0x10AA, [1, 0x85, 0, 0, 6, 0, 0, 0]),
+        (PSETID_COMMON, 0x8000, 0x10AA, [1, 0x85, 0, 0, 6, 0, 0, 0]),
+        (PSETID_COMMON, 0x8000, 0x10AA, [1, 0x85, 0, 0, 6, 0, 0, 0]),
         (PS_MAPI, 0x8001, 0x10A6, [1, 0x85, 0, 0, 2, 0, 1, 0]),
     ];
     let mut values = new_values(rt.alloc())?;
@@ -67,7 +67,7 @@ fn names_get_their_entries_and_buckets(rt: HostRuntime) -> Result<(), Fail> {
         assert!(rt; has(&next, bucket, &entry), "bucket {bucket:x}");
         values = next;
     }
-    assert!(rt; has(&values, 2, &APPOINTMENT));
+    assert!(rt; has(&values, 2, &PSETID_COMMON));
     assert!(rt;
         has(
             &values,
