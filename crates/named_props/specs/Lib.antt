@@ -1,0 +1,4 @@
+pub mod Adding
+pub mod Entries
+pub mod Finding
+pub mod Holding
