@@ -1,0 +1,4 @@
+pub mod Counts
+pub mod ReadLaws
+pub mod ValueLaws
+pub mod SeveralLaws

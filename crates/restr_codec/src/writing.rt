@@ -1,0 +1,111 @@
+//! Writing a restriction.
+ghost use Rattle.std.specs.Prelude.{◌≡◌, ◌≤◌, ◌++◌, IfOk, OnOk, length, true, false};
+ghost use Rattle.std.specs.List.{flat_map};
+ghost use Rattle.byteorder.specs.Endian.{little_bytes};
+ghost use Rattle.restr_codec.specs.Forms.{restrs};
+ghost use Rattle.restr_codec.specs.Restr.{count, count_all, how_many};
+ghost use Rattle.restr_codec.specs.Spelling.{are_allowed, are_tagged_values, flags_code, has_spelling, is_allowed, is_tagged_value, kind_bytes, level_code, most_restrictions, relation_code, spelling, spelling_of_all, table_tag, tag_bytes, tagged_bytes, test_code};
+
+use crate::fields::tag_number;
+use crate::restriction::{BitTest, Form, FuzzyFlags, FuzzyLevel, Relation, Restriction, SubTable};
+use mapi_values::tags::{
+    PID_TAG_MESSAGE_ATTACHMENTS, PID_TAG_MESSAGE_RECIPIENTS, PTYP_BINARY, PTYP_STRING,
+};
+use mapi_values::{Tag, Value};
+use pst_base::Bytes;
+use std::alloc::{AllocError, Global};
+
+fn relation_code(relation: Relation) -> u8
+    ensures { result ≡ relation_code relation }
+{
+    match relation {
+        Relation::Less => 0,
+        Relation::AtMost => 1,
+        Relation::Greater => 2,
+        Relation::AtLeast => 3,
+        Relation::Equal => 4,
+        Relation::NotEqual => 5,
+    }
+}
+
+fn level_code(level: FuzzyLevel) -> u16
+    ensures { result ≡ level_code level }
+{
+    match level {
+        FuzzyLevel::FullString => 0,
+        FuzzyLevel::Substring => 1,
+        FuzzyLevel::Prefix => 2,
+    }
+}
+
+fn flags_code(flags: FuzzyFlags) -> u16
+    ensures { result ≡ flags_code flags }
+{
+    u16::from(flags.ignore_case) + 2 * u16::from(flags.ignore_nonspace) + 4 * u16::from(flags.loose)
+}
+
+fn test_code(test: BitTest) -> u8
+    ensures { result ≡ test_code test }
+{
+    match test {
+        BitTest::Zero => 0,
+        BitTest::NotZero => 1,
+    }
+}
+
+fn table_tag(table: SubTable) -> Tag
+    ensures { result ≡ table_tag table }
+{
+    match table {
+        SubTable::Recipients => PID_TAG_MESSAGE_RECIPIENTS,
+        SubTable::Attachments => PID_TAG_MESSAGE_ATTACHMENTS,
+    }
+}
+
+/// Writes a tag, its kind first. An `Err` leaves bytes that are to be given up, here and below.
+#[tactic(auto, unfolding(crate::specs::Spelling::tag_bytes))]
+fn push_tag(out: &mut Vec<u8>, tag: Tag) -> Result<(), AllocError>
+    ensures { OnOk result (out.new.items ≡ out.old.items ++ tag_bytes tag) }
+{
+    out.extend_from_slice(&tag_number(tag).to_le_bytes())
+}
+
+/// Writes a value without its tag.
+#[tactic(auto, unfolding(crate::specs::Spelling::kind_bytes))]
+fn push_value(out: &mut Vec<u8>, value: &Value) -> Result<(), AllocError>
+    requires { is_tagged_value value.now ≡ true }
+    ensures { OnOk result (out.new.items ≡ out.old.items ++ kind_bytes value.now.kind value.now.bytes) }
+{
+    match value.kind() {
+        PTYP_STRING => {
+            out.extend_from_slice(value.bytes())?;
+            out.extend_from_slice(&[0, 0])
+        }
+        PTYP_BINARY => {
+            out.extend_from_slice(&(value.len() as u16).to_le_bytes())?;
+            out.extend_from_slice(value.bytes())
+        }
+        _ => out.extend_from_slice(value.bytes()),
+    }
+}
+
+/// Writes a tag and a value.
+fn push_tagged(out: &mut Vec<u8>, value: &Value) -> Result<(), AllocError>
+    requires { is_tagged_value value.now ≡ true }
+    ensures { OnOk result (out.new.items ≡ out.old.items ++ tagged_bytes value.now) }
+{
+    push_tag(out, value.tag())?;
+    push_value(out, value)
+}
+
+/// Writes a number of values, and each with its tag.
+fn push_tagged_values(out: &mut Vec<u8>, values: &[Value]) -> Result<(), AllocError>
+    requires { are_tagged_values values.now ≡ true }
+    ensures { OnOk result (out.new.items ≡ out.old.items ++ (little_bytes 1 (length values.now) ++ flat_map tagged_bytes values.now)) }
+{
+    out.push(values.len() as u8)?;
+    for value in values {
+        push_tagged(out, value)?;
+    }
+    Ok(())
+}
