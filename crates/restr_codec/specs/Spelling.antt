@@ -65,25 +65,33 @@ kind_bytes kind bytes = if kind == ptyp_string then bytes ++ 0 ∷ 0 ∷ [] else
 abbrev pub tagged_bytes : Val → List ℕ
 tagged_bytes v = tag_bytes (tag_of v) ++ kind_bytes v.kind v.bytes
 
+-- a Content behind its first byte
+abbrev pub content_bytes : FuzzyLevel → FuzzyFlags → Val → List ℕ
+content_bytes level flags v = little_bytes 2 (level_code level) ++ (little_bytes 2 (flags_code flags) ++ (tag_bytes (tag_of v) ++ tagged_bytes v))
+
 abbrev mutual
   -- the bytes of a restriction
   pub spelling : Restr → List ℕ
   spelling (and_of rs) = 0 ∷ (little_bytes 2 (how_many rs) ++ spelling_of_all rs)
   spelling (or_of rs) = 1 ∷ (little_bytes 2 (how_many rs) ++ spelling_of_all rs)
   spelling (not_of r) = 2 ∷ spelling r
-  spelling (content level flags v) = 3 ∷ (little_bytes 2 (level_code level) ++ (little_bytes 2 (flags_code flags) ++ (tag_bytes (tag_of v) ++ tagged_bytes v)))
-  spelling (property relation v) = 4 ∷ (little_bytes 1 (relation_code relation) ++ (tag_bytes (tag_of v) ++ tagged_bytes v))
-  spelling (compare relation a b) = 5 ∷ (little_bytes 1 (relation_code relation) ++ (tag_bytes a ++ tag_bytes b))
-  spelling (bit_mask test t mask) = 6 ∷ (little_bytes 1 (test_code test) ++ (tag_bytes t ++ little_bytes 4 mask))
-  spelling (size_of relation t n) = 7 ∷ (little_bytes 1 (relation_code relation) ++ (tag_bytes t ++ little_bytes 4 n))
+  spelling (content level flags v) = 3 ∷ content_bytes level flags v
+  spelling (property relation v) = 4 ∷ relation_code relation ∷ (tag_bytes (tag_of v) ++ tagged_bytes v)
+  spelling (compare relation a b) = 5 ∷ relation_code relation ∷ (tag_bytes a ++ tag_bytes b)
+  spelling (bit_mask test t mask) = 6 ∷ test_code test ∷ (tag_bytes t ++ little_bytes 4 mask)
+  spelling (size_of relation t n) = 7 ∷ relation_code relation ∷ (tag_bytes t ++ little_bytes 4 n)
   spelling (exist t) = 8 ∷ tag_bytes t
   spelling (sub_object table r) = 9 ∷ (tag_bytes (table_tag table) ++ spelling r)
-  spelling (remark vs) = 10 ∷ (little_bytes 1 (length vs) ++ (flat_map tagged_bytes vs ++ 0 ∷ []))
-  spelling (comment vs r) = 10 ∷ (little_bytes 1 (length vs) ++ (flat_map tagged_bytes vs ++ 1 ∷ spelling r))
+  spelling (remark vs) = 10 ∷ length vs ∷ (flat_map tagged_bytes vs ++ 0 ∷ [])
+  spelling (comment vs r) = 10 ∷ length vs ∷ (flat_map tagged_bytes vs ++ 1 ∷ spelling r)
 
   pub spelling_of_all : Restrs → List ℕ
   spelling_of_all none = []
   spelling_of_all (more r rs) = spelling r ++ spelling_of_all rs
+
+-- an And or an Or behind its first byte
+abbrev pub group_bytes : Restrs → List ℕ
+group_bytes rs = little_bytes 2 (how_many rs) ++ spelling_of_all rs
 
 -- whole UTF-16 units, none of them 0
 abbrev pub is_text : List ℕ → Bool

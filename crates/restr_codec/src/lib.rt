@@ -15,3 +15,4 @@ mod writing;
 pub use reading::{BadRestriction, read};
 pub use restriction::{BitTest, Form, FuzzyFlags, FuzzyLevel, Relation, Restriction, SubTable};
 pub use values::value_width;
+pub use writing::write;
