@@ -8,7 +8,7 @@ use Rattle.restr_codec.specs.Reading.{front, width_front, truth_front, value_fro
 some_same : {A : Type 0} (a b : A) → Some a ≡ Some b → a ≡ b
 some_same a b e = cc
 
-some_both : {A B : Type 0} (p q : A × B) → Some p ≡ Some q → (p.0 ≡ q.0) × (p.1 ≡ q.1)
+pub some_both : {A B : Type 0} (p q : A × B) → Some p ≡ Some q → (p.0 ≡ q.0) × (p.1 ≡ q.1)
 some_both {A} {B} p q e =
     let both : p ≡ q = some_same p q e in
     (ap (λ (r : A × B). r.0) both, ap (λ (r : A × B). r.1) both)

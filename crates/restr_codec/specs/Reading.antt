@@ -100,12 +100,12 @@ abbrev pub front : ℕ → List ℕ → Option (List ℕ × List ℕ)
 front n bytes = if nat_le n (length bytes) then Some (take n bytes, drop n bytes) else None
 
 -- text without its unit 0, and what stands behind that
+abbrev pub text_up_to : List ℕ → Option ℕ → Option (List ℕ × List ℕ)
+text_up_to bytes None = None
+text_up_to bytes (Some len) = Some (take len bytes, drop (len + 2) bytes)
+
 abbrev pub text_front : List ℕ → Option (List ℕ × List ℕ)
-text_front bytes = up_to (text_len bytes)
-  where
-    up_to : Option ℕ → Option (List ℕ × List ℕ)
-    up_to None = None
-    up_to (Some n) = Some (take n bytes, drop (n + 2) bytes)
+text_front bytes = text_up_to bytes (text_len bytes)
 
 -- bytes whose number stands before them
 abbrev pub binary_front : List ℕ → Option (List ℕ × List ℕ)

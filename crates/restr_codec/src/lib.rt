@@ -12,7 +12,7 @@ mod restriction;
 mod values;
 mod writing;
 
-pub use reading::{BadRestriction, read};
+pub use reading::{BadRestriction, read, written_reads_back};
 pub use restriction::{BitTest, Form, FuzzyFlags, FuzzyLevel, Relation, Restriction, SubTable};
 pub use values::value_width;
 pub use writing::write;

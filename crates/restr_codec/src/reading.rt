@@ -1,7 +1,9 @@
 //! Reading a restriction.
-ghost use Rattle.std.specs.Prelude.{◌≡◌, true};
+ghost use Rattle.std.specs.Prelude.{◌≡◌, IfOk, Ok, true};
 ghost use Rattle.pst_base.specs.Stops.{Gives};
 ghost use Rattle.restr_codec.specs.Forms.{restrs};
+ghost use Rattle.restr_codec.specs.Restr.{Restr};
+ghost use Rattle.restr_codec.specs.Spelling.{has_spelling, spelling};
 ghost use Rattle.restr_codec.specs.Reading.{Reads, by_code, code, code_in, comment_read, commented, group_read, grouped, leaf_by_code, leaf_read, not_read, part, reading, several, started, sub_object_read, whole};
 
 use crate::fields::{Fault, Read, read_table, read_truth, read_u8, read_u16, refuse};
@@ -237,13 +239,19 @@ fn read_whole(alloc: Global, bytes: &[u8]) -> Read<'_, Restriction>
 /// The restriction that the bytes spell ([MS-OXCDATA] 2.12), or the offset of the first fault: a field that is cut short or holds what it may not, a restriction past the 256th or more than 16 deep, or what stands behind the restriction.
 #[tactic(auto, unfolding(crate::specs::Reading::reading))]
 pub fn read(alloc: Global, bytes: &[u8]) -> Result<Restriction, MemOr<BadRestriction>>
-    ensures { Gives (λ r. r) result (reading bytes.now) }
+    ensures read { Gives (λ r. r) result (reading bytes.now) }
+    ensures spelled { IfOk result (λ r. (bytes.now ≡ spelling r) × (has_spelling r ≡ true)) }
 {
     match read_whole(alloc, bytes) {
         Ok((restriction, _)) => Ok(restriction),
         Err(MemOr::Memory) => Err(MemOr::Memory),
         Err(MemOr::Refused(fault)) => Err(MemOr::Refused(BadRestriction {
-            at: bytes.len().saturating_sub(fault.remaining) as u64,
+            at: (bytes.len() - fault.remaining) as u64,
         })),
     }
 }
+
+/// What is written of a restriction reads as that restriction.
+pub fn written_reads_back()
+    ensures { (r : Restr) → has_spelling r ≡ true → reading (spelling r) ≡ Ok r }
+{}
