@@ -1,6 +1,6 @@
 -- Fields that are written and read again, and fields that are read and what was written there.
-use Rattle.std.proofs.Common.{◌≡◌, ◌≤◌, ◌<◌, ◌∙◌, ◌⊎◌, inl, inr, ℕ, zero, suc, ◌+◌, ◌*◌, ◌/◌, ◌%◌, ◌^◌, ◌==◌, Bool, true, false, ◌&&◌, List, [], ◌∷◌, ◌++◌, length, take, drop, get_or, Option, None, Some, Result, Ok, Err, if◌then◌else◌, refl, sym, ap, subst, arith, nat_eq, nat_le, nat_lt, length-append}
-use Rattle.std.proofs.lemmas.Bool.{and_from, and_parts, cases_Bool, eqb-true, eq-eqb, le-leb, leb-true, lt-ltb, ltb-true}
+use Rattle.std.proofs.Common.{◌≡◌, ◌≤◌, ◌<◌, ◌∙◌, ◌⊎◌, inl, inr, ℕ, zero, suc, ◌+◌, ◌*◌, ◌/◌, ◌%◌, ◌^◌, ◌==◌, Bool, true, false, List, [], ◌∷◌, ◌++◌, length, take, drop, get_or, Option, None, Some, Ok, Err, if◌then◌else◌, refl, sym, ap, subst, arith, nat_le, nat_lt, length-append}
+use Rattle.std.proofs.lemmas.Bool.{and_from, and_parts, cases_Bool, eqb-true, le-leb, leb-true, lt-ltb, ltb-true}
 use Rattle.std.proofs.lemmas.List.{drop_at, ext_get_or, get_or-append-add, get_or-take, length-take-le, take-append-drop}
 use Rattle.byteorder.specs.Endian.{little_bytes}
 use Rattle.byteorder.specs.Numbers.{length-bytes_low_first}
@@ -19,7 +19,7 @@ use Rattle.restr_codec.specs.declared.restriction.Relation.TheVariants.{Less, At
 use Rattle.restr_codec.specs.declared.restriction.SubTable.{SubTable}
 use Rattle.restr_codec.specs.declared.restriction.SubTable.TheVariants.{Recipients, Attachments}
 use Rattle.restr_codec.specs.Reading.{Read, allows, code, flags_of, held, level_of, next, number, numbered, relation_of, table_of, tag, tag_in, test_of, truth_of}
-use Rattle.restr_codec.specs.Spelling.{bit, flags_code, is_tag, level_code, relation_code, table_tag, tag_bytes, tag_number, test_code}
+use Rattle.restr_codec.specs.Spelling.{flags_code, is_tag, level_code, relation_code, table_tag, tag_bytes, tag_number, test_code}
 
 -- ---- written and read again
 

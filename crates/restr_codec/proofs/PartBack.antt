@@ -1,7 +1,7 @@
 -- What is written of a restriction reads as the same restriction.
-use Rattle.std.proofs.Common.{Some, ◌≡◌, ◌≤◌, ◌<◌, ◌∙◌, ℕ, zero, suc, ◌+◌, ◌-◌, ◌^◌, Bool, true, false, not, ◌&&◌, List, [], ◌∷◌, ◌++◌, length, Result, Ok, Err, refl, sym, ap, arith, nat_eq, nat_le, nat_lt, append_assoc, append-nil}
+use Rattle.std.proofs.Common.{Some, ◌≡◌, ◌≤◌, ◌<◌, ◌∙◌, ℕ, suc, ◌-◌, ◌^◌, Bool, true, false, ◌&&◌, List, [], ◌∷◌, ◌++◌, length, Ok, refl, sym, ap, arith, nat_eq, nat_le, nat_lt, append_assoc, append-nil}
 use Rattle.std.specs.List.{flat_map, list_all}
-use Rattle.std.proofs.lemmas.Bool.{and_parts, eqb-true, leb-true, ltb-true, eq-eqb, ne_eqb}
+use Rattle.std.proofs.lemmas.Bool.{and_parts, leb-true, ltb-true, ne_eqb}
 use Rattle.byteorder.specs.Endian.{little_bytes}
 use Rattle.mapi_values.specs.Values.{Val}
 use Rattle.mapi_values.specs.declared.value.Tag.{Tag}
@@ -10,11 +10,10 @@ use Rattle.restr_codec.specs.declared.restriction.BitTest.{BitTest}
 use Rattle.restr_codec.specs.declared.restriction.FuzzyFlags.{FuzzyFlags}
 use Rattle.restr_codec.specs.declared.restriction.FuzzyLevel.{FuzzyLevel}
 use Rattle.restr_codec.specs.declared.restriction.Relation.{Relation}
-use Rattle.restr_codec.specs.declared.restriction.SubTable.{SubTable}
 use Rattle.restr_codec.specs.Kinds.{is_content_kind, is_value_kind}
 use Rattle.restr_codec.specs.Restr.{Restr, Restrs, and_of, or_of, not_of, content, property, compare, bit_mask, size_of, exist, sub_object, remark, comment, none, more, count, count_all, depth, depth_of_all, how_many}
-use Rattle.restr_codec.specs.Reading.{Part, Read, bit_mask_read, by_code, code, code_in, comment_read, commented, compare_read, content_read, ended, exist_read, flags_of, group_read, grouped, held, level_of, next, not_read, number, part, placed, property_read, reading, relation_of, several, size_read, started, sub_object_read, table_of, tag, tagged, tagged_values, test_of, truth_of, whole}
-use Rattle.restr_codec.specs.Spelling.{are_allowed, are_tagged_values, content_bytes, flags_code, group_bytes, has_spelling, is_allowed, is_tag, is_tagged_value, level_code, most_deep, most_restrictions, relation_code, spelling, spelling_of_all, table_tag, tag_bytes, tag_of, tagged_bytes, test_code}
+use Rattle.restr_codec.specs.Reading.{Part, bit_mask_read, by_code, code, code_in, comment_read, commented, compare_read, content_read, ended, exist_read, flags_of, group_read, grouped, held, level_of, next, number, part, placed, property_read, reading, relation_of, several, size_read, started, sub_object_read, tag, tagged, tagged_values, test_of, truth_of}
+use Rattle.restr_codec.specs.Spelling.{are_allowed, are_tagged_values, content_bytes, flags_code, group_bytes, has_spelling, is_allowed, is_tag, is_tagged_value, level_code, relation_code, spelling, spelling_of_all, table_tag, tag_bytes, tag_of, tagged_bytes, test_code}
 use Rattle.restr_codec.proofs.Counts.{count_some}
 use Rattle.restr_codec.proofs.FieldLaws.{absent_read, byte_back, flags_read, level_read, number_back, present_read, relation_read, table_read, tag_read, test_read}
 use Rattle.restr_codec.proofs.ReadLaws.{deeper}

@@ -1,16 +1,16 @@
 -- What is read of bytes is spelled by them.
-use Rattle.std.proofs.Common.{inl, inr, ◌≡◌, ◌≤◌, ◌<◌, ◌∙◌, ℕ, zero, suc, ◌+◌, ◌-◌, ◌^◌, ◌==◌, Bool, true, false, not, ◌&&◌, List, [], ◌∷◌, ◌++◌, length, Option, None, Some, Result, Ok, Err, if◌then◌else◌, refl, sym, ap, subst, arith, nat_eq, nat_le, nat_lt, append_assoc, append-nil}
+use Rattle.std.proofs.Common.{inl, inr, ◌≡◌, ◌≤◌, ◌<◌, ◌∙◌, ℕ, zero, suc, ◌+◌, ◌-◌, ◌^◌, ◌==◌, Bool, true, false, not, ◌&&◌, List, [], ◌∷◌, ◌++◌, length, Some, Ok, refl, sym, ap, subst, arith, nat_eq, nat_le, nat_lt, append_assoc, append-nil}
 use Rattle.std.specs.List.{flat_map, list_all}
-use Rattle.std.proofs.lemmas.Bool.{and_from, and_parts, cases_Bool, eqb-true, eqb-false, eq-eqb, le-leb, leb-true, lt-ltb, not-true}
+use Rattle.std.proofs.lemmas.Bool.{and_from, and_parts, cases_Bool, eqb-true, eqb-false, eq-eqb, le-leb, leb-true, lt-ltb}
 use Rattle.byteorder.specs.Endian.{little_bytes}
 use Rattle.mapi_values.specs.Values.{Val}
 use Rattle.mapi_values.specs.declared.value.Tag.{Tag}
 use Rattle.restr_codec.specs.declared.fields.Tags.{Tags}
 use Rattle.restr_codec.specs.declared.fields.Tags.TheVariants.{Any, Just, OfContent, OfKind, OfValues}
-use Rattle.restr_codec.specs.Kinds.{is_content_kind, is_value_kind, value_width}
-use Rattle.restr_codec.specs.Restr.{Restr, Restrs, and_of, or_of, not_of, content, property, compare, bit_mask, size_of, exist, sub_object, remark, comment, none, more, count, count_all, depth, depth_of_all, how_many}
-use Rattle.restr_codec.specs.Reading.{Part, Read, allows, bit_mask_read, by_code, code, code_in, comment_read, commented, compare_read, content_read, ended, exist_read, flags_of, group_read, grouped, held, leaf_by_code, leaf_read, level_of, next, not_read, number, part, placed, property_read, reading, relation_of, several, size_read, started, sub_object_read, table_of, tag, tagged, tagged_values, test_of, truth_of, whole}
-use Rattle.restr_codec.specs.Spelling.{are_allowed, are_tagged_values, content_bytes, flags_code, group_bytes, has_spelling, is_allowed, is_tag, is_tagged_value, level_code, most_deep, most_restrictions, relation_code, spelling, spelling_of_all, table_tag, tag_bytes, tag_number, tag_of, tagged_bytes, test_code}
+use Rattle.restr_codec.specs.Kinds.{is_content_kind, is_value_kind}
+use Rattle.restr_codec.specs.Restr.{Restr, Restrs, not_of, content, property, compare, bit_mask, size_of, exist, sub_object, comment, more, count, count_all, depth, depth_of_all, how_many}
+use Rattle.restr_codec.specs.Reading.{Part, Read, allows, bit_mask_read, by_code, code, code_in, comment_read, commented, compare_read, content_read, ended, exist_read, flags_of, group_read, grouped, leaf_by_code, leaf_read, level_of, next, not_read, number, part, property_read, relation_of, several, size_read, started, sub_object_read, table_of, tag, tagged, tagged_values, test_of, truth_of, whole}
+use Rattle.restr_codec.specs.Spelling.{are_allowed, are_tagged_values, flags_code, group_bytes, has_spelling, is_allowed, is_tag, is_tagged_value, level_code, relation_code, spelling, spelling_of_all, table_tag, tag_bytes, tag_of, tagged_bytes, test_code}
 use Rattle.restr_codec.proofs.FieldLaws as fields
 use Rattle.restr_codec.proofs.FieldLaws.{AreBytes, Field, Finds, byte_finds, code_finds, field, finds_if, finds_less, finds_next, flags_finds, level_finds, number_finds, relation_finds, table_finds, tag_finds, test_finds, truth_code, truth_finds}
 use Rattle.restr_codec.proofs.ValueBack.{IsTagged, tagged_finds, tagged_values_find}

@@ -1,6 +1,5 @@
 -- Several restrictions, or several values, one after the other.
-use Rattle.std.proofs.Common.{◌≡◌, ◌≤◌, ◌<◌, ◌∙◌, ℕ, zero, suc, ◌+◌, ◌-◌, List, [], ◌∷◌, ◌++◌, Result, Ok, Err, ap, sym, refl, arith, append-nil, append_assoc}
-use Rattle.std.specs.Borrow.{Bor}
+use Rattle.std.proofs.Common.{◌≡◌, ◌≤◌, ◌<◌, ◌∙◌, ℕ, suc, ◌+◌, ◌-◌, List, [], ◌∷◌, ◌++◌, Ok, Err, ap, sym, refl, arith, append-nil, append_assoc}
 use Rattle.pst_base.specs.declared.stops.MemOr.{MemOr}
 use Rattle.pst_base.specs.declared.stops.MemOr.TheVariants.{Memory, Refused}
 use Rattle.mapi_values.specs.Values.{Val}
@@ -9,7 +8,6 @@ use Rattle.restr_codec.specs.declared.fields.Tags.TheVariants.{OfValues}
 use Rattle.restr_codec.specs.Forms.{restrs}
 use Rattle.restr_codec.specs.Restr.{Restr, Restrs, none, more}
 use Rattle.restr_codec.specs.Reading.{Part, Read, Reads, next, several, tagged, tagged_values}
-use Rattle.restr_codec.proofs.ReadLaws.{stops}
 
 abbrev pub before : List Restr → Restrs → Restrs
 before [] rs = rs

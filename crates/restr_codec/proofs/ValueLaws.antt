@@ -1,5 +1,5 @@
 -- The values that are read: their bytes and their lengths.
-use Rattle.std.proofs.Common.{◌≡◌, ◌∙◌, ◌+◌, ◌*◌, ℕ, suc, Bool, true, false, ◌&&◌, List, [], ◌∷◌, ◌++◌, length, take, drop, Option, None, Some, inl, inr, ◌⊎◌, refl, sym, ap, arith, nat_le, nat_lt, nat_eq}
+use Rattle.std.proofs.Common.{◌≡◌, ◌∙◌, ℕ, true, List, [], ◌∷◌, ◌++◌, length, take, drop, Option, None, Some, inl, inr, ◌⊎◌, refl, sym, ap, nat_le, nat_lt, nat_eq}
 use Rattle.std.proofs.lemmas.Bool.{cases_Bool, leb-true, eqb-true, eq-eqb}
 use Rattle.std.proofs.lemmas.List.{take-append-drop, length-take-le}
 use Rattle.restr_codec.specs.Kinds.{has_width, value_width}

@@ -1,5 +1,5 @@
 -- What stands within a restriction is less than the whole.
-use Rattle.std.specs.Prelude.{◌≤◌, ◌+◌, max, suc, List, [], ◌∷◌, None, Some}
+use Rattle.std.specs.Prelude.{◌≤◌, ◌+◌, max, List, [], ◌∷◌, None, Some}
 use Rattle.std.proofs.Common.{arith}
 use denote.Param.Weighed.{most}
 use Rattle.restr_codec.specs.Restr

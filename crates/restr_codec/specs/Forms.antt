@@ -1,6 +1,5 @@
 -- Which restriction a form is.
-use Rattle.std.specs.Prelude.{List, [], ◌∷◌, Option, None, Some}
-use Rattle.mapi_values.specs.Values.{Val}
+use Rattle.std.specs.Prelude.{List, [], ◌∷◌, None, Some}
 use Rattle.restr_codec.specs.Restr
 use Rattle.restr_codec.specs.declared.restriction.Form.{Form}
 use Rattle.restr_codec.specs.declared.restriction.Form.TheVariants as forms

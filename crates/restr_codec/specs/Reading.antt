@@ -22,7 +22,7 @@ use Rattle.restr_codec.specs.declared.restriction.SubTable.{SubTable}
 use Rattle.restr_codec.specs.declared.restriction.SubTable.TheVariants.{Recipients, Attachments}
 use Rattle.restr_codec.specs.Kinds.{is_content_kind, is_value_kind, value_width}
 use Rattle.restr_codec.specs.Restr.{Restr, Restrs, and_of, or_of, not_of, content, property, compare, bit_mask, size_of, exist, sub_object, remark, comment, none, more}
-use Rattle.restr_codec.specs.Spelling.{is_truth, most_deep, most_restrictions, table_tag, tag_number}
+use Rattle.restr_codec.specs.Spelling.{most_deep, most_restrictions, table_tag, tag_number}
 
 -- what was read and the bytes behind it, or how many bytes there are from the fault on
 abbrev pub Read : Type 0 → Type 0

@@ -2,7 +2,7 @@
 use Rattle.std.specs.Prelude.{ℕ, ◌+◌, ◌*◌, ◌==◌, ◌&&◌, Bool, true, false, not, nat_le, nat_lt, List, [], ◌∷◌, ◌++◌, length, if◌then◌else◌}
 use Rattle.std.specs.List.{flat_map, list_all}
 use Rattle.byteorder.specs.Endian.{little_bytes}
-use Rattle.mapi_values.specs.Kinds.{ptyp_binary, ptyp_boolean, ptyp_integer_32, ptyp_object, ptyp_string}
+use Rattle.mapi_values.specs.Kinds.{ptyp_binary, ptyp_boolean, ptyp_integer_32, ptyp_string}
 use Rattle.mapi_values.specs.Tags.{pid_tag_message_attachments, pid_tag_message_recipients}
 use Rattle.mapi_values.specs.Values.{Val, value_fits}
 use Rattle.mapi_values.specs.declared.value.Tag.{Tag}

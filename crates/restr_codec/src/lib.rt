@@ -9,6 +9,8 @@ mod fields;
 mod leaves;
 mod reading;
 mod restriction;
+#[cfg(test)]
+mod tests;
 mod values;
 mod writing;
 

@@ -1,9 +1,8 @@
-use Rattle.std.proofs.Common.{◌≡◌, ◌∙◌, ◌-◌, List, ℕ, sym, ap, subst, arith, refl, Ok, Err}
-use Rattle.restr_codec.specs.declared.restriction.Restriction.{Restriction}
+use Rattle.std.proofs.Common.{ℕ, arith}
 use Rattle.std.specs.Global.{Vec}
 use Rattle.restr_codec.specs.Forms.{restrs}
 use Rattle.restr_codec.specs.Restr.{Restr}
-use Rattle.restr_codec.specs.Reading.{Reads, by_code, next, part, started}
+use Rattle.restr_codec.specs.Reading.{part, started}
 use Rattle.restr_codec.proofs.ReadLaws.{deeper, given, goes, no_deeper, stops}
 use Rattle.restr_codec.proofs.SeveralLaws.{all_so_far, one_more, stops_at}
 use Rattle.restr_codec.proofs.reading.+read.Goals as goal

@@ -1,5 +1,4 @@
-use Rattle.std.proofs.Common.{◌≡◌, ◌≤◌, Ok, Err, length, arith, subst}
-use Rattle.restr_codec.specs.Reading.{whole}
+use Rattle.std.proofs.Common.{length, arith, subst}
 use Rattle.restr_codec.proofs.FieldLaws.{Finds}
 use Rattle.restr_codec.proofs.PartFound.{WholeFound, whole_found}
 use Rattle.restr_codec.proofs.reading.read.Goals as goal

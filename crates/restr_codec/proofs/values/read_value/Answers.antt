@@ -1,4 +1,3 @@
-use Rattle.std.proofs.Common.{rules, ◌≡◌, ◌∙◌, length}
 use Rattle.restr_codec.proofs.ValueLaws.{sound_front}
 use Rattle.restr_codec.proofs.values.read_value.Goals as goal
 
