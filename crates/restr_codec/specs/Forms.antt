@@ -4,10 +4,12 @@ use Rattle.restr_codec.specs.Restr
 use Rattle.restr_codec.specs.declared.restriction.Form.{Form}
 use Rattle.restr_codec.specs.declared.restriction.Form.TheVariants as forms
 
+-- a list of restrictions
 abbrev pub restrs : List Restr.Restr → Restr.Restrs
 restrs [] = Restr.none
 restrs (r ∷ rs) = Restr.more r (restrs rs)
 
+-- the restriction of a form
 abbrev pub restr : Form → Restr.Restr
 restr (forms.And rs) = Restr.and_of (restrs rs.items)
 restr (forms.Or rs) = Restr.or_of (restrs rs.items)

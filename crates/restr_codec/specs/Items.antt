@@ -42,6 +42,7 @@ abbrev mutual
   items (remark vs) = Remark vs ∷ []
   items (comment vs r) = Comment vs ∷ items r
 
+  -- the same of some restrictions
   pub items_of_all : Restrs → List Item
   items_of_all none = []
   items_of_all (more r rs) = items r ++ items_of_all rs
@@ -51,21 +52,25 @@ abbrev first : Restrs → Restr
 first none = and_of none
 first (more r rs) = r
 
+-- those after the first
 abbrev behind : Restrs → Restrs
 behind none = none
 behind (more r rs) = rs
 
+-- the first n
 abbrev front : ℕ → Restrs → Restrs
 front zero rs = none
 front (suc n) none = none
 front (suc n) (more r rs) = more r (front n rs)
 
+-- those after the first n
 abbrev beyond : ℕ → Restrs → Restrs
 beyond zero rs = rs
 beyond (suc n) none = none
 beyond (suc n) (more r rs) = beyond n rs
 
 -- the restrictions that items spell, from the last item on
+-- an item before the restrictions that the items after it spell
 abbrev put_item : Item → Restrs → Restrs
 put_item (And n) rs = more (and_of (front n rs)) (beyond n rs)
 put_item (Or n) rs = more (or_of (front n rs)) (beyond n rs)
@@ -84,6 +89,7 @@ abbrev spelled : List Item → Restrs
 spelled [] = none
 spelled (i ∷ is) = put_item i (spelled is)
 
+-- the one and then the other restrictions
 abbrev joined : Restrs → Restrs → Restrs
 joined none ss = ss
 joined (more r rs) ss = more r (joined rs ss)
@@ -96,6 +102,7 @@ beyond-joined : (rs ss : Restrs) → beyond (how_many rs) (joined rs ss) ≡ ss
 beyond-joined none ss = refl
 beyond-joined (more r rs) ss = beyond-joined rs ss
 
+-- the first n as one restriction, and those after them
 abbrev grouped : (Restrs → Restr) → ℕ → Restrs → Restrs
 grouped f n all = more (f (front n all)) (beyond n all)
 

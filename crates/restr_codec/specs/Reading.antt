@@ -46,22 +46,28 @@ number n bytes = if nat_le n (length bytes) then Ok (number_at n 0 bytes, drop n
 abbrev pub code : {A : Type 0} → ℕ → (ℕ → Option A) → List ℕ → Read A
 code n meaning bytes = next (number n bytes) (λ x behind. held bytes behind (meaning x))
 
+-- what a byte or a number means, if it means anything: a relation
 unfoldable pub relation_of : ℕ → Option Relation
 relation_of c = if c == 0 then Some Less else if c == 1 then Some AtMost else if c == 2 then Some Greater else if c == 3 then Some AtLeast
     else if c == 4 then Some Equal else if c == 5 then Some NotEqual else None
 
+-- a level
 unfoldable pub level_of : ℕ → Option FuzzyLevel
 level_of c = if c == 0 then Some FullString else if c == 1 then Some Substring else if c == 2 then Some Prefix else None
 
+-- flags
 unfoldable pub flags_of : ℕ → Option FuzzyFlags
 flags_of c = if nat_lt c 8 then Some (record { ignore_case = c % 2 == 1; ignore_nonspace = c / 2 % 2 == 1; loose = c / 4 == 1 }) else None
 
+-- a test of bits
 unfoldable pub test_of : ℕ → Option BitTest
 test_of c = if c == 0 then Some Zero else if c == 1 then Some NotZero else None
 
+-- a truth value
 unfoldable pub truth_of : ℕ → Option Bool
 truth_of c = if c == 0 then Some false else if c == 1 then Some true else None
 
+-- a table, by the number of its tag
 unfoldable pub table_of : ℕ → Option SubTable
 table_of c = if c == tag_number (table_tag Recipients) then Some Recipients else if c == tag_number (table_tag Attachments) then Some Attachments else None
 
@@ -77,6 +83,7 @@ allows tags.OfContent t = is_content_kind t.kind
 allows (tags.OfKind kind) t = t.kind == kind
 allows (tags.Just tag) t = (t.id == tag.id) && (t.kind == tag.kind)
 
+-- the tag with this number, if it may stand there
 unfoldable pub tag_in : Tags → ℕ → Option Tag
 tag_in tags n = if allows tags (numbered n) then Some (numbered n) else None
 
@@ -99,11 +106,12 @@ text_len (a ∷ b ∷ bytes) = if (a == 0) && (b == 0) then Some 0 else longer 2
 abbrev pub front : ℕ → List ℕ → Option (List ℕ × List ℕ)
 front n bytes = if nat_le n (length bytes) then Some (take n bytes, drop n bytes) else None
 
--- text without its unit 0, and what stands behind that
+-- the text before a unit 0 at this place, and what stands behind that unit
 abbrev pub text_up_to : List ℕ → Option ℕ → Option (List ℕ × List ℕ)
 text_up_to bytes None = None
 text_up_to bytes (Some len) = Some (take len bytes, drop (len + 2) bytes)
 
+-- text without its unit 0, and what stands behind that
 abbrev pub text_front : List ℕ → Option (List ℕ × List ℕ)
 text_front bytes = text_up_to bytes (text_len bytes)
 
@@ -133,6 +141,7 @@ abbrev pub valued : Tag → List ℕ → Option (List ℕ × List ℕ) → Read 
 valued t bytes None = Err (length bytes)
 valued t bytes (Some p) = if fits t.kind (length p.0) then Ok (record { id = t.id; kind = t.kind; bytes = p.0 }, p.1) else Err (length bytes)
 
+-- a value of this tag's kind
 abbrev pub value : Tag → List ℕ → Read Val
 value t bytes = valued t bytes (value_front t.kind bytes)
 
@@ -145,26 +154,32 @@ abbrev pub tagged_values : ℕ → List ℕ → Read (List Val)
 tagged_values zero bytes = Ok ([], bytes)
 tagged_values (suc n) bytes = next (tagged tags.OfValues bytes) (λ v bytes1. next (tagged_values n bytes1) (λ vs bytes2. Ok (v ∷ vs, bytes2)))
 
+-- a Content, behind its first byte: level, flags, tag and tagged value
 abbrev pub content_read : List ℕ → Read Restr
 content_read bytes = next (code 2 level_of bytes) (λ level bytes1. next (code 2 flags_of bytes1) (λ flags bytes2.
     next (tag tags.OfContent bytes2) (λ t bytes3. next (tagged (tags.Just t) bytes3) (λ v bytes4. Ok (content level flags v, bytes4)))))
 
+-- a Property: relation, tag and tagged value
 abbrev pub property_read : List ℕ → Read Restr
 property_read bytes = next (code 1 relation_of bytes) (λ relation bytes1.
     next (tag tags.OfValues bytes1) (λ t bytes2. next (tagged (tags.Just t) bytes2) (λ v bytes3. Ok (property relation v, bytes3))))
 
+-- a CompareProps: relation and two tags of one kind
 abbrev pub compare_read : List ℕ → Read Restr
 compare_read bytes = next (code 1 relation_of bytes) (λ relation bytes1.
     next (tag tags.OfValues bytes1) (λ a bytes2. next (tag (tags.OfKind a.kind) bytes2) (λ b bytes3. Ok (compare relation a b, bytes3))))
 
+-- a BitMask: test, tag and mask
 abbrev pub bit_mask_read : List ℕ → Read Restr
 bit_mask_read bytes = next (code 1 test_of bytes) (λ test bytes1.
     next (tag (tags.OfKind ptyp_integer_32) bytes1) (λ t bytes2. next (number 4 bytes2) (λ mask bytes3. Ok (bit_mask test t mask, bytes3))))
 
+-- a Size: relation, tag and size
 abbrev pub size_read : List ℕ → Read Restr
 size_read bytes = next (code 1 relation_of bytes) (λ relation bytes1.
     next (tag tags.Any bytes1) (λ t bytes2. next (number 4 bytes2) (λ n bytes3. Ok (size_of relation t n, bytes3))))
 
+-- an Exist: a tag
 abbrev pub exist_read : List ℕ → Read Restr
 exist_read bytes = next (tag tags.Any bytes) (λ t bytes1. Ok (exist t, bytes1))
 
@@ -181,12 +196,15 @@ several one (suc n) left bytes = next (one left bytes) (λ p bytes1. next (sever
 abbrev pub group_read : (Restrs → Restr) → Part → Part
 group_read f one left bytes = next (number 2 bytes) (λ n bytes1. next (several one n left bytes1) (λ p bytes2. Ok ((f p.0, p.1), bytes2)))
 
+-- a Not: a restriction
 abbrev pub not_read : Part → Part
 not_read one left bytes = next (one left bytes) (λ p bytes1. Ok ((not_of p.0, p.1), bytes1))
 
+-- a restriction with no other within it
 abbrev pub leaf_read : (List ℕ → Read Restr) → Part
 leaf_read leaf left bytes = next (leaf bytes) (λ r bytes1. Ok ((r, left), bytes1))
 
+-- a SubObject: the tag of a table, and a restriction
 abbrev pub sub_object_read : Part → Part
 sub_object_read one left bytes = next (code 4 table_of bytes) (λ table bytes1. next (one left bytes1) (λ p bytes2. Ok ((sub_object table p.0, p.1), bytes2)))
 
@@ -195,6 +213,7 @@ abbrev pub commented : Part → List Val → Bool → Part
 commented one vs false left bytes = Ok ((remark vs, left), bytes)
 commented one vs true left bytes = next (one left bytes) (λ p bytes1. Ok ((comment vs p.0, p.1), bytes1))
 
+-- a Comment: a number of tagged values, these, whether a restriction is present, and that
 abbrev pub comment_read : Part → Part
 comment_read one left bytes = next (number 1 bytes) (λ n bytes1. next (tagged_values n bytes1) (λ vs bytes2.
     next (code 1 truth_of bytes2) (λ present bytes3. commented one vs present left bytes3)))

@@ -9,7 +9,7 @@ use Rattle.restr_codec.specs.declared.restriction.Relation.{Relation}
 use Rattle.restr_codec.specs.declared.restriction.SubTable.{SubTable}
 
 mutual
-  -- a remark is a comment without a restriction
+  -- the restrictions of the standard, each by its own name; a remark is a comment without a restriction
   pub data Restr : Type 0 where
     and_of : Restrs → Restr
     or_of : Restrs → Restr
@@ -45,6 +45,7 @@ abbrev mutual
   count (remark vs) = 1
   count (comment vs r) = suc (count r)
 
+  -- how many stand in some restrictions
   pub count_all : Restrs → ℕ
   count_all none = 0
   count_all (more r rs) = count r + count_all rs
@@ -65,6 +66,7 @@ abbrev mutual
   depth (remark vs) = 1
   depth (comment vs r) = suc (depth r)
 
+  -- the most of some restrictions
   pub depth_of_all : Restrs → ℕ
   depth_of_all none = 0
   depth_of_all (more r rs) = max (depth r) (depth_of_all rs)

@@ -18,6 +18,7 @@ use Rattle.restr_codec.specs.declared.restriction.SubTable.TheVariants.{Recipien
 use Rattle.restr_codec.specs.Kinds.{is_content_kind, is_sound, is_value_kind}
 use Rattle.restr_codec.specs.Restr.{Restr, Restrs, and_of, or_of, not_of, content, property, compare, bit_mask, size_of, exist, sub_object, remark, comment, none, more, count, depth, how_many}
 
+-- the byte of a relation
 abbrev pub relation_code : Relation → ℕ
 relation_code Less = 0
 relation_code AtMost = 1
@@ -26,6 +27,7 @@ relation_code AtLeast = 3
 relation_code Equal = 4
 relation_code NotEqual = 5
 
+-- the number of a level
 abbrev pub level_code : FuzzyLevel → ℕ
 level_code FullString = 0
 level_code Substring = 1
@@ -35,9 +37,11 @@ level_code Prefix = 2
 abbrev pub bit : Bool → ℕ → ℕ
 bit set worth = if set then worth else 0
 
+-- the number of flags, a bit for each
 abbrev pub flags_code : FuzzyFlags → ℕ
 flags_code i = bit i.ignore_case 1 + (bit i.ignore_nonspace 2 + bit i.loose 4)
 
+-- the byte of a test of bits
 abbrev pub test_code : BitTest → ℕ
 test_code Zero = 0
 test_code NotZero = 1
@@ -55,6 +59,7 @@ tag_number t = 65536 * t.id + t.kind
 unfoldable pub tag_bytes : Tag → List ℕ
 tag_bytes t = little_bytes 4 (tag_number t)
 
+-- the tag of a value
 abbrev pub tag_of : Val → Tag
 tag_of v = record { id = v.id; kind = v.kind }
 
@@ -62,6 +67,7 @@ tag_of v = record { id = v.id; kind = v.kind }
 unfoldable pub kind_bytes : ℕ → List ℕ → List ℕ
 kind_bytes kind bytes = if kind == ptyp_string then bytes ++ 0 ∷ 0 ∷ [] else if kind == ptyp_binary then little_bytes 2 (length bytes) ++ bytes else bytes
 
+-- a tag and a value
 abbrev pub tagged_bytes : Val → List ℕ
 tagged_bytes v = tag_bytes (tag_of v) ++ kind_bytes v.kind v.bytes
 
@@ -85,6 +91,7 @@ abbrev mutual
   spelling (remark vs) = 10 ∷ length vs ∷ (flat_map tagged_bytes vs ++ 0 ∷ [])
   spelling (comment vs r) = 10 ∷ length vs ∷ (flat_map tagged_bytes vs ++ 1 ∷ spelling r)
 
+  -- the bytes of some restrictions, one after the other
   pub spelling_of_all : Restrs → List ℕ
   spelling_of_all none = []
   spelling_of_all (more r rs) = spelling r ++ spelling_of_all rs
@@ -136,6 +143,7 @@ abbrev mutual
   is_allowed inner (remark vs) = are_tagged_values vs
   is_allowed inner (comment vs r) = are_tagged_values vs && is_allowed inner r
 
+  -- the same of each of some restrictions
   pub are_allowed : Bool → Restrs → Bool
   are_allowed inner none = true
   are_allowed inner (more r rs) = is_allowed inner r && are_allowed inner rs

@@ -1,6 +1,6 @@
 //! Restrictions, which say what a search asks of a message, and their bytes ([MS-OXCDATA] 2.12).
 //!
-//! Promises: a `Restriction` is a `Restr` for contracts; `write` gives its `spelling`; `read` gives the restriction that `Reading` finds in bytes, or the offset of the first fault there.
+//! Promises: a `Restriction` is a `Restr` for contracts. `write` gives the `spelling` of one that has a spelling. `read` gives a restriction exactly where the bytes are the spelling of one, and else the offset of the first fault by `Reading`.
 //!
 //! Leaves to others: when a restriction holds of a message.
 #![tactic(auto)]

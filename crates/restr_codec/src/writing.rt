@@ -3,8 +3,8 @@ ghost use Rattle.std.specs.Prelude.{◌≡◌, ◌≤◌, ◌++◌, ◌∷◌, I
 ghost use Rattle.std.specs.List.{flat_map};
 ghost use Rattle.byteorder.specs.Endian.{little_bytes};
 ghost use Rattle.restr_codec.specs.Forms.{restrs};
-ghost use Rattle.restr_codec.specs.Restr.{count, count_all, how_many};
-ghost use Rattle.restr_codec.specs.Spelling.{are_allowed, are_tagged_values, flags_code, has_spelling, is_allowed, is_tagged_value, content_bytes, group_bytes, kind_bytes, level_code, most_restrictions, relation_code, spelling, spelling_of_all, table_tag, tag_bytes, tagged_bytes, test_code};
+ghost use Rattle.restr_codec.specs.Restr.{bit_mask, compare, content, count, count_all, how_many, property, size_of};
+ghost use Rattle.restr_codec.specs.Spelling.{are_allowed, are_tagged_values, flags_code, has_spelling, is_allowed, is_tagged_value, group_bytes, kind_bytes, level_code, most_restrictions, relation_code, spelling, spelling_of_all, table_tag, tag_bytes, tagged_bytes, test_code};
 
 use crate::fields::tag_number;
 use crate::restriction::{BitTest, Form, FuzzyFlags, FuzzyLevel, Relation, Restriction, SubTable};
@@ -110,7 +110,7 @@ fn push_tagged_values(out: &mut Vec<u8>, values: &[Value]) -> Result<(), AllocEr
     Ok(())
 }
 
-/// Writes a Content behind its first byte.
+/// Writes a Content.
 fn push_content(
     out: &mut Vec<u8>,
     level: FuzzyLevel,
@@ -118,12 +118,55 @@ fn push_content(
     value: &Value,
 ) -> Result<(), AllocError>
     requires { is_tagged_value value.now ≡ true }
-    ensures { OnOk result (out.new.items ≡ out.old.items ++ content_bytes level flags value.now) }
+    ensures { OnOk result (out.new.items ≡ out.old.items ++ spelling (content level flags value.now)) }
 {
+    out.push(3)?;
     out.extend_from_slice(&level_code(level).to_le_bytes())?;
     out.extend_from_slice(&flags_code(flags).to_le_bytes())?;
     push_tag(out, value.tag())?;
     push_tagged(out, value)
+}
+
+/// Writes a Property.
+fn push_property(out: &mut Vec<u8>, relation: Relation, value: &Value) -> Result<(), AllocError>
+    requires { is_tagged_value value.now ≡ true }
+    ensures { OnOk result (out.new.items ≡ out.old.items ++ spelling (property relation value.now)) }
+{
+    out.extend_from_slice(&[4, relation_code(relation)])?;
+    push_tag(out, value.tag())?;
+    push_tagged(out, value)
+}
+
+/// Writes a CompareProps.
+fn push_compare(
+    out: &mut Vec<u8>,
+    relation: Relation,
+    left: Tag,
+    right: Tag,
+) -> Result<(), AllocError>
+    ensures { OnOk result (out.new.items ≡ out.old.items ++ spelling (compare relation left right)) }
+{
+    out.extend_from_slice(&[5, relation_code(relation)])?;
+    push_tag(out, left)?;
+    push_tag(out, right)
+}
+
+/// Writes a BitMask.
+fn push_bit_mask(out: &mut Vec<u8>, test: BitTest, tag: Tag, mask: u32) -> Result<(), AllocError>
+    ensures { OnOk result (out.new.items ≡ out.old.items ++ spelling (bit_mask test tag mask)) }
+{
+    out.extend_from_slice(&[6, test_code(test)])?;
+    push_tag(out, tag)?;
+    out.extend_from_slice(&mask.to_le_bytes())
+}
+
+/// Writes a Size.
+fn push_size(out: &mut Vec<u8>, relation: Relation, tag: Tag, size: u32) -> Result<(), AllocError>
+    ensures { OnOk result (out.new.items ≡ out.old.items ++ spelling (size_of relation tag size)) }
+{
+    out.extend_from_slice(&[7, relation_code(relation)])?;
+    push_tag(out, tag)?;
+    out.extend_from_slice(&size.to_le_bytes())
 }
 
 /// Writes some restrictions.
@@ -177,38 +220,19 @@ fn push_restriction(out: &mut Vec<u8>, restriction: &Restriction) -> Result<(), 
             level,
             flags,
             value,
-        } => {
-            out.push(3)?;
-            push_content(out, *level, *flags, value)
-        }
-        Form::Property { relation, value } => {
-            out.extend_from_slice(&[4, relation_code(*relation)])?;
-            push_tag(out, value.tag())?;
-            push_tagged(out, value)
-        }
+        } => push_content(out, *level, *flags, value),
+        Form::Property { relation, value } => push_property(out, *relation, value),
         Form::CompareProps {
             relation,
             left,
             right,
-        } => {
-            out.extend_from_slice(&[5, relation_code(*relation)])?;
-            push_tag(out, *left)?;
-            push_tag(out, *right)
-        }
-        Form::BitMask { test, tag, mask } => {
-            out.extend_from_slice(&[6, test_code(*test)])?;
-            push_tag(out, *tag)?;
-            out.extend_from_slice(&mask.to_le_bytes())
-        }
+        } => push_compare(out, *relation, *left, *right),
+        Form::BitMask { test, tag, mask } => push_bit_mask(out, *test, *tag, *mask),
         Form::Size {
             relation,
             tag,
             size,
-        } => {
-            out.extend_from_slice(&[7, relation_code(*relation)])?;
-            push_tag(out, *tag)?;
-            out.extend_from_slice(&size.to_le_bytes())
-        }
+        } => push_size(out, *relation, *tag, *size),
         Form::Exist(tag) => {
             out.push(8)?;
             push_tag(out, *tag)

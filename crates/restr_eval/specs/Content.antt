@@ -47,6 +47,7 @@ matches Prefix xs ps = begins xs ps
 unfoldable pub looked_at : FuzzyFlags → ℕ → List ℕ → List ℕ
 looked_at flags kind bytes = if kind == ptyp_string then compared flags (units_in bytes) else bytes
 
+-- the unit, if there is one
 abbrev pub option_list : Option ℕ → List ℕ
 option_list None = []
 option_list (Some u) = u ∷ []

@@ -30,6 +30,7 @@ abbrev pub rows_of : Option Tab → List (ℕ × List Val)
 rows_of None = []
 rows_of (Some t) = t.rows
 
+-- an object with these properties, rows of recipients and attachments
 abbrev pub asked : List Val → List (ℕ × List Val) → List Part → Subject
 asked props recipients parts = record { props = props; recipients = map (λ r. r.1) recipients; attachments = map (λ (p : Part). p.props) parts }
 
@@ -80,10 +81,12 @@ abbrev mutual
   eval (remark vs) s = true
   eval (comment vs r) s = eval r s
 
+  -- all of some restrictions hold
   pub all_hold : Restrs → Subject → Bool
   all_hold none s = true
   all_hold (more r rs) s = eval r s && all_hold rs s
 
+  -- some restriction of these holds
   pub some_holds : Restrs → Subject → Bool
   some_holds none s = false
   some_holds (more r rs) s = eval r s || some_holds rs s

@@ -15,16 +15,19 @@ use Rattle.restr_codec.specs.declared.restriction.Relation.TheVariants as relati
 unfoldable pub fixed_width : ℕ → Option ℕ
 fixed_width kind = if kind == ptyp_guid then Some 16 else in_cell kind
 
+-- the first is below the second
 abbrev pub is_below : Ordering → Bool
 is_below Less = true
 is_below Equal = false
 is_below Greater = false
 
+-- the first is above the second
 abbrev pub is_above : Ordering → Bool
 is_above Less = false
 is_above Equal = false
 is_above Greater = true
 
+-- they are equal
 abbrev pub is_same : Ordering → Bool
 is_same Less = false
 is_same Equal = true

@@ -27,10 +27,12 @@ abbrev mutual
   reached (remark vs) s = 1
   reached (comment vs r) s = suc (reached r s)
 
+  -- up to the first that doesn't hold
   pub reached_in_all : Restrs → Subject → ℕ
   reached_in_all none s = 0
   reached_in_all (more r rs) s = reached r s + (if eval r s then reached_in_all rs s else 0)
 
+  -- up to the first that holds
   pub reached_in_some : Restrs → Subject → ℕ
   reached_in_some none s = 0
   reached_in_some (more r rs) s = reached r s + (if eval r s then 0 else reached_in_some rs s)
@@ -56,6 +58,7 @@ abbrev mutual
   work (remark vs) n m = 1
   work (comment vs r) n m = suc (work r n m)
 
+  -- the work of some restrictions together
   pub work_of_all : Restrs → ℕ → ℕ → ℕ
   work_of_all none n m = 0
   work_of_all (more r rs) n m = work r n m + work_of_all rs n m
