@@ -1,0 +1,9 @@
+pub mod Counts
+pub mod FieldLaws
+pub mod PartBack
+pub mod PartFound
+pub mod ReadLaws
+pub mod SeveralLaws
+pub mod ValueBack
+pub mod ValueLaws
+pub mod WriteLaws

@@ -1,0 +1,4 @@
+pub mod Content
+pub mod Orders
+pub mod Eval
+pub mod Reached
