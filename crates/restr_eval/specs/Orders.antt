@@ -1,13 +1,13 @@
 -- How values of one kind stand to one another.
 use Rattle.std.specs.Borrow.{Bor}
-use Rattle.std.specs.Prelude.{ℕ, ◌≡◌, ◌<◌, ◌+◌, ◌*◌, ◌-◌, ◌%◌, ◌^◌, ◌==◌, Bool, true, false, not, List, [], ◌∷◌, length, Option, None, Some, if◌then◌else◌}
+use Rattle.std.specs.Prelude.{ℕ, ◌≡◌, ◌<◌, ◌+◌, ◌*◌, ◌-◌, ◌%◌, ◌^◌, ◌==◌, Bool, true, false, not, List, [], ◌∷◌, length, slice_index, Option, None, Some, if◌then◌else◌}
 use Rattle.std.specs.Ordering.{nat_cmp}
 use Rattle.std.specs.declared.cmp.Ordering.{Ordering}
 use Rattle.std.specs.declared.cmp.Ordering.TheVariants.{Less, Equal, Greater}
 use Rattle.std.specs.Cmp.Lexicographic.{slice_cmp}
 use Rattle.pst_base.specs.Fields.{number_at}
 use Rattle.mapi_values.specs.Columns.{in_cell}
-use Rattle.mapi_values.specs.Kinds.{ptyp_guid, ptyp_integer_16, ptyp_integer_32, ptyp_integer_64, ptyp_string, ptyp_time}
+use Rattle.mapi_values.specs.Kinds.{ptyp_boolean, ptyp_guid, ptyp_integer_16, ptyp_integer_32, ptyp_integer_64, ptyp_string, ptyp_time}
 use Rattle.restr_codec.specs.declared.restriction.Relation.{Relation}
 use Rattle.restr_codec.specs.declared.restriction.Relation.TheVariants as relations
 
@@ -52,11 +52,15 @@ units_in (a ∷ b ∷ bs) = (a + 256 * b) ∷ units_in bs
 abbrev pub shifted : ℕ → ℕ → ℕ
 shifted width n = (n + 128 * 256 ^ (width - 1)) % 256 ^ width
 
+-- a truth value is true where its byte isn't 0
+abbrev pub is_true : List ℕ → Bool
+is_true bytes = not (slice_index bytes 0 == 0)
+
 -- the numbers by which values of a kind are ordered, the first that differs deciding
 unfoldable pub ranks : ℕ → List ℕ → List ℕ
 ranks kind bytes = if kind == ptyp_integer_16 then shifted 2 (number_at 2 0 bytes) ∷ [] else if kind == ptyp_integer_32 then shifted 4 (number_at 4 0 bytes) ∷ []
     else if kind == ptyp_integer_64 then shifted 8 (number_at 8 0 bytes) ∷ [] else if kind == ptyp_time then number_at 8 0 bytes ∷ []
-    else if kind == ptyp_string then units_in bytes else bytes
+    else if kind == ptyp_boolean then (if is_true bytes then 1 else 0) ∷ [] else if kind == ptyp_string then units_in bytes else bytes
 
 -- how one value of a kind is ordered to another
 abbrev pub order : ℕ → List ℕ → List ℕ → Ordering

@@ -1,13 +1,14 @@
 //! How values of one kind stand to one another.
-ghost use Rattle.std.specs.Prelude.{◌≡◌, length, true};
+ghost use Rattle.std.specs.Prelude.{◌≡◌, ◌<◌, length, true};
 ghost use Rattle.std.specs.Ordering.{nat_cmp};
 ghost use Rattle.std.specs.Cmp.Lexicographic.{slice_cmp};
 ghost use Rattle.restr_codec.specs.Kinds.{has_width, value_width};
-ghost use Rattle.restr_eval.specs.Orders.{fixed_width, order, stands, units_in};
+ghost use Rattle.restr_eval.specs.Orders.{fixed_width, is_true, order, stands, units_in};
 
 use crate::text::first_unit;
 use mapi_values::tags::{
-    PTYP_GUID, PTYP_INTEGER_16, PTYP_INTEGER_32, PTYP_INTEGER_64, PTYP_STRING, PTYP_TIME,
+    PTYP_BOOLEAN, PTYP_GUID, PTYP_INTEGER_16, PTYP_INTEGER_32, PTYP_INTEGER_64, PTYP_STRING,
+    PTYP_TIME,
 };
 use pst_base::{u16_at, u32_at, u64_at};
 use restr_codec::Relation;
@@ -38,7 +39,15 @@ pub fn fixed_width(kind: u16) -> Option<usize>
     }
 }
 
-/// How one value of a kind is ordered to another, each as long as its kind says: numbers by size, of which all but times are signed, text by UTF-16 units, and others by bytes.
+/// Whether a truth value is true.
+fn is_true(bytes: &[u8]) -> bool
+    requires { 0 < length bytes.now }
+    ensures { result ≡ is_true bytes.now }
+{
+    bytes[0] != 0
+}
+
+/// How one value of a kind is ordered to another, each as long as its kind says: numbers by size, of which all but times are signed, false below true, text by UTF-16 units, and others by bytes.
 #[tactic(auto, unfolding(crate::specs::Orders::ranks, restr_codec::specs::Kinds::value_width))]
 pub fn order(kind: u16, a: &[u8], b: &[u8]) -> Ordering
     requires a { has_width (value_width kind) (length a.now) ≡ true }
@@ -56,6 +65,7 @@ pub fn order(kind: u16, a: &[u8], b: &[u8]) -> Ordering
             .wrapping_add(0x8000_0000_0000_0000)
             .cmp(&u64_at(b, 0).wrapping_add(0x8000_0000_0000_0000)),
         PTYP_TIME => u64_at(a, 0).cmp(&u64_at(b, 0)),
+        PTYP_BOOLEAN => u8::from(is_true(a)).cmp(&u8::from(is_true(b))),
         PTYP_STRING => order_of_text(a, b),
         _ => a.cmp(b),
     }
