@@ -1,8 +1,8 @@
 //! Prints what differs, and counts it.
-ghost use Rattle.std.specs.Prelude.{◌≡◌, ◌<◌, ◌+◌, ◌-◌, ◌^◌, min, [], OnOk};
+ghost use Rattle.std.specs.Prelude.{◌≡◌, ◌<◌, ◌≤◌, ◌+◌, ◌-◌, ◌^◌, min, [], OnOk};
 
 use crate::case::Case;
-use crate::running::{Outcome, first_difference};
+use crate::running::{Outcome, first_difference, first_missing};
 use crate::stops::BadStop;
 use std::{io, str};
 
@@ -35,12 +35,7 @@ impl<R: Print + AllocGlobal> Report<'_, R> {
         ensures said { OnOk result (self.old.tally.differ < 2 ^ 64 - 1 → case.now.has.items ≡ [] → self.new.tally.differ ≡ self.old.tally.differ → case.now.said.items ≡ outcome.now.said.items) }
         ensures exit { OnOk result (self.old.tally.differ < 2 ^ 64 - 1 → self.new.tally.differ ≡ self.old.tally.differ → case.now.exit ≡ outcome.now.exit) }
     {
-        if !case.has.is_empty() {
-            self.compare_lines(case, outcome)?;
-        } else if case.said.as_slice() != outcome.said.as_slice() {
-            let at = first_difference(case.said.as_slice(), outcome.said.as_slice());
-            self.reply(case, at.number, at.wanted, at.got)?;
-        }
+        self.compare_said(case, outcome)?;
         if case.exit != outcome.exit {
             self.begin(case)?;
             println!(self.rt; "wanted {:?}, got {:?}", case.exit, outcome.exit)?;
@@ -54,14 +49,18 @@ impl<R: Print + AllocGlobal> Report<'_, R> {
         Ok(())
     }
 
-    /// Prints each line that must be said and isn't.
-    fn compare_lines(&mut self, case: &Case, outcome: &Outcome) -> io::Result<()> {
-        for line in case.has.iter() {
-            let mut said = outcome.said.as_slice().split(|byte| *byte == b'\n');
-            if !said.any(|other| other == line.as_bytes()) {
-                self.begin(case)?;
-                println!(self.rt; "wanted a line `{line}`")?;
-            }
+    /// Prints where what was said isn't what must be.
+    fn compare_said(&mut self, case: &Case, outcome: &Outcome) -> io::Result<()>
+        ensures said { OnOk result (self.old.tally.differ < 2 ^ 64 - 1 → case.now.has.items ≡ [] → self.new.tally.differ ≡ self.old.tally.differ → case.now.said.items ≡ outcome.now.said.items) }
+        ensures no_less { OnOk result (self.old.tally.differ < 2 ^ 64 - 1 → self.old.tally.differ ≤ self.new.tally.differ) }
+    {
+        if let Some(line) = first_missing(case, outcome) {
+            self.begin(case)?;
+            return println!(self.rt; "wanted a line `{line}`");
+        }
+        if case.has.is_empty() && case.said.as_slice() != outcome.said.as_slice() {
+            let at = first_difference(case.said.as_slice(), outcome.said.as_slice());
+            return self.reply(case, at.number, at.wanted, at.got);
         }
         Ok(())
     }

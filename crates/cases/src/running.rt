@@ -117,6 +117,17 @@ pub fn run_case(alloc: Global, case: &Case, words: &str) -> Result<Outcome, Allo
     })
 }
 
+/// The first of the lines that must be among those said and isn't.
+pub fn first_missing<'a>(case: &Case<'a>, outcome: &Outcome) -> Option<&'a str> {
+    for line in case.has.iter() {
+        let mut said = outcome.said.as_slice().split(|byte| *byte == b'\n');
+        if !said.any(|other| other == line.as_bytes()) {
+            return Some(*line);
+        }
+    }
+    None
+}
+
 /// The first line in which two texts differ: its number from 1 on, and the line in each.
 #[derive(Clone, Copy, Debug)]
 pub struct LineDifference<'a> {
