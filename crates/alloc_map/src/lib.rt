@@ -18,8 +18,6 @@ mod overlap;
 mod placing;
 mod search;
 mod slots;
-#[cfg(test)]
-mod tests;
 
 pub use ends::end_for;
 pub use law::{places_taken, room_taken};

@@ -7,8 +7,6 @@
 
 mod block;
 mod sealing;
-#[cfg(test)]
-mod tests;
 
 pub use block::{BlockFault, BlockView, disk_size};
 pub use sealing::seal;

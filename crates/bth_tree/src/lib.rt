@@ -9,8 +9,6 @@ mod find;
 mod make;
 mod read;
 mod record;
-#[cfg(test)]
-mod tests;
 
 pub use find::bth_find;
 pub use make::bth_make;

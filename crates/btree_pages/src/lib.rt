@@ -8,8 +8,6 @@
 mod entry;
 mod inner;
 mod page;
-#[cfg(test)]
-mod tests;
 mod write;
 
 pub use entry::{BlockEntry, Entry, NodeEntry};

@@ -10,8 +10,6 @@ mod command;
 mod printing;
 mod reading;
 mod reply;
-#[cfg(test)]
-mod tests;
 mod words;
 
 pub use command::{Command, LineRefusal};

@@ -13,7 +13,5 @@ mod node;
 mod plan;
 mod put;
 mod read;
-#[cfg(test)]
-mod tests;
 
 pub use plan::{ContentPlan, plan_contents};

@@ -15,8 +15,6 @@ mod measure;
 mod memory;
 mod plan;
 mod source;
-#[cfg(test)]
-mod tests;
 mod tree;
 
 pub use data::read_data;

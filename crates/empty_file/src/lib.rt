@@ -8,7 +8,5 @@
 mod found;
 mod laying;
 mod parts;
-#[cfg(test)]
-mod tests;
 
 pub use laying::{LayStop, lay_empty};

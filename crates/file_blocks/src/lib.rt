@@ -8,8 +8,6 @@
 mod check;
 mod entries;
 mod source;
-#[cfg(test)]
-mod tests;
 
 pub use check::{BlockRefusal, BlockStop, check_block, has_room, read_block};
 pub use entries::{entry_index, find_entry};

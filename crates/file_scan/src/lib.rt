@@ -11,8 +11,6 @@ mod nodes;
 mod places;
 mod refs;
 mod scan;
-#[cfg(test)]
-mod tests;
 
 pub use nodes::NodeLine;
 pub use scan::{FoundFile, scan_file, scan_nodes};

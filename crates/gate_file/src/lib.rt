@@ -7,8 +7,6 @@
 mod commit;
 mod gate;
 mod recover;
-#[cfg(test)]
-mod tests;
 
 pub use commit::commit_header;
 pub use gate::{HEADER_LEN, SIDE_LEN, arm, disarm, fire, is_open, settle, write_through};

@@ -8,8 +8,6 @@
 mod draft;
 mod layout;
 mod maker;
-#[cfg(test)]
-mod tests;
 mod view;
 
 pub use maker::HeapMaker;

@@ -9,8 +9,6 @@ mod commands;
 mod opening;
 mod planned;
 mod store;
-#[cfg(test)]
-mod tests;
 
 pub use opening::open;
 pub use planned::Planned;

@@ -10,8 +10,6 @@ mod column;
 mod keyed;
 mod message;
 mod mirrors;
-#[cfg(test)]
-mod object_tests;
 mod part;
 mod props;
 mod rows;
@@ -19,8 +17,6 @@ mod sizes;
 mod spelling;
 mod table;
 pub mod tags;
-#[cfg(test)]
-mod tests;
 mod units;
 mod value;
 

@@ -11,8 +11,6 @@ mod kept;
 mod law;
 mod order;
 mod read;
-#[cfg(test)]
-mod tests;
 mod write;
 
 pub use fault::MessageFault;

@@ -13,8 +13,6 @@ mod guids;
 mod law;
 mod names;
 mod read;
-#[cfg(test)]
-mod tests;
 mod values;
 mod write;
 

@@ -11,8 +11,6 @@ mod folders;
 mod keys;
 mod making;
 mod tables;
-#[cfg(test)]
-mod tests;
 mod writing;
 
 pub use making::{NewStore, new_store};

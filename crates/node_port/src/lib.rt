@@ -11,8 +11,6 @@ mod keeper;
 mod map_keeper;
 mod node;
 mod slots;
-#[cfg(test)]
-mod tests;
 
 pub use keeper::{KeepStop, Keeper, NodeReader, PrepareStop, Saver};
 pub use map_keeper::{MapKeeper, MapReady};

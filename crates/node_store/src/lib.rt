@@ -10,8 +10,6 @@
 mod blocks;
 mod content;
 mod node;
-#[cfg(test)]
-mod tests;
 
 pub use blocks::TreeBlocks;
 pub use node::{BLOCK_PAGE, NODE_PAGE, PageCaches, keep_stop, next_node, read_node, tree_stop};

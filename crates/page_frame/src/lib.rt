@@ -7,8 +7,6 @@
 
 mod page;
 mod sealing;
-#[cfg(test)]
-mod tests;
 
 pub use page::PageView;
 pub use sealing::seal;

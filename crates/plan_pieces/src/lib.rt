@@ -11,8 +11,6 @@ mod blocks;
 mod names;
 mod pages;
 mod regions;
-#[cfg(test)]
-mod tests;
 
 pub use blocks::{seal_blocks, slots_of_blocks};
 pub use names::resolve_child;

@@ -8,8 +8,6 @@
 mod law;
 mod placing;
 mod read;
-#[cfg(test)]
-mod tests;
 mod value;
 mod write;
 

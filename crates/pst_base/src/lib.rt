@@ -15,8 +15,6 @@ mod steps;
 mod stops;
 mod subs;
 mod tables;
-#[cfg(test)]
-mod tests;
 
 pub use blocks::Blocks;
 pub use bytes::Bytes;

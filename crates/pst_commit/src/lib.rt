@@ -10,8 +10,6 @@ mod keeper;
 mod opening;
 mod save;
 mod store;
-#[cfg(test)]
-mod tests;
 mod writes;
 
 pub use apply::apply_pieces;

@@ -9,8 +9,6 @@ mod codec;
 mod fields;
 mod header;
 mod layout;
-#[cfg(test)]
-mod tests;
 
 pub use codec::{read, write};
 pub use fields::new_header;

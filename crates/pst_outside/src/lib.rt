@@ -13,8 +13,6 @@ mod outside;
 mod parts;
 mod record;
 mod sure;
-#[cfg(test)]
-mod tests;
 
 pub use crash::Pick;
 pub use files::FileWorld;

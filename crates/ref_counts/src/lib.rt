@@ -7,7 +7,5 @@
 
 mod entries;
 mod table;
-#[cfg(test)]
-mod tests;
 
 pub use table::{RefChange, RefCounts};

@@ -9,8 +9,6 @@ mod fields;
 mod leaves;
 mod reading;
 mod restriction;
-#[cfg(test)]
-mod tests;
 mod values;
 mod writing;
 

@@ -9,8 +9,6 @@ mod content;
 mod holding;
 mod leaves;
 mod orders;
-#[cfg(test)]
-mod tests;
 mod text;
 mod values;
 

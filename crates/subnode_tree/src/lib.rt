@@ -15,8 +15,6 @@ mod law;
 mod plan;
 mod subs;
 mod tables;
-#[cfg(test)]
-mod tests;
 mod walk;
 
 pub use bids::read_sub_bids;

@@ -14,8 +14,6 @@ mod kept;
 mod law;
 mod read;
 mod rows;
-#[cfg(test)]
-mod tests;
 
 pub use fault::TcFault;
 pub use law::one_table;

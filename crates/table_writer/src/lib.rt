@@ -6,8 +6,6 @@
 #![tactic(auto)]
 
 mod row;
-#[cfg(test)]
-mod tests;
 mod value;
 mod woven;
 mod write;

@@ -14,8 +14,6 @@ mod page;
 mod plan;
 mod root;
 mod source;
-#[cfg(test)]
-mod tests;
 
 pub use edits::are_edits;
 pub use look::look_up;

@@ -9,8 +9,6 @@ mod hex;
 mod numbers;
 mod printing;
 mod reading;
-#[cfg(test)]
-mod tests;
 mod unit_bytes;
 
 pub use hex::{push_hex, read_hex};

@@ -7,7 +7,5 @@
 
 mod counts;
 mod fit;
-#[cfg(test)]
-mod tests;
 
 pub use fit::{message_fits, props_fit, table_fits};

@@ -1,0 +1,5 @@
+use Rattle.base_tests.proofs.restr_eval_test.holds.Given as goal
+
+-- the ledger of the steps is the one that is opened here
+abbrev pub ghosts-holds_over : goal.ghosts-holds_over
+ghosts-holds_over a = record { name = a.blank.name; parts = a.blank.parts }

@@ -1,0 +1,9 @@
+use Rattle.std.proofs.Common.{◌≡◌, ◌+◌, ◌*◌, length}
+use Rattle.subnode_tree.proofs.MadeLaws.{Made}
+use Rattle.tree_tests.proofs.subnode_tree_test.flat.Given as goal
+
+abbrev pub invariant-loop-i : goal.invariant-loop-i
+invariant-loop-i l = record {
+  made : Made 0 l.subs.items (0x21 + 0x20 * l.i);
+  count : length l.subs.items ≡ l.i;
+}
