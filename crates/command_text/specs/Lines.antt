@@ -4,10 +4,10 @@ use Rattle.std.specs.Str.{is_utf8}
 use Rattle.value_text.specs.Forms.{value_said}
 use Rattle.value_text.specs.Numbers.{magnitude}
 use Rattle.command_text.specs.declared.command.Command.{Command}
-use Rattle.command_text.specs.declared.command.Command.TheVariants.{MakeFolder, RenameFolder, MoveFolder, RemoveFolder, ListFolder, NewMessage, SetProperty, UnsetProperty, GetProperty, ListProperties, MoveMessage, CopyMessage, RemoveMessage, Save, Quit}
+use Rattle.command_text.specs.declared.command.Command.TheVariants.{MakeFolder, RenameFolder, MoveFolder, RemoveFolder, ListFolder, NewMessage, SetProperty, UnsetProperty, GetProperty, ListProperties, MoveMessage, CopyMessage, RemoveMessage, AddRecipient, RemoveRecipient, Save, Quit}
 use Rattle.command_text.specs.declared.command.LineRefusal.{LineRefusal}
 use Rattle.command_text.specs.declared.command.LineRefusal.TheVariants.{Line, Value}
-use Rattle.command_text.specs.Words.{cut, name_of, tag_of}
+use Rattle.command_text.specs.Words.{cut, name_of, recipient_type, row_of, tag_of}
 use Rattle.command_text.specs.Arguments.{◌>>=◌, one_id, two_ids, id_and_tag, id_and_name}
 
 -- mkdir: the parent's id, and the name, spaces and all
@@ -96,6 +96,26 @@ remove_message rest = do
   message ← one_id rest
   Ok (RemoveMessage message)
 
+-- rcpt: the message's id, the type, the address, which is of the form of a name, and the name, spaces and all; these two are looked at last
+unfoldable pub add_recipient : List ℕ → Result Command LineRefusal
+add_recipient rest = do
+  words ← ok_or (cut rest) Line
+  message ← one_id words.0
+  others ← ok_or (cut words.1) Line
+  kind ← ok_or (recipient_type others.0) Line
+  texts ← ok_or (cut others.1) Line
+  address ← ok_or (name_of texts.0) Value
+  name ← ok_or (name_of texts.1) Value
+  Ok (AddRecipient message kind address name)
+
+-- unrcpt: the message's id, and the row
+unfoldable pub remove_recipient : List ℕ → Result Command LineRefusal
+remove_recipient rest = do
+  words ← ok_or (cut rest) Line
+  message ← one_id words.0
+  row ← ok_or (row_of words.1) Line
+  Ok (RemoveRecipient message row)
+
 -- a line without a space
 unfoldable pub one_word : List ℕ → Result Command LineRefusal
 one_word word =
@@ -119,7 +139,9 @@ with_arguments word rest =
     else (if bytes_eq word (codes "mv") then move_message rest
     else (if bytes_eq word (codes "cp") then copy_message rest
     else (if bytes_eq word (codes "rm") then remove_message rest
-    else Err Line))))))))))))
+    else (if bytes_eq word (codes "rcpt") then add_recipient rest
+    else (if bytes_eq word (codes "unrcpt") then remove_recipient rest
+    else Err Line))))))))))))))
 
 -- the line is cut at its first space, if it has one
 abbrev pub cut_line : List ℕ → Option (List ℕ × List ℕ) → Result Command LineRefusal

@@ -5,6 +5,7 @@ use Rattle.std.specs.Char.{is_digit}
 use Rattle.std.specs.Str.Parse.{digits_value}
 use Rattle.mapi_values.specs.Spelling.{units_of}
 use Rattle.mapi_values.specs.declared.value.Tag.{Tag}
+use Rattle.value_text.specs.Numbers.{magnitude}
 
 -- what stands before and after the first space, if there is one
 unfoldable pub cut : List ℕ → Option (List ℕ × List ℕ)
@@ -36,6 +37,18 @@ tag_digits ds = if length ds == 8 then option_map tag_from (hex_value ds) else N
 unfoldable pub tag_of : List ℕ → Option Tag
 tag_of (a ∷ b ∷ ds) = if (a == 48) && (b == 120) then tag_digits ds else None
 tag_of word = None
+
+-- the number that decimal digits write, if it is at most the last one
+unfoldable pub number_to : ℕ → List ℕ → Option ℕ
+number_to last word = option_and_then (λ n. if nat_le n last then Some n else None) (magnitude word)
+
+-- the type of a recipient: a number up to 3
+unfoldable pub recipient_type : List ℕ → Option ℕ
+recipient_type word = number_to 3 word
+
+-- the row of a table: a number below 2^32
+unfoldable pub row_of : List ℕ → Option ℕ
+row_of word = number_to 4294967295 word
 
 -- the units of a name: a text with good escapes, of 1 to 255 units
 unfoldable pub name_of : List ℕ → Option (List ℕ)

@@ -67,6 +67,18 @@ pub enum Command {
     RemoveMessage {
         message: Nid,
     },
+    /// `rcpt M TYPE ADDR NAME`: the message M gets a recipient of a type from 0 to 3.
+    AddRecipient {
+        message: Nid,
+        kind: u32,
+        address: Units,
+        name: Units,
+    },
+    /// `unrcpt M ROW`: the recipient in that row of the message M goes.
+    RemoveRecipient {
+        message: Nid,
+        row: u32,
+    },
     /// `save`: what is known of the file is written down in full.
     Save,
     /// `quit`: the session ends.

@@ -162,6 +162,7 @@ fn push_last(alloc: Global, text: &mut String, last: &LastLine) -> Result<(), Al
             push_id(text, *id)?;
         }
         LastLine::Count(count) => write!(text, "ok {count}")?,
+        LastLine::Row(row) => write!(text, "ok {row}")?,
         LastLine::Value(value) => {
             text.push_str("ok ")?;
             text.push_str(value_text(alloc, value)?.as_str())?;

@@ -1,10 +1,10 @@
 //! A line read as a command.
 ghost use Rattle.pst_base.specs.Stops.{Gives};
-ghost use Rattle.command_text.specs.Lines.{make_folder, rename_folder, move_folder, remove_folder, list_folder, new_message, set_property, unset_property, get_property, list_properties, move_message, copy_message, remove_message, one_word, with_arguments, command};
+ghost use Rattle.command_text.specs.Lines.{make_folder, rename_folder, move_folder, remove_folder, list_folder, new_message, set_property, unset_property, get_property, list_properties, move_message, copy_message, remove_message, add_recipient, remove_recipient, one_word, with_arguments, command};
 
 use crate::arguments::{id_and_name, id_and_tag, one_id, two_ids};
 use crate::command::{Command, LineRefusal};
-use crate::words::{as_text, cut, read_name, read_tag};
+use crate::words::{as_text, cut, read_name, read_recipient_type, read_row, read_tag};
 use pst_base::MemOr;
 use std::alloc::Global;
 use value_text::{magnitude, parse_value};
@@ -153,6 +153,49 @@ fn remove_message(rest: &str) -> Result<Command, MemOr<LineRefusal>>
     Ok(Command::RemoveMessage { message })
 }
 
+/// What stands behind `rcpt `: the message's id, the type, the address, and the name, spaces and all. Address and name are looked at last, since another fault of the line comes before them.
+#[tactic(auto, unfolding(crate::specs::Lines::add_recipient))]
+fn add_recipient(alloc: Global, rest: &str) -> Result<Command, MemOr<LineRefusal>>
+    ensures { Gives (λ c. c) result (add_recipient rest.now) }
+{
+    let Some((message, rest)) = cut(rest) else {
+        return Err(MemOr::Refused(LineRefusal::Line));
+    };
+    let message = one_id(message)?;
+    let Some((kind, rest)) = cut(rest) else {
+        return Err(MemOr::Refused(LineRefusal::Line));
+    };
+    let Some(kind) = read_recipient_type(kind) else {
+        return Err(MemOr::Refused(LineRefusal::Line));
+    };
+    let Some((address, name)) = cut(rest) else {
+        return Err(MemOr::Refused(LineRefusal::Line));
+    };
+    let address = read_name(alloc, address)?;
+    let name = read_name(alloc, name)?;
+    Ok(Command::AddRecipient {
+        message,
+        kind,
+        address,
+        name,
+    })
+}
+
+/// What stands behind `unrcpt `: the message's id, and the row.
+#[tactic(auto, unfolding(crate::specs::Lines::remove_recipient))]
+fn remove_recipient(rest: &str) -> Result<Command, MemOr<LineRefusal>>
+    ensures { Gives (λ c. c) result (remove_recipient rest.now) }
+{
+    let Some((message, row)) = cut(rest) else {
+        return Err(MemOr::Refused(LineRefusal::Line));
+    };
+    let message = one_id(message)?;
+    match read_row(row) {
+        Some(row) => Ok(Command::RemoveRecipient { message, row }),
+        None => Err(MemOr::Refused(LineRefusal::Line)),
+    }
+}
+
 /// A line without a space.
 #[tactic(auto, unfolding(crate::specs::Lines::one_word))]
 fn one_word(word: &str) -> Result<Command, MemOr<LineRefusal>>
@@ -184,13 +227,15 @@ fn with_arguments(alloc: Global, word: &str, rest: &str) -> Result<Command, MemO
         "mv" => move_message(rest),
         "cp" => copy_message(rest),
         "rm" => remove_message(rest),
+        "rcpt" => add_recipient(alloc, rest),
+        "unrcpt" => remove_recipient(rest),
         _ => Err(MemOr::Refused(LineRefusal::Line)),
     }
 }
 
 /// The command that a line is, without its LF. A line is cut at each single space, so that two spaces make an empty word; a name or a value runs to the end of the line.
 ///
-/// `Line` says that it isn't UTF-8 or is none of the forms: that its first word or the number of its words is another one, that an id isn't `0x` and 1 to 8 hex digits, that a tag isn't `0x` and 8 of them, or that a time isn't decimal digits of a number below 2^64. `Value` says that only a name, a class or a value in it isn't of its form: a name and a class are text with good escapes, of 1 to 255 units; a value is what `parse_value` says of its tag.
+/// `Line` says that it isn't UTF-8 or is none of the forms: that its first word or the number of its words is another one, that an id isn't `0x` and 1 to 8 hex digits, that a tag isn't `0x` and 8 of them, or that a time isn't decimal digits of a number below 2^64, a row of one below 2^32, or a recipient's type of one up to 3. `Value` says that only a name, a class, an address or a value in it isn't of its form: a name, a class and an address are text with good escapes, of 1 to 255 units; a value is what `parse_value` says of its tag.
 #[tactic(auto, unfolding(crate::specs::Lines::command))]
 pub fn read_line(alloc: Global, line: &[u8]) -> Result<Command, MemOr<LineRefusal>>
     ensures { Gives (λ c. c) result (command line.now) }

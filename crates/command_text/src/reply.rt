@@ -160,6 +160,8 @@ pub enum LastLine {
     Made(Nid),
     /// `ok` and how many lines of data stand before it.
     Count(u64),
+    /// `ok` and the row of a recipient.
+    Row(u32),
     /// `ok` and a value.
     Value(Value),
     /// `no` and the refusal.

@@ -3,12 +3,13 @@ ghost use Rattle.std.specs.Prelude.{◌≡◌, ◌≤◌, ◌<◌, Bool, true, f
 ghost use Rattle.std.specs.Str.{is_utf8};
 ghost use Rattle.pst_base.specs.Stops.{Gives};
 ghost use Rattle.command_text.specs.declared.command.LineRefusal.{LineRefusal};
-ghost use Rattle.command_text.specs.Words.{cut, hex_value, hex_number, id_of, tag_digits, tag_of, name_of};
+ghost use Rattle.command_text.specs.Words.{cut, hex_value, hex_number, id_of, tag_digits, tag_of, name_of, number_to, recipient_type, row_of};
 
 use crate::command::LineRefusal;
 use mapi_values::{Tag, Units, parse_units};
 use pst_base::{MemOr, Nid};
 use std::alloc::Global;
+use value_text::magnitude;
 
 /// The text that bytes are, if they are UTF-8.
 pub fn as_text(line: &[u8]) -> Option<&str>
@@ -95,6 +96,39 @@ pub fn read_tag(word: &str) -> Option<Tag>
         [b'0', b'x', digits @ ..] => tag_digits(digits),
         _ => None,
     }
+}
+
+/// The number that decimal digits write, if it is at most the last one.
+#[tactic(auto, unfolding(crate::specs::Words::number_to))]
+fn number_to(last: u32, word: &str) -> Option<u32>
+    ensures { result ≡ number_to last word.now }
+{
+    match magnitude(word) {
+        Some(number) => {
+            if number <= u64::from(last) {
+                Some(number as u32)
+            } else {
+                None
+            }
+        }
+        None => None,
+    }
+}
+
+/// The type of a recipient ([MS-OXCMSG] 2.2.3.1.2) that a word writes in decimal, a number up to 3.
+#[tactic(auto, unfolding(crate::specs::Words::recipient_type))]
+pub fn read_recipient_type(word: &str) -> Option<u32>
+    ensures { result ≡ recipient_type word.now }
+{
+    number_to(3, word)
+}
+
+/// The row of a table that a word writes in decimal, a number below 2^32.
+#[tactic(auto, unfolding(crate::specs::Words::row_of))]
+pub fn read_row(word: &str) -> Option<u32>
+    ensures { result ≡ row_of word.now }
+{
+    number_to(u32::MAX, word)
 }
 
 /// The units of a name: a text with good escapes, of 1 to 255 units.

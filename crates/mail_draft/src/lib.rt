@@ -23,7 +23,7 @@ pub use draft::Draft;
 pub use ending::finish;
 pub use ids::{new_id, next_index};
 pub use outcome::Outcome;
-pub use outcomes::{changing, making, moving};
+pub use outcomes::{changing, making, moving, replying};
 pub use read::{context_at, message_at, table_at};
 pub use rows::{add_shown, drop_shown, put_shown};
 pub use settle::{counted, mirrored, settled, with_context};

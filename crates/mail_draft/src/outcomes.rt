@@ -3,7 +3,7 @@ ghost use Rattle.std.specs.Prelude.{◌≡◌, ◌<◌, ◌≤◌, IfErr, OnOk};
 ghost use Rattle.command_text.specs.declared.reply.CommandRefusal.TheVariants.{Ids};
 ghost use Rattle.command_text.specs.declared.reply.LastLine.TheVariants.{Done};
 ghost use Rattle.mail_tree.specs.Changing.{refused_if};
-ghost use Rattle.mail_tree.specs.Folders.{changing, making, moving, replied};
+ghost use Rattle.mail_tree.specs.Folders.{changing, making, moving, replied, replying};
 ghost use Rattle.mail_tree.specs.Ids.{is_spent};
 ghost use Rattle.mail_tree.specs.Tree.{Tree};
 ghost use Rattle.mail_draft.specs.Answers.{IsRefused, Says};
@@ -32,6 +32,28 @@ pub fn changing(alloc: Global, draft: Draft) -> Result<Outcome, Stop>
         last: None,
         reply: Reply::without_data(alloc, LastLine::Done),
     })
+}
+
+/// The outcome of changes that leave the folders where they are, with a reply of one line. Refused where they pass a limit, and then for another reason if there is one.
+pub fn replying(
+    alloc: Global,
+    draft: Draft,
+    reason: Option<CommandRefusal>,
+    last: LastLine,
+) -> Result<Outcome, Stop>
+    ensures answer { (T : Tree) → Says (outcome_of T) (replying T reason (replied last) (changed_of draft)) result }
+    ensures refused { IfErr result IsRefused }
+{
+    within_limits(&draft)?;
+    match reason {
+        Some(refusal) => Err(Stop::Refused(refusal)),
+        None => Ok(Outcome {
+            draft,
+            places: None,
+            last: None,
+            reply: Reply::without_data(alloc, last),
+        }),
+    }
 }
 
 /// The outcome of changes with which folders come, go or move. Refused where they pass a limit.

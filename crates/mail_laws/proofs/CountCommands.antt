@@ -1,4 +1,7 @@
 -- After each command counts are right, where they were so before or were set anew.
+use Rattle.command_text.specs.declared.reply.LastLine.{LastLine}
+use Rattle.command_text.specs.declared.reply.Limit.TheVariants.{Rows}
+use Rattle.command_text.specs.declared.reply.CommandRefusal.{CommandRefusal}
 use Rattle.std.proofs.Common.{◌≡◌, ℕ, ◌%◌, ◌<◌, ◌==◌, ◌||◌, Bool, true, false, not, nat_le, filter, List, [], Option, None, Some, IfOk, IsSome, is_some, arith, refl, sym, subst, ap, ◌∙◌, ◌⊎◌, inl, inr}
 use Rattle.std.proofs.lemmas.Bool.{and_left, cases_Bool, cases_eq, ne_eqb}
 use Rattle.std.proofs.lemmas.Option.{none-some, same_Some}
@@ -10,8 +13,8 @@ use Rattle.mapi_values.specs.Tables.{find_row}
 use Rattle.mapi_values.specs.Values.{Val}
 use Rattle.mapi_values.specs.declared.value.Tag.{Tag}
 use Rattle.command_text.specs.declared.command.Command.{Command}
-use Rattle.command_text.specs.declared.command.Command.TheVariants.{MakeFolder, RenameFolder, MoveFolder, RemoveFolder, ListFolder, NewMessage, SetProperty, UnsetProperty, GetProperty, ListProperties, MoveMessage, CopyMessage, RemoveMessage, Save, Quit}
-use Rattle.command_text.specs.declared.reply.LastLine.TheVariants.{Done}
+use Rattle.command_text.specs.declared.command.Command.TheVariants.{MakeFolder, RenameFolder, MoveFolder, RemoveFolder, ListFolder, NewMessage, SetProperty, UnsetProperty, GetProperty, ListProperties, MoveMessage, CopyMessage, RemoveMessage, AddRecipient, RemoveRecipient, Save, Quit}
+use Rattle.command_text.specs.declared.reply.LastLine.TheVariants.{Done, Row}
 use Rattle.command_text.specs.declared.reply.Reply.{Reply}
 use Rattle.mail_objects.specs.Forms.{Ctx, Tbl}
 use Rattle.mail_objects.specs.declared.object.Object.{Object}
@@ -20,13 +23,14 @@ use Rattle.mail_tree.specs.declared.places.FolderPlace.{FolderPlace}
 use Rattle.mail_tree.specs.Places.{ROOT, children, find_place, is_child, is_deep, is_plain, is_within, moves_deep, place_id}
 use Rattle.mail_tree.specs.Tree.{Tree}
 use Rattle.mail_tree.specs.Values.{bytes_of, finished, folder_props, is_set_protected, is_unset_protected, message_props, name_of, text, truth, with_props}
-use Rattle.command_text.specs.declared.reply.CommandRefusal.TheVariants.{Ids}
+use Rattle.command_text.specs.declared.reply.CommandRefusal.TheVariants.{Ids, Limit, Object as NoObject}
 use Rattle.mail_tree.specs.Changing.{Answer, Changed, ◌>>=◌, add_shown, associated, beside, contents, context_at, drop_shown, hierarchy, nothing, now_at, put_shown, table_at, with_object, within_limits}
 use Rattle.mail_tree.specs.Columns.{contents_table, hierarchy_table}
 use Rattle.mail_tree.specs.Settling.{message_ids, mirrored, settled, with_context}
 use Rattle.mail_tree.specs.Ids.{folder_kinds, is_spent, is_taken, message_kinds, new_id, next_index}
 use Rattle.mail_tree.specs.Folders.{Outcome, associated_in, changing, folder_lines, has_associated, has_rows, listing, made_folder, making, making_folder, moved_between, moved_folder, place, removed_folder, without_folder, without_node, message_lines, moving, renamed_folder, replied, siblings, unless_full, unless_named, unless_protected, with_folder}
-use Rattle.mail_tree.specs.Messages.{added_message, changed_message, copied_message, copy_of, copying, details, in_folder, is_crowded_message, is_overfull, making_message, message_in, moved_message, new_message, plain_message, removed_message, set_value, unset_value, value_in, value_of, with_message}
+use Rattle.mail_tree.specs.Messages.{added_message, added_recipient, adding_recipient, changed_message, copied_message, copy_of, copying, details, in_folder, is_crowded_message, is_overfull, making_message, message_in, moved_message, new_message, plain_message, remaking, removed_message, removed_recipient, set_value, spent_row, unset_value, value_in, value_of, with_message}
+use Rattle.mail_tree.specs.Parts.{has_recipient, is_full, is_wide, new_row, next_row, recipient_props, recipient_tags, rows_of, with_recipient, without_recipient}
 use Rattle.mail_laws.specs.Laws.{AreCountedBut, IsCounted}
 use Rattle.mail_tree.proofs.AfterTree.{puts_object, puts_values}
 use Rattle.mail_tree.proofs.FineLaws.{cases_Option}
@@ -36,7 +40,7 @@ use Rattle.mail_tree.proofs.KeyedFinds.{find-put_same, find-put_other, find-drop
 use Rattle.mail_laws.proofs.FolderSteps.{beside_apart, fine_protected, not_placed}
 use Rattle.mail_laws.proofs.NewIds.{new_folder_id}
 use Rattle.mail_tree.specs.Step.{outcome}
-use Rattle.mail_laws.proofs.Keeping.{from_fine, if_any, if_test, if_then, if_weaker, never_made}
+use Rattle.mail_laws.proofs.Keeping.{from_fine, if_any, if_test, if_then, if_weaker, never_made, if_replying}
 use Rattle.mail_tree.proofs.KindsOfPuts.{beside_kind, same_table}
 use Rattle.mail_laws.proofs.MessageSteps.{Before, fine_message_in, finished_folder, finished_id, home_of, new_message_id}
 use Rattle.mail_laws.proofs.MirrorSteps.{if_context}
@@ -111,24 +115,43 @@ module _ (T : Tree) (w : Before T) (E : ℕ → Type 0) (s : AreCountedBut E T.p
       (message_put nothing D m F None h.1 s (puts_object T nothing m None) (λ c e. none-some (Context c) e) (only_home m M h.0 h.1)))))
       (λ o k. (M, h.0, k)))
 
-  changes : (m : ℕ) (M : Mes) (props : List Val) → now_at T nothing m ≡ Some (Message M) → m % 32 ≡ 4 → IfOk (changed_message T M props) (Ends M.folder)
-  unfolding changed_message
-  changes m M props is four =
-      let N = finished (with_props props M) in
-      let D = with_message M N nothing in let v = home_of T w m M is in
-      let nid : N.nid ≡ m = finished_id (with_props props M) ∙ v.0 in
+  remakes : (m : ℕ) (M new : Mes) (crowded : Bool) (reason : Option CommandRefusal) (last : LastLine) → now_at T nothing m ≡ Some (Message M) → m % 32 ≡ 4 → new.nid ≡ M.nid → new.folder ≡ M.folder → IfOk (remaking T M new crowded reason last) (Ends M.folder)
+  unfolding remaking
+  remakes m M new crowded reason last is four same there =
+      let N = finished new in
+      let D0 = record nothing { crowded = crowded } in
+      let D = with_message M N D0 in let v = home_of T w m M is in
+      let nid : N.nid ≡ m = finished_id new ∙ same ∙ v.0 in
       let four' : N.nid % 32 ≡ 4 = ap (λ x. x % 32) nid ∙ four in
-      let folder : N.folder ≡ M.folder = finished_folder (with_props props M) in
+      let folder : N.folder ≡ M.folder = finished_folder new ∙ there in
       let F = N.folder in
       let found : find_place F T.places ≡ Some v.1 = ap (λ x. find_place x T.places) folder ∙ v.2 in
       let two = ids F v.1 found v.3 in
       let E1 : ℕ → Type 0 = λ x. E x ⊎ (x ≡ F) in
       let a = put_shown T (contents F) N.nid N.props D in
-      subst (λ x. IfOk (a >>= settled T T.places F >>= changing T (replied Done)) (Ends x)) folder
-      (changing_ends F (a >>= settled T T.places F) (replied Done) (then_counts T T.places ids E1 a F two
+      if_replying T (a >>= settled T T.places F) reason (replied last) (Ends M.folder) (subst (λ x. IfOk (a >>= settled T T.places F >>= changing T (replied last)) (Ends x)) folder
+      (changing_ends F (a >>= settled T T.places F) (replied last) (then_counts T T.places ids E1 a F two
       (put_counts T T.places ids E1 D (contents F) N.nid N.props (contents_high F) (own_contents T T.places ids E1 F two (inr refl))
-      (message_put nothing D N.nid F (Some (Message N)) four' s (puts_values T nothing N.nid (Message N) M.props N.props) (λ c e. cc)
-      (λ f q u e plain at_u row. only_home N.nid M (ap (now_at T nothing) nid ∙ is) four' f q u e plain at_u row ∙ sym folder)))))
+      (message_put D0 D N.nid F (Some (Message N)) four' s (puts_values T D0 N.nid (Message N) M.props N.props) (λ c e. cc)
+      (λ f q u e plain at_u row. only_home N.nid M (ap (now_at T nothing) nid ∙ is) four' f q u e plain at_u row ∙ sym folder))))))
+
+  changes : (m : ℕ) (M : Mes) (props : List Val) → now_at T nothing m ≡ Some (Message M) → m % 32 ≡ 4 → IfOk (changed_message T M props) (Ends M.folder)
+  unfolding changed_message
+  changes m M props is four = remakes m M (with_props props M) false None Done is four refl refl
+
+  pub adds_recipient : (m kind : ℕ) (address name : List ℕ) → IfOk (added_recipient T m kind address name) (Home m)
+  unfolding added_recipient adding_recipient Home
+  adds_recipient m kind address name = if_then _ (Home m) (message_in T m) _ (from_fine _ (message_in T m) (fine_message_in T m w)) (λ M h.
+      let row = next_row (rows_of M.recipients) in
+      let new = with_recipient (new_row row) (recipient_props kind address name) M in
+      if_test (Home m) (is_full M.recipients) (Limit Rows) _ (if_test (Home m) (is_wide recipient_tags M.recipients) (Limit Rows) _ (if_weaker (Ends M.folder) (Home m) (remaking T M new false (spent_row row) (Row (new_row row)))
+      (remakes m M new false (spent_row row) (Row (new_row row)) h.0 h.1 refl refl) (λ o k. (M, h.0, k)))))
+
+  pub removes_recipient : (m row : ℕ) → IfOk (removed_recipient T m row) (Home m)
+  unfolding removed_recipient Home
+  removes_recipient m row = if_then _ (Home m) (message_in T m) _ (from_fine _ (message_in T m) (fine_message_in T m w)) (λ M h.
+      if_test (Home m) (not (has_recipient row M)) NoObject _ (if_weaker (Ends M.folder) (Home m) (remaking T M (without_recipient row M) false None Done)
+      (remakes m M (without_recipient row M) false None Done h.0 h.1 refl refl) (λ o k. (M, h.0, k))))
 
   pub sets : (m : ℕ) (v : Val) → IfOk (set_value T m v) (Home m)
   unfolding set_value Home
@@ -499,5 +522,7 @@ module _ (T : Tree) (w : Before T) (E : ℕ → Type 0) (s : AreCountedBut E T.p
   counted_after (MoveMessage message folder) = moves message.bits folder.bits
   counted_after (CopyMessage message folder) = if_weaker (Ends folder.bits) Keeps (copied_message T message.bits folder.bits) (copies message.bits folder.bits) (λ o k. fewer folder.bits o k)
   counted_after (RemoveMessage message) = if_weaker (Home message.bits) Keeps (removed_message T message.bits) (removes message.bits) (λ o k. home_fewer message.bits o k)
+  counted_after (AddRecipient message kind address name) = if_weaker (Home message.bits) Keeps (added_recipient T message.bits kind address name) (adds_recipient message.bits kind address name) (λ o k. home_fewer message.bits o k)
+  counted_after (RemoveRecipient message row) = if_weaker (Home message.bits) Keeps (removed_recipient T message.bits row) (removes_recipient message.bits row) (λ o k. home_fewer message.bits o k)
   counted_after Save = s
   counted_after Quit = s

@@ -1,22 +1,28 @@
 -- What each command on messages makes of them.
-use Rattle.std.proofs.Common.{◌≡◌, ℕ, ◌%◌, ◌==◌, ◌||◌, Bool, true, false, nat_le, List, Option, None, Some, IfOk, is_some, Ok, arith, refl, sym, subst, ap, ◌∙◌, inl, inr}
-use Rattle.std.proofs.lemmas.Bool.{cases_Bool, cases_eq, eq-eqb, eqb-true, eqb-false, or_parts}
+use Rattle.mapi_values.specs.Tables.{find_row}
+use Rattle.command_text.specs.declared.reply.LastLine.{LastLine}
+use Rattle.command_text.specs.declared.reply.Limit.TheVariants.{Rows}
+use Rattle.command_text.specs.declared.reply.CommandRefusal.TheVariants.{Limit, Object as NoObject}
+use Rattle.command_text.specs.declared.reply.CommandRefusal.{CommandRefusal}
+use Rattle.std.proofs.Common.{◌≡◌, ℕ, ◌%◌, ◌==◌, ◌||◌, Bool, true, false, nat_le, List, Option, None, Some, IfOk, is_some, Ok, arith, refl, sym, subst, ap, ◌∙◌, inl, inr, not, [], ◌∷◌, ◌≤◌}
+use Rattle.std.proofs.lemmas.Bool.{cases_Bool, cases_eq, eq-eqb, eqb-true, eqb-false, or_parts, ne_eqb, ltb-false}
 use Rattle.mapi_values.specs.Messages.{Mes, size}
 use Rattle.mapi_values.specs.Properties.{find, put, remove_id}
 use Rattle.mapi_values.specs.Values.{Val}
 use Rattle.mapi_values.specs.declared.value.Tag.{Tag}
-use Rattle.command_text.specs.declared.reply.LastLine.TheVariants.{Done, Made}
+use Rattle.command_text.specs.declared.reply.LastLine.TheVariants.{Done, Made, Row}
 use Rattle.mail_objects.specs.declared.object.Object.{Object}
 use Rattle.mail_objects.specs.declared.object.Object.TheVariants.{Context, Table, Message}
 use Rattle.mail_tree.specs.declared.places.FolderPlace.{FolderPlace}
 use Rattle.mail_tree.specs.Places.{find_place, is_plain}
 use Rattle.mail_tree.specs.Tree.{Tree, object_at}
 use Rattle.mail_tree.specs.Values.{bytes_of, finished, has_object, has_parts, is_own_id, is_set_protected, is_unset_protected, message_props, number, number_of, text, time_value, with_attachment_flag, with_flag, with_props}
-use Rattle.mail_tree.specs.Changing.{◌>>=◌, add_shown, as_message, contents, drop_shown, nothing, now_at, put_shown, with_object}
+use Rattle.mail_tree.specs.Changing.{◌>>=◌, add_shown, as_message, contents, drop_shown, nothing, now_at, put_shown, with_object, within_limits}
 use Rattle.mail_tree.specs.Settling.{settled}
 use Rattle.mail_tree.specs.Ids.{is_spent, message_kinds, new_id, next_index}
 use Rattle.mail_tree.specs.Folders.{Outcome, changing, making, nid, replied, unless_full}
-use Rattle.mail_tree.specs.Messages.{added_message, changed_message, copied_message, copy_of, copying, in_folder, is_crowded_message, is_overfull, making_message, message_in, moved_message, new_message, plain_message, removed_message, set_value, unset_value, with_message}
+use Rattle.mail_tree.specs.Messages.{added_message, added_recipient, adding_recipient, changed_message, copied_message, copy_of, copying, in_folder, is_crowded_message, is_overfull, making_message, message_in, moved_message, new_message, plain_message, remaking, removed_message, removed_recipient, set_value, spent_row, unset_value, with_message}
+use Rattle.mail_tree.specs.Parts.{has_recipient, is_full, is_wide, new_row, next_row, recipient_props, recipient_tags, rows_of, with_recipient, without_recipient, is_spent_row}
 use Rattle.mail_tree.specs.Step.{after}
 use Rattle.mail_tree.specs.Whole.{fits_id}
 use Rattle.mail_laws.specs.Laws.{OnlyMessage}
@@ -26,7 +32,7 @@ use Rattle.mail_tree.proofs.FineLaws.{cases_Option}
 use Rattle.mail_tree.proofs.Nearly.{folder_kind, message_id}
 use Rattle.mail_tree.proofs.KindsOfPuts.{low}
 use Rattle.mail_laws.proofs.MessageSteps.{Before, Keeps, fine_message_in, finished_folder, finished_id, home_of, new_message_id}
-use Rattle.mail_laws.proofs.Keeping.{Comes, Four, no_table, KeepsAt, PutsMessage, add_keeps, drop_keeps, from_fine, if_any, if_then, if_weaker, kept_after, never_made, put_keeps, table_apart, then_changing, then_making, then_settled}
+use Rattle.mail_laws.proofs.Keeping.{Comes, Four, no_table, KeepsAt, PutsMessage, add_keeps, drop_keeps, from_fine, if_any, if_then, if_weaker, kept_after, never_made, put_keeps, table_apart, then_changing, then_making, then_settled, if_replying, if_test}
 use Rattle.mail_tree.proofs.Settles.{store_of}
 
 -- a folder is no message
@@ -189,33 +195,103 @@ makes T folder class time w = elim (cases_Option (find_place folder T.places)) [
   ])
 ]
 
--- `set` and `unset`
-finished_is : (M : Mes) (props : List Val) → finished (with_props props M) ≡ with_props (finished (with_props props M)).props M
-unfolding finished
-finished_is M props = refl
+-- a message that became another
+pub remakes : (T : Tree) (m : ℕ) (M new : Mes) (crowded : Bool) (reason : Option CommandRefusal) (last : LastLine) → Before T → now_at T nothing m ≡ Some (Message M) → m % 32 ≡ 4 → new.nid ≡ M.nid → new.folder ≡ M.folder
+    → IfOk (remaking T M new crowded reason last) (λ o. Changes T m (Some (finished new)) o × (o.reply ≡ replied last))
+unfolding remaking
+remakes T m M new crowded reason last w is four same there =
+    let N = finished new in
+    let D0 = record nothing { crowded = crowded } in
+    let D = with_message M N D0 in let v = home_of T w m M is in
+    let nid : N.nid ≡ m = finished_id new ∙ same ∙ v.0 in
+    let folder : N.folder ≡ M.folder = finished_folder new ∙ there in
+    let a = put_shown T (contents N.folder) N.nid N.props D in
+    let Q : Outcome → Type 0 = λ o. Changes T m (Some N) o × (o.reply ≡ replied last) in
+    if_replying T (a >>= settled T T.places N.folder) reason (replied last) Q
+    (if_weaker (Comes Four no_table T D T.places (replied last)) Q (a >>= settled T T.places N.folder >>= changing T (replied last))
+    (then_changing Four no_table T D (a >>= settled T T.places N.folder) (replied last) (then_settled Four no_table T T.places N.folder D a (place_apart T w N.folder v.1 (ap (λ x. find_place x T.places) folder ∙ v.2))
+    (put_keeps Four no_table T (contents N.folder) N.nid N.props D (table_apart N.folder 14 (omega arith) (omega arith)))))
+    (λ o c. (
+      subst (λ x. Changes T x (Some N) o) nid (changes T N.nid (Some (Message N)) o (kept_after _ _ _ N.nid (Some (Message N)) (ap (λ x. x % 32) nid ∙ four) (puts_values T D0 N.nid (Message N) M.props N.props) c.keeps) c.places_are),
+      c.reply_is,
+    )))
 
+-- but for its flags and its size the message's values are these
+abbrev pub ButForFlags : List Val → List Val → Type 0
+ButForFlags old new = (id : ℕ) → (id ≡ 0x0E07 → ⊥) → (id ≡ 0x0E08 → ⊥) → find id new ≡ find id old
+
+finished_is : (new : Mes) → finished new ≡ with_props (finished new).props new
+unfolding finished
+finished_is new = refl
+
+-- a message becomes what this makes of it, but for its flags and its size
+abbrev pub Remade : Tree → ℕ → (Mes → Mes) → Outcome → Type 0
+Remade T m make o = (M : Mes) × (props : List Val) × (now_at T nothing m ≡ Some (Message M)) × Changes T m (Some (with_props props (make M))) o × ButForFlags (make M).props props
+
+abbrev is_remade : (T : Tree) (m : ℕ) (M : Mes) (make : Mes → Mes) (o : Outcome) → now_at T nothing m ≡ Some (Message M) → Changes T m (Some (finished (make M))) o → Remade T m make o
+is_remade T m M make o is c = (M, (finished (make M)).props, is, subst (λ x. Changes T m (Some x) o) (finished_is (make M)) c, λ id no_flags no_size. finished_find (make M) id no_flags no_size)
+
+remade : (T : Tree) (m : ℕ) (M : Mes) (make : Mes → Mes) (crowded : Bool) (reason : Option CommandRefusal) (last : LastLine) → Before T → now_at T nothing m ≡ Some (Message M) → m % 32 ≡ 4 → (make M).nid ≡ M.nid → (make M).folder ≡ M.folder
+    → IfOk (remaking T M (make M) crowded reason last) (λ o. Remade T m make o × (o.reply ≡ replied last))
+remade T m M make crowded reason last w is four same there =
+    if_weaker (λ o. Changes T m (Some (finished (make M))) o × (o.reply ≡ replied last)) (λ o. Remade T m make o × (o.reply ≡ replied last)) (remaking T M (make M) crowded reason last)
+    (remakes T m M (make M) crowded reason last w is four same there)
+    (λ o c. (is_remade T m M make o is c.0, c.1))
+
+-- no row has the number that follows the greatest, or a greater one
+past_rows : (rows : List (ℕ × List Val)) (row : ℕ) → next_row rows ≤ row → find_row row rows ≡ None
+past_rows [] row past = refl
+past_rows (r ∷ rs) row past = let other : (r.0 == row) ≡ false = ne_eqb r.0 row (λ e. omega arith) in rw other (past_rows rs row (omega arith))
+
+-- the row of a new recipient is one that none has, where one is left
+row_is : (row : ℕ) → is_spent_row row ≡ false → new_row row ≡ row
+row_is row left = let le = ltb-false 4294967295 row left in omega arith
+
+-- a recipient's row is given only where one is left
+given_row : (T : Tree) (old new : Mes) (crowded : Bool) (row : ℕ) (last : LastLine) (Q : Outcome → Type 0) → (is_spent_row row ≡ false → IfOk (remaking T old new crowded (spent_row row) last) Q) → IfOk (remaking T old new crowded (spent_row row) last) Q
+unfolding remaking
+given_row T old new crowded row last Q left = elim (cases_Bool (is_spent_row row)) [
+  | inr f ↦ left f
+  | inl t ↦
+      let N = finished new in
+      let a = put_shown T (contents N.folder) N.nid N.props (with_message old N (record nothing { crowded = crowded })) >>= settled T T.places N.folder in
+      rw t (if_then (λ D. Unit {0}) Q a _ (if_any a) (λ D u. if_then (λ v. Unit {0}) Q (within_limits D) _ (if_any (within_limits D)) (λ v v'. tt)))
+]
+
+-- `rcpt`
+abbrev pub GotRecipient : Tree → ℕ → ℕ → List ℕ → List ℕ → Outcome → Type 0
+GotRecipient T m kind address name o = (row : ℕ) × (r : Remade T m (with_recipient row (recipient_props kind address name)) o) × (o.reply ≡ replied (Row row)) × (find_row row (rows_of r.0.recipients) ≡ None)
+
+pub adds_recipient : (T : Tree) (m kind : ℕ) (address name : List ℕ) → Before T → IfOk (added_recipient T m kind address name) (GotRecipient T m kind address name)
+unfolding added_recipient adding_recipient
+adds_recipient T m kind address name w =
+    let Q = GotRecipient T m kind address name in
+    if_then _ Q (message_in T m) _ (from_fine _ (message_in T m) (fine_message_in T m w)) (λ M h.
+    let row = next_row (rows_of M.recipients) in
+    let make = with_recipient (new_row row) (recipient_props kind address name) in
+    if_test Q (is_full M.recipients) (Limit Rows) _ (if_test Q (is_wide recipient_tags M.recipients) (Limit Rows) _ (given_row T M (make M) false row (Row (new_row row)) Q (λ left.
+    let free = past_rows (rows_of M.recipients) (new_row row) (omega (arith, row_is row left)) in
+    if_weaker (λ o. Changes T m (Some (finished (make M))) o × (o.reply ≡ replied (Row (new_row row)))) Q (remaking T M (make M) false (spent_row row) (Row (new_row row)))
+    (remakes T m M (make M) false (spent_row row) (Row (new_row row)) w h.0 h.1 refl refl) (λ o k. let r = is_remade T m M make o h.0 k.0 in (new_row row, (M, r.1, h.0, r.3, r.4), k.1, free))))))
+
+-- `unrcpt`
+pub removes_recipient : (T : Tree) (m row : ℕ) → Before T → IfOk (removed_recipient T m row) (Remade T m (without_recipient row))
+unfolding removed_recipient
+removes_recipient T m row w =
+    let Q = Remade T m (without_recipient row) in
+    if_then _ Q (message_in T m) _ (from_fine _ (message_in T m) (fine_message_in T m w)) (λ M h.
+    if_test Q (not (has_recipient row M)) NoObject _ (if_weaker (λ o. Remade T m (without_recipient row) o × (o.reply ≡ replied Done)) Q (remaking T M (without_recipient row M) false None Done)
+    (remade T m M (without_recipient row) false None Done w h.0 h.1 refl refl) (λ o k. k.0)))
+
+-- `set` and `unset`
 abbrev pub ChangedValues : Tree → ℕ → (Mes → List Val) → Outcome → Type 0
 ChangedValues T m values o = (M : Mes) × (props : List Val) × (now_at T nothing m ≡ Some (Message M)) × Changes T m (Some (with_props props M)) o × ((id : ℕ) → (id ≡ 0x0E07 → ⊥) → (id ≡ 0x0E08 → ⊥) → find id props ≡ find id (values M))
 
 changed : (T : Tree) (m : ℕ) (M : Mes) (values : Mes → List Val) → Before T → now_at T nothing m ≡ Some (Message M) → m % 32 ≡ 4 → IfOk (changed_message T M (values M)) (ChangedValues T m values)
 unfolding changed_message
 changed T m M values w is four =
-    let N = finished (with_props (values M) M) in
-    let D = with_message M N nothing in let v = home_of T w m M is in
-    let nid : N.nid ≡ m = finished_id (with_props (values M) M) ∙ v.0 in
-    let folder : N.folder ≡ M.folder = finished_folder (with_props (values M) M) in
-    let a = put_shown T (contents N.folder) N.nid N.props D in
-    if_weaker (Comes Four no_table T D T.places (replied Done)) (ChangedValues T m values) (a >>= settled T T.places N.folder >>= changing T (replied Done))
-    (then_changing Four no_table T D (a >>= settled T T.places N.folder) (replied Done) (then_settled Four no_table T T.places N.folder D a (place_apart T w N.folder v.1 (ap (λ x. find_place x T.places) folder ∙ v.2))
-    (put_keeps Four no_table T (contents N.folder) N.nid N.props D (table_apart N.folder 14 (omega arith) (omega arith)))))
-    (λ o c. (
-      M,
-      N.props,
-      is,
-      subst (λ x. Changes T m (Some x) o) (finished_is M (values M))
-          (subst (λ x. Changes T x (Some N) o) nid (changes T N.nid (Some (Message N)) o (kept_after _ _ _ N.nid (Some (Message N)) (ap (λ x. x % 32) nid ∙ four) (puts_values T nothing N.nid (Message N) M.props N.props) c.keeps) c.places_are)),
-      λ id no_flags no_size. finished_find (with_props (values M) M) id no_flags no_size,
-    ))
+    if_weaker (λ o. Remade T m (λ N. with_props (values N) N) o × (o.reply ≡ replied Done)) (ChangedValues T m values) (remaking T M (with_props (values M) M) false None Done)
+    (remade T m M (λ N. with_props (values N) N) false None Done w is four refl refl) (λ o k. k.0)
 
 pub sets : (T : Tree) (m : ℕ) (v : Val) → Before T → IfOk (set_value T m v) (λ o. ChangedValues T m (λ M. put v M.props) o × (v.id ≡ 0x0E08 → ⊥))
 unfolding set_value

@@ -1,5 +1,8 @@
 -- After each command an opening finds the tree.
-use Rattle.std.proofs.Common.{◌≡◌, ℕ, ◌%◌, ◌==◌, ◌||◌, Bool, true, false, nat_le, List, [], Option, None, Some, IsSome, IfOk, is_some, arith, refl, sym, subst, ap, ◌∙◌, inl, inr}
+use Rattle.command_text.specs.declared.reply.LastLine.{LastLine}
+use Rattle.command_text.specs.declared.reply.Limit.TheVariants.{Rows}
+use Rattle.command_text.specs.declared.reply.CommandRefusal.{CommandRefusal}
+use Rattle.std.proofs.Common.{◌≡◌, ℕ, ◌%◌, ◌==◌, ◌||◌, Bool, true, false, nat_le, List, [], Option, None, Some, IsSome, IfOk, is_some, arith, refl, sym, subst, ap, ◌∙◌, inl, inr, not}
 use Rattle.std.specs.FinMap as map
 use Rattle.std.specs.Ordering.{nat_cmp}
 use Rattle.std.proofs.lemmas.Bool.{cases_Bool, cases_eq, false≢true, or_parts}
@@ -13,8 +16,8 @@ use Rattle.mapi_values.specs.Tables.{drop_row, find_row}
 use Rattle.mapi_values.specs.Values.{Val}
 use Rattle.mapi_values.specs.declared.value.Tag.{Tag}
 use Rattle.command_text.specs.declared.command.Command.{Command}
-use Rattle.command_text.specs.declared.command.Command.TheVariants.{MakeFolder, RenameFolder, MoveFolder, RemoveFolder, ListFolder, NewMessage, SetProperty, UnsetProperty, GetProperty, ListProperties, MoveMessage, CopyMessage, RemoveMessage, Save, Quit}
-use Rattle.command_text.specs.declared.reply.LastLine.TheVariants.{Done}
+use Rattle.command_text.specs.declared.command.Command.TheVariants.{MakeFolder, RenameFolder, MoveFolder, RemoveFolder, ListFolder, NewMessage, SetProperty, UnsetProperty, GetProperty, ListProperties, MoveMessage, CopyMessage, RemoveMessage, AddRecipient, RemoveRecipient, Save, Quit}
+use Rattle.command_text.specs.declared.reply.LastLine.TheVariants.{Done, Row}
 use Rattle.command_text.specs.declared.reply.Reply.{Reply}
 use Rattle.mail_objects.specs.Forms.{Ctx, Tbl}
 use Rattle.mail_objects.specs.declared.object.Object.{Object}
@@ -23,13 +26,14 @@ use Rattle.mail_tree.specs.declared.places.FolderPlace.{FolderPlace}
 use Rattle.mail_tree.specs.Places.{ROOT, children, find_place, is_deep, is_plain, is_within, moves_deep, place_id}
 use Rattle.mail_tree.specs.Tree.{Tree, object_at}
 use Rattle.mail_tree.specs.Values.{bytes_of, finished, folder_props, is_set_protected, is_unset_protected, message_props, name_of, text, with_props}
-use Rattle.command_text.specs.declared.reply.CommandRefusal.TheVariants.{Ids}
+use Rattle.command_text.specs.declared.reply.CommandRefusal.TheVariants.{Ids, Limit, Object as NoObject}
 use Rattle.mail_tree.specs.Changing.{Answer, Changed, ◌>>=◌, add_shown, associated, contents, context_at, drop_shown, hierarchy, newest, nothing, now_at, put_shown, table_at, with_object, with_rows, within_limits}
 use Rattle.mail_tree.specs.Columns.{contents_table, hierarchy_table}
 use Rattle.mail_tree.specs.Settling.{mirrored, settled, with_context}
 use Rattle.mail_tree.specs.Ids.{folder_kinds, is_spent, is_taken, message_kinds, new_id, next_index}
 use Rattle.mail_tree.specs.Folders.{Outcome, associated_in, changing, has_associated, has_rows, made_folder, making, making_folder, moved_between, moved_folder, moving, nid, place, removed_folder, renamed_folder, replied, siblings, unchanged, unless_full, unless_named, unless_protected, with_folder, without_folder, without_node}
-use Rattle.mail_tree.specs.Messages.{added_message, changed_message, copied_message, copy_of, copying, in_folder, is_crowded_message, is_overfull, making_message, message_in, moved_message, new_message, plain_message, removed_message, set_value, unset_value, with_message}
+use Rattle.mail_tree.specs.Messages.{added_message, added_recipient, adding_recipient, changed_message, copied_message, copy_of, copying, in_folder, is_crowded_message, is_overfull, making_message, message_in, moved_message, new_message, plain_message, remaking, removed_message, removed_recipient, set_value, spent_row, unset_value, with_message}
+use Rattle.mail_tree.specs.Parts.{has_recipient, is_full, is_wide, new_row, next_row, recipient_props, recipient_tags, rows_of, with_recipient, without_recipient}
 use Rattle.mail_tree.specs.Step.{after, outcome}
 use Rattle.mail_tree.specs.Whole.{IsWhole}
 use Rattle.mail_tree.specs.Found.{AreOwned, BelongsAt, IsFound}
@@ -39,7 +43,7 @@ use Rattle.mail_laws.proofs.Depths.{AreReached, SameBut, made_reached, moved_rea
 use Rattle.mail_tree.proofs.FineLaws.{cases_Option}
 use Rattle.mail_laws.proofs.FolderSteps.{fine_protected, no_rows, not_placed, with_new_folder}
 use Rattle.mail_laws.proofs.FoundSteps.{Finds, PlainIds, finds_add, finds_add_message, finds_drop_message, finds_elsewhere, finds_mirrored, finds_put_message, finds_values, found_after, get_other, kind_apart, named_place, owned_put, some_belongs, then_finds}
-use Rattle.mail_laws.proofs.Keeping.{from_fine, if_any, if_test, if_then, if_weaker, never_made}
+use Rattle.mail_laws.proofs.Keeping.{from_fine, if_any, if_test, if_then, if_weaker, never_made, if_replying}
 use Rattle.mail_tree.proofs.KeyedFinds.{find-drop_other, find-drop_same, find-put_other, find-put_same, kept-put}
 use Rattle.mail_tree.proofs.KindsOfPuts.{beside_kind, same_folder, same_table}
 use Rattle.mail_laws.proofs.LawSteps.{before, reads_only}
@@ -215,18 +219,38 @@ module _ (T : Tree) (w : Before T) (h : IsFound T) where
     ])
   ]
 
+  -- a message becomes another
+  remakes : (m : ℕ) (M new : Mes) (crowded : Bool) (reason : Option CommandRefusal) (last : LastLine) → now_at T nothing m ≡ Some (Message M) → m % 32 ≡ 4 → new.nid ≡ M.nid → new.folder ≡ M.folder → IfOk (remaking T M new crowded reason last) After
+  unfolding remaking
+  remakes m M new crowded reason last is four same there =
+      let N = finished new in
+      let D0 = record nothing { crowded = crowded } in
+      let D = with_message M N D0 in let v = home_of T w m M is in
+      let four' : N.nid % 32 ≡ 4 = ap (λ x. x % 32) (finished_id new ∙ same ∙ v.0) ∙ four in
+      let folder : N.folder ≡ M.folder = finished_folder new ∙ there in
+      let s0 : Finds T T.places D0 = record { listed = start.listed; told = start.told; apart = start.apart; owned = start.owned } in
+      let s = message_changes D0 D N.nid (Some (Message N)) four' s0 (puts_values T D0 N.nid (Message N) M.props N.props) (λ x other. get_other D0 N.nid x (Some (Message N)) other) (some_belongs T.places N.nid (Message N) tt) in
+      let a = put_shown T (contents N.folder) N.nid N.props D in
+      if_replying T (a >>= settled T T.places N.folder) reason (replied last) After
+      (then_changing (a >>= settled T T.places N.folder) (replied last) (then_finds T T.places ids a N.folder v.1 (ap (λ x. find_place x T.places) folder ∙ v.2) v.3
+      (finds_put_message T T.places ids D N.folder N.nid N.props s)))
+
   -- a message gets other values
   changes : (m : ℕ) (M : Mes) (props : List Val) → now_at T nothing m ≡ Some (Message M) → m % 32 ≡ 4 → IfOk (changed_message T M props) After
   unfolding changed_message
-  changes m M props is four =
-      let N = finished (with_props props M) in
-      let D = with_message M N nothing in let v = home_of T w m M is in
-      let four' : N.nid % 32 ≡ 4 = ap (λ x. x % 32) (finished_id (with_props props M) ∙ v.0) ∙ four in
-      let folder : N.folder ≡ M.folder = finished_folder (with_props props M) in
-      let s = message_changes nothing D N.nid (Some (Message N)) four' start (puts_values T nothing N.nid (Message N) M.props N.props) (λ x other. get_other nothing N.nid x (Some (Message N)) other) (some_belongs T.places N.nid (Message N) tt) in
-      let a = put_shown T (contents N.folder) N.nid N.props D in
-      then_changing (a >>= settled T T.places N.folder) (replied Done) (then_finds T T.places ids a N.folder v.1 (ap (λ x. find_place x T.places) folder ∙ v.2) v.3
-      (finds_put_message T T.places ids D N.folder N.nid N.props s))
+  changes m M props is four = remakes m M (with_props props M) false None Done is four refl refl
+
+  adds_recipient : (m kind : ℕ) (address name : List ℕ) → IfOk (added_recipient T m kind address name) After
+  unfolding added_recipient adding_recipient
+  adds_recipient m kind address name = if_then _ After (message_in T m) _ (from_fine _ (message_in T m) (fine_message_in T m w)) (λ M h.
+      let row = next_row (rows_of M.recipients) in
+      if_test After (is_full M.recipients) (Limit Rows) _ (if_test After (is_wide recipient_tags M.recipients) (Limit Rows) _
+      (remakes m M (with_recipient (new_row row) (recipient_props kind address name) M) false (spent_row row) (Row (new_row row)) h.0 h.1 refl refl)))
+
+  removes_recipient : (m row : ℕ) → IfOk (removed_recipient T m row) After
+  unfolding removed_recipient
+  removes_recipient m row = if_then _ After (message_in T m) _ (from_fine _ (message_in T m) (fine_message_in T m w)) (λ M h.
+      if_test After (not (has_recipient row M)) NoObject _ (remakes m M (without_recipient row M) false None Done h.0 h.1 refl refl))
 
   -- `set`
   sets : (m : ℕ) (v : Val) → IfOk (set_value T m v) After
@@ -561,6 +585,8 @@ module _ (T : Tree) (w : Before T) (h : IsFound T) where
   finds_after (ListFolder folder) = if_weaker (λ o. o ≡ unchanged T o.reply) After (outcome T (ListFolder folder)) (reads_only T (ListFolder folder) refl) looks
   finds_after (GetProperty message tag) = if_weaker (λ o. o ≡ unchanged T o.reply) After (outcome T (GetProperty message tag)) (reads_only T (GetProperty message tag) refl) looks
   finds_after (ListProperties message) = if_weaker (λ o. o ≡ unchanged T o.reply) After (outcome T (ListProperties message)) (reads_only T (ListProperties message) refl) looks
+  finds_after (AddRecipient message kind address name) = adds_recipient message.bits kind address name
+  finds_after (RemoveRecipient message row) = removes_recipient message.bits row
   finds_after Save = (start, h.reached)
   finds_after Quit = (start, h.reached)
 

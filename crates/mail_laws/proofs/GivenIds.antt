@@ -1,5 +1,7 @@
 -- Each id that a command gives lies behind the counter of its kind, which has its index then.
-use Rattle.std.proofs.Common.{◌≡◌, ℕ, suc, ◌%◌, ◌/◌, ◌<◌, ◌==◌, ◌||◌, false, max, nat_le, not, filter, set, get_or, List, None, Some, is_some, IfOk, arith, refl, sym, subst, ap, ◌∙◌, inl, inr}
+use Rattle.command_text.specs.declared.reply.LastLine.{LastLine}
+use Rattle.command_text.specs.declared.reply.CommandRefusal.{CommandRefusal}
+use Rattle.std.proofs.Common.{◌≡◌, ℕ, suc, ◌%◌, ◌/◌, ◌<◌, ◌==◌, ◌||◌, false, max, nat_le, not, filter, set, get_or, List, None, Some, is_some, IfOk, arith, refl, sym, subst, ap, ◌∙◌, inl, inr, Bool, Option}
 use Rattle.std.proofs.lemmas.Bool.{cases_Bool}
 use Rattle.pst_base.specs.Ids.{index_of, nid_of}
 use Rattle.mapi_values.specs.Characters.{folded}
@@ -9,10 +11,10 @@ use Rattle.mapi_values.specs.Properties.{put, remove_id}
 use Rattle.mapi_values.specs.Values.{Val}
 use Rattle.mapi_values.specs.declared.value.Tag.{Tag}
 use Rattle.command_text.specs.declared.command.Command.{Command}
-use Rattle.command_text.specs.declared.command.Command.TheVariants.{MakeFolder, RenameFolder, MoveFolder, RemoveFolder, ListFolder, NewMessage, SetProperty, UnsetProperty, GetProperty, ListProperties, MoveMessage, CopyMessage, RemoveMessage, Save, Quit}
-use Rattle.command_text.specs.declared.reply.CommandRefusal.TheVariants.{Property, NotEmpty, Cycle, Protected, Limit, Ids}
+use Rattle.command_text.specs.declared.command.Command.TheVariants.{MakeFolder, RenameFolder, MoveFolder, RemoveFolder, ListFolder, NewMessage, SetProperty, UnsetProperty, GetProperty, ListProperties, MoveMessage, CopyMessage, RemoveMessage, AddRecipient, RemoveRecipient, Save, Quit}
+use Rattle.command_text.specs.declared.reply.CommandRefusal.TheVariants.{Property, NotEmpty, Cycle, Protected, Limit, Ids, Object}
 use Rattle.command_text.specs.declared.reply.Limit.TheVariants.{Depth, Rows}
-use Rattle.command_text.specs.declared.reply.LastLine.TheVariants.{Done}
+use Rattle.command_text.specs.declared.reply.LastLine.TheVariants.{Done, Row}
 use Rattle.mail_objects.specs.declared.object.Object.TheVariants.{Message}
 use Rattle.mail_tree.specs.declared.places.FolderPlace.{FolderPlace}
 use Rattle.mail_tree.specs.Places.{children, is_child, is_deep, is_plain, is_within, moves_deep, place_id}
@@ -21,8 +23,9 @@ use Rattle.mail_tree.specs.Values.{bytes_of, finished, folder_props, is_set_prot
 use Rattle.mail_tree.specs.Changing.{Answer, Changed, ◌>>=◌, add_shown, contents, context_at, drop_shown, found, hierarchy, nothing, put_shown, refused_if, table_at, with_object, within_limits}
 use Rattle.mail_tree.specs.Settling.{message_ids, mirrored, settled, with_context}
 use Rattle.mail_tree.specs.Ids.{LAST_INDEX, folder_kinds, greatest, is_spent, is_used, message_kinds, new_id, next_index}
-use Rattle.mail_tree.specs.Folders.{Outcome, associated_in, changing, folder_in, folder_lines, has_associated, has_rows, listing, made_folder, making, making_folder, message_lines, moved_between, moved_folder, moving, place, removed_folder, renamed_folder, replied, siblings, unless_full, unless_named, unless_plain, unless_protected, with_folder, without_folder}
-use Rattle.mail_tree.specs.Messages.{added_message, changed_message, copied_message, copy_of, copying, details, in_folder, is_crowded_message, is_overfull, making_message, message_in, moved_message, new_message, plain_message, removed_message, set_value, unset_value, value_in, value_of, with_message}
+use Rattle.mail_tree.specs.Folders.{Outcome, associated_in, changing, folder_in, folder_lines, has_associated, has_rows, listing, made_folder, making, making_folder, message_lines, moved_between, moved_folder, moving, place, removed_folder, renamed_folder, replied, siblings, unless_full, unless_named, unless_plain, unless_protected, with_folder, without_folder, replying, unless}
+use Rattle.mail_tree.specs.Messages.{added_message, added_recipient, adding_recipient, changed_message, copied_message, copy_of, copying, details, in_folder, is_crowded_message, is_overfull, making_message, message_in, moved_message, new_message, plain_message, remaking, removed_message, removed_recipient, set_value, spent_row, unset_value, value_in, value_of, with_message}
+use Rattle.mail_tree.specs.Parts.{has_recipient, is_full, is_wide, new_row, next_row, recipient_props, recipient_tags, rows_of, with_recipient, without_recipient}
 use Rattle.mail_laws.specs.Stays.{Counted}
 use Rattle.mail_tree.specs.Step.{outcome}
 use Rattle.mail_laws.proofs.Keeping.{if_any, if_test, if_then, never_made}
@@ -51,6 +54,9 @@ module _ (T : Tree) where
 
   then_changing : (a : Answer Changed) → IfOk (a >>= changing T (replied Done)) Right
   then_changing a = then_any a (changing T (replied Done)) (λ D. then_any (within_limits D) _ (λ u. refl))
+
+  then_replying : (a : Answer Changed) (reason : Option CommandRefusal) (last : LastLine) → Counted T.last T.last last → IfOk (a >>= replying T reason (replied last)) Right
+  then_replying a reason last given = then_any a (replying T reason (replied last)) (λ D. then_any (within_limits D) _ (λ u. then_any (unless reason) _ (λ v. given)))
 
   then_moving : (places : List FolderPlace) (a : Answer Changed) → IfOk (a >>= moving T places (replied Done)) Right
   then_moving places a = then_any a (moving T places (replied Done)) (λ D. then_any (within_limits D) _ (λ u. refl))
@@ -137,11 +143,25 @@ module _ (T : Tree) where
             (then_making T.places 4 message_kinds (added_message T (copy_of n folder M) (record nothing { crowded = is_crowded_message M })) (omega arith) t)
       ])))))
 
+  remakes : (M new : Mes) (crowded : Bool) (reason : Option CommandRefusal) (last : LastLine) → Counted T.last T.last last → IfOk (remaking T M new crowded reason last) Right
+  unfolding remaking
+  remakes M new crowded reason last given =
+      let N = finished new in
+      then_replying (put_shown T (contents N.folder) N.nid N.props (with_message M N (record nothing { crowded = crowded })) >>= settled T T.places N.folder) reason last given
+
   changes : (M : Mes) (props : List Val) → IfOk (changed_message T M props) Right
   unfolding changed_message
-  changes M props =
-      let N = finished (with_props props M) in
-      then_changing (put_shown T (contents N.folder) N.nid N.props (with_message M N nothing) >>= settled T T.places N.folder)
+  changes M props = remakes M (with_props props M) false None Done refl
+
+  adds_recipient : (m kind : ℕ) (address name : List ℕ) → IfOk (added_recipient T m kind address name) Right
+  unfolding added_recipient adding_recipient
+  adds_recipient m kind address name = then_any (message_in T m) _ (λ M. then_any (refused_if (is_full M.recipients) (Limit Rows)) _ (λ u. then_any (refused_if (is_wide recipient_tags M.recipients) (Limit Rows)) _ (λ v.
+      let row = next_row (rows_of M.recipients) in
+      remakes M (with_recipient (new_row row) (recipient_props kind address name) M) false (spent_row row) (Row (new_row row)) refl)))
+
+  removes_recipient : (m row : ℕ) → IfOk (removed_recipient T m row) Right
+  unfolding removed_recipient
+  removes_recipient m row = then_any (message_in T m) _ (λ M. then_any (refused_if (not (has_recipient row M)) Object) _ (λ u. remakes M (without_recipient row M) false None Done refl))
 
   sets : (m : ℕ) (v : Val) → IfOk (set_value T m v) Right
   unfolding set_value
@@ -187,5 +207,7 @@ module _ (T : Tree) where
   gives_new (MoveMessage message folder) = moves message.bits folder.bits
   gives_new (CopyMessage message folder) = copies message.bits folder.bits
   gives_new (RemoveMessage message) = removes message.bits
+  gives_new (AddRecipient message kind address name) = adds_recipient message.bits kind address name
+  gives_new (RemoveRecipient message row) = removes_recipient message.bits row
   gives_new Save = refl
   gives_new Quit = refl

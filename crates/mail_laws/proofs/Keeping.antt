@@ -1,5 +1,5 @@
 -- What a chain of steps leaves of the messages, where it answers.
-use Rattle.std.proofs.Common.{◌≡◌, ℕ, ◌%◌, ◌<◌, ◌==◌, Bool, true, false, List, Option, Some, IfOk, Ok, Err, arith, refl, subst, ◌∙◌, inl, inr}
+use Rattle.std.proofs.Common.{◌≡◌, ℕ, ◌%◌, ◌<◌, ◌==◌, Bool, true, false, List, Option, Some, IfOk, Ok, Err, arith, refl, subst, ◌∙◌, inl, inr, None}
 use Rattle.std.proofs.lemmas.Bool.{cases_Bool}
 use Rattle.mapi_values.specs.Tables.{drop_row}
 use Rattle.mapi_values.specs.Values.{Val}
@@ -14,7 +14,7 @@ use Rattle.mail_tree.specs.Places.{ROOT}
 use Rattle.mail_tree.specs.Tree.{Tree}
 use Rattle.mail_tree.specs.Changing.{Answer, Changed, ◌>>=◌, add_shown, beside, contents, context_at, drop_shown, hierarchy, now_at, overfills, put_shown, refused_if, shown_row, table_at, with_rows, within_limits}
 use Rattle.mail_tree.specs.Settling.{counted, message_ids, mirrored, settled, unread_among, with_context}
-use Rattle.mail_tree.specs.Folders.{Outcome, changing, making, moving, nid, replied}
+use Rattle.mail_tree.specs.Folders.{Outcome, changing, making, moving, nid, replied, replying}
 use Rattle.command_text.specs.declared.reply.LastLine.TheVariants.{Made}
 use Rattle.mail_tree.specs.Ids.{is_spent, new_id}
 use Rattle.mail_tree.specs.Whole.{Fine}
@@ -39,6 +39,12 @@ if_test Q false refusal f h = h
 -- where no index is left nothing is made
 pub never_made : (T : Tree) (places : List FolderPlace) (kind index : ℕ) (Q : Outcome → Type 0) (a : Answer Changed) → is_spent index ≡ true → IfOk (a >>= making T places kind index) Q
 never_made T places kind index Q a spent = if_then (λ D. Unit {0}) Q a (making T places kind index) (if_any a) (λ D u. if_then (λ v. Unit {0}) Q (within_limits D) _ (if_any (within_limits D)) (λ v v'. rw spent tt))
+
+-- what holds without another reason against it holds where there may be one
+pub if_replying : (T : Tree) (a : Answer Changed) (reason : Option CommandRefusal) (reply : Reply) (Q : Outcome → Type 0) → IfOk (a >>= changing T reply) Q → IfOk (a >>= replying T reason reply) Q
+if_replying T (Err e) reason reply Q k = tt
+if_replying T (Ok D) None reply Q k = k
+if_replying T (Ok D) (Some refusal) reply Q k = if_then (λ u. Unit {0}) Q (within_limits D) _ (if_any (within_limits D)) (λ u v. tt)
 
 -- what an answer is
 pub if_is : {A : Type 0} (a : Answer A) → IfOk a (λ x. a ≡ Ok x)

@@ -1,5 +1,8 @@
 -- What each command doesn't speak of is as it was after it.
-use Rattle.std.proofs.Common.{◌≡◌, ℕ, ◌%◌, ◌/◌, ◌<◌, ◌==◌, ◌||◌, ◌&&◌, Bool, true, false, nat_le, List, [], ◌∷◌, Option, None, Some, IfOk, is_some, arith, refl, sym, subst, ap, ◌∙◌, inl, inr}
+use Rattle.command_text.specs.declared.reply.LastLine.{LastLine}
+use Rattle.command_text.specs.declared.reply.Limit.TheVariants.{Rows}
+use Rattle.command_text.specs.declared.reply.CommandRefusal.{CommandRefusal}
+use Rattle.std.proofs.Common.{◌≡◌, ℕ, ◌%◌, ◌/◌, ◌<◌, ◌==◌, ◌||◌, ◌&&◌, Bool, true, false, nat_le, List, [], ◌∷◌, Option, None, Some, IfOk, is_some, arith, refl, sym, subst, ap, ◌∙◌, inl, inr, not}
 use Rattle.std.specs.List.{list_any}
 use Rattle.std.proofs.lemmas.Bool.{cases_Bool, eq-eqb, eqb-false, false≢true, or_parts}
 use Rattle.std.proofs.lemmas.Option.{none-some}
@@ -12,8 +15,8 @@ use Rattle.mapi_values.specs.Properties.{put, remove_id}
 use Rattle.mapi_values.specs.Values.{Val}
 use Rattle.mapi_values.specs.declared.value.Tag.{Tag}
 use Rattle.command_text.specs.declared.command.Command.{Command}
-use Rattle.command_text.specs.declared.command.Command.TheVariants.{MakeFolder, RenameFolder, MoveFolder, RemoveFolder, ListFolder, NewMessage, SetProperty, UnsetProperty, GetProperty, ListProperties, MoveMessage, CopyMessage, RemoveMessage, Save, Quit}
-use Rattle.command_text.specs.declared.reply.LastLine.TheVariants.{Done}
+use Rattle.command_text.specs.declared.command.Command.TheVariants.{MakeFolder, RenameFolder, MoveFolder, RemoveFolder, ListFolder, NewMessage, SetProperty, UnsetProperty, GetProperty, ListProperties, MoveMessage, CopyMessage, RemoveMessage, AddRecipient, RemoveRecipient, Save, Quit}
+use Rattle.command_text.specs.declared.reply.LastLine.TheVariants.{Done, Row}
 use Rattle.command_text.specs.declared.reply.Reply.{Reply}
 use Rattle.mail_objects.specs.Forms.{Ctx}
 use Rattle.mail_objects.specs.declared.object.Object.{Object}
@@ -22,13 +25,14 @@ use Rattle.mail_tree.specs.declared.places.FolderPlace.{FolderPlace}
 use Rattle.mail_tree.specs.Places.{ROOT, children, find_place, is_deep, is_plain, is_within, moves_deep, place_id}
 use Rattle.mail_tree.specs.Tree.{Tree, object_at}
 use Rattle.mail_tree.specs.Values.{bytes_of, finished, folder_props, is_set_protected, is_unset_protected, message_props, name_of, text, with_props}
-use Rattle.command_text.specs.declared.reply.CommandRefusal.TheVariants.{Ids}
+use Rattle.command_text.specs.declared.reply.CommandRefusal.TheVariants.{Ids, Limit, Object as NoObject}
 use Rattle.mail_tree.specs.Changing.{Answer, Changed, ◌>>=◌, add_shown, associated, beside, contents, drop_shown, hierarchy, nothing, now_at, put_shown, table_at, with_object, within_limits}
 use Rattle.mail_tree.specs.Columns.{contents_table, hierarchy_table}
 use Rattle.mail_tree.specs.Settling.{mirrored, settled, with_context}
 use Rattle.mail_tree.specs.Ids.{folder_kinds, is_spent, is_taken, message_kinds, new_id, next_index}
 use Rattle.mail_tree.specs.Folders.{Outcome, associated_in, changing, has_associated, has_rows, made_folder, making, making_folder, moved_between, moved_folder, moving, place, removed_folder, renamed_folder, replied, siblings, unchanged, unless_full, unless_named, unless_protected, without_folder, without_node, with_folder}
-use Rattle.mail_tree.specs.Messages.{added_message, changed_message, copied_message, copy_of, copying, in_folder, is_crowded_message, is_overfull, making_message, message_in, moved_message, new_message, plain_message, removed_message, set_value, unset_value, with_message}
+use Rattle.mail_tree.specs.Messages.{added_message, added_recipient, adding_recipient, changed_message, copied_message, copy_of, copying, in_folder, is_crowded_message, is_overfull, making_message, message_in, moved_message, new_message, plain_message, remaking, removed_message, removed_recipient, set_value, spent_row, unset_value, with_message}
+use Rattle.mail_tree.specs.Parts.{has_recipient, is_full, is_wide, new_row, next_row, recipient_props, recipient_tags, rows_of, with_recipient, without_recipient}
 use Rattle.mail_laws.specs.ComesAndGoes.{takes}
 use Rattle.mail_laws.specs.Stays.{StaysFolder, gives_name}
 use Rattle.mail_tree.specs.Step.{outcome}
@@ -36,7 +40,7 @@ use Rattle.mail_tree.specs.Whole.{IsWhole}
 use Rattle.mail_tree.proofs.AfterTree.{now_nothing}
 use Rattle.mail_tree.proofs.FineLaws.{cases_Option}
 use Rattle.mail_laws.proofs.FolderSteps.{fine_protected}
-use Rattle.mail_laws.proofs.Keeping.{from_fine, if_any, if_test, if_then, if_weaker, never_made}
+use Rattle.mail_laws.proofs.Keeping.{from_fine, if_any, if_test, if_then, if_weaker, never_made, if_replying}
 use Rattle.mail_laws.proofs.KeptObjects.{KeepsObjects, Scope, fits_context, fits_gone, fits_message, fits_new, keeps_all, keeps_more, touched_here, touched_still}
 use Rattle.mail_laws.proofs.KeptSteps.{add_good, context_good, drop_good, mirrored_good, put_good, stood, table_elsewhere, then_good}
 use Rattle.mail_tree.proofs.KeyedFinds.{find-put_other}
@@ -221,18 +225,35 @@ module _ (T : Tree) (whole : IsWhole T) (scope : Scope) where
     ])
   ]
 
+  remakes : (m : ℕ) (M new : Mes) (crowded : Bool) (reason : Option CommandRefusal) (last : LastLine) → now_at T nothing m ≡ Some (Message M) → m % 32 ≡ 4 → new.nid ≡ M.nid → new.folder ≡ M.folder → IfOk (remaking T M new crowded reason last) After
+  unfolding remaking
+  remakes m M new crowded reason last now four same there =
+      let N = finished new in
+      let D = with_message M N (record nothing { crowded = crowded }) in let v = home_of T w m M now in
+      let nid : N.nid ≡ m = finished_id new ∙ same ∙ v.0 in
+      let is : object_at T N.nid ≡ Some (Message M) = ap (object_at T) nid ∙ in_tree m (Message M) now in
+      let folder : N.folder ≡ M.folder = finished_folder new ∙ there in
+      let a = put_shown T (contents N.folder) N.nid N.props D in
+      if_replying T (a >>= settled T T.places N.folder) reason (replied last) After
+      (then_changing (a >>= settled T T.places N.folder) (replied last) (then_settled T.places a N.folder v.1 (ap (λ x. find_place x T.places) folder ∙ v.2)
+      (put_good T scope (contents N.folder) N.nid N.props D (table_elsewhere N.folder 14 (omega arith) (omega arith)) (stood T D.objects N.nid (Message M) is)
+      (message_changes N.nid M (Some (Message N)) is (ap (λ x. x % 32) nid ∙ four) (λ e. absurd (none-some (Message N) (sym e)))))))
+
   changes : (m : ℕ) (M : Mes) (props : List Val) → now_at T nothing m ≡ Some (Message M) → m % 32 ≡ 4 → IfOk (changed_message T M props) After
   unfolding changed_message
-  changes m M props now four =
-      let N = finished (with_props props M) in
-      let D = with_message M N nothing in let v = home_of T w m M now in
-      let nid : N.nid ≡ m = finished_id (with_props props M) ∙ v.0 in
-      let is : object_at T N.nid ≡ Some (Message M) = ap (object_at T) nid ∙ in_tree m (Message M) now in
-      let folder : N.folder ≡ M.folder = finished_folder (with_props props M) in
-      let a = put_shown T (contents N.folder) N.nid N.props D in
-      then_changing (a >>= settled T T.places N.folder) (replied Done) (then_settled T.places a N.folder v.1 (ap (λ x. find_place x T.places) folder ∙ v.2)
-      (put_good T scope (contents N.folder) N.nid N.props D (table_elsewhere N.folder 14 (omega arith) (omega arith)) (stood T D.objects N.nid (Message M) is)
-      (message_changes N.nid M (Some (Message N)) is (ap (λ x. x % 32) nid ∙ four) (λ e. absurd (none-some (Message N) (sym e))))))
+  changes m M props now four = remakes m M (with_props props M) false None Done now four refl refl
+
+  adds_recipient : (m kind : ℕ) (address name : List ℕ) → IfOk (added_recipient T m kind address name) After
+  unfolding added_recipient adding_recipient
+  adds_recipient m kind address name = if_then _ After (message_in T m) _ (from_fine _ (message_in T m) (fine_message_in T m w)) (λ M h.
+      let row = next_row (rows_of M.recipients) in
+      if_test After (is_full M.recipients) (Limit Rows) _ (if_test After (is_wide recipient_tags M.recipients) (Limit Rows) _
+      (remakes m M (with_recipient (new_row row) (recipient_props kind address name) M) false (spent_row row) (Row (new_row row)) h.0 h.1 refl refl)))
+
+  removes_recipient : (m row : ℕ) → IfOk (removed_recipient T m row) After
+  unfolding removed_recipient
+  removes_recipient m row = if_then _ After (message_in T m) _ (from_fine _ (message_in T m) (fine_message_in T m w)) (λ M h.
+      if_test After (not (has_recipient row M)) NoObject _ (remakes m M (without_recipient row M) false None Done h.0 h.1 refl refl))
 
   sets : (m : ℕ) (v : Val) → IfOk (set_value T m v) After
   unfolding set_value
@@ -431,5 +452,7 @@ kept_after T w (RemoveMessage message) = removes T w (scope_of T (RemoveMessage 
 kept_after T w (ListFolder folder) = if_weaker _ _ (outcome T (ListFolder folder)) (reads_only T (ListFolder folder) refl) (looks T w (scope_of T (ListFolder folder)))
 kept_after T w (GetProperty message tag) = if_weaker _ _ (outcome T (GetProperty message tag)) (reads_only T (GetProperty message tag) refl) (looks T w (scope_of T (GetProperty message tag)))
 kept_after T w (ListProperties message) = if_weaker _ _ (outcome T (ListProperties message)) (reads_only T (ListProperties message) refl) (looks T w (scope_of T (ListProperties message)))
+kept_after T w (AddRecipient message kind address name) = adds_recipient T w (scope_of T (AddRecipient message kind address name)) message.bits kind address name
+kept_after T w (RemoveRecipient message row) = removes_recipient T w (scope_of T (RemoveRecipient message row)) message.bits row
 kept_after T w Save = keeps_all T (scope_of T Save)
 kept_after T w Quit = keeps_all T (scope_of T Quit)

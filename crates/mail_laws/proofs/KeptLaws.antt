@@ -7,7 +7,7 @@ use Rattle.node_port.specs.Nodes.{node_at}
 use Rattle.pst_base.specs.Ids.{index_of}
 use Rattle.mapi_values.specs.Messages.{Mes}
 use Rattle.command_text.specs.declared.command.Command.{Command}
-use Rattle.command_text.specs.declared.command.Command.TheVariants.{MakeFolder, RenameFolder, MoveFolder, RemoveFolder, ListFolder, NewMessage, SetProperty, UnsetProperty, GetProperty, ListProperties, MoveMessage, CopyMessage, RemoveMessage, Save, Quit}
+use Rattle.command_text.specs.declared.command.Command.TheVariants.{MakeFolder, RenameFolder, MoveFolder, RemoveFolder, ListFolder, NewMessage, SetProperty, UnsetProperty, GetProperty, ListProperties, MoveMessage, CopyMessage, RemoveMessage, AddRecipient, RemoveRecipient, Save, Quit}
 use Rattle.command_text.specs.declared.reply.LastLine.TheVariants.{Made}
 use Rattle.command_text.specs.declared.reply.Reply.{Reply}
 use Rattle.mail_objects.specs.Forms.{Ctx, Tbl}
@@ -168,6 +168,8 @@ module _ (T : Tree) (w : IsWhole T) where
   brings (ListProperties message) = nothing_comes (ListProperties message) (λ q. refl)
   brings (MoveMessage message folder) = nothing_comes (MoveMessage message folder) (λ q. refl)
   brings (RemoveMessage message) = nothing_comes (RemoveMessage message) (λ q. refl)
+  brings (AddRecipient message kind address name) = nothing_comes (AddRecipient message kind address name) (λ q. refl)
+  brings (RemoveRecipient message row) = nothing_comes (RemoveRecipient message row) (λ q. refl)
   brings Save = nothing_comes Save (λ q. refl)
   brings Quit = nothing_comes Quit (λ q. refl)
 

@@ -1,5 +1,9 @@
 -- The commands on messages leave a tree whole.
-use Rattle.std.proofs.Common.{◌≡◌, ℕ, ◌%◌, ◌==◌, true, false, nat_le, length, ◌||◌, List, Option, None, Some, IsSome, is_some, Ok, arith, refl, sym, ap, ◌∙◌, inl, inr}
+use Rattle.command_text.specs.declared.reply.Reply.{Reply}
+use Rattle.command_text.specs.declared.reply.LastLine.{LastLine}
+use Rattle.command_text.specs.declared.reply.Limit.TheVariants.{Rows}
+use Rattle.command_text.specs.declared.reply.CommandRefusal.{CommandRefusal}
+use Rattle.std.proofs.Common.{◌≡◌, ℕ, ◌%◌, ◌==◌, true, false, nat_le, length, ◌||◌, List, Option, None, Some, IsSome, is_some, Ok, arith, refl, sym, ap, ◌∙◌, inl, inr, Err, Bool, not}
 use Rattle.std.proofs.lemmas.Bool.{cases_Bool, eqb-true}
 use Rattle.std.proofs.lemmas.Option.{none-some}
 use Rattle.pst_base.specs.Ids.{nid_of}
@@ -8,7 +12,7 @@ use Rattle.mapi_values.specs.Properties.{put, remove_id}
 use Rattle.mapi_values.specs.declared.value.Tag.{Tag}
 use Rattle.mapi_values.specs.Tables.{find_row, drop_row}
 use Rattle.mapi_values.specs.Values.{Val}
-use Rattle.command_text.specs.declared.reply.LastLine.TheVariants.{Done}
+use Rattle.command_text.specs.declared.reply.LastLine.TheVariants.{Done, Row}
 use Rattle.mail_objects.specs.Forms.{Tbl}
 use Rattle.mail_objects.specs.declared.object.Object.{Object}
 use Rattle.mail_objects.specs.declared.object.Object.TheVariants.{Table, Message}
@@ -16,11 +20,12 @@ use Rattle.mail_tree.specs.declared.places.FolderPlace.{FolderPlace}
 use Rattle.mail_tree.specs.Places.{find_place, is_plain}
 use Rattle.mail_tree.specs.Tree.{Tree}
 use Rattle.mail_tree.specs.Values.{bytes_of, finished, is_set_protected, is_unset_protected, message_props, with_props}
-use Rattle.command_text.specs.declared.reply.CommandRefusal.TheVariants.{Ids}
-use Rattle.mail_tree.specs.Changing.{Answer, Changed, ◌>>=◌, add_shown, contents, drop_shown, nothing, now_at, overfills, put_shown, shown_row, with_object, with_rows}
+use Rattle.command_text.specs.declared.reply.CommandRefusal.TheVariants.{Ids, Limit, Object as NoObject}
+use Rattle.mail_tree.specs.Changing.{Answer, Changed, ◌>>=◌, add_shown, contents, drop_shown, nothing, now_at, overfills, put_shown, shown_row, with_object, with_rows, within_limits}
 use Rattle.mail_tree.specs.Settling.{settled}
-use Rattle.mail_tree.specs.Folders.{Outcome, changing, making, replied, unless_full}
-use Rattle.mail_tree.specs.Messages.{added_message, changed_message, copied_message, copy_of, copying, details, in_folder, is_crowded_message, is_overfull, making_message, message_in, moved_message, new_message, parent_at, plain_message, removed_message, set_value, unset_value, value_in, value_of, with_message}
+use Rattle.mail_tree.specs.Folders.{Outcome, changing, making, replied, unless_full, replying}
+use Rattle.mail_tree.specs.Messages.{added_message, added_recipient, adding_recipient, changed_message, copied_message, copy_of, copying, details, in_folder, is_crowded_message, is_overfull, making_message, message_in, moved_message, new_message, parent_at, plain_message, remaking, removed_message, removed_recipient, set_value, spent_row, unset_value, value_in, value_of, with_message}
+use Rattle.mail_tree.specs.Parts.{has_recipient, is_full, is_wide, new_row, next_row, recipient_props, recipient_tags, rows_of, with_recipient, without_recipient}
 use Rattle.mail_tree.specs.Ids.{is_spent, message_kinds, new_id, next_index}
 use Rattle.mail_tree.specs.Whole.{AreWhole, Fine}
 use Rattle.mail_tree.proofs.AfterTree.{now_nothing, puts_object, puts_values}
@@ -87,16 +92,32 @@ unfolding finished
 finished_folder m = refl
 
 -- what is settled and keeps to the limits is done
+fine_ending : (T : Tree) (reply : Reply) (D : Changed) → Leaves T D → Fine (changing T reply D) (Keeps T)
+fine_ending T reply D w = after_limits (Keeps T) D (λ u. Ok (record { changed = D; places = T.places; last = T.last; reply = reply })) w
+
 pub fine_changing : (T : Tree) (D : Changed) → Leaves T D → Fine (changing T (replied Done) D) (Keeps T)
-fine_changing T D w = after_limits (Keeps T) D (λ u. Ok (record { changed = D; places = T.places; last = T.last; reply = replied Done })) w
+fine_changing T D w = fine_ending T (replied Done) D w
+
+fine_refused : {A B : Type 0} (P : B → Type 0) (a : Answer A) (f : A → Answer B) (refusal : CommandRefusal) → Fine (a >>= f) P → Fine (a >>= λ x. Err (Some refusal)) P
+fine_refused P (Ok x) f refusal k = tt
+fine_refused P (Err None) f refusal k = k
+fine_refused P (Err (Some r)) f refusal k = tt
+
+-- the same where there may be another reason against it
+fine_replying : (T : Tree) (a : Answer Changed) (reason : Option CommandRefusal) (reply : Reply) → Fine (a >>= changing T reply) (Keeps T) → Fine (a >>= replying T reason reply) (Keeps T)
+fine_replying T (Err None) reason reply k = k
+fine_replying T (Err (Some r)) reason reply k = tt
+fine_replying T (Ok D) None reply k = k
+fine_replying T (Ok D) (Some refusal) reply k = fine_refused (Keeps T) (within_limits D) _ refusal k
 
 -- a message gets other values
-shown_message : (T : Tree) (old new : Mes) (p : FolderPlace) → Before T → now_at T nothing new.nid ≡ Some (Message old) → new.nid % 32 ≡ 4 → new.folder ≡ old.folder → old.nid ≡ new.nid → find_place new.folder T.places ≡ Some p → is_plain p ≡ true
-    → Fine (put_shown T (contents new.folder) new.nid new.props (with_message old new nothing)) (Leaves T)
+shown_message : (T : Tree) (old new : Mes) (crowded : Bool) (p : FolderPlace) → Before T → now_at T nothing new.nid ≡ Some (Message old) → new.nid % 32 ≡ 4 → new.folder ≡ old.folder → old.nid ≡ new.nid → find_place new.folder T.places ≡ Some p → is_plain p ≡ true
+    → Fine (put_shown T (contents new.folder) new.nid new.props (with_message old new (record nothing { crowded = crowded }))) (Leaves T)
 unfolding put_shown
-shown_message T old new p w is four folder nid found plain =
-    let D = with_message old new nothing in
-    let puts = puts_values T nothing new.nid (Message new) old.props new.props in
+shown_message T old new crowded p w is four folder nid found plain =
+    let D0 = record nothing { crowded = crowded } in
+    let D = with_message old new D0 in
+    let puts = puts_values T D0 new.nid (Message new) old.props new.props in
     let n = puts_at T.places new.nid four (now_at T nothing) (now_at T D) new w refl puts in
     let t = table_now n new.folder p found plain in
     rw t.1 (lists_message T.places new.nid four (now_at T D) _ n new.folder p found plain t.0 t.1 new new.props puts.here refl
@@ -108,22 +129,46 @@ pub home_of : (T : Tree) → Before T → (m : ℕ) (M : Mes) → now_at T nothi
 home_of T w m M is = let v = w.held m M is in ((message_id m M (w.typed m (Message M) is)).1, v.0, v.1, v.2)
 
 -- settled, and within the limits
-settled_changing : (T : Tree) (a : Answer Changed) (f : ℕ) (p : FolderPlace) → find_place f T.places ≡ Some p → is_plain p ≡ true → Fine a (Leaves T) → Fine (a >>= settled T T.places f >>= changing T (replied Done)) (Keeps T)
-settled_changing T a f p found plain fine =
-    fine_then (Leaves T) (Keeps T) (a >>= settled T T.places f) (changing T (replied Done))
+settled_ending : (T : Tree) (a : Answer Changed) (f : ℕ) (p : FolderPlace) (reply : Reply) → find_place f T.places ≡ Some p → is_plain p ≡ true → Fine a (Leaves T) → Fine (a >>= settled T T.places f >>= changing T reply) (Keeps T)
+settled_ending T a f p reply found plain fine =
+    fine_then (Leaves T) (Keeps T) (a >>= settled T T.places f) (changing T reply)
     (fine_then (Leaves T) (Leaves T) a (settled T T.places f) fine (λ D w. fine_settled T T.places f p D w found plain))
-    (λ D w. fine_changing T D w)
+    (λ D w. fine_ending T reply D w)
+
+settled_changing : (T : Tree) (a : Answer Changed) (f : ℕ) (p : FolderPlace) → find_place f T.places ≡ Some p → is_plain p ≡ true → Fine a (Leaves T) → Fine (a >>= settled T T.places f >>= changing T (replied Done)) (Keeps T)
+settled_changing T a f p found plain fine = settled_ending T a f p (replied Done) found plain fine
+
+-- a message becomes another of its id, in its folder
+fine_remaking : (T : Tree) (m : ℕ) (M new : Mes) (crowded : Bool) (reason : Option CommandRefusal) (last : LastLine) → Before T → now_at T nothing m ≡ Some (Message M) → m % 32 ≡ 4 → new.nid ≡ M.nid → new.folder ≡ M.folder
+    → Fine (remaking T M new crowded reason last) (Keeps T)
+unfolding remaking
+fine_remaking T m M new crowded reason last w is four same there =
+    let N = finished new in
+    let v = home_of T w m M is in
+    let nid : N.nid ≡ m = finished_id new ∙ same ∙ v.0 in
+    let folder : N.folder ≡ M.folder = finished_folder new ∙ there in
+    let found : find_place N.folder T.places ≡ Some v.1 = ap (λ x. find_place x T.places) folder ∙ v.2 in
+    let a = put_shown T (contents N.folder) N.nid N.props (with_message M N (record nothing { crowded = crowded })) in
+    fine_replying T (a >>= settled T T.places N.folder) reason (replied last) (settled_ending T a N.folder v.1 (replied last) found v.3
+    (shown_message T M N crowded v.1 w (ap (now_at T nothing) nid ∙ is) (ap (λ x. x % 32) nid ∙ four) folder (v.0 ∙ sym nid) found v.3))
 
 fine_changed : (T : Tree) (m : ℕ) (M : Mes) (props : List Val) → Before T → now_at T nothing m ≡ Some (Message M) → m % 32 ≡ 4 → Fine (changed_message T M props) (Keeps T)
 unfolding changed_message
-fine_changed T m M props w is four =
-    let new = finished (with_props props M) in
-    let v = home_of T w m M is in
-    let nid : new.nid ≡ m = finished_id (with_props props M) ∙ v.0 in
-    let folder : new.folder ≡ M.folder = finished_folder (with_props props M) in
-    let found : find_place new.folder T.places ≡ Some v.1 = ap (λ x. find_place x T.places) folder ∙ v.2 in
-    settled_changing T (put_shown T (contents new.folder) new.nid new.props (with_message M new nothing)) new.folder v.1 found v.3
-    (shown_message T M new v.1 w (ap (now_at T nothing) nid ∙ is) (ap (λ x. x % 32) nid ∙ four) folder (v.0 ∙ sym nid) found v.3)
+fine_changed T m M props w is four = fine_remaking T m M (with_props props M) false None Done w is four refl refl
+
+-- `rcpt`
+pub fine_added_recipient : (T : Tree) (m kind : ℕ) (address name : List ℕ) → Before T → Fine (added_recipient T m kind address name) (Keeps T)
+unfolding added_recipient adding_recipient
+fine_added_recipient T m kind address name w = fine_then _ (Keeps T) (message_in T m) _ (fine_message_in T m w) (λ M h.
+    let row = next_row (rows_of M.recipients) in
+    after_test (Keeps T) (is_full M.recipients) (Limit Rows) _ (λ u. after_test (Keeps T) (is_wide recipient_tags M.recipients) (Limit Rows) _ (λ v.
+    fine_remaking T m M (with_recipient (new_row row) (recipient_props kind address name) M) false (spent_row row) (Row (new_row row)) w h.0 h.1 refl refl)))
+
+-- `unrcpt`
+pub fine_removed_recipient : (T : Tree) (m row : ℕ) → Before T → Fine (removed_recipient T m row) (Keeps T)
+unfolding removed_recipient
+fine_removed_recipient T m row w = fine_then _ (Keeps T) (message_in T m) _ (fine_message_in T m w) (λ M h.
+    after_test (Keeps T) (not (has_recipient row M)) NoObject _ (λ u. fine_remaking T m M (without_recipient row M) false None Done w h.0 h.1 refl refl))
 
 -- `set`
 pub fine_set : (T : Tree) (m : ℕ) (v : Val) → Before T → Fine (set_value T m v) (Keeps T)

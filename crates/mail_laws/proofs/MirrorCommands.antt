@@ -1,5 +1,8 @@
 -- After each command rows show what they name.
-use Rattle.std.proofs.Common.{◌≡◌, ℕ, ◌%◌, ◌<◌, ◌==◌, ◌||◌, Bool, true, false, nat_le, filter, List, [], Option, None, Some, IfOk, is_some, arith, refl, sym, ap, ◌∙◌, inl, inr}
+use Rattle.command_text.specs.declared.reply.LastLine.{LastLine}
+use Rattle.command_text.specs.declared.reply.Limit.TheVariants.{Rows}
+use Rattle.command_text.specs.declared.reply.CommandRefusal.{CommandRefusal}
+use Rattle.std.proofs.Common.{◌≡◌, ℕ, ◌%◌, ◌<◌, ◌==◌, ◌||◌, Bool, true, false, nat_le, filter, List, [], Option, None, Some, IfOk, is_some, arith, refl, sym, ap, ◌∙◌, inl, inr, not}
 use Rattle.std.proofs.lemmas.Bool.{cases_Bool, cases_eq, or_parts}
 use Rattle.std.proofs.lemmas.Option.{none-some}
 use Rattle.mapi_values.specs.Characters.{folded}
@@ -10,8 +13,8 @@ use Rattle.mapi_values.specs.Tables.{find_row}
 use Rattle.mapi_values.specs.Values.{Val}
 use Rattle.mapi_values.specs.declared.value.Tag.{Tag}
 use Rattle.command_text.specs.declared.command.Command.{Command}
-use Rattle.command_text.specs.declared.command.Command.TheVariants.{MakeFolder, RenameFolder, MoveFolder, RemoveFolder, ListFolder, NewMessage, SetProperty, UnsetProperty, GetProperty, ListProperties, MoveMessage, CopyMessage, RemoveMessage, Save, Quit}
-use Rattle.command_text.specs.declared.reply.LastLine.TheVariants.{Done}
+use Rattle.command_text.specs.declared.command.Command.TheVariants.{MakeFolder, RenameFolder, MoveFolder, RemoveFolder, ListFolder, NewMessage, SetProperty, UnsetProperty, GetProperty, ListProperties, MoveMessage, CopyMessage, RemoveMessage, AddRecipient, RemoveRecipient, Save, Quit}
+use Rattle.command_text.specs.declared.reply.LastLine.TheVariants.{Done, Row}
 use Rattle.command_text.specs.declared.reply.Reply.{Reply}
 use Rattle.mail_objects.specs.Forms.{Ctx, Tbl}
 use Rattle.mail_objects.specs.declared.object.Object.{Object}
@@ -20,13 +23,14 @@ use Rattle.mail_tree.specs.declared.places.FolderPlace.{FolderPlace}
 use Rattle.mail_tree.specs.Places.{ROOT, children, find_place, is_child, is_deep, is_plain, is_within, moves_deep, place_id}
 use Rattle.mail_tree.specs.Tree.{Tree}
 use Rattle.mail_tree.specs.Values.{bytes_of, finished, folder_props, is_set_protected, is_unset_protected, message_props, name_of, text, with_props}
-use Rattle.command_text.specs.declared.reply.CommandRefusal.TheVariants.{Ids}
+use Rattle.command_text.specs.declared.reply.CommandRefusal.TheVariants.{Ids, Limit, Object as NoObject}
 use Rattle.mail_tree.specs.Changing.{Answer, Changed, ◌>>=◌, add_shown, associated, beside, contents, context_at, drop_shown, hierarchy, nothing, now_at, put_shown, table_at, with_object, within_limits}
 use Rattle.mail_tree.specs.Columns.{contents_table, hierarchy_table}
 use Rattle.mail_tree.specs.Settling.{message_ids, mirrored, settled, with_context}
 use Rattle.mail_tree.specs.Ids.{folder_kinds, is_spent, is_taken, message_kinds, new_id, next_index}
 use Rattle.mail_tree.specs.Folders.{Outcome, associated_in, changing, folder_lines, has_associated, has_rows, listing, made_folder, making, making_folder, moved_between, moved_folder, place, removed_folder, without_folder, without_node, message_lines, moving, renamed_folder, replied, siblings, unless_full, unless_named, unless_protected, with_folder}
-use Rattle.mail_tree.specs.Messages.{added_message, changed_message, copied_message, copy_of, copying, details, in_folder, is_crowded_message, is_overfull, making_message, message_in, moved_message, new_message, plain_message, removed_message, set_value, unset_value, value_in, value_of, with_message}
+use Rattle.mail_tree.specs.Messages.{added_message, added_recipient, adding_recipient, changed_message, copied_message, copy_of, copying, details, in_folder, is_crowded_message, is_overfull, making_message, message_in, moved_message, new_message, plain_message, remaking, removed_message, removed_recipient, set_value, spent_row, unset_value, value_in, value_of, with_message}
+use Rattle.mail_tree.specs.Parts.{has_recipient, is_full, is_wide, new_row, next_row, recipient_props, recipient_tags, rows_of, with_recipient, without_recipient}
 use Rattle.mail_laws.specs.Laws.{Shows}
 use Rattle.mail_tree.proofs.AfterTree.{puts_object, puts_values}
 use Rattle.mail_tree.proofs.FineLaws.{cases_Option}
@@ -34,7 +38,7 @@ use Rattle.mail_tree.proofs.KeyedFinds.{find-put_other, find-drop_other, find-dr
 use Rattle.mail_laws.proofs.FolderSteps.{beside_apart, fine_protected, no_rows}
 use Rattle.mail_laws.proofs.NewIds.{new_folder_id}
 use Rattle.mail_tree.specs.Step.{outcome}
-use Rattle.mail_laws.proofs.Keeping.{from_fine, if_any, if_test, if_then, if_weaker, never_made}
+use Rattle.mail_laws.proofs.Keeping.{from_fine, if_any, if_test, if_then, if_weaker, never_made, if_replying}
 use Rattle.mail_tree.proofs.KindsOfPuts.{beside_kind, same_table}
 use Rattle.mail_laws.proofs.MessageSteps.{Before, fine_message_in, finished_folder, finished_id, home_of, new_message_id}
 use Rattle.mail_laws.proofs.MirrorPuts.{AreShownBut, FolderIds, closes, shown_places, shown_put, shown_unlisting}
@@ -154,18 +158,36 @@ module _ (T : Tree) (w : Before T) (s : AreShownBut (λ x. ⊥) T.places (now_at
     ])
   ]
 
-  changes : (m : ℕ) (M : Mes) (props : List Val) → now_at T nothing m ≡ Some (Message M) → m % 32 ≡ 4 → IfOk (changed_message T M props) After
-  unfolding changed_message Shows_now
-  changes m M props is four =
-      let N = finished (with_props props M) in
-      let D = with_message M N nothing in let v = home_of T w m M is in
-      let nid : N.nid ≡ m = finished_id (with_props props M) ∙ v.0 in
+  remakes : (m : ℕ) (M new : Mes) (crowded : Bool) (reason : Option CommandRefusal) (last : LastLine) → now_at T nothing m ≡ Some (Message M) → m % 32 ≡ 4 → new.nid ≡ M.nid → new.folder ≡ M.folder → IfOk (remaking T M new crowded reason last) After
+  unfolding remaking Shows_now
+  remakes m M new crowded reason last is four same there =
+      let N = finished new in
+      let D0 = record nothing { crowded = crowded } in
+      let D = with_message M N D0 in let v = home_of T w m M is in
+      let nid : N.nid ≡ m = finished_id new ∙ same ∙ v.0 in
       let four' : N.nid % 32 ≡ 4 = ap (λ x. x % 32) nid ∙ four in
-      let folder : N.folder ≡ M.folder = finished_folder (with_props props M) in
-      let puts = puts_values T nothing N.nid (Message N) M.props N.props in
+      let folder : N.folder ≡ M.folder = finished_folder new ∙ there in
+      let puts = puts_values T D0 N.nid (Message N) M.props N.props in
       let a = put_shown T (contents N.folder) N.nid N.props D in
-      then_changing (a >>= settled T T.places N.folder) (replied Done) (then_shows T T.places ids a N.folder (ids N.folder v.1 (ap (λ x. find_place x T.places) folder ∙ v.2))
-      (put_message T T.places ids D N.nid N four' (message_opens nothing N.nid (Some (Message N)) (now_at T D) four' s puts) puts.here))
+      if_replying T (a >>= settled T T.places N.folder) reason (replied last) After
+      (then_changing (a >>= settled T T.places N.folder) (replied last) (then_shows T T.places ids a N.folder (ids N.folder v.1 (ap (λ x. find_place x T.places) folder ∙ v.2))
+      (put_message T T.places ids D N.nid N four' (message_opens D0 N.nid (Some (Message N)) (now_at T D) four' s puts) puts.here)))
+
+  changes : (m : ℕ) (M : Mes) (props : List Val) → now_at T nothing m ≡ Some (Message M) → m % 32 ≡ 4 → IfOk (changed_message T M props) After
+  unfolding changed_message
+  changes m M props is four = remakes m M (with_props props M) false None Done is four refl refl
+
+  adds_recipient : (m kind : ℕ) (address name : List ℕ) → IfOk (added_recipient T m kind address name) After
+  unfolding added_recipient adding_recipient
+  adds_recipient m kind address name = if_then _ After (message_in T m) _ (from_fine _ (message_in T m) (fine_message_in T m w)) (λ M h.
+      let row = next_row (rows_of M.recipients) in
+      if_test After (is_full M.recipients) (Limit Rows) _ (if_test After (is_wide recipient_tags M.recipients) (Limit Rows) _
+      (remakes m M (with_recipient (new_row row) (recipient_props kind address name) M) false (spent_row row) (Row (new_row row)) h.0 h.1 refl refl)))
+
+  removes_recipient : (m row : ℕ) → IfOk (removed_recipient T m row) After
+  unfolding removed_recipient
+  removes_recipient m row = if_then _ After (message_in T m) _ (from_fine _ (message_in T m) (fine_message_in T m w)) (λ M h.
+      if_test After (not (has_recipient row M)) NoObject _ (remakes m M (without_recipient row M) false None Done h.0 h.1 refl refl))
 
   sets : (m : ℕ) (v : Val) → IfOk (set_value T m v) After
   unfolding set_value
@@ -416,5 +438,7 @@ module _ (T : Tree) (w : Before T) (s : AreShownBut (λ x. ⊥) T.places (now_at
   mirrored_after (MoveMessage message folder) = moves message.bits folder.bits
   mirrored_after (CopyMessage message folder) = copies message.bits folder.bits
   mirrored_after (RemoveMessage message) = removes message.bits
+  mirrored_after (AddRecipient message kind address name) = adds_recipient message.bits kind address name
+  mirrored_after (RemoveRecipient message row) = removes_recipient message.bits row
   mirrored_after Save = s
   mirrored_after Quit = s

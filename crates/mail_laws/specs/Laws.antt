@@ -8,8 +8,8 @@ use Rattle.mapi_values.specs.Tables.{find_row, mirror}
 use Rattle.mapi_values.specs.Values.{Val}
 use Rattle.mapi_values.specs.declared.value.Tag.{Tag}
 use Rattle.command_text.specs.declared.command.Command.{Command}
-use Rattle.command_text.specs.declared.command.Command.TheVariants.{MakeFolder, RenameFolder, MoveFolder, RemoveFolder, ListFolder, NewMessage, SetProperty, UnsetProperty, GetProperty, ListProperties, MoveMessage, CopyMessage, RemoveMessage, Save, Quit}
-use Rattle.command_text.specs.declared.reply.LastLine.TheVariants.{Made, Value}
+use Rattle.command_text.specs.declared.command.Command.TheVariants.{MakeFolder, RenameFolder, MoveFolder, RemoveFolder, ListFolder, NewMessage, SetProperty, UnsetProperty, GetProperty, ListProperties, MoveMessage, CopyMessage, RemoveMessage, AddRecipient, RemoveRecipient, Save, Quit}
+use Rattle.command_text.specs.declared.reply.LastLine.TheVariants.{Made, Row, Value}
 use Rattle.mail_objects.specs.Forms.{Ctx, Tbl}
 use Rattle.mail_objects.specs.declared.object.Object.{Object}
 use Rattle.mail_objects.specs.declared.object.Object.TheVariants.{Context, Message, Table}
@@ -21,6 +21,7 @@ use Rattle.mail_tree.specs.Changing.{as_message, contents, hierarchy}
 use Rattle.mail_tree.specs.Settling.{message_ids}
 use Rattle.mail_tree.specs.Folders.{place, replied, unchanged}
 use Rattle.mail_tree.specs.Messages.{copy_of, in_folder}
+use Rattle.mail_tree.specs.Parts.{recipient_props, rows_of, with_recipient, without_recipient}
 use Rattle.mail_tree.specs.Step.{after, outcome}
 use Rattle.mail_tree.specs.Whole.{IsWhole}
 
@@ -72,6 +73,16 @@ Sets = (T : Tree) (m : Nid) (v : Val) → IsWhole T → IfOk (outcome T (SetProp
 abbrev pub Unsets : Type 0
 Unsets = (T : Tree) (m : Nid) (tag : Tag) → IsWhole T → IfOk (outcome T (UnsetProperty m tag)) (λ o. (M : Mes) × (props : List Val) × (message_with T m.bits ≡ Some M) × OnlyMessage T (after T o) m.bits (Some (with_props props M))
     × (ascend_from 0 M.props ≡ true → find tag.id props ≡ None) × SameButFor tag.id M.props props)
+
+-- after `rcpt` the message has a recipient of this type, address and name in the row that is replied, which none had, and its others, its other values but for flags and size, and all else that it had
+abbrev pub AddsRecipient : Type 0
+AddsRecipient = (T : Tree) (m : Nid) (kind : ℕ) (address name : List ℕ) → IsWhole T → IfOk (outcome T (AddRecipient m kind address name)) (λ o. (M : Mes) × (row : ℕ) × (props : List Val) × (message_with T m.bits ≡ Some M)
+    × OnlyMessage T (after T o) m.bits (Some (with_props props (with_recipient row (recipient_props kind address name) M))) × (o.reply ≡ replied (Row row)) × (find_row row (rows_of M.recipients) ≡ None) × SameButFor 0x0E08 M.props props)
+
+-- after `unrcpt` the message has no recipient in this row, and its others, its other values but for flags and size, and all else that it had
+abbrev pub RemovesRecipient : Type 0
+RemovesRecipient = (T : Tree) (m : Nid) (row : ℕ) → IsWhole T → IfOk (outcome T (RemoveRecipient m row)) (λ o. (M : Mes) × (props : List Val) × (message_with T m.bits ≡ Some M)
+    × OnlyMessage T (after T o) m.bits (Some (with_props props (without_recipient row M))) × SameButFor 0x0E08 M.props props)
 
 -- `get` after `set` replies the value that was set
 abbrev pub GetsWhatWasSet : Type 0
@@ -164,3 +175,5 @@ pub record CountsAnew : Type 0 where
   pub sets : (T : Tree) (m : Nid) (v : Val) → IsWhole T → IfOk (outcome T (SetProperty m v)) (λ o. (M : Mes) × (message_with T m.bits ≡ Some M) × CountsOf (after T o) M.folder)
   pub unsets : (T : Tree) (m : Nid) (tag : Tag) → IsWhole T → IfOk (outcome T (UnsetProperty m tag)) (λ o. (M : Mes) × (message_with T m.bits ≡ Some M) × CountsOf (after T o) M.folder)
   pub removes : (T : Tree) (m : Nid) → IsWhole T → IfOk (outcome T (RemoveMessage m)) (λ o. (M : Mes) × (message_with T m.bits ≡ Some M) × CountsOf (after T o) M.folder)
+  pub adds_recipient : (T : Tree) (m : Nid) (kind : ℕ) (address name : List ℕ) → IsWhole T → IfOk (outcome T (AddRecipient m kind address name)) (λ o. (M : Mes) × (message_with T m.bits ≡ Some M) × CountsOf (after T o) M.folder)
+  pub removes_recipient : (T : Tree) (m : Nid) (row : ℕ) → IsWhole T → IfOk (outcome T (RemoveRecipient m row)) (λ o. (M : Mes) × (message_with T m.bits ≡ Some M) × CountsOf (after T o) M.folder)

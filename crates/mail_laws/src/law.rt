@@ -2,7 +2,7 @@
 ghost use Rattle.std.specs.Prelude.{ℕ, List};
 ghost use Rattle.command_text.specs.declared.command.Command.{Command};
 ghost use Rattle.mail_laws.specs.ComesAndGoes.{ComesAndGoes};
-ghost use Rattle.mail_laws.specs.Laws.{Copies, Counts, CountsAnew, CountsStay, GetsWhatWasSet, MakesFolder, MakesMessage, Mirrors, MirrorsStay, Moves, MovesFolder, Reads, Removes, RemovesFolder, RenamesFolder, Sets, Unsets};
+ghost use Rattle.mail_laws.specs.Laws.{AddsRecipient, Copies, Counts, CountsAnew, CountsStay, GetsWhatWasSet, MakesFolder, MakesMessage, Mirrors, MirrorsStay, Moves, MovesFolder, Reads, Removes, RemovesFolder, RemovesRecipient, RenamesFolder, Sets, Unsets};
 ghost use Rattle.mail_tree.specs.Start.{IsStart};
 ghost use Rattle.mail_laws.specs.Stays.{GivesNewIds, KeepsNodes, KeepsTables, KeepsValues, StaysFound};
 ghost use Rattle.mail_tree.specs.Step.{after, outcome};
@@ -69,6 +69,16 @@ pub fn removes()
     ensures { Removes }
 {}
 
+/// `rcpt` gives a message the recipient that it is told in a row that none had, and leaves its others and all other messages as they were.
+pub fn adds_recipient()
+    ensures { AddsRecipient }
+{}
+
+/// `unrcpt` takes the recipient of a row from a message, and leaves its others and all other messages as they were.
+pub fn removes_recipient()
+    ensures { RemovesRecipient }
+{}
+
 /// `ls`, `get`, `props`, `save` and `quit` change nothing.
 pub fn reads()
     ensures { Reads }
@@ -84,7 +94,7 @@ pub fn counts_stay()
     ensures { CountsStay }
 {}
 
-/// After `new`, `cp`, `set`, `unset` and `rm` the counts of the message's folder are right, whatever they were.
+/// After `new`, `cp`, `set`, `unset`, `rm`, `rcpt` and `unrcpt` the counts of the message's folder are right, whatever they were.
 pub fn counts_anew()
     ensures { CountsAnew }
 {}

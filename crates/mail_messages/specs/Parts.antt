@@ -1,8 +1,10 @@
 -- Commands on messages, part by part.
-use Rattle.std.specs.Prelude.{ℕ, ◌==◌, ◌||◌, ◌++◌, List, length, map, nat_le, not, is_some, Ok, if◌then◌else◌}
-use Rattle.command_text.specs.declared.reply.CommandRefusal.TheVariants.{Ids, Limit, Property, Protected, Reserved}
+use Rattle.std.specs.Prelude.{ℕ, ◌==◌, ◌||◌, ◌++◌, List, length, map, nat_le, not, is_some, Option, None, Some, Ok, false, if◌then◌else◌}
+use Rattle.command_text.specs.declared.reply.CommandRefusal.{CommandRefusal}
+use Rattle.command_text.specs.declared.reply.CommandRefusal.TheVariants.{Ids, Limit, Object, Property, Protected, Reserved}
 use Rattle.command_text.specs.declared.reply.Limit.TheVariants.{Rows}
 use Rattle.command_text.specs.declared.reply.DataLine.{DataLine}
+use Rattle.command_text.specs.declared.reply.LastLine.{LastLine}
 use Rattle.command_text.specs.declared.reply.LastLine.TheVariants.{Done, Value}
 use Rattle.mapi_values.specs.Messages.{Mes}
 use Rattle.mapi_values.specs.Properties.{put, remove_id}
@@ -14,18 +16,23 @@ use Rattle.mail_tree.specs.Values.{bytes_of, is_set_protected, is_unset_protecte
 use Rattle.mail_tree.specs.Changing.{Answer, Changed, ◌>>=◌, add_shown, contents, found, put_shown, refused_if}
 use Rattle.mail_tree.specs.Settling.{settled}
 use Rattle.mail_tree.specs.Ids.{is_spent, message_kinds, next_index}
-use Rattle.mail_tree.specs.Folders.{Outcome, changing, making, replied, unchanged, unless_full}
+use Rattle.mail_tree.specs.Folders.{Outcome, changing, making, replied, replying, unchanged, unless_full}
 use Rattle.mail_messages.specs.Finding.{plain_at}
-use Rattle.mail_tree.specs.Messages.{added_message, attachment_line, changed_message, copying, is_overfull, making_message, property_line, recipient_line, rows_of, value_of}
+use Rattle.mail_tree.specs.Messages.{added_message, attachment_line, changed_message, copying, is_overfull, adding_recipient, making_message, property_line, recipient_line, remaking, value_of}
+use Rattle.mail_tree.specs.Parts.{has_recipient, is_full, is_wide, next_row, recipient_props, recipient_tags, rows_of, without_recipient}
 use Rattle.mail_messages.specs.Pieces.{moving_message}
 
 -- a folder is counted anew, and that is all
 abbrev pub settling : Tree → ℕ → Changed → Answer Outcome
 settling T f D = settled T T.places f D >>= changing T (replied Done)
 
+-- a folder is counted anew, and that is all: refused where there is a reason beside the limits
+abbrev pub ending : Tree → ℕ → Option CommandRefusal → LastLine → Changed → Answer Outcome
+ending T f reason last D = settled T T.places f D >>= replying T reason (replied last)
+
 -- the row of a message in this folder shows these values of it, and the folder is counted anew
-abbrev pub showing_row : Tree → ℕ → ℕ → List Val → Changed → Answer Outcome
-showing_row T f m props D = put_shown T (contents f) m props D >>= settling T f
+abbrev pub showing_row : Tree → ℕ → ℕ → List Val → Option CommandRefusal → LastLine → Changed → Answer Outcome
+showing_row T f m props reason last D = put_shown T (contents f) m props D >>= ending T f reason last
 
 -- a value of this id may be set
 abbrev pub may_set : ℕ → List Val → Answer (Unit {0})
@@ -94,3 +101,15 @@ copying_into T folder M = plain_at folder Reserved T.places >>= λ u. may_copy M
 -- the lines that tell of a message
 abbrev pub detail_lines : Mes → List DataLine
 detail_lines M = map property_line M.props ++ (map recipient_line (rows_of M.recipients) ++ map attachment_line M.parts)
+
+-- a message with a recipient table that has room gets a recipient
+abbrev pub adding_to : Tree → Mes → List Val → Answer Outcome
+adding_to T M props = refused_if (is_wide recipient_tags M.recipients) (Limit Rows) >>= λ u. adding_recipient T M props (next_row (rows_of M.recipients))
+
+-- a message gets a recipient of these values
+abbrev pub adding_one : Tree → Mes → List Val → Answer Outcome
+adding_one T M props = refused_if (is_full M.recipients) (Limit Rows) >>= λ u. adding_to T M props
+
+-- a message loses the recipient in this row
+abbrev pub removing_one : Tree → ℕ → Mes → Answer Outcome
+removing_one T row M = refused_if (not (has_recipient row M)) Object >>= λ u. remaking T M (without_recipient row M) false None Done

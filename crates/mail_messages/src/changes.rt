@@ -2,16 +2,17 @@
 ghost use Rattle.std.specs.Prelude.{◌≡◌, IfErr, length};
 ghost use Rattle.mapi_values.specs.Messages.{Mes};
 ghost use Rattle.mail_tree.specs.Tree.{Shown, Tree};
-ghost use Rattle.mail_tree.specs.Messages.{changed_message};
+ghost use Rattle.mail_tree.specs.Messages.{changed_message, remaking};
 ghost use Rattle.mail_draft.specs.Answers.{IsCaused, Looks, Says};
 ghost use Rattle.mail_draft.specs.Drafts.{changed_of};
 ghost use Rattle.mail_draft.specs.Outcomes.{outcome_of};
-ghost use Rattle.mail_messages.specs.Parts.{settling, showing_row};
+ghost use Rattle.mail_messages.specs.Parts.{ending, settling, showing_row};
 ghost use Rattle.mail_messages.specs.Pieces.{showing_message};
 
+use crate::ending::Ending;
 use crate::find::contents;
 use crate::mails::{finished, message_draft, with_props};
-use mail_draft::{Draft, Outcome, Stop, changing, put_shown, settled};
+use mail_draft::{Draft, Outcome, Stop, changing, put_shown, replying, settled};
 use mail_objects::Mail;
 use mail_tree::Places;
 use mapi_values::Props;
@@ -37,6 +38,24 @@ pub(crate) fn settling<W: Outside, K: NodeReader<W>>(
     changing(alloc, draft)
 }
 
+/// Counts a folder anew, and makes the changes.
+fn ending<W: Outside, K: NodeReader<W>>(
+    alloc: Global,
+    keeper: &mut K,
+    w: &mut W,
+    places: &Places,
+    draft: Draft,
+    folder: Nid,
+    end: Ending,
+) -> Result<Outcome, Stop>
+    ensures answer { (T : Tree) → Shown (K.holds keeper.old (W.view w.old)) (K.last keeper.old) T → T.places ≡ places.now → Says (outcome_of T) (ending T folder.bits end.reason end.last (changed_of draft)) result }
+    ensures looks { Looks (K.holds keeper.old (W.view w.old)) (K.holds keeper.new (W.view w.new)) (K.last keeper.old) (K.last keeper.new) (K.room keeper.old) (K.room keeper.new) (W.view w.old) (W.view w.new) }
+    ensures cause { IfErr result (IsCaused K.has_disk (W.view w.old).disk_faults (W.view w.new).disk_faults) }
+{
+    let draft = settled(alloc, keeper, w, draft, places, folder)?;
+    replying(alloc, draft, end.reason, end.last)
+}
+
 /// Makes the row of a message in its folder's table show these values of it, counts the folder anew, and makes the changes.
 fn showing_row<W: Outside, K: NodeReader<W>>(
     alloc: Global,
@@ -47,13 +66,14 @@ fn showing_row<W: Outside, K: NodeReader<W>>(
     folder: Nid,
     message: Nid,
     props: &Props,
+    end: Ending,
 ) -> Result<Outcome, Stop>
-    ensures answer { (T : Tree) → Shown (K.holds keeper.old (W.view w.old)) (K.last keeper.old) T → T.places ≡ places.now → Says (outcome_of T) (showing_row T folder.bits message.bits props.now (changed_of draft)) result }
+    ensures answer { (T : Tree) → Shown (K.holds keeper.old (W.view w.old)) (K.last keeper.old) T → T.places ≡ places.now → Says (outcome_of T) (showing_row T folder.bits message.bits props.now end.reason end.last (changed_of draft)) result }
     ensures looks { Looks (K.holds keeper.old (W.view w.old)) (K.holds keeper.new (W.view w.new)) (K.last keeper.old) (K.last keeper.new) (K.room keeper.old) (K.room keeper.new) (W.view w.old) (W.view w.new) }
     ensures cause { IfErr result (IsCaused K.has_disk (W.view w.old).disk_faults (W.view w.new).disk_faults) }
 {
     let draft = put_shown(alloc, keeper, w, draft, contents(folder), message, props)?;
-    settling(alloc, keeper, w, places, draft, folder)
+    ending(alloc, keeper, w, places, draft, folder, end)
 }
 
 /// Puts a message that had so many values before, and shows it as it is now.
@@ -64,19 +84,38 @@ fn showing_message<W: Outside, K: NodeReader<W>>(
     places: &Places,
     old_len: usize,
     mail: Mail,
+    end: Ending,
 ) -> Result<Outcome, Stop>
-    ensures answer { (T : Tree) → Shown (K.holds keeper.old (W.view w.old)) (K.last keeper.old) T → T.places ≡ places.now → (old : Mes) → length old.props ≡ old_len → Says (outcome_of T) (showing_message T old mail) result }
+    ensures answer { (T : Tree) → Shown (K.holds keeper.old (W.view w.old)) (K.last keeper.old) T → T.places ≡ places.now → (old : Mes) → length old.props ≡ old_len → Says (outcome_of T) (showing_message T old mail end.crowded end.reason end.last) result }
     ensures looks { Looks (K.holds keeper.old (W.view w.old)) (K.holds keeper.new (W.view w.new)) (K.last keeper.old) (K.last keeper.new) (K.room keeper.old) (K.room keeper.new) (W.view w.old) (W.view w.new) }
     ensures cause { IfErr result (IsCaused K.has_disk (W.view w.old).disk_faults (W.view w.new).disk_faults) }
 {
     let folder = mail.message().folder;
     let nid = mail.message().nid;
     let props = mail.message().props.copy(alloc)?;
-    let draft = message_draft(alloc, old_len, mail)?;
-    showing_row(alloc, keeper, w, places, draft, folder, nid, &props)
+    let draft = message_draft(alloc, old_len, mail, end.crowded)?;
+    showing_row(alloc, keeper, w, places, draft, folder, nid, &props, end)
 }
 
-/// Gives a message other values: its flags and its size are made right, and it is shown.
+/// Puts another message in place of one that had so many values: its flags and its size are made right, and it is shown.
+pub(crate) fn remake_message<W: Outside, K: NodeReader<W>>(
+    alloc: Global,
+    keeper: &mut K,
+    w: &mut W,
+    places: &Places,
+    old_len: usize,
+    mail: Mail,
+    end: Ending,
+) -> Result<Outcome, Stop>
+    ensures answer { (T : Tree) → Shown (K.holds keeper.old (W.view w.old)) (K.last keeper.old) T → T.places ≡ places.now → (old : Mes) → length old.props ≡ old_len → Says (outcome_of T) (remaking T old mail end.crowded end.reason end.last) result }
+    ensures looks { Looks (K.holds keeper.old (W.view w.old)) (K.holds keeper.new (W.view w.new)) (K.last keeper.old) (K.last keeper.new) (K.room keeper.old) (K.room keeper.new) (W.view w.old) (W.view w.new) }
+    ensures cause { IfErr result (IsCaused K.has_disk (W.view w.old).disk_faults (W.view w.new).disk_faults) }
+{
+    let mail = finished(alloc, mail)?;
+    showing_message(alloc, keeper, w, places, old_len, mail, end)
+}
+
+/// Gives a message other values.
 pub(crate) fn change_message<W: Outside, K: NodeReader<W>>(
     alloc: Global,
     keeper: &mut K,
@@ -90,6 +129,6 @@ pub(crate) fn change_message<W: Outside, K: NodeReader<W>>(
     ensures cause { IfErr result (IsCaused K.has_disk (W.view w.old).disk_faults (W.view w.new).disk_faults) }
 {
     let old_len = old.message().props.len();
-    let mail = finished(alloc, with_props(old, props))?;
-    showing_message(alloc, keeper, w, places, old_len, mail)
+    let mail = with_props(old, props);
+    remake_message(alloc, keeper, w, places, old_len, mail, Ending::done())
 }

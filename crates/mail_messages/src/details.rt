@@ -2,7 +2,8 @@
 ghost use Rattle.std.specs.Prelude.{◌≡◌, ◌++◌, IfOk, OnOk, map};
 ghost use Rattle.mapi_values.specs.Properties.{find};
 ghost use Rattle.mail_tree.specs.Folders.{listed};
-ghost use Rattle.mail_tree.specs.Messages.{attachment_line, property_line, recipient_line, rows_of};
+ghost use Rattle.mail_tree.specs.Messages.{attachment_line, property_line, recipient_line};
+ghost use Rattle.mail_tree.specs.Parts.{rows_of};
 ghost use Rattle.mail_tree.specs.Values.{length_of};
 ghost use Rattle.mail_messages.specs.Parts.{detail_lines};
 
@@ -61,7 +62,7 @@ fn recipient_line(alloc: Global, recipient: &(u32, Props)) -> Result<DataLine, A
 }
 
 /// The rows of a table, none where there is no table.
-fn rows_of(table: &Option<Table>) -> &[(u32, Props)]
+pub(crate) fn rows_of(table: &Option<Table>) -> &[(u32, Props)]
     ensures { result.now ≡ rows_of table.now }
 {
     match table {

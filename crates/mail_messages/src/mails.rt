@@ -230,12 +230,19 @@ pub(crate) fn is_crowded_message(mail: &Mail) -> bool
             .any(|part| part.props.len() > MOST_VALUES)
 }
 
-/// The draft of a message that had so many values before.
-pub(crate) fn message_draft(alloc: Global, old_len: usize, mail: Mail) -> Result<Draft, AllocError>
-    ensures { IfOk result (λ d. (old : Mes) → length old.props ≡ old_len → changed_of d ≡ with_message old mail nothing) }
+/// The draft of a message that had so many values before, of which some part got too many or not.
+pub(crate) fn message_draft(
+    alloc: Global,
+    old_len: usize,
+    mail: Mail,
+    crowded: bool,
+) -> Result<Draft, AllocError>
+    ensures { IfOk result (λ d. (old : Mes) → length old.props ≡ old_len → changed_of d ≡ with_message old mail (record nothing { crowded = crowded })) }
 {
     let crowds = crowds(old_len, &mail.message().props);
     let nid = mail.message().nid;
-    let draft = Draft::new(alloc).with(nid, Some(Object::Message(mail)))?;
+    let draft = Draft::new(alloc)
+        .crowded(crowded)
+        .with(nid, Some(Object::Message(mail)))?;
     Ok(draft.crowded(crowds))
 }

@@ -9,8 +9,8 @@ use command_text::{Command, LastLine, Reply};
 use mail_draft::{Outcome, Stop};
 use mail_folders::{list_folder, make_folder, move_folder, remove_folder, rename_folder};
 use mail_messages::{
-    copy_message, get_value, list_details, move_message, new_message, remove_message, set_value,
-    unset_value,
+    add_recipient, copy_message, get_value, list_details, move_message, new_message,
+    remove_message, remove_recipient, set_value, unset_value,
 };
 use mail_tree::Places;
 use node_port::Keeper;
@@ -64,6 +64,15 @@ pub(crate) fn outcome<W: Outside, K: Keeper<W>>(
             copy_message(alloc, keeper, w, places, *message, *folder)
         }
         Command::RemoveMessage { message } => remove_message(alloc, keeper, w, places, *message),
+        Command::AddRecipient {
+            message,
+            kind,
+            address,
+            name,
+        } => add_recipient(alloc, keeper, w, places, *message, *kind, address, name),
+        Command::RemoveRecipient { message, row } => {
+            remove_recipient(alloc, keeper, w, places, *message, *row)
+        }
         Command::Save | Command::Quit => {
             let reply = Reply::without_data(alloc, LastLine::Done);
             Ok(Outcome::unchanged(alloc, reply))

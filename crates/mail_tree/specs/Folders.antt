@@ -1,11 +1,12 @@
 -- The commands on folders: what each refuses, in its order, and what it changes.
-use Rattle.std.specs.Prelude.{ℕ, ◌==◌, ◌||◌, Bool, true, false, not, nat_eq, nat_le, List, [], ◌∷◌, ◌++◌, filter, length, set, Option, None, Some, Ok, if◌then◌else◌}
+use Rattle.std.specs.Prelude.{ℕ, ◌==◌, ◌||◌, Bool, true, false, not, nat_eq, nat_le, List, [], ◌∷◌, ◌++◌, filter, length, set, Option, None, Some, Ok, Err, if◌then◌else◌}
 use Rattle.std.specs.Cmp.Lexicographic.{pointwise}
 use Rattle.pst_base.specs.declared.ids.Nid.{Nid}
 use Rattle.mapi_values.specs.Characters.{folded}
 use Rattle.mapi_values.specs.Keyed.{put_key, drop_key}
 use Rattle.mapi_values.specs.Properties.{put}
 use Rattle.mapi_values.specs.Values.{Val}
+use Rattle.command_text.specs.declared.reply.CommandRefusal.{CommandRefusal}
 use Rattle.command_text.specs.declared.reply.CommandRefusal.TheVariants.{Object as NoObject, NameTaken, NotEmpty, Cycle, Reserved, Protected, Limit, Ids}
 use Rattle.command_text.specs.declared.reply.Limit.TheVariants.{Depth, Rows}
 use Rattle.command_text.specs.declared.reply.DataLine.{DataLine}
@@ -50,6 +51,15 @@ unchanged T reply = record { changed = nothing; places = T.places; last = T.last
 -- the changes keep to the limits, and the places and counters stay
 abbrev pub changing : Tree → Reply → Changed → Answer Outcome
 changing T reply D = within_limits D >>= λ u. Ok (record { changed = D; places = T.places; last = T.last; reply = reply })
+
+-- the command is refused where there is a reason
+abbrev pub unless : Option CommandRefusal → Answer (Unit {0})
+unless None = Ok tt
+unless (Some refusal) = Err (Some refusal)
+
+-- the changes keep to the limits, there is no other reason against them, and the places and counters stay
+abbrev pub replying : Tree → Option CommandRefusal → Reply → Changed → Answer Outcome
+replying T reason reply D = within_limits D >>= λ u. unless reason >>= λ v. Ok (record { changed = D; places = T.places; last = T.last; reply = reply })
 
 -- the same, where folders come, go or move
 abbrev pub moving : Tree → List FolderPlace → Reply → Changed → Answer Outcome

@@ -1,5 +1,5 @@
 -- The commands on messages: what each refuses, in its order, and what it changes.
-use Rattle.std.specs.Prelude.{ℕ, ◌==◌, ◌||◌, Bool, not, nat_le, nat_lt, List, [], ◌++◌, length, map, Option, None, Some, Ok, if◌then◌else◌}
+use Rattle.std.specs.Prelude.{ℕ, ◌==◌, ◌||◌, Bool, false, not, nat_le, nat_lt, List, [], ◌++◌, length, map, Option, None, Some, Ok, if◌then◌else◌}
 use Rattle.std.specs.Option.{option_map, option_and_then, is_some}
 use Rattle.std.specs.List.{list_any}
 use Rattle.pst_base.specs.Ids.{kind_of}
@@ -11,11 +11,13 @@ use Rattle.mapi_values.specs.Tables.{Tab, find_row}
 use Rattle.mapi_values.specs.Values.{Val}
 use Rattle.mapi_values.specs.declared.part.Part.{Part}
 use Rattle.mapi_values.specs.declared.value.Tag.{Tag}
-use Rattle.command_text.specs.declared.reply.CommandRefusal.TheVariants.{Object, Property, Protected, Limit}
+use Rattle.command_text.specs.declared.reply.CommandRefusal.{CommandRefusal}
+use Rattle.command_text.specs.declared.reply.CommandRefusal.TheVariants.{Object, Property, Protected, Limit, Ids}
 use Rattle.command_text.specs.declared.reply.Limit.TheVariants.{Rows}
 use Rattle.command_text.specs.declared.reply.DataLine.{DataLine}
 use Rattle.command_text.specs.declared.reply.DataLine.TheVariants as lines
-use Rattle.command_text.specs.declared.reply.LastLine.TheVariants.{Done, Value}
+use Rattle.command_text.specs.declared.reply.LastLine.{LastLine}
+use Rattle.command_text.specs.declared.reply.LastLine.TheVariants.{Done, Row, Value}
 use Rattle.mail_objects.specs.declared.object.Object.{Object as Obj}
 use Rattle.mail_objects.specs.declared.object.Object.TheVariants as objects
 use Rattle.mail_tree.specs.Places.{find_place, is_plain}
@@ -23,8 +25,9 @@ use Rattle.mail_tree.specs.Tree.{Tree, object_at}
 use Rattle.mail_tree.specs.Values.{bytes_of, finished, is_set_protected, is_unset_protected, length_of, message_props, number_of, text_of, with_props}
 use Rattle.mail_tree.specs.Changing.{Answer, Changed, ◌>>=◌, add_shown, contents, context_at, drop_shown, found, message_at, nothing, put_shown, refused_if, table_at, with_object, with_values}
 use Rattle.mail_tree.specs.Settling.{settled}
+use Rattle.mail_tree.specs.Parts.{has_recipient, is_full, is_spent_row, is_wide, new_row, next_row, recipient_props, recipient_tags, rows_of, with_recipient, without_recipient}
 use Rattle.mail_tree.specs.Ids.{message_kinds, new_id, next_index}
-use Rattle.mail_tree.specs.Folders.{Outcome, changing, folder_in, listed, making, replied, unchanged, unless_full, unless_plain}
+use Rattle.mail_tree.specs.Folders.{Outcome, changing, folder_in, listed, making, replied, replying, unchanged, unless_full, unless_plain}
 
 -- the parent that an object tells
 abbrev pub parent_of : Obj → ℕ
@@ -50,11 +53,15 @@ message_in T m = refused_if (not (kind_of m == 4)) Object >>= λ u. found Object
 abbrev pub with_message : Mes → Mes → Changed → Changed
 with_message old m D = with_values m.nid (objects.Message m) old.props m.props D
 
--- a message got other values: its flags and its size are made right, its row shows it, and its folder is counted anew
+-- a message becomes another, of which some part got too many values or not: its flags and its size are made right, its row shows it, and its folder is counted anew; refused where there is a reason beside the limits
+unfoldable pub remaking : Tree → Mes → Mes → Bool → Option CommandRefusal → LastLine → Answer Outcome
+remaking T old new crowded reason last =
+    let m = finished new in
+    put_shown T (contents m.folder) m.nid m.props (with_message old m (record nothing { crowded = crowded })) >>= settled T T.places m.folder >>= replying T reason (replied last)
+
+-- a message gets other values
 unfoldable pub changed_message : Tree → Mes → List Val → Answer Outcome
-changed_message T old props =
-    let m = finished (with_props props old) in
-    put_shown T (contents m.folder) m.nid m.props (with_message old m nothing) >>= settled T T.places m.folder >>= changing T (replied Done)
+changed_message T old props = remaking T old (with_props props old) false None Done
 
 -- a new message: its folder lists it in a row that shows it, and is counted anew
 abbrev pub added_message : Tree → Mes → Changed → Answer Changed
@@ -98,10 +105,6 @@ property_line v = lines.Property (record { id = v.id; kind = v.kind }) (length v
 
 abbrev pub recipient_line : ℕ × List Val → DataLine
 recipient_line r = lines.Recipient r.0 (number_of 0x0C15 r.1) (text_of 0x3003 r.1) (text_of 0x3001 r.1)
-
-abbrev pub rows_of : Option Tab → List (ℕ × List Val)
-rows_of None = []
-rows_of (Some t) = t.rows
 
 abbrev pub attachment_line : Part → DataLine
 attachment_line part = lines.Attachment part.nid (length_of (find 0x3701 part.props)) (text_of 0x3704 part.props)
@@ -149,3 +152,20 @@ copied_message T m folder = message_in T m >>= λ M. folder_in T folder >>= λ p
 -- `rm`
 unfoldable pub removed_message : Tree → ℕ → Answer Outcome
 removed_message T m = message_in T m >>= λ M. drop_shown T (contents M.folder) m (with_object m None nothing) >>= settled T T.places M.folder >>= changing T (replied Done)
+
+-- no row is left
+abbrev pub spent_row : ℕ → Option CommandRefusal
+spent_row row = if is_spent_row row then Some Ids else None
+
+-- a message gets a recipient of these values in this row
+unfoldable pub adding_recipient : Tree → Mes → List Val → ℕ → Answer Outcome
+adding_recipient T M props row = remaking T M (with_recipient (new_row row) props M) false (spent_row row) (Row (new_row row))
+
+-- `rcpt`
+unfoldable pub added_recipient : Tree → ℕ → ℕ → List ℕ → List ℕ → Answer Outcome
+added_recipient T m kind address name = message_in T m >>= λ M. refused_if (is_full M.recipients) (Limit Rows) >>= λ u. refused_if (is_wide recipient_tags M.recipients) (Limit Rows) >>= λ v.
+    adding_recipient T M (recipient_props kind address name) (next_row (rows_of M.recipients))
+
+-- `unrcpt`
+unfoldable pub removed_recipient : Tree → ℕ → ℕ → Answer Outcome
+removed_recipient T m row = message_in T m >>= λ M. refused_if (not (has_recipient row M)) Object >>= λ u. remaking T M (without_recipient row M) false None Done

@@ -3,11 +3,11 @@ use Rattle.mapi_values.specs.Messages.{Mes}
 use Rattle.mail_tree.specs.Changing.{nothing, now_at}
 use Rattle.mail_tree.specs.Folders.{Outcome}
 use Rattle.mail_laws.specs.Laws.{AreCountedBut, CountsOf, message_with}
-use Rattle.mail_tree.specs.Messages.{copied_message, new_message, removed_message, set_value, unset_value}
+use Rattle.mail_tree.specs.Messages.{added_recipient, copied_message, new_message, removed_message, removed_recipient, set_value, unset_value}
 use Rattle.mail_tree.specs.Step.{after, outcome}
 use Rattle.mail_tree.specs.Tree.{Tree}
 use Rattle.mail_tree.proofs.AfterTree.{after_now}
-use Rattle.mail_laws.proofs.CountCommands.{Ends, Home, copies, makes, removes, sets, unsets}
+use Rattle.mail_laws.proofs.CountCommands.{Ends, Home, adds_recipient, copies, makes, removes, removes_recipient, sets, unsets}
 use Rattle.mail_laws.proofs.Keeping.{if_weaker}
 use Rattle.mail_laws.proofs.LawSteps.{before, was_message}
 use Rattle.mail_laws.proofs.MessageSteps.{Before}
@@ -33,4 +33,6 @@ returns c = record {
   sets = λ T m v w. let b = before T w in if_weaker (Home T b (λ x. Unit {0}) (any T) m.bits) _ (set_value T m.bits v) (sets T b (λ x. Unit {0}) (any T) m.bits v) (λ o k. home T b m.bits o k);
   unsets = λ T m tag w. let b = before T w in if_weaker (Home T b (λ x. Unit {0}) (any T) m.bits) _ (unset_value T m.bits tag) (unsets T b (λ x. Unit {0}) (any T) m.bits tag) (λ o k. home T b m.bits o k);
   removes = λ T m w. let b = before T w in if_weaker (Home T b (λ x. Unit {0}) (any T) m.bits) _ (removed_message T m.bits) (removes T b (λ x. Unit {0}) (any T) m.bits) (λ o k. home T b m.bits o k);
+  adds_recipient = λ T m kind address name w. let b = before T w in if_weaker (Home T b (λ x. Unit {0}) (any T) m.bits) _ (added_recipient T m.bits kind address name) (adds_recipient T b (λ x. Unit {0}) (any T) m.bits kind address name) (λ o k. home T b m.bits o k);
+  removes_recipient = λ T m row w. let b = before T w in if_weaker (Home T b (λ x. Unit {0}) (any T) m.bits) _ (removed_recipient T m.bits row) (removes_recipient T b (λ x. Unit {0}) (any T) m.bits row) (λ o k. home T b m.bits o k);
 }

@@ -1,0 +1,25 @@
+-- What is there unless a test holds, and what a test refuses.
+use Rattle.std.proofs.Common.{◌≡◌, Bool, true, false, Option, None, Some, Result, Ok, Err, refl, if◌then◌else◌}
+use Rattle.command_text.specs.declared.reply.CommandRefusal.{CommandRefusal}
+use Rattle.mail_tree.specs.Changing.{Answer, ◌>>=◌, refused_if}
+use Rattle.mail_draft.specs.declared.stop.Stop.{Stop}
+use Rattle.mail_draft.specs.declared.stop.Stop.TheVariants.{Refused}
+use Rattle.mail_draft.specs.Answers.{Says}
+
+-- a thing that is there unless a test holds
+pub none_where : {X : Type 0} (b : Bool) (x : X) → None ≡ (if b then None else Some x) → b ≡ true
+none_where true x e = refl
+none_where false x e = cc
+
+pub some_where : {X : Type 0} (b : Bool) (x y : X) → Some y ≡ (if b then None else Some x) → (b ≡ false) × (y ≡ x)
+some_where true x y e = cc
+some_where false x y e = (refl, cc)
+
+-- a test that refuses, and one that doesn't
+pub refused_says : {A B : Type 0} (view : B → A) (b : Bool) (refusal : CommandRefusal) (f : Unit {0} → Answer A) → b ≡ true → Says view (refused_if b refusal >>= f) (Err (Refused refusal))
+refused_says view true refusal f e = refl
+refused_says view false refusal f e = cc
+
+pub passed_says : {A B : Type 0} (view : B → A) (b : Bool) (refusal : CommandRefusal) (f : Unit {0} → Answer A) (result : Result B Stop) → b ≡ false → Says view (f tt) result → Says view (refused_if b refusal >>= f) result
+passed_says view true refusal f result e said = cc
+passed_says view false refusal f result e said = said
