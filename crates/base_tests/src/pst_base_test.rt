@@ -62,7 +62,8 @@ fn checksums_are_zlibs(rt: HostRuntime) {
         sample[i] = sample[i - 1].wrapping_add(7);
     }
     for (len, want) in CHECKSUMS {
-        assert_eq!(rt; sample.get(..len).map(crc), Some(want), "at {len}");
+        let part = sample.get(..len).unwrap_or(&[]);
+        assert_eq!(rt; crc(part), want, "at {len}");
     }
     assert_eq!(rt; crc(&[1]), 0x77073096);
     assert_eq!(rt; crc(&[0; 471]), 0);
