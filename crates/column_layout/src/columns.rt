@@ -31,8 +31,8 @@ fn has_tag(columns: &[Column], tag: Tag) -> bool
     find_keyed(columns, unplaced(tag).key()).is_some()
 }
 
-/// Whether there is a column of each of these tags.
-fn has_columns(columns: &[Column], tags: &[Tag]) -> bool
+/// Whether there is a column of each of these tags. The columns ascend strictly by tag.
+pub fn has_columns(columns: &[Column], tags: &[Tag]) -> bool
     requires { keys_ascend tag_number 0 columns.now ≡ true }
     ensures { result ≡ has_columns columns.now tags.now }
 {

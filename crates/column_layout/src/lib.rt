@@ -8,4 +8,4 @@
 mod columns;
 mod places;
 
-pub use columns::completed;
+pub use columns::{completed, has_columns};

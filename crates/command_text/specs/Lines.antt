@@ -2,9 +2,10 @@
 use Rattle.std.specs.Prelude.{ℕ, List, Option, None, Some, Result, Ok, Err, ok_or, bytes_eq, codes, if◌then◌else◌}
 use Rattle.std.specs.Str.{is_utf8}
 use Rattle.value_text.specs.Forms.{value_said}
+use Rattle.value_text.specs.Hex.{hex_bytes}
 use Rattle.value_text.specs.Numbers.{magnitude}
 use Rattle.command_text.specs.declared.command.Command.{Command}
-use Rattle.command_text.specs.declared.command.Command.TheVariants.{MakeFolder, RenameFolder, MoveFolder, RemoveFolder, ListFolder, NewMessage, SetProperty, UnsetProperty, GetProperty, ListProperties, MoveMessage, CopyMessage, RemoveMessage, AddRecipient, RemoveRecipient, Save, Quit}
+use Rattle.command_text.specs.declared.command.Command.TheVariants.{MakeFolder, RenameFolder, MoveFolder, RemoveFolder, ListFolder, NewMessage, SetProperty, UnsetProperty, GetProperty, ListProperties, MoveMessage, CopyMessage, RemoveMessage, AddRecipient, RemoveRecipient, AddAttachment, AppendData, RemoveAttachment, FetchData, Save, Quit}
 use Rattle.command_text.specs.declared.command.LineRefusal.{LineRefusal}
 use Rattle.command_text.specs.declared.command.LineRefusal.TheVariants.{Line, Value}
 use Rattle.command_text.specs.Words.{cut, name_of, recipient_type, row_of, tag_of}
@@ -116,6 +117,38 @@ remove_recipient rest = do
   row ← ok_or (row_of words.1) Line
   Ok (RemoveRecipient message row)
 
+-- attach: the message's id, the file name, and the data in hex; the name is looked at last
+unfoldable pub add_attachment : List ℕ → Result Command LineRefusal
+add_attachment rest = do
+  words ← ok_or (cut rest) Line
+  message ← one_id words.0
+  others ← ok_or (cut words.1) Line
+  data_bytes ← ok_or (hex_bytes others.1) Line
+  name ← ok_or (name_of others.0) Value
+  Ok (AddAttachment message name data_bytes)
+
+-- append: the message's id, the attachment's, and the bytes in hex
+unfoldable pub append_data : List ℕ → Result Command LineRefusal
+append_data rest = do
+  words ← ok_or (cut rest) Line
+  message ← one_id words.0
+  others ← ok_or (cut words.1) Line
+  attachment ← one_id others.0
+  data_bytes ← ok_or (hex_bytes others.1) Line
+  Ok (AppendData message attachment data_bytes)
+
+-- detach: the message's id, and the attachment's
+unfoldable pub remove_attachment : List ℕ → Result Command LineRefusal
+remove_attachment rest = do
+  ids ← two_ids rest
+  Ok (RemoveAttachment ids.0 ids.1)
+
+-- fetch: the message's id, and the attachment's
+unfoldable pub fetch_data : List ℕ → Result Command LineRefusal
+fetch_data rest = do
+  ids ← two_ids rest
+  Ok (FetchData ids.0 ids.1)
+
 -- a line without a space
 unfoldable pub one_word : List ℕ → Result Command LineRefusal
 one_word word =
@@ -141,7 +174,11 @@ with_arguments word rest =
     else (if bytes_eq word (codes "rm") then remove_message rest
     else (if bytes_eq word (codes "rcpt") then add_recipient rest
     else (if bytes_eq word (codes "unrcpt") then remove_recipient rest
-    else Err Line))))))))))))))
+    else (if bytes_eq word (codes "attach") then add_attachment rest
+    else (if bytes_eq word (codes "append") then append_data rest
+    else (if bytes_eq word (codes "detach") then remove_attachment rest
+    else (if bytes_eq word (codes "fetch") then fetch_data rest
+    else Err Line))))))))))))))))))
 
 -- the line is cut at its first space, if it has one
 abbrev pub cut_line : List ℕ → Option (List ℕ × List ℕ) → Result Command LineRefusal

@@ -1,6 +1,6 @@
 //! What a line asks for.
 use mapi_values::{Tag, Units, Value};
-use pst_base::Nid;
+use pst_base::{Bytes, Nid};
 
 /// A command, one variant for each form of line, with its arguments in their order.
 #[derive(Debug, Drop)]
@@ -78,6 +78,28 @@ pub enum Command {
     RemoveRecipient {
         message: Nid,
         row: u32,
+    },
+    /// `attach M NAME HEX`: the message M gets an attachment with a file name and data.
+    AddAttachment {
+        message: Nid,
+        name: Units,
+        data: Bytes,
+    },
+    /// `append M N HEX`: the data of the attachment N of the message M gets these bytes at its end.
+    AppendData {
+        message: Nid,
+        attachment: Nid,
+        data: Bytes,
+    },
+    /// `detach M N`: the attachment N of the message M goes.
+    RemoveAttachment {
+        message: Nid,
+        attachment: Nid,
+    },
+    /// `fetch M N`: the data of the attachment N of the message M.
+    FetchData {
+        message: Nid,
+        attachment: Nid,
     },
     /// `save`: what is known of the file is written down in full.
     Save,

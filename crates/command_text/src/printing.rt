@@ -163,6 +163,10 @@ fn push_last(alloc: Global, text: &mut String, last: &LastLine) -> Result<(), Al
         }
         LastLine::Count(count) => write!(text, "ok {count}")?,
         LastLine::Row(row) => write!(text, "ok {row}")?,
+        LastLine::Attached(id) => {
+            text.push_str("ok ")?;
+            push_id(text, *id)?;
+        }
         LastLine::Value(value) => {
             text.push_str("ok ")?;
             text.push_str(value_text(alloc, value)?.as_str())?;

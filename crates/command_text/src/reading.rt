@@ -1,10 +1,10 @@
 //! A line read as a command.
 ghost use Rattle.pst_base.specs.Stops.{Gives};
-ghost use Rattle.command_text.specs.Lines.{make_folder, rename_folder, move_folder, remove_folder, list_folder, new_message, set_property, unset_property, get_property, list_properties, move_message, copy_message, remove_message, add_recipient, remove_recipient, one_word, with_arguments, command};
+ghost use Rattle.command_text.specs.Lines.{make_folder, rename_folder, move_folder, remove_folder, list_folder, new_message, set_property, unset_property, get_property, list_properties, move_message, copy_message, remove_message, add_recipient, remove_recipient, add_attachment, append_data, remove_attachment, fetch_data, one_word, with_arguments, command};
 
 use crate::arguments::{id_and_name, id_and_tag, one_id, two_ids};
 use crate::command::{Command, LineRefusal};
-use crate::words::{as_text, cut, read_name, read_recipient_type, read_row, read_tag};
+use crate::words::{as_text, cut, read_data, read_name, read_recipient_type, read_row, read_tag};
 use pst_base::MemOr;
 use std::alloc::Global;
 use value_text::{magnitude, parse_value};
@@ -196,6 +196,72 @@ fn remove_recipient(rest: &str) -> Result<Command, MemOr<LineRefusal>>
     }
 }
 
+/// What stands behind `attach `: the message's id, the file name, and the data in hex. The name is looked at last, since another fault of the line comes before it.
+#[tactic(auto, unfolding(crate::specs::Lines::add_attachment))]
+fn add_attachment(alloc: Global, rest: &str) -> Result<Command, MemOr<LineRefusal>>
+    ensures { Gives (λ c. c) result (add_attachment rest.now) }
+{
+    let Some((message, rest)) = cut(rest) else {
+        return Err(MemOr::Refused(LineRefusal::Line));
+    };
+    let message = one_id(message)?;
+    let Some((name, data)) = cut(rest) else {
+        return Err(MemOr::Refused(LineRefusal::Line));
+    };
+    let data = read_data(alloc, data)?;
+    let name = read_name(alloc, name)?;
+    Ok(Command::AddAttachment {
+        message,
+        name,
+        data,
+    })
+}
+
+/// What stands behind `append `: the message's id, the attachment's, and the bytes in hex.
+#[tactic(auto, unfolding(crate::specs::Lines::append_data))]
+fn append_data(alloc: Global, rest: &str) -> Result<Command, MemOr<LineRefusal>>
+    ensures { Gives (λ c. c) result (append_data rest.now) }
+{
+    let Some((message, rest)) = cut(rest) else {
+        return Err(MemOr::Refused(LineRefusal::Line));
+    };
+    let message = one_id(message)?;
+    let Some((attachment, data)) = cut(rest) else {
+        return Err(MemOr::Refused(LineRefusal::Line));
+    };
+    let attachment = one_id(attachment)?;
+    let data = read_data(alloc, data)?;
+    Ok(Command::AppendData {
+        message,
+        attachment,
+        data,
+    })
+}
+
+/// What stands behind `detach `: the message's id, and the attachment's.
+#[tactic(auto, unfolding(crate::specs::Lines::remove_attachment))]
+fn remove_attachment(rest: &str) -> Result<Command, MemOr<LineRefusal>>
+    ensures { Gives (λ c. c) result (remove_attachment rest.now) }
+{
+    let (message, attachment) = two_ids(rest)?;
+    Ok(Command::RemoveAttachment {
+        message,
+        attachment,
+    })
+}
+
+/// What stands behind `fetch `: the message's id, and the attachment's.
+#[tactic(auto, unfolding(crate::specs::Lines::fetch_data))]
+fn fetch_data(rest: &str) -> Result<Command, MemOr<LineRefusal>>
+    ensures { Gives (λ c. c) result (fetch_data rest.now) }
+{
+    let (message, attachment) = two_ids(rest)?;
+    Ok(Command::FetchData {
+        message,
+        attachment,
+    })
+}
+
 /// A line without a space.
 #[tactic(auto, unfolding(crate::specs::Lines::one_word))]
 fn one_word(word: &str) -> Result<Command, MemOr<LineRefusal>>
@@ -229,13 +295,17 @@ fn with_arguments(alloc: Global, word: &str, rest: &str) -> Result<Command, MemO
         "rm" => remove_message(rest),
         "rcpt" => add_recipient(alloc, rest),
         "unrcpt" => remove_recipient(rest),
+        "attach" => add_attachment(alloc, rest),
+        "append" => append_data(alloc, rest),
+        "detach" => remove_attachment(rest),
+        "fetch" => fetch_data(rest),
         _ => Err(MemOr::Refused(LineRefusal::Line)),
     }
 }
 
 /// The command that a line is, without its LF. A line is cut at each single space, so that two spaces make an empty word; a name or a value runs to the end of the line.
 ///
-/// `Line` says that it isn't UTF-8 or is none of the forms: that its first word or the number of its words is another one, that an id isn't `0x` and 1 to 8 hex digits, that a tag isn't `0x` and 8 of them, or that a time isn't decimal digits of a number below 2^64, a row of one below 2^32, or a recipient's type of one up to 3. `Value` says that only a name, a class, an address or a value in it isn't of its form: a name, a class and an address are text with good escapes, of 1 to 255 units; a value is what `parse_value` says of its tag.
+/// `Line` says that it isn't UTF-8 or is none of the forms: that its first word or the number of its words is another one, that an id isn't `0x` and 1 to 8 hex digits, that a tag isn't `0x` and 8 of them, that data isn't an even number of them or `-` for none, or that a time isn't decimal digits of a number below 2^64, a row of one below 2^32, or a recipient's type of one up to 3. `Value` says that only a name of a folder, a recipient or a file, a class, an address or a value in it isn't of its form: a name, a class and an address are text with good escapes, of 1 to 255 units; a value is what `parse_value` says of its tag.
 #[tactic(auto, unfolding(crate::specs::Lines::command))]
 pub fn read_line(alloc: Global, line: &[u8]) -> Result<Command, MemOr<LineRefusal>>
     ensures { Gives (λ c. c) result (command line.now) }

@@ -2,14 +2,15 @@
 ghost use Rattle.std.specs.Prelude.{◌≡◌, ◌≤◌, ◌<◌, Bool, true, false, Option, Some, None, Ok, Err, ok_or, option_map, MatchOption, length};
 ghost use Rattle.std.specs.Str.{is_utf8};
 ghost use Rattle.pst_base.specs.Stops.{Gives};
+ghost use Rattle.value_text.specs.Hex.{hex_bytes};
 ghost use Rattle.command_text.specs.declared.command.LineRefusal.{LineRefusal};
 ghost use Rattle.command_text.specs.Words.{cut, hex_value, hex_number, id_of, tag_digits, tag_of, name_of, number_to, recipient_type, row_of};
 
 use crate::command::LineRefusal;
 use mapi_values::{Tag, Units, parse_units};
-use pst_base::{MemOr, Nid};
+use pst_base::{Bytes, MemOr, Nid};
 use std::alloc::Global;
-use value_text::magnitude;
+use value_text::{magnitude, read_hex};
 
 /// The text that bytes are, if they are UTF-8.
 pub fn as_text(line: &[u8]) -> Option<&str>
@@ -129,6 +130,17 @@ pub fn read_row(word: &str) -> Option<u32>
     ensures { result ≡ row_of word.now }
 {
     number_to(u32::MAX, word)
+}
+
+/// The bytes that a word writes in hex: `-` for none, else one or more pairs of digits.
+pub fn read_data(alloc: Global, word: &str) -> Result<Bytes, MemOr<LineRefusal>>
+    ensures { Gives (λ bytes. bytes) result (ok_or (hex_bytes word.now) LineRefusal.Line) }
+{
+    match read_hex(alloc, word.as_bytes()) {
+        Ok(bytes) => Ok(bytes),
+        Err(MemOr::Refused(_)) => Err(MemOr::Refused(LineRefusal::Line)),
+        Err(MemOr::Memory) => Err(MemOr::Memory),
+    }
 }
 
 /// The units of a name: a text with good escapes, of 1 to 255 units.

@@ -13,8 +13,8 @@ use Rattle.mapi_values.specs.Tables.{find_row}
 use Rattle.mapi_values.specs.Values.{Val}
 use Rattle.mapi_values.specs.declared.value.Tag.{Tag}
 use Rattle.command_text.specs.declared.command.Command.{Command}
-use Rattle.command_text.specs.declared.command.Command.TheVariants.{MakeFolder, RenameFolder, MoveFolder, RemoveFolder, ListFolder, NewMessage, SetProperty, UnsetProperty, GetProperty, ListProperties, MoveMessage, CopyMessage, RemoveMessage, AddRecipient, RemoveRecipient, Save, Quit}
-use Rattle.command_text.specs.declared.reply.LastLine.TheVariants.{Done, Row}
+use Rattle.command_text.specs.declared.command.Command.TheVariants.{MakeFolder, RenameFolder, MoveFolder, RemoveFolder, ListFolder, NewMessage, SetProperty, UnsetProperty, GetProperty, ListProperties, MoveMessage, CopyMessage, RemoveMessage, AddRecipient, RemoveRecipient, AddAttachment, AppendData, RemoveAttachment, FetchData, Save, Quit}
+use Rattle.command_text.specs.declared.reply.LastLine.TheVariants.{Attached, Done, Row}
 use Rattle.command_text.specs.declared.reply.Reply.{Reply}
 use Rattle.mail_objects.specs.Forms.{Ctx, Tbl}
 use Rattle.mail_objects.specs.declared.object.Object.{Object}
@@ -22,15 +22,15 @@ use Rattle.mail_objects.specs.declared.object.Object.TheVariants.{Context, Table
 use Rattle.mail_tree.specs.declared.places.FolderPlace.{FolderPlace}
 use Rattle.mail_tree.specs.Places.{ROOT, children, find_place, is_child, is_deep, is_plain, is_within, moves_deep, place_id}
 use Rattle.mail_tree.specs.Tree.{Tree}
-use Rattle.mail_tree.specs.Values.{bytes_of, finished, folder_props, is_set_protected, is_unset_protected, message_props, name_of, text, truth, with_props}
-use Rattle.command_text.specs.declared.reply.CommandRefusal.TheVariants.{Ids, Limit, Object as NoObject}
+use Rattle.mail_tree.specs.Values.{bytes_of, crowds, finished, folder_props, is_set_protected, is_unset_protected, message_props, name_of, text, truth, with_props}
+use Rattle.command_text.specs.declared.reply.CommandRefusal.TheVariants.{Ids, Limit, Object as NoObject, Property as NoProperty}
 use Rattle.mail_tree.specs.Changing.{Answer, Changed, ◌>>=◌, add_shown, associated, beside, contents, context_at, drop_shown, hierarchy, nothing, now_at, put_shown, table_at, with_object, within_limits}
 use Rattle.mail_tree.specs.Columns.{contents_table, hierarchy_table}
 use Rattle.mail_tree.specs.Settling.{message_ids, mirrored, settled, with_context}
 use Rattle.mail_tree.specs.Ids.{folder_kinds, is_spent, is_taken, message_kinds, new_id, next_index}
 use Rattle.mail_tree.specs.Folders.{Outcome, associated_in, changing, folder_lines, has_associated, has_rows, listing, made_folder, making, making_folder, moved_between, moved_folder, place, removed_folder, without_folder, without_node, message_lines, moving, renamed_folder, replied, siblings, unless_full, unless_named, unless_protected, with_folder}
-use Rattle.mail_tree.specs.Messages.{added_message, added_recipient, adding_recipient, changed_message, copied_message, copy_of, copying, details, in_folder, is_crowded_message, is_overfull, making_message, message_in, moved_message, new_message, plain_message, remaking, removed_message, removed_recipient, set_value, spent_row, unset_value, value_in, value_of, with_message}
-use Rattle.mail_tree.specs.Parts.{has_recipient, is_full, is_wide, new_row, next_row, recipient_props, recipient_tags, rows_of, with_recipient, without_recipient}
+use Rattle.mail_tree.specs.Messages.{added_attachment, added_message, added_recipient, adding_attachment, adding_recipient, appended_data, appending, fetched_data, removed_attachment, spent_index, too_long, changed_message, copied_message, copy_of, copying, details, in_folder, is_crowded_message, is_overfull, making_message, message_in, moved_message, new_message, plain_message, remaking, removed_message, removed_recipient, set_value, spent_row, unset_value, value_in, value_of, with_message}
+use Rattle.mail_tree.specs.Parts.{attachment_props, attachment_tags, data_tag, has_recipient, is_full, is_wide, lengthened, new_row, next_part, next_row, part_in, part_nid, part_with, plain_part, recipient_props, recipient_tags, room_for, rows_of, with_attachment, with_bytes, with_part, with_recipient, without_attachment, without_recipient}
 use Rattle.mail_laws.specs.Laws.{AreCountedBut, IsCounted}
 use Rattle.mail_tree.proofs.AfterTree.{puts_object, puts_values}
 use Rattle.mail_tree.proofs.FineLaws.{cases_Option}
@@ -40,7 +40,7 @@ use Rattle.mail_tree.proofs.KeyedFinds.{find-put_same, find-put_other, find-drop
 use Rattle.mail_laws.proofs.FolderSteps.{beside_apart, fine_protected, not_placed}
 use Rattle.mail_laws.proofs.NewIds.{new_folder_id}
 use Rattle.mail_tree.specs.Step.{outcome}
-use Rattle.mail_laws.proofs.Keeping.{from_fine, if_any, if_test, if_then, if_weaker, never_made, if_replying}
+use Rattle.mail_laws.proofs.Keeping.{from_fine, if_any, if_found, if_test, if_then, if_weaker, never_made, if_replying}
 use Rattle.mail_tree.proofs.KindsOfPuts.{beside_kind, same_table}
 use Rattle.mail_laws.proofs.MessageSteps.{Before, fine_message_in, finished_folder, finished_id, home_of, new_message_id}
 use Rattle.mail_laws.proofs.MirrorSteps.{if_context}
@@ -153,6 +153,26 @@ module _ (T : Tree) (w : Before T) (E : ℕ → Type 0) (s : AreCountedBut E T.p
       if_test (Home m) (not (has_recipient row M)) NoObject _ (if_weaker (Ends M.folder) (Home m) (remaking T M (without_recipient row M) false None Done)
       (remakes m M (without_recipient row M) false None Done h.0 h.1 refl refl) (λ o k. (M, h.0, k))))
 
+  pub adds_attachment : (m : ℕ) (name bytes : List ℕ) → IfOk (added_attachment T m name bytes) (Home m)
+  unfolding added_attachment adding_attachment Home
+  adds_attachment m name bytes = if_then _ (Home m) (message_in T m) _ (from_fine _ (message_in T m) (fine_message_in T m w)) (λ M h.
+      let index = next_part M in
+      let new = with_attachment (plain_part (part_nid index) (attachment_props name bytes)) (room_for index M) in
+      if_test (Home m) (is_full M.attachments) (Limit Rows) _ (if_test (Home m) (is_wide attachment_tags M.attachments) (Limit Rows) _
+      (if_weaker (Ends M.folder) (Home m) (remaking T M new false (spent_index index) (Attached (part_nid index))) (remakes m M new false (spent_index index) (Attached (part_nid index)) h.0 h.1 refl refl) (λ o k. (M, h.0, k)))))
+
+  pub appends_data : (m n : ℕ) (more : List ℕ) → IfOk (appended_data T m n more) (Home m)
+  unfolding appended_data appending Home
+  appends_data m n more = if_then _ (Home m) (message_in T m) _ (from_fine _ (message_in T m) (fine_message_in T m w)) (λ M h.
+      if_found (Home m) NoObject (part_in n M) _ (λ part is. if_found (Home m) NoProperty (bytes_of 0x3701 0x0102 part.props) _ (λ old is'.
+      let props = with_bytes (lengthened old more) part.props in
+      (if_weaker (Ends M.folder) (Home m) (remaking T M (with_part (part_with props part) M) (crowds part.props props) (too_long old more) Done) (remakes m M (with_part (part_with props part) M) (crowds part.props props) (too_long old more) Done h.0 h.1 refl refl) (λ o k. (M, h.0, k))))))
+
+  pub removes_attachment : (m n : ℕ) → IfOk (removed_attachment T m n) (Home m)
+  unfolding removed_attachment Home
+  removes_attachment m n = if_then _ (Home m) (message_in T m) _ (from_fine _ (message_in T m) (fine_message_in T m w)) (λ M h.
+      if_test (Home m) (not (is_some (part_in n M))) NoObject _ (if_weaker (Ends M.folder) (Home m) (remaking T M (without_attachment n M) false None Done) (remakes m M (without_attachment n M) false None Done h.0 h.1 refl refl) (λ o k. (M, h.0, k))))
+
   pub sets : (m : ℕ) (v : Val) → IfOk (set_value T m v) (Home m)
   unfolding set_value Home
   sets m v = if_then _ (Home m) (message_in T m) _ (from_fine _ (message_in T m) (fine_message_in T m w)) (λ M h. elim (cases_Bool (is_set_protected v.id M.props)) [
@@ -254,6 +274,10 @@ module _ (T : Tree) (w : Before T) (E : ℕ → Type 0) (s : AreCountedBut E T.p
   gets : (m : ℕ) (tag : Tag) → IfOk (value_in T m tag) Keeps
   unfolding value_in Keeps
   gets m tag = if_then (λ M. Unit {0}) Keeps (message_in T m) _ (if_any (message_in T m)) (λ M h. elim (cases_Option (value_of tag M.props)) [ inl e ↦ rw e tt | inr v ↦ rw v.1 s ])
+
+  fetches : (m n : ℕ) → IfOk (fetched_data T m n) Keeps
+  unfolding fetched_data Keeps
+  fetches m n = if_then (λ M. Unit {0}) Keeps (message_in T m) _ (if_any (message_in T m)) (λ M h. if_found Keeps NoObject (part_in n M) _ (λ part is. if_found Keeps NoProperty (value_of data_tag part.props) _ (λ v is'. s)))
 
   lists : (m : ℕ) → IfOk (details T m) Keeps
   unfolding details Keeps
@@ -524,5 +548,9 @@ module _ (T : Tree) (w : Before T) (E : ℕ → Type 0) (s : AreCountedBut E T.p
   counted_after (RemoveMessage message) = if_weaker (Home message.bits) Keeps (removed_message T message.bits) (removes message.bits) (λ o k. home_fewer message.bits o k)
   counted_after (AddRecipient message kind address name) = if_weaker (Home message.bits) Keeps (added_recipient T message.bits kind address name) (adds_recipient message.bits kind address name) (λ o k. home_fewer message.bits o k)
   counted_after (RemoveRecipient message row) = if_weaker (Home message.bits) Keeps (removed_recipient T message.bits row) (removes_recipient message.bits row) (λ o k. home_fewer message.bits o k)
+  counted_after (AddAttachment message name bytes) = if_weaker (Home message.bits) Keeps (added_attachment T message.bits name bytes) (adds_attachment message.bits name bytes) (λ o k. home_fewer message.bits o k)
+  counted_after (AppendData message attachment bytes) = if_weaker (Home message.bits) Keeps (appended_data T message.bits attachment.bits bytes) (appends_data message.bits attachment.bits bytes) (λ o k. home_fewer message.bits o k)
+  counted_after (RemoveAttachment message attachment) = if_weaker (Home message.bits) Keeps (removed_attachment T message.bits attachment.bits) (removes_attachment message.bits attachment.bits) (λ o k. home_fewer message.bits o k)
+  counted_after (FetchData message attachment) = fetches message.bits attachment.bits
   counted_after Save = s
   counted_after Quit = s

@@ -1,28 +1,28 @@
 -- What each command on messages makes of them.
 use Rattle.mapi_values.specs.Tables.{find_row}
 use Rattle.command_text.specs.declared.reply.LastLine.{LastLine}
-use Rattle.command_text.specs.declared.reply.Limit.TheVariants.{Rows}
-use Rattle.command_text.specs.declared.reply.CommandRefusal.TheVariants.{Limit, Object as NoObject}
+use Rattle.command_text.specs.declared.reply.Limit.TheVariants.{Rows, Value as LongValue}
+use Rattle.command_text.specs.declared.reply.CommandRefusal.TheVariants.{Ids, Limit, Object as NoObject, Property as NoProperty}
 use Rattle.command_text.specs.declared.reply.CommandRefusal.{CommandRefusal}
-use Rattle.std.proofs.Common.{◌≡◌, ℕ, ◌%◌, ◌==◌, ◌||◌, Bool, true, false, nat_le, List, Option, None, Some, IfOk, is_some, Ok, arith, refl, sym, subst, ap, ◌∙◌, inl, inr, not, [], ◌∷◌, ◌≤◌}
+use Rattle.std.proofs.Common.{◌≡◌, ℕ, ◌%◌, ◌==◌, ◌||◌, Bool, true, false, nat_le, List, Option, None, Some, IfOk, is_some, Ok, arith, refl, sym, subst, ap, ◌∙◌, inl, inr, not, [], ◌∷◌, ◌++◌, ◌≤◌, max, suc, if◌then◌else◌}
 use Rattle.std.proofs.lemmas.Bool.{cases_Bool, cases_eq, eq-eqb, eqb-true, eqb-false, or_parts, ne_eqb, ltb-false}
 use Rattle.mapi_values.specs.Messages.{Mes, size}
 use Rattle.mapi_values.specs.Properties.{find, put, remove_id}
 use Rattle.mapi_values.specs.Values.{Val}
 use Rattle.mapi_values.specs.declared.value.Tag.{Tag}
-use Rattle.command_text.specs.declared.reply.LastLine.TheVariants.{Done, Made, Row}
+use Rattle.command_text.specs.declared.reply.LastLine.TheVariants.{Attached, Done, Made, Row}
 use Rattle.mail_objects.specs.declared.object.Object.{Object}
 use Rattle.mail_objects.specs.declared.object.Object.TheVariants.{Context, Table, Message}
 use Rattle.mail_tree.specs.declared.places.FolderPlace.{FolderPlace}
 use Rattle.mail_tree.specs.Places.{find_place, is_plain}
 use Rattle.mail_tree.specs.Tree.{Tree, object_at}
-use Rattle.mail_tree.specs.Values.{bytes_of, finished, has_object, has_parts, is_own_id, is_set_protected, is_unset_protected, message_props, number, number_of, text, time_value, with_attachment_flag, with_flag, with_props}
+use Rattle.mail_tree.specs.Values.{bytes_of, crowds, finished, has_object, has_parts, is_own_id, is_set_protected, is_unset_protected, message_props, number, number_of, text, time_value, with_attachment_flag, with_flag, with_props}
 use Rattle.mail_tree.specs.Changing.{◌>>=◌, add_shown, as_message, contents, drop_shown, nothing, now_at, put_shown, with_object, within_limits}
 use Rattle.mail_tree.specs.Settling.{settled}
 use Rattle.mail_tree.specs.Ids.{is_spent, message_kinds, new_id, next_index}
 use Rattle.mail_tree.specs.Folders.{Outcome, changing, making, nid, replied, unless_full}
-use Rattle.mail_tree.specs.Messages.{added_message, added_recipient, adding_recipient, changed_message, copied_message, copy_of, copying, in_folder, is_crowded_message, is_overfull, making_message, message_in, moved_message, new_message, plain_message, remaking, removed_message, removed_recipient, set_value, spent_row, unset_value, with_message}
-use Rattle.mail_tree.specs.Parts.{has_recipient, is_full, is_wide, new_row, next_row, recipient_props, recipient_tags, rows_of, with_recipient, without_recipient, is_spent_row}
+use Rattle.mail_tree.specs.Messages.{added_attachment, added_message, added_recipient, adding_attachment, adding_recipient, appended_data, appending, removed_attachment, spent_index, too_long, changed_message, copied_message, copy_of, copying, in_folder, is_crowded_message, is_overfull, making_message, message_in, moved_message, new_message, plain_message, remaking, removed_message, removed_recipient, set_value, spent_row, unset_value, with_message}
+use Rattle.mail_tree.specs.Parts.{attachment_props, attachment_tags, greatest_kept, greatest_part, has_recipient, is_full, is_spent_row, is_too_long, is_wide, lengthened, new_row, next_part, next_row, part_in, part_nid, part_with, plain_part, recipient_props, recipient_tags, room_for, rows_of, with_attachment, with_bytes, with_part, with_recipient, without_attachment, without_recipient}
 use Rattle.mail_tree.specs.Step.{after}
 use Rattle.mail_tree.specs.Whole.{fits_id}
 use Rattle.mail_laws.specs.Laws.{OnlyMessage}
@@ -31,8 +31,12 @@ use Rattle.mail_tree.proofs.AfterTree.{after_now, now_nothing, puts_object, puts
 use Rattle.mail_tree.proofs.FineLaws.{cases_Option}
 use Rattle.mail_tree.proofs.Nearly.{folder_kind, message_id}
 use Rattle.mail_tree.proofs.KindsOfPuts.{low}
+use Rattle.mail_tree.proofs.PartLaws.{past_parts}
+use Rattle.mail_laws.proofs.NewIds.{new_id_is}
+use Rattle.mapi_values.specs.declared.part.Part.{Part}
+use Rattle.pst_base.specs.declared.ids.Nid.{Nid}
 use Rattle.mail_laws.proofs.MessageSteps.{Before, Keeps, fine_message_in, finished_folder, finished_id, home_of, new_message_id}
-use Rattle.mail_laws.proofs.Keeping.{Comes, Four, no_table, KeepsAt, PutsMessage, add_keeps, drop_keeps, from_fine, if_any, if_then, if_weaker, kept_after, never_made, put_keeps, table_apart, then_changing, then_making, then_settled, if_replying, if_test}
+use Rattle.mail_laws.proofs.Keeping.{Comes, Four, no_table, KeepsAt, PutsMessage, add_keeps, drop_keeps, from_fine, if_any, if_then, if_weaker, kept_after, never_made, put_keeps, table_apart, then_changing, then_making, then_settled, if_found, if_replying, if_test}
 use Rattle.mail_tree.proofs.Settles.{store_of}
 
 -- a folder is no message
@@ -282,6 +286,79 @@ removes_recipient T m row w =
     if_then _ Q (message_in T m) _ (from_fine _ (message_in T m) (fine_message_in T m w)) (λ M h.
     if_test Q (not (has_recipient row M)) NoObject _ (if_weaker (λ o. Remade T m (without_recipient row) o × (o.reply ≡ replied Done)) Q (remaking T M (without_recipient row M) false None Done)
     (remade T m M (without_recipient row) false None Done w h.0 h.1 refl refl) (λ o k. k.0)))
+
+-- what is refused where there is a reason answers only where there is none
+no_reason : (T : Tree) (old new : Mes) (crowded : Bool) (spent : Bool) (refusal : CommandRefusal) (last : LastLine) (Q : Outcome → Type 0)
+    → (spent ≡ false → IfOk (remaking T old new crowded (if spent then Some refusal else None) last) Q) → IfOk (remaking T old new crowded (if spent then Some refusal else None) last) Q
+unfolding remaking
+no_reason T old new crowded false refusal last Q left = left refl
+no_reason T old new crowded true refusal last Q left =
+    let N = finished new in
+    let a = put_shown T (contents N.folder) N.nid N.props (with_message old N (record nothing { crowded = crowded })) >>= settled T T.places N.folder in
+    if_then (λ D. Unit {0}) Q a _ (if_any a) (λ D u. if_then (λ v. Unit {0}) Q (within_limits D) _ (if_any (within_limits D)) (λ v v'. tt))
+
+-- where an index is left a message gets its attachment as it is
+room_is : (index : ℕ) (M : Mes) → is_spent index ≡ false → room_for index M ≡ M
+room_is index M left = rw left refl
+
+-- the id of a new attachment is one that no attachment has, where an index is left
+free_part : (M : Mes) → is_spent (next_part M) ≡ false → part_in (part_nid (next_part M)).bits M ≡ None
+unfolding next_part
+free_part M left =
+    let index = suc (max 1024 (max (greatest_part M.parts) (greatest_kept M.kept))) in
+    let le = ltb-false 134217727 index left in
+    ap (λ (n : ℕ). part_in n M) (new_id_is 5 index le) ∙ past_parts M.parts index (omega arith)
+
+-- `attach`
+abbrev pub GotAttachment : Tree → ℕ → List ℕ → List ℕ → Outcome → Type 0
+GotAttachment T m name bytes o = (n : Nid) × (r : Remade T m (with_attachment (plain_part n (attachment_props name bytes))) o) × (o.reply ≡ replied (Attached n)) × (part_in n.bits r.0 ≡ None)
+
+pub adds_attachment : (T : Tree) (m : ℕ) (name bytes : List ℕ) → Before T → IfOk (added_attachment T m name bytes) (GotAttachment T m name bytes)
+unfolding added_attachment adding_attachment
+adds_attachment T m name bytes w =
+    let Q = GotAttachment T m name bytes in
+    if_then _ Q (message_in T m) _ (from_fine _ (message_in T m) (fine_message_in T m w)) (λ M h.
+    let index = next_part M in
+    let make = with_attachment (plain_part (part_nid index) (attachment_props name bytes)) in
+    let new = make (room_for index M) in
+    let last = Attached (part_nid index) in
+    if_test Q (is_full M.attachments) (Limit Rows) _ (if_test Q (is_wide attachment_tags M.attachments) (Limit Rows) _ (no_reason T M new false (is_spent index) Ids last Q (λ left.
+    if_weaker (λ o. Changes T m (Some (finished new)) o × (o.reply ≡ replied last)) Q (remaking T M new false (spent_index index) last)
+    (remakes T m M new false (spent_index index) last w h.0 h.1 refl refl)
+    (λ o k. let r = is_remade T m M make o h.0 (subst (λ x. Changes T m (Some (finished (make x))) o) (room_is index M left) k.0) in (part_nid index, (M, r.1, h.0, r.3, r.4), k.1, free_part M left))))))
+
+-- data that doesn't get too long has these bytes more
+lengthened_is : (old more : List ℕ) → is_too_long old more ≡ false → lengthened old more ≡ old ++ more
+unfolding lengthened
+lengthened_is old more short = rw short refl
+
+-- `append`
+abbrev pub Appended : Tree → ℕ → ℕ → List ℕ → Outcome → Type 0
+Appended T m n more o = (a : Part × List ℕ) × (r : Remade T m (with_part (part_with (with_bytes (a.1 ++ more) a.0.props) a.0)) o) × ((part_in n r.0 ≡ Some a.0) × (bytes_of 0x3701 0x0102 a.0.props ≡ Some a.1))
+
+pub appends_data : (T : Tree) (m n : ℕ) (more : List ℕ) → Before T → IfOk (appended_data T m n more) (Appended T m n more)
+unfolding appended_data appending
+appends_data T m n more w =
+    let Q = Appended T m n more in
+    if_then _ Q (message_in T m) _ (from_fine _ (message_in T m) (fine_message_in T m w)) (λ M h.
+    if_found Q NoObject (part_in n M) _ (λ part is. if_found Q NoProperty (bytes_of 0x3701 0x0102 part.props) _ (λ old is'.
+    let planned = with_bytes (lengthened old more) part.props in
+    let make = with_part (part_with (with_bytes (old ++ more) part.props) part) in
+    let new = with_part (part_with planned part) M in
+    no_reason T M new (crowds part.props planned) (is_too_long old more) (Limit LongValue) Done Q (λ short.
+    if_weaker (λ o. Changes T m (Some (finished new)) o × (o.reply ≡ replied Done)) Q (remaking T M new (crowds part.props planned) (too_long old more) Done)
+    (remakes T m M new (crowds part.props planned) (too_long old more) Done w h.0 h.1 refl refl)
+    (λ o k. let r = is_remade T m M make o h.0 (subst (λ x. Changes T m (Some (finished (with_part (part_with (with_bytes x part.props) part) M))) o) (lengthened_is old more short) k.0) in
+    ((part, old), (M, r.1, h.0, r.3, r.4), (is, is')))))))
+
+-- `detach`
+pub removes_attachment : (T : Tree) (m n : ℕ) → Before T → IfOk (removed_attachment T m n) (Remade T m (without_attachment n))
+unfolding removed_attachment
+removes_attachment T m n w =
+    let Q = Remade T m (without_attachment n) in
+    if_then _ Q (message_in T m) _ (from_fine _ (message_in T m) (fine_message_in T m w)) (λ M h.
+    if_test Q (not (is_some (part_in n M))) NoObject _ (if_weaker (λ o. Remade T m (without_attachment n) o × (o.reply ≡ replied Done)) Q (remaking T M (without_attachment n M) false None Done)
+    (remade T m M (without_attachment n) false None Done w h.0 h.1 refl refl) (λ o k. k.0)))
 
 -- `set` and `unset`
 abbrev pub ChangedValues : Tree → ℕ → (Mes → List Val) → Outcome → Type 0

@@ -12,7 +12,7 @@ use Rattle.mail_objects.specs.declared.object.Object.TheVariants.{Context}
 use Rattle.mail_tree.specs.declared.places.FolderPlace.{FolderPlace}
 use Rattle.mail_tree.specs.Places.{ROOT}
 use Rattle.mail_tree.specs.Tree.{Tree}
-use Rattle.mail_tree.specs.Changing.{Answer, Changed, ◌>>=◌, add_shown, beside, contents, context_at, drop_shown, hierarchy, now_at, overfills, put_shown, refused_if, shown_row, table_at, with_rows, within_limits}
+use Rattle.mail_tree.specs.Changing.{Answer, Changed, ◌>>=◌, add_shown, beside, contents, context_at, drop_shown, found, hierarchy, now_at, overfills, put_shown, refused_if, shown_row, table_at, with_rows, within_limits}
 use Rattle.mail_tree.specs.Settling.{counted, message_ids, mirrored, settled, unread_among, with_context}
 use Rattle.mail_tree.specs.Folders.{Outcome, changing, making, moving, nid, replied, replying}
 use Rattle.command_text.specs.declared.reply.LastLine.TheVariants.{Made}
@@ -30,6 +30,11 @@ if_then P Q (Err e) f first next = tt
 pub if_any : {A : Type 0} (a : Answer A) → IfOk a (λ x. Unit {0})
 if_any (Ok x) = tt
 if_any (Err e) = tt
+
+-- what holds of each answer where the thing is there holds where it is asked for
+pub if_found : {A B : Type 0} (Q : B → Type 0) (refusal : CommandRefusal) (o : Option A) (f : A → Answer B) → ((x : A) → o ≡ Some x → IfOk (f x) Q) → IfOk (found refusal o >>= f) Q
+if_found Q refusal None f h = tt
+if_found Q refusal (Some x) f h = h x refl
 
 -- a test that refuses answers nothing
 pub if_test : {B : Type 0} (Q : B → Type 0) (b : Bool) (refusal : CommandRefusal) (f : Unit {0} → Answer B) → IfOk (f tt) Q → IfOk (refused_if b refusal >>= f) Q

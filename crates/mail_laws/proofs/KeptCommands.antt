@@ -15,8 +15,8 @@ use Rattle.mapi_values.specs.Properties.{put, remove_id}
 use Rattle.mapi_values.specs.Values.{Val}
 use Rattle.mapi_values.specs.declared.value.Tag.{Tag}
 use Rattle.command_text.specs.declared.command.Command.{Command}
-use Rattle.command_text.specs.declared.command.Command.TheVariants.{MakeFolder, RenameFolder, MoveFolder, RemoveFolder, ListFolder, NewMessage, SetProperty, UnsetProperty, GetProperty, ListProperties, MoveMessage, CopyMessage, RemoveMessage, AddRecipient, RemoveRecipient, Save, Quit}
-use Rattle.command_text.specs.declared.reply.LastLine.TheVariants.{Done, Row}
+use Rattle.command_text.specs.declared.command.Command.TheVariants.{MakeFolder, RenameFolder, MoveFolder, RemoveFolder, ListFolder, NewMessage, SetProperty, UnsetProperty, GetProperty, ListProperties, MoveMessage, CopyMessage, RemoveMessage, AddRecipient, RemoveRecipient, AddAttachment, AppendData, RemoveAttachment, FetchData, Save, Quit}
+use Rattle.command_text.specs.declared.reply.LastLine.TheVariants.{Attached, Done, Row}
 use Rattle.command_text.specs.declared.reply.Reply.{Reply}
 use Rattle.mail_objects.specs.Forms.{Ctx}
 use Rattle.mail_objects.specs.declared.object.Object.{Object}
@@ -24,15 +24,15 @@ use Rattle.mail_objects.specs.declared.object.Object.TheVariants.{Context, Table
 use Rattle.mail_tree.specs.declared.places.FolderPlace.{FolderPlace}
 use Rattle.mail_tree.specs.Places.{ROOT, children, find_place, is_deep, is_plain, is_within, moves_deep, place_id}
 use Rattle.mail_tree.specs.Tree.{Tree, object_at}
-use Rattle.mail_tree.specs.Values.{bytes_of, finished, folder_props, is_set_protected, is_unset_protected, message_props, name_of, text, with_props}
-use Rattle.command_text.specs.declared.reply.CommandRefusal.TheVariants.{Ids, Limit, Object as NoObject}
+use Rattle.mail_tree.specs.Values.{bytes_of, crowds, finished, folder_props, is_set_protected, is_unset_protected, message_props, name_of, text, with_props}
+use Rattle.command_text.specs.declared.reply.CommandRefusal.TheVariants.{Ids, Limit, Object as NoObject, Property as NoProperty}
 use Rattle.mail_tree.specs.Changing.{Answer, Changed, ◌>>=◌, add_shown, associated, beside, contents, drop_shown, hierarchy, nothing, now_at, put_shown, table_at, with_object, within_limits}
 use Rattle.mail_tree.specs.Columns.{contents_table, hierarchy_table}
 use Rattle.mail_tree.specs.Settling.{mirrored, settled, with_context}
 use Rattle.mail_tree.specs.Ids.{folder_kinds, is_spent, is_taken, message_kinds, new_id, next_index}
 use Rattle.mail_tree.specs.Folders.{Outcome, associated_in, changing, has_associated, has_rows, made_folder, making, making_folder, moved_between, moved_folder, moving, place, removed_folder, renamed_folder, replied, siblings, unchanged, unless_full, unless_named, unless_protected, without_folder, without_node, with_folder}
-use Rattle.mail_tree.specs.Messages.{added_message, added_recipient, adding_recipient, changed_message, copied_message, copy_of, copying, in_folder, is_crowded_message, is_overfull, making_message, message_in, moved_message, new_message, plain_message, remaking, removed_message, removed_recipient, set_value, spent_row, unset_value, with_message}
-use Rattle.mail_tree.specs.Parts.{has_recipient, is_full, is_wide, new_row, next_row, recipient_props, recipient_tags, rows_of, with_recipient, without_recipient}
+use Rattle.mail_tree.specs.Messages.{added_attachment, added_message, added_recipient, adding_attachment, adding_recipient, appended_data, appending, removed_attachment, spent_index, too_long, changed_message, copied_message, copy_of, copying, in_folder, is_crowded_message, is_overfull, making_message, message_in, moved_message, new_message, plain_message, remaking, removed_message, removed_recipient, set_value, spent_row, unset_value, with_message}
+use Rattle.mail_tree.specs.Parts.{attachment_props, attachment_tags, has_recipient, is_full, is_wide, lengthened, new_row, next_part, next_row, part_in, part_nid, part_with, plain_part, recipient_props, recipient_tags, room_for, rows_of, with_attachment, with_bytes, with_part, with_recipient, without_attachment, without_recipient}
 use Rattle.mail_laws.specs.ComesAndGoes.{takes}
 use Rattle.mail_laws.specs.Stays.{StaysFolder, gives_name}
 use Rattle.mail_tree.specs.Step.{outcome}
@@ -40,7 +40,7 @@ use Rattle.mail_tree.specs.Whole.{IsWhole}
 use Rattle.mail_tree.proofs.AfterTree.{now_nothing}
 use Rattle.mail_tree.proofs.FineLaws.{cases_Option}
 use Rattle.mail_laws.proofs.FolderSteps.{fine_protected}
-use Rattle.mail_laws.proofs.Keeping.{from_fine, if_any, if_test, if_then, if_weaker, never_made, if_replying}
+use Rattle.mail_laws.proofs.Keeping.{from_fine, if_any, if_found, if_test, if_then, if_weaker, never_made, if_replying}
 use Rattle.mail_laws.proofs.KeptObjects.{KeepsObjects, Scope, fits_context, fits_gone, fits_message, fits_new, keeps_all, keeps_more, touched_here, touched_still}
 use Rattle.mail_laws.proofs.KeptSteps.{add_good, context_good, drop_good, mirrored_good, put_good, stood, table_elsewhere, then_good}
 use Rattle.mail_tree.proofs.KeyedFinds.{find-put_other}
@@ -255,6 +255,26 @@ module _ (T : Tree) (whole : IsWhole T) (scope : Scope) where
   removes_recipient m row = if_then _ After (message_in T m) _ (from_fine _ (message_in T m) (fine_message_in T m w)) (λ M h.
       if_test After (not (has_recipient row M)) NoObject _ (remakes m M (without_recipient row M) false None Done h.0 h.1 refl refl))
 
+  adds_attachment : (m : ℕ) (name bytes : List ℕ) → IfOk (added_attachment T m name bytes) After
+  unfolding added_attachment adding_attachment
+  adds_attachment m name bytes = if_then _ After (message_in T m) _ (from_fine _ (message_in T m) (fine_message_in T m w)) (λ M h.
+      let index = next_part M in
+      let new = with_attachment (plain_part (part_nid index) (attachment_props name bytes)) (room_for index M) in
+      if_test After (is_full M.attachments) (Limit Rows) _ (if_test After (is_wide attachment_tags M.attachments) (Limit Rows) _
+      (remakes m M new false (spent_index index) (Attached (part_nid index)) h.0 h.1 refl refl)))
+
+  appends_data : (m n : ℕ) (more : List ℕ) → IfOk (appended_data T m n more) After
+  unfolding appended_data appending
+  appends_data m n more = if_then _ After (message_in T m) _ (from_fine _ (message_in T m) (fine_message_in T m w)) (λ M h.
+      if_found After NoObject (part_in n M) _ (λ part is. if_found After NoProperty (bytes_of 0x3701 0x0102 part.props) _ (λ old is'.
+      let props = with_bytes (lengthened old more) part.props in
+      (remakes m M (with_part (part_with props part) M) (crowds part.props props) (too_long old more) Done h.0 h.1 refl refl))))
+
+  removes_attachment : (m n : ℕ) → IfOk (removed_attachment T m n) After
+  unfolding removed_attachment
+  removes_attachment m n = if_then _ After (message_in T m) _ (from_fine _ (message_in T m) (fine_message_in T m w)) (λ M h.
+      if_test After (not (is_some (part_in n M))) NoObject _ (remakes m M (without_attachment n M) false None Done h.0 h.1 refl refl))
+
   sets : (m : ℕ) (v : Val) → IfOk (set_value T m v) After
   unfolding set_value
   sets m v = if_then _ After (message_in T m) _ (from_fine _ (message_in T m) (fine_message_in T m w)) (λ M h. elim (cases_Bool (is_set_protected v.id M.props)) [
@@ -454,5 +474,9 @@ kept_after T w (GetProperty message tag) = if_weaker _ _ (outcome T (GetProperty
 kept_after T w (ListProperties message) = if_weaker _ _ (outcome T (ListProperties message)) (reads_only T (ListProperties message) refl) (looks T w (scope_of T (ListProperties message)))
 kept_after T w (AddRecipient message kind address name) = adds_recipient T w (scope_of T (AddRecipient message kind address name)) message.bits kind address name
 kept_after T w (RemoveRecipient message row) = removes_recipient T w (scope_of T (RemoveRecipient message row)) message.bits row
+kept_after T w (AddAttachment message name bytes) = adds_attachment T w (scope_of T (AddAttachment message name bytes)) message.bits name bytes
+kept_after T w (AppendData message attachment bytes) = appends_data T w (scope_of T (AppendData message attachment bytes)) message.bits attachment.bits bytes
+kept_after T w (RemoveAttachment message attachment) = removes_attachment T w (scope_of T (RemoveAttachment message attachment)) message.bits attachment.bits
+kept_after T w (FetchData message attachment) = if_weaker _ _ (outcome T (FetchData message attachment)) (reads_only T (FetchData message attachment) refl) (looks T w (scope_of T (FetchData message attachment)))
 kept_after T w Save = keeps_all T (scope_of T Save)
 kept_after T w Quit = keeps_all T (scope_of T Quit)

@@ -7,7 +7,7 @@ use Rattle.node_port.specs.Nodes.{node_at}
 use Rattle.pst_base.specs.Ids.{index_of}
 use Rattle.mapi_values.specs.Messages.{Mes}
 use Rattle.command_text.specs.declared.command.Command.{Command}
-use Rattle.command_text.specs.declared.command.Command.TheVariants.{MakeFolder, RenameFolder, MoveFolder, RemoveFolder, ListFolder, NewMessage, SetProperty, UnsetProperty, GetProperty, ListProperties, MoveMessage, CopyMessage, RemoveMessage, AddRecipient, RemoveRecipient, Save, Quit}
+use Rattle.command_text.specs.declared.command.Command.TheVariants.{MakeFolder, RenameFolder, MoveFolder, RemoveFolder, ListFolder, NewMessage, SetProperty, UnsetProperty, GetProperty, ListProperties, MoveMessage, CopyMessage, RemoveMessage, AddRecipient, RemoveRecipient, AddAttachment, AppendData, RemoveAttachment, FetchData, Save, Quit}
 use Rattle.command_text.specs.declared.reply.LastLine.TheVariants.{Made}
 use Rattle.command_text.specs.declared.reply.Reply.{Reply}
 use Rattle.mail_objects.specs.Forms.{Ctx, Tbl}
@@ -170,6 +170,10 @@ module _ (T : Tree) (w : IsWhole T) where
   brings (RemoveMessage message) = nothing_comes (RemoveMessage message) (λ q. refl)
   brings (AddRecipient message kind address name) = nothing_comes (AddRecipient message kind address name) (λ q. refl)
   brings (RemoveRecipient message row) = nothing_comes (RemoveRecipient message row) (λ q. refl)
+  brings (AddAttachment message name bytes) = nothing_comes (AddAttachment message name bytes) (λ q. refl)
+  brings (AppendData message attachment bytes) = nothing_comes (AppendData message attachment bytes) (λ q. refl)
+  brings (RemoveAttachment message attachment) = nothing_comes (RemoveAttachment message attachment) (λ q. refl)
+  brings (FetchData message attachment) = nothing_comes (FetchData message attachment) (λ q. refl)
   brings Save = nothing_comes Save (λ q. refl)
   brings Quit = nothing_comes Quit (λ q. refl)
 

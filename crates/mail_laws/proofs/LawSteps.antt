@@ -5,7 +5,7 @@ use Rattle.mapi_values.specs.Messages.{Mes}
 use Rattle.mapi_values.specs.Properties.{find}
 use Rattle.mapi_values.specs.Values.{Val}
 use Rattle.command_text.specs.declared.command.Command.{Command}
-use Rattle.command_text.specs.declared.command.Command.TheVariants.{MakeFolder, RenameFolder, MoveFolder, RemoveFolder, ListFolder, NewMessage, SetProperty, UnsetProperty, GetProperty, ListProperties, MoveMessage, CopyMessage, RemoveMessage, AddRecipient, RemoveRecipient, Save, Quit}
+use Rattle.command_text.specs.declared.command.Command.TheVariants.{MakeFolder, RenameFolder, MoveFolder, RemoveFolder, ListFolder, NewMessage, SetProperty, UnsetProperty, GetProperty, ListProperties, MoveMessage, CopyMessage, RemoveMessage, AddRecipient, RemoveRecipient, AddAttachment, AppendData, RemoveAttachment, FetchData, Save, Quit}
 use Rattle.command_text.specs.declared.reply.LastLine.TheVariants.{Value}
 use Rattle.mail_objects.specs.declared.object.Object.{Object}
 use Rattle.mail_objects.specs.declared.object.Object.TheVariants.{Context, Table, Message}
@@ -14,14 +14,16 @@ use Rattle.mail_tree.specs.Changing.{as_message, contents, nothing, now_at, tabl
 use Rattle.mail_tree.specs.Places.{find_place, is_child, is_plain}
 use Rattle.mail_tree.specs.Settling.{message_ids}
 use Rattle.mail_tree.specs.Folders.{Outcome, folder_lines, listing, message_lines, replied, unchanged}
-use Rattle.mail_tree.specs.Messages.{details, message_in, value_in, value_of}
+use Rattle.mail_tree.specs.Messages.{details, fetched_data, message_in, value_in, value_of}
 use Rattle.mail_tree.specs.Step.{after, outcome}
 use Rattle.mail_laws.specs.Laws.{IsNamed, message_with, only_reads}
 use Rattle.mail_tree.specs.Whole.{AreWhole, IsWhole}
 use Rattle.mail_tree.proofs.AfterTree.{after_now, now_nothing}
 use Rattle.mail_laws.proofs.CommandSteps.{keeps_whole}
 use Rattle.mail_laws.proofs.Effects.{message_found}
-use Rattle.mail_laws.proofs.Keeping.{both, from_fine, if_any, if_then}
+use Rattle.mail_laws.proofs.Keeping.{both, from_fine, if_any, if_found, if_then}
+use Rattle.mail_tree.specs.Parts.{data_tag, part_in}
+use Rattle.command_text.specs.declared.reply.CommandRefusal.TheVariants.{Object as NoObject, Property as NoProperty}
 use Rattle.mail_tree.proofs.FineLaws.{cases_Option}
 use Rattle.mail_laws.proofs.PlaceEffects.{NamedNow}
 use Rattle.mail_laws.proofs.MessageSteps.{Before, Keeps}
@@ -76,10 +78,12 @@ list_reads T f = elim (cases_Option (find_place f T.places)) [
 ]
 
 pub reads_only : (T : Tree) (c : Command) → only_reads c ≡ true → IfOk (outcome T c) (λ o. o ≡ unchanged T o.reply)
-unfolding outcome value_in details
+unfolding outcome value_in details fetched_data
 reads_only T (ListFolder folder) e = list_reads T folder.bits
 reads_only T (GetProperty message tag) e = if_then (λ M. Unit {0}) _ (message_in T message.bits) _ (if_any (message_in T message.bits)) (λ M u. elim (cases_Option (value_of tag M.props)) [ inl none ↦ rw none tt | inr v ↦ rw v.1 refl ])
 reads_only T (ListProperties message) e = if_then (λ M. Unit {0}) _ (message_in T message.bits) _ (if_any (message_in T message.bits)) (λ M u. refl)
+reads_only T (FetchData message attachment) e = if_then (λ M. Unit {0}) _ (message_in T message.bits) _ (if_any (message_in T message.bits)) (λ M u.
+    if_found _ NoObject (part_in attachment.bits M) _ (λ part is. if_found _ NoProperty (value_of data_tag part.props) _ (λ v is'. refl)))
 reads_only T Save e = refl
 reads_only T Quit e = refl
 reads_only T (MakeFolder parent name) e = cc
@@ -94,3 +98,6 @@ reads_only T (CopyMessage message folder) e = cc
 reads_only T (RemoveMessage message) e = cc
 reads_only T (AddRecipient message kind address name) e = cc
 reads_only T (RemoveRecipient message row) e = cc
+reads_only T (AddAttachment message name bytes) e = cc
+reads_only T (AppendData message attachment bytes) e = cc
+reads_only T (RemoveAttachment message attachment) e = cc

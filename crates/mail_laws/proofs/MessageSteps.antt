@@ -12,25 +12,25 @@ use Rattle.mapi_values.specs.Properties.{put, remove_id}
 use Rattle.mapi_values.specs.declared.value.Tag.{Tag}
 use Rattle.mapi_values.specs.Tables.{find_row, drop_row}
 use Rattle.mapi_values.specs.Values.{Val}
-use Rattle.command_text.specs.declared.reply.LastLine.TheVariants.{Done, Row}
+use Rattle.command_text.specs.declared.reply.LastLine.TheVariants.{Attached, Done, Row}
 use Rattle.mail_objects.specs.Forms.{Tbl}
 use Rattle.mail_objects.specs.declared.object.Object.{Object}
 use Rattle.mail_objects.specs.declared.object.Object.TheVariants.{Table, Message}
 use Rattle.mail_tree.specs.declared.places.FolderPlace.{FolderPlace}
 use Rattle.mail_tree.specs.Places.{find_place, is_plain}
 use Rattle.mail_tree.specs.Tree.{Tree}
-use Rattle.mail_tree.specs.Values.{bytes_of, finished, is_set_protected, is_unset_protected, message_props, with_props}
-use Rattle.command_text.specs.declared.reply.CommandRefusal.TheVariants.{Ids, Limit, Object as NoObject}
+use Rattle.mail_tree.specs.Values.{bytes_of, crowds, finished, is_set_protected, is_unset_protected, message_props, with_props}
+use Rattle.command_text.specs.declared.reply.CommandRefusal.TheVariants.{Ids, Limit, Object as NoObject, Property as NoProperty}
 use Rattle.mail_tree.specs.Changing.{Answer, Changed, ◌>>=◌, add_shown, contents, drop_shown, nothing, now_at, overfills, put_shown, shown_row, with_object, with_rows, within_limits}
 use Rattle.mail_tree.specs.Settling.{settled}
 use Rattle.mail_tree.specs.Folders.{Outcome, changing, making, replied, unless_full, replying}
-use Rattle.mail_tree.specs.Messages.{added_message, added_recipient, adding_recipient, changed_message, copied_message, copy_of, copying, details, in_folder, is_crowded_message, is_overfull, making_message, message_in, moved_message, new_message, parent_at, plain_message, remaking, removed_message, removed_recipient, set_value, spent_row, unset_value, value_in, value_of, with_message}
-use Rattle.mail_tree.specs.Parts.{has_recipient, is_full, is_wide, new_row, next_row, recipient_props, recipient_tags, rows_of, with_recipient, without_recipient}
+use Rattle.mail_tree.specs.Messages.{added_attachment, added_message, added_recipient, adding_attachment, adding_recipient, appended_data, appending, fetched_data, removed_attachment, spent_index, too_long, changed_message, copied_message, copy_of, copying, details, in_folder, is_crowded_message, is_overfull, making_message, message_in, moved_message, new_message, parent_at, plain_message, remaking, removed_message, removed_recipient, set_value, spent_row, unset_value, value_in, value_of, with_message}
+use Rattle.mail_tree.specs.Parts.{attachment_props, attachment_tags, data_tag, has_recipient, is_full, is_wide, lengthened, new_row, next_part, next_row, part_in, part_nid, part_with, plain_part, recipient_props, recipient_tags, room_for, rows_of, with_attachment, with_bytes, with_part, with_recipient, without_attachment, without_recipient}
 use Rattle.mail_tree.specs.Ids.{is_spent, message_kinds, new_id, next_index}
 use Rattle.mail_tree.specs.Whole.{AreWhole, Fine}
 use Rattle.mail_tree.proofs.AfterTree.{now_nothing, puts_object, puts_values}
 use Rattle.mail_laws.proofs.NewIds.{free_message, new_id_is, next_is_free}
-use Rattle.mail_tree.proofs.FineLaws.{after_limits, after_test, cases_Option, fine_then}
+use Rattle.mail_tree.proofs.FineLaws.{after_found, after_limits, after_test, cases_Option, fine_then}
 use Rattle.mail_tree.proofs.Nearly.{AreNearly, Puts, message_id, table_of}
 use Rattle.mail_tree.proofs.KindsOfPuts.{beside_kind}
 use Rattle.mail_laws.proofs.Closing.{whole_message}
@@ -169,6 +169,35 @@ pub fine_removed_recipient : (T : Tree) (m row : ℕ) → Before T → Fine (rem
 unfolding removed_recipient
 fine_removed_recipient T m row w = fine_then _ (Keeps T) (message_in T m) _ (fine_message_in T m w) (λ M h.
     after_test (Keeps T) (not (has_recipient row M)) NoObject _ (λ u. fine_remaking T m M (without_recipient row M) false None Done w h.0 h.1 refl refl))
+
+-- `attach`
+pub fine_added_attachment : (T : Tree) (m : ℕ) (name bytes : List ℕ) → Before T → Fine (added_attachment T m name bytes) (Keeps T)
+unfolding added_attachment adding_attachment
+fine_added_attachment T m name bytes w = fine_then _ (Keeps T) (message_in T m) _ (fine_message_in T m w) (λ M h.
+    let index = next_part M in
+    let new = with_attachment (plain_part (part_nid index) (attachment_props name bytes)) (room_for index M) in
+    after_test (Keeps T) (is_full M.attachments) (Limit Rows) _ (λ u. after_test (Keeps T) (is_wide attachment_tags M.attachments) (Limit Rows) _ (λ v.
+    fine_remaking T m M new false (spent_index index) (Attached (part_nid index)) w h.0 h.1 refl refl)))
+
+-- `append`
+pub fine_appended_data : (T : Tree) (m n : ℕ) (more : List ℕ) → Before T → Fine (appended_data T m n more) (Keeps T)
+unfolding appended_data appending
+fine_appended_data T m n more w = fine_then _ (Keeps T) (message_in T m) _ (fine_message_in T m w) (λ M h.
+    after_found (Keeps T) NoObject (part_in n M) _ (λ part is. after_found (Keeps T) NoProperty (bytes_of 0x3701 0x0102 part.props) _ (λ old is'.
+    let props = with_bytes (lengthened old more) part.props in
+    fine_remaking T m M (with_part (part_with props part) M) (crowds part.props props) (too_long old more) Done w h.0 h.1 refl refl)))
+
+-- `detach`
+pub fine_removed_attachment : (T : Tree) (m n : ℕ) → Before T → Fine (removed_attachment T m n) (Keeps T)
+unfolding removed_attachment
+fine_removed_attachment T m n w = fine_then _ (Keeps T) (message_in T m) _ (fine_message_in T m w) (λ M h.
+    after_test (Keeps T) (not (is_some (part_in n M))) NoObject _ (λ u. fine_remaking T m M (without_attachment n M) false None Done w h.0 h.1 refl refl))
+
+-- `fetch`
+pub fine_fetched_data : (T : Tree) (m n : ℕ) → Before T → Fine (fetched_data T m n) (Keeps T)
+unfolding fetched_data
+fine_fetched_data T m n w = fine_then _ (Keeps T) (message_in T m) _ (fine_message_in T m w) (λ M h.
+    after_found (Keeps T) NoObject (part_in n M) _ (λ part is. after_found (Keeps T) NoProperty (value_of data_tag part.props) _ (λ v is'. w)))
 
 -- `set`
 pub fine_set : (T : Tree) (m : ℕ) (v : Val) → Before T → Fine (set_value T m v) (Keeps T)

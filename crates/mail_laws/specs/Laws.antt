@@ -1,27 +1,28 @@
 -- What each command does, in the words of mail.
-use Rattle.std.specs.Prelude.{◌≡◌, ℕ, Bool, true, false, not, IfOk, List, filter, length, Option, None, Some, Ok}
+use Rattle.std.specs.Prelude.{◌≡◌, ℕ, ◌++◌, Bool, true, false, not, IfOk, List, filter, length, Option, None, Some, Ok}
 use Rattle.std.specs.List.{list_any}
 use Rattle.pst_base.specs.declared.ids.Nid.{Nid}
 use Rattle.mapi_values.specs.Messages.{Mes}
 use Rattle.mapi_values.specs.Properties.{ascend_from, find}
 use Rattle.mapi_values.specs.Tables.{find_row, mirror}
 use Rattle.mapi_values.specs.Values.{Val}
+use Rattle.mapi_values.specs.declared.part.Part.{Part}
 use Rattle.mapi_values.specs.declared.value.Tag.{Tag}
 use Rattle.command_text.specs.declared.command.Command.{Command}
-use Rattle.command_text.specs.declared.command.Command.TheVariants.{MakeFolder, RenameFolder, MoveFolder, RemoveFolder, ListFolder, NewMessage, SetProperty, UnsetProperty, GetProperty, ListProperties, MoveMessage, CopyMessage, RemoveMessage, AddRecipient, RemoveRecipient, Save, Quit}
-use Rattle.command_text.specs.declared.reply.LastLine.TheVariants.{Made, Row, Value}
+use Rattle.command_text.specs.declared.command.Command.TheVariants.{MakeFolder, RenameFolder, MoveFolder, RemoveFolder, ListFolder, NewMessage, SetProperty, UnsetProperty, GetProperty, ListProperties, MoveMessage, CopyMessage, RemoveMessage, AddRecipient, RemoveRecipient, AddAttachment, AppendData, RemoveAttachment, FetchData, Save, Quit}
+use Rattle.command_text.specs.declared.reply.LastLine.TheVariants.{Attached, Made, Row, Value}
 use Rattle.mail_objects.specs.Forms.{Ctx, Tbl}
 use Rattle.mail_objects.specs.declared.object.Object.{Object}
 use Rattle.mail_objects.specs.declared.object.Object.TheVariants.{Context, Message, Table}
 use Rattle.mail_tree.specs.declared.places.FolderPlace.{FolderPlace}
 use Rattle.mail_tree.specs.Places.{ROOT, find_place, is_child, is_plain}
 use Rattle.mail_tree.specs.Tree.{Tree, object_at}
-use Rattle.mail_tree.specs.Values.{is_read, number, text, time_value, truth, with_props}
+use Rattle.mail_tree.specs.Values.{bytes_of, is_read, number, text, time_value, truth, with_props}
 use Rattle.mail_tree.specs.Changing.{as_message, contents, hierarchy}
 use Rattle.mail_tree.specs.Settling.{message_ids}
 use Rattle.mail_tree.specs.Folders.{place, replied, unchanged}
 use Rattle.mail_tree.specs.Messages.{copy_of, in_folder}
-use Rattle.mail_tree.specs.Parts.{recipient_props, rows_of, with_recipient, without_recipient}
+use Rattle.mail_tree.specs.Parts.{attachment_props, part_in, part_with, plain_part, recipient_props, rows_of, with_attachment, with_bytes, with_part, with_recipient, without_attachment, without_recipient}
 use Rattle.mail_tree.specs.Step.{after, outcome}
 use Rattle.mail_tree.specs.Whole.{IsWhole}
 
@@ -84,6 +85,21 @@ abbrev pub RemovesRecipient : Type 0
 RemovesRecipient = (T : Tree) (m : Nid) (row : ℕ) → IsWhole T → IfOk (outcome T (RemoveRecipient m row)) (λ o. (M : Mes) × (props : List Val) × (message_with T m.bits ≡ Some M)
     × OnlyMessage T (after T o) m.bits (Some (with_props props (without_recipient row M))) × SameButFor 0x0E08 M.props props)
 
+-- after `attach` the message has an attachment of this name and data under the id that is replied, which none had, and its others, its other values but for flags and size, and all else that it had
+abbrev pub AddsAttachment : Type 0
+AddsAttachment = (T : Tree) (m : Nid) (name bytes : List ℕ) → IsWhole T → IfOk (outcome T (AddAttachment m name bytes)) (λ o. (M : Mes) × (n : Nid) × (props : List Val) × (message_with T m.bits ≡ Some M)
+    × OnlyMessage T (after T o) m.bits (Some (with_props props (with_attachment (plain_part n (attachment_props name bytes)) M))) × (o.reply ≡ replied (Attached n)) × (part_in n.bits M ≡ None) × SameButFor 0x0E08 M.props props)
+
+-- after `append` the attachment has these bytes behind those that it had, and the message its others, its other values but for flags and size, and all else that it had
+abbrev pub AppendsData : Type 0
+AppendsData = (T : Tree) (m n : Nid) (bytes : List ℕ) → IsWhole T → IfOk (outcome T (AppendData m n bytes)) (λ o. (M : Mes) × (part : Part) × (old : List ℕ) × (props : List Val) × (message_with T m.bits ≡ Some M)
+    × (part_in n.bits M ≡ Some part) × (bytes_of 0x3701 0x0102 part.props ≡ Some old) × OnlyMessage T (after T o) m.bits (Some (with_props props (with_part (part_with (with_bytes (old ++ bytes) part.props) part) M))) × SameButFor 0x0E08 M.props props)
+
+-- after `detach` the message has no such attachment, and its others, its other values but for flags and size, and all else that it had
+abbrev pub RemovesAttachment : Type 0
+RemovesAttachment = (T : Tree) (m n : Nid) → IsWhole T → IfOk (outcome T (RemoveAttachment m n)) (λ o. (M : Mes) × (props : List Val) × (message_with T m.bits ≡ Some M)
+    × OnlyMessage T (after T o) m.bits (Some (with_props props (without_attachment n.bits M))) × SameButFor 0x0E08 M.props props)
+
 -- `get` after `set` replies the value that was set
 abbrev pub GetsWhatWasSet : Type 0
 GetsWhatWasSet = (T : Tree) (m : Nid) (v : Val) → IsWhole T → (v.id ≡ 0x0E07 → ⊥)
@@ -116,11 +132,12 @@ abbrev pub only_reads : Command → Bool
 only_reads (ListFolder folder) = true
 only_reads (GetProperty message tag) = true
 only_reads (ListProperties message) = true
+only_reads (FetchData message attachment) = true
 only_reads Save = true
 only_reads Quit = true
 only_reads other = false
 
--- `ls`, `get`, `props`, `save` and `quit` change nothing
+-- `ls`, `get`, `props`, `fetch`, `save` and `quit` change nothing
 abbrev pub Reads : Type 0
 Reads = (T : Tree) (c : Command) → only_reads c ≡ true → IfOk (outcome T c) (λ o. o ≡ unchanged T o.reply)
 
@@ -177,3 +194,6 @@ pub record CountsAnew : Type 0 where
   pub removes : (T : Tree) (m : Nid) → IsWhole T → IfOk (outcome T (RemoveMessage m)) (λ o. (M : Mes) × (message_with T m.bits ≡ Some M) × CountsOf (after T o) M.folder)
   pub adds_recipient : (T : Tree) (m : Nid) (kind : ℕ) (address name : List ℕ) → IsWhole T → IfOk (outcome T (AddRecipient m kind address name)) (λ o. (M : Mes) × (message_with T m.bits ≡ Some M) × CountsOf (after T o) M.folder)
   pub removes_recipient : (T : Tree) (m : Nid) (row : ℕ) → IsWhole T → IfOk (outcome T (RemoveRecipient m row)) (λ o. (M : Mes) × (message_with T m.bits ≡ Some M) × CountsOf (after T o) M.folder)
+  pub adds_attachment : (T : Tree) (m : Nid) (name bytes : List ℕ) → IsWhole T → IfOk (outcome T (AddAttachment m name bytes)) (λ o. (M : Mes) × (message_with T m.bits ≡ Some M) × CountsOf (after T o) M.folder)
+  pub appends_data : (T : Tree) (m n : Nid) (bytes : List ℕ) → IsWhole T → IfOk (outcome T (AppendData m n bytes)) (λ o. (M : Mes) × (message_with T m.bits ≡ Some M) × CountsOf (after T o) M.folder)
+  pub removes_attachment : (T : Tree) (m n : Nid) → IsWhole T → IfOk (outcome T (RemoveAttachment m n)) (λ o. (M : Mes) × (message_with T m.bits ≡ Some M) × CountsOf (after T o) M.folder)

@@ -2,7 +2,7 @@
 ghost use Rattle.std.specs.Prelude.{ℕ, List};
 ghost use Rattle.command_text.specs.declared.command.Command.{Command};
 ghost use Rattle.mail_laws.specs.ComesAndGoes.{ComesAndGoes};
-ghost use Rattle.mail_laws.specs.Laws.{AddsRecipient, Copies, Counts, CountsAnew, CountsStay, GetsWhatWasSet, MakesFolder, MakesMessage, Mirrors, MirrorsStay, Moves, MovesFolder, Reads, Removes, RemovesFolder, RemovesRecipient, RenamesFolder, Sets, Unsets};
+ghost use Rattle.mail_laws.specs.Laws.{AddsAttachment, AddsRecipient, AppendsData, Copies, Counts, CountsAnew, CountsStay, GetsWhatWasSet, MakesFolder, MakesMessage, Mirrors, MirrorsStay, Moves, MovesFolder, Reads, Removes, RemovesAttachment, RemovesFolder, RemovesRecipient, RenamesFolder, Sets, Unsets};
 ghost use Rattle.mail_tree.specs.Start.{IsStart};
 ghost use Rattle.mail_laws.specs.Stays.{GivesNewIds, KeepsNodes, KeepsTables, KeepsValues, StaysFound};
 ghost use Rattle.mail_tree.specs.Step.{after, outcome};
@@ -79,7 +79,22 @@ pub fn removes_recipient()
     ensures { RemovesRecipient }
 {}
 
-/// `ls`, `get`, `props`, `save` and `quit` change nothing.
+/// `attach` gives a message the attachment that it is told under an id that none had, and leaves its others and all other messages as they were.
+pub fn adds_attachment()
+    ensures { AddsAttachment }
+{}
+
+/// `append` puts bytes behind the data of an attachment, and leaves the message's others and all other messages as they were.
+pub fn appends_data()
+    ensures { AppendsData }
+{}
+
+/// `detach` takes an attachment from a message, and leaves its others and all other messages as they were.
+pub fn removes_attachment()
+    ensures { RemovesAttachment }
+{}
+
+/// `ls`, `get`, `props`, `fetch`, `save` and `quit` change nothing.
 pub fn reads()
     ensures { Reads }
 {}
@@ -94,7 +109,7 @@ pub fn counts_stay()
     ensures { CountsStay }
 {}
 
-/// After `new`, `cp`, `set`, `unset`, `rm`, `rcpt` and `unrcpt` the counts of the message's folder are right, whatever they were.
+/// After `new`, `cp`, `set`, `unset`, `rm`, `rcpt`, `unrcpt`, `attach`, `append` and `detach` the counts of the message's folder are right, whatever they were.
 pub fn counts_anew()
     ensures { CountsAnew }
 {}

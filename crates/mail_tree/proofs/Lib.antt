@@ -8,3 +8,4 @@ pub mod AfterTree
 pub mod KindsOfPuts
 pub mod Settles
 pub mod PathLaws
+pub mod PartLaws

@@ -13,20 +13,20 @@ use Rattle.mapi_values.specs.declared.part.Part.{Part}
 use Rattle.mapi_values.specs.declared.value.Tag.{Tag}
 use Rattle.command_text.specs.declared.reply.CommandRefusal.{CommandRefusal}
 use Rattle.command_text.specs.declared.reply.CommandRefusal.TheVariants.{Object, Property, Protected, Limit, Ids}
-use Rattle.command_text.specs.declared.reply.Limit.TheVariants.{Rows}
+use Rattle.command_text.specs.declared.reply.Limit.TheVariants.{Rows, Value as LongValue}
 use Rattle.command_text.specs.declared.reply.DataLine.{DataLine}
 use Rattle.command_text.specs.declared.reply.DataLine.TheVariants as lines
 use Rattle.command_text.specs.declared.reply.LastLine.{LastLine}
-use Rattle.command_text.specs.declared.reply.LastLine.TheVariants.{Done, Row, Value}
+use Rattle.command_text.specs.declared.reply.LastLine.TheVariants.{Attached, Done, Row, Value}
 use Rattle.mail_objects.specs.declared.object.Object.{Object as Obj}
 use Rattle.mail_objects.specs.declared.object.Object.TheVariants as objects
 use Rattle.mail_tree.specs.Places.{find_place, is_plain}
 use Rattle.mail_tree.specs.Tree.{Tree, object_at}
-use Rattle.mail_tree.specs.Values.{bytes_of, finished, is_set_protected, is_unset_protected, length_of, message_props, number_of, text_of, with_props}
+use Rattle.mail_tree.specs.Values.{bytes_of, crowds, finished, is_set_protected, is_unset_protected, length_of, message_props, number_of, text_of, with_props}
 use Rattle.mail_tree.specs.Changing.{Answer, Changed, ◌>>=◌, add_shown, contents, context_at, drop_shown, found, message_at, nothing, put_shown, refused_if, table_at, with_object, with_values}
 use Rattle.mail_tree.specs.Settling.{settled}
-use Rattle.mail_tree.specs.Parts.{has_recipient, is_full, is_spent_row, is_wide, new_row, next_row, recipient_props, recipient_tags, rows_of, with_recipient, without_recipient}
-use Rattle.mail_tree.specs.Ids.{message_kinds, new_id, next_index}
+use Rattle.mail_tree.specs.Parts.{attachment_props, attachment_tags, data_tag, has_recipient, is_full, is_spent_row, is_too_long, is_wide, lengthened, new_row, next_part, next_row, part_in, part_nid, part_with, plain_part, recipient_props, recipient_tags, room_for, rows_of, with_attachment, with_bytes, with_part, with_recipient, without_attachment, without_recipient}
+use Rattle.mail_tree.specs.Ids.{is_spent, message_kinds, new_id, next_index}
 use Rattle.mail_tree.specs.Folders.{Outcome, changing, folder_in, listed, making, replied, replying, unchanged, unless_full, unless_plain}
 
 -- the parent that an object tells
@@ -169,3 +169,40 @@ added_recipient T m kind address name = message_in T m >>= λ M. refused_if (is_
 -- `unrcpt`
 unfoldable pub removed_recipient : Tree → ℕ → ℕ → Answer Outcome
 removed_recipient T m row = message_in T m >>= λ M. refused_if (not (has_recipient row M)) Object >>= λ u. remaking T M (without_recipient row M) false None Done
+
+-- no index is left
+abbrev pub spent_index : ℕ → Option CommandRefusal
+spent_index index = if is_spent index then Some Ids else None
+
+-- a message gets an attachment of these values and this index
+unfoldable pub adding_attachment : Tree → Mes → List Val → ℕ → Answer Outcome
+adding_attachment T M props index = remaking T M (with_attachment (plain_part (part_nid index) props) (room_for index M)) false (spent_index index) (Attached (part_nid index))
+
+-- `attach`
+unfoldable pub added_attachment : Tree → ℕ → List ℕ → List ℕ → Answer Outcome
+added_attachment T m name bytes = message_in T m >>= λ M. refused_if (is_full M.attachments) (Limit Rows) >>= λ u. refused_if (is_wide attachment_tags M.attachments) (Limit Rows) >>= λ v.
+    adding_attachment T M (attachment_props name bytes) (next_part M)
+
+-- the data would be too long
+abbrev pub too_long : List ℕ → List ℕ → Option CommandRefusal
+too_long old more = if is_too_long old more then Some (Limit LongValue) else None
+
+-- an attachment of a message gets other values
+abbrev pub changing_part : Tree → Mes → Part → List Val → Option CommandRefusal → Answer Outcome
+changing_part T M part props reason = remaking T M (with_part (part_with props part) M) (crowds part.props props) reason Done
+
+-- an attachment of a message gets these bytes behind its data
+unfoldable pub appending : Tree → Mes → Part → List ℕ → List ℕ → Answer Outcome
+appending T M part old more = changing_part T M part (with_bytes (lengthened old more) part.props) (too_long old more)
+
+-- `append`
+unfoldable pub appended_data : Tree → ℕ → ℕ → List ℕ → Answer Outcome
+appended_data T m n more = message_in T m >>= λ M. found Object (part_in n M) >>= λ part. found Property (bytes_of 0x3701 0x0102 part.props) >>= λ old. appending T M part old more
+
+-- `detach`
+unfoldable pub removed_attachment : Tree → ℕ → ℕ → Answer Outcome
+removed_attachment T m n = message_in T m >>= λ M. refused_if (not (is_some (part_in n M))) Object >>= λ u. remaking T M (without_attachment n M) false None Done
+
+-- `fetch`
+unfoldable pub fetched_data : Tree → ℕ → ℕ → Answer Outcome
+fetched_data T m n = message_in T m >>= λ M. found Object (part_in n M) >>= λ part. found Property (value_of data_tag part.props) >>= λ v. Ok (unchanged T (replied (Value v)))
