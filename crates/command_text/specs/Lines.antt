@@ -4,10 +4,10 @@ use Rattle.std.specs.Str.{is_utf8}
 use Rattle.value_text.specs.Forms.{value_said}
 use Rattle.value_text.specs.Numbers.{magnitude}
 use Rattle.command_text.specs.declared.command.Command.{Command}
-use Rattle.command_text.specs.declared.command.Command.TheVariants.{MakeFolder, RenameFolder, MoveFolder, RemoveFolder, ListFolder, NewMessage, SetProperty, UnsetProperty, GetProperty, ListProperties, MoveMessage, CopyMessage, RemoveMessage, AddRecipient, RemoveRecipient, Save, Quit}
+use Rattle.command_text.specs.declared.command.Command.TheVariants.{MakeFolder, RenameFolder, MoveFolder, RemoveFolder, ListFolder, NewMessage, SetProperty, UnsetProperty, GetProperty, ListProperties, MoveMessage, CopyMessage, RemoveMessage, AddRecipient, RemoveRecipient, NameProperty, Save, Quit}
 use Rattle.command_text.specs.declared.command.LineRefusal.{LineRefusal}
 use Rattle.command_text.specs.declared.command.LineRefusal.TheVariants.{Line, Value}
-use Rattle.command_text.specs.Words.{cut, name_of, recipient_type, row_of, tag_of}
+use Rattle.command_text.specs.Words.{cut, guid_of, name_of, recipient_type, row_of, tag_of}
 use Rattle.command_text.specs.Arguments.{◌>>=◌, one_id, two_ids, id_and_tag, id_and_name}
 
 -- mkdir: the parent's id, and the name, spaces and all
@@ -116,6 +116,14 @@ remove_recipient rest = do
   row ← ok_or (row_of words.1) Line
   Ok (RemoveRecipient message row)
 
+-- name: the GUID, and the number, which is written as an id is
+unfoldable pub name_property : List ℕ → Result Command LineRefusal
+name_property rest = do
+  words ← ok_or (cut rest) Line
+  guid ← ok_or (guid_of words.0) Line
+  number ← one_id words.1
+  Ok (NameProperty guid number.bits)
+
 -- a line without a space
 unfoldable pub one_word : List ℕ → Result Command LineRefusal
 one_word word =
@@ -141,7 +149,8 @@ with_arguments word rest =
     else (if bytes_eq word (codes "rm") then remove_message rest
     else (if bytes_eq word (codes "rcpt") then add_recipient rest
     else (if bytes_eq word (codes "unrcpt") then remove_recipient rest
-    else Err Line))))))))))))))
+    else (if bytes_eq word (codes "name") then name_property rest
+    else Err Line)))))))))))))))
 
 -- the line is cut at its first space, if it has one
 abbrev pub cut_line : List ℕ → Option (List ℕ × List ℕ) → Result Command LineRefusal

@@ -162,6 +162,8 @@ pub enum LastLine {
     Count(u64),
     /// `ok` and the row of a recipient.
     Row(u32),
+    /// `ok` and the id of a property that has a name.
+    Named(u16),
     /// `ok` and a value.
     Value(Value),
     /// `no` and the refusal.

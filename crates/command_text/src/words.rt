@@ -3,13 +3,13 @@ ghost use Rattle.std.specs.Prelude.{◌≡◌, ◌≤◌, ◌<◌, Bool, true, f
 ghost use Rattle.std.specs.Str.{is_utf8};
 ghost use Rattle.pst_base.specs.Stops.{Gives};
 ghost use Rattle.command_text.specs.declared.command.LineRefusal.{LineRefusal};
-ghost use Rattle.command_text.specs.Words.{cut, hex_value, hex_number, id_of, tag_digits, tag_of, name_of, number_to, recipient_type, row_of};
+ghost use Rattle.command_text.specs.Words.{cut, hex_value, hex_number, id_of, tag_digits, tag_of, name_of, number_to, recipient_type, row_of, guid_of};
 
 use crate::command::LineRefusal;
 use mapi_values::{Tag, Units, parse_units};
 use pst_base::{MemOr, Nid};
 use std::alloc::Global;
-use value_text::magnitude;
+use value_text::{magnitude, read_hex};
 
 /// The text that bytes are, if they are UTF-8.
 pub fn as_text(line: &[u8]) -> Option<&str>
@@ -129,6 +129,22 @@ pub fn read_row(word: &str) -> Option<u32>
     ensures { result ≡ row_of word.now }
 {
     number_to(u32::MAX, word)
+}
+
+/// The 16 bytes of a GUID, which a word writes in 32 hex digits in their order.
+#[tactic(auto, unfolding(crate::specs::Words::guid_of, value_text::specs::Forms::guid_bytes))]
+pub fn read_guid(alloc: Global, word: &str) -> Result<[u8; 16], MemOr<LineRefusal>>
+    ensures { Gives (λ guid. guid) result (ok_or (guid_of word.now) LineRefusal.Line) }
+{
+    let bytes = match read_hex(alloc, word.as_bytes()) {
+        Ok(bytes) => bytes,
+        Err(MemOr::Refused(_)) => return Err(MemOr::Refused(LineRefusal::Line)),
+        Err(MemOr::Memory) => return Err(MemOr::Memory),
+    };
+    match <[u8; 16]>::try_from(bytes.as_slice()) {
+        Ok(guid) => Ok(guid),
+        Err(_) => Err(MemOr::Refused(LineRefusal::Line)),
+    }
 }
 
 /// The units of a name: a text with good escapes, of 1 to 255 units.

@@ -1,10 +1,11 @@
 -- Each command leaves a tree whole.
 use Rattle.command_text.specs.declared.command.Command.{Command}
-use Rattle.command_text.specs.declared.command.Command.TheVariants.{MakeFolder, RenameFolder, MoveFolder, RemoveFolder, ListFolder, NewMessage, SetProperty, UnsetProperty, GetProperty, ListProperties, MoveMessage, CopyMessage, RemoveMessage, AddRecipient, RemoveRecipient, Save, Quit}
+use Rattle.command_text.specs.declared.command.Command.TheVariants.{MakeFolder, RenameFolder, MoveFolder, RemoveFolder, ListFolder, NewMessage, SetProperty, UnsetProperty, GetProperty, ListProperties, MoveMessage, CopyMessage, RemoveMessage, AddRecipient, RemoveRecipient, NameProperty, Save, Quit}
 use Rattle.mail_tree.specs.Step.{outcome}
 use Rattle.mail_tree.specs.Tree.{Tree}
 use Rattle.mail_tree.specs.Whole.{Fine, HasNoStray}
 use Rattle.mail_laws.proofs.FolderSteps.{fine_listing, fine_made_folder, fine_moved_folder, fine_removed_folder, fine_renamed}
+use Rattle.mail_laws.proofs.NameSteps.{fine_named}
 use Rattle.mail_laws.proofs.MessageSteps.{Before, Keeps, fine_copied, fine_details, fine_get, fine_moved, fine_new, fine_removed, fine_set, fine_unset, fine_added_recipient, fine_removed_recipient}
 
 pub keeps_whole : (T : Tree) (c : Command) → Before T → HasNoStray T → Fine (outcome T c) (Keeps T)
@@ -24,5 +25,6 @@ keeps_whole T (CopyMessage message folder) w clear = fine_copied T message.bits 
 keeps_whole T (RemoveMessage message) w clear = fine_removed T message.bits w
 keeps_whole T (AddRecipient message kind address name) w clear = fine_added_recipient T message.bits kind address name w
 keeps_whole T (RemoveRecipient message row) w clear = fine_removed_recipient T message.bits row w
+keeps_whole T (NameProperty guid number) w clear = fine_named T guid number w
 keeps_whole T Save w clear = w
 keeps_whole T Quit w clear = w

@@ -5,7 +5,7 @@ use Rattle.mapi_values.specs.Messages.{Mes}
 use Rattle.mapi_values.specs.Properties.{find}
 use Rattle.mapi_values.specs.Values.{Val}
 use Rattle.command_text.specs.declared.command.Command.{Command}
-use Rattle.command_text.specs.declared.command.Command.TheVariants.{MakeFolder, RenameFolder, MoveFolder, RemoveFolder, ListFolder, NewMessage, SetProperty, UnsetProperty, GetProperty, ListProperties, MoveMessage, CopyMessage, RemoveMessage, AddRecipient, RemoveRecipient, Save, Quit}
+use Rattle.command_text.specs.declared.command.Command.TheVariants.{MakeFolder, RenameFolder, MoveFolder, RemoveFolder, ListFolder, NewMessage, SetProperty, UnsetProperty, GetProperty, ListProperties, MoveMessage, CopyMessage, RemoveMessage, AddRecipient, RemoveRecipient, NameProperty, Save, Quit}
 use Rattle.command_text.specs.declared.reply.LastLine.TheVariants.{Value}
 use Rattle.mail_objects.specs.declared.object.Object.{Object}
 use Rattle.mail_objects.specs.declared.object.Object.TheVariants.{Context, Table, Message}
@@ -94,3 +94,4 @@ reads_only T (CopyMessage message folder) e = cc
 reads_only T (RemoveMessage message) e = cc
 reads_only T (AddRecipient message kind address name) e = cc
 reads_only T (RemoveRecipient message row) e = cc
+reads_only T (NameProperty guid number) e = cc

@@ -2,7 +2,7 @@
 use Rattle.std.specs.Prelude.{ℕ, List, [], ◌∷◌, Option, None, Some, Ok, Err}
 use Rattle.std.specs.FinMap as map
 use Rattle.command_text.specs.declared.command.Command.{Command}
-use Rattle.command_text.specs.declared.command.Command.TheVariants.{MakeFolder, RenameFolder, MoveFolder, RemoveFolder, ListFolder, NewMessage, SetProperty, UnsetProperty, GetProperty, ListProperties, MoveMessage, CopyMessage, RemoveMessage, AddRecipient, RemoveRecipient, Save, Quit}
+use Rattle.command_text.specs.declared.command.Command.TheVariants.{MakeFolder, RenameFolder, MoveFolder, RemoveFolder, ListFolder, NewMessage, SetProperty, UnsetProperty, GetProperty, ListProperties, MoveMessage, CopyMessage, RemoveMessage, AddRecipient, RemoveRecipient, NameProperty, Save, Quit}
 use Rattle.command_text.specs.declared.reply.LastLine.TheVariants.{Done, Refused}
 use Rattle.command_text.specs.declared.reply.Reply.{Reply}
 use Rattle.mail_objects.specs.declared.object.Object.{Object}
@@ -10,6 +10,7 @@ use Rattle.node_port.specs.Nodes.{Nodes, set_at}
 use Rattle.mail_tree.specs.Tree.{Objects, Tree}
 use Rattle.mail_tree.specs.Changing.{Answer}
 use Rattle.mail_tree.specs.Folders.{Outcome, listing, made_folder, moved_folder, removed_folder, renamed_folder, replied, unchanged}
+use Rattle.mail_tree.specs.Names.{named_property}
 use Rattle.mail_tree.specs.Messages.{added_recipient, copied_message, details, moved_message, new_message, removed_message, removed_recipient, set_value, unset_value, value_in}
 
 -- what a command comes to, or why it is refused
@@ -29,6 +30,7 @@ outcome T (CopyMessage message folder) = copied_message T message.bits folder.bi
 outcome T (RemoveMessage message) = removed_message T message.bits
 outcome T (AddRecipient message kind address name) = added_recipient T message.bits kind address name
 outcome T (RemoveRecipient message row) = removed_recipient T message.bits row
+outcome T (NameProperty guid number) = named_property T guid number
 outcome T Save = Ok (unchanged T (replied Done))
 outcome T Quit = Ok (unchanged T (replied Done))
 
