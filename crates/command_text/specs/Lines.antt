@@ -5,10 +5,10 @@ use Rattle.value_text.specs.Forms.{value_said}
 use Rattle.value_text.specs.Hex.{hex_bytes}
 use Rattle.value_text.specs.Numbers.{magnitude}
 use Rattle.command_text.specs.declared.command.Command.{Command}
-use Rattle.command_text.specs.declared.command.Command.TheVariants.{MakeFolder, RenameFolder, MoveFolder, RemoveFolder, ListFolder, NewMessage, SetProperty, UnsetProperty, GetProperty, ListProperties, MoveMessage, CopyMessage, RemoveMessage, AddRecipient, RemoveRecipient, AddAttachment, AppendData, RemoveAttachment, FetchData, Save, Quit}
+use Rattle.command_text.specs.declared.command.Command.TheVariants.{MakeFolder, RenameFolder, MoveFolder, RemoveFolder, ListFolder, NewMessage, SetProperty, UnsetProperty, GetProperty, ListProperties, MoveMessage, CopyMessage, RemoveMessage, AddRecipient, RemoveRecipient, AddAttachment, AppendData, RemoveAttachment, FetchData, Save, Quit, NameProperty}
 use Rattle.command_text.specs.declared.command.LineRefusal.{LineRefusal}
 use Rattle.command_text.specs.declared.command.LineRefusal.TheVariants.{Line, Value}
-use Rattle.command_text.specs.Words.{cut, name_of, recipient_type, row_of, tag_of}
+use Rattle.command_text.specs.Words.{cut, guid_of, name_of, recipient_type, row_of, tag_of}
 use Rattle.command_text.specs.Arguments.{◌>>=◌, one_id, two_ids, id_and_tag, id_and_name}
 
 -- mkdir: the parent's id, and the name, spaces and all
@@ -149,6 +149,14 @@ fetch_data rest = do
   ids ← two_ids rest
   Ok (FetchData ids.0 ids.1)
 
+-- name: the GUID, and the number, which is written as an id is
+unfoldable pub name_property : List ℕ → Result Command LineRefusal
+name_property rest = do
+  words ← ok_or (cut rest) Line
+  guid ← ok_or (guid_of words.0) Line
+  number ← one_id words.1
+  Ok (NameProperty guid number.bits)
+
 -- a line without a space
 unfoldable pub one_word : List ℕ → Result Command LineRefusal
 one_word word =
@@ -178,7 +186,8 @@ with_arguments word rest =
     else (if bytes_eq word (codes "append") then append_data rest
     else (if bytes_eq word (codes "detach") then remove_attachment rest
     else (if bytes_eq word (codes "fetch") then fetch_data rest
-    else Err Line))))))))))))))))))
+    else (if bytes_eq word (codes "name") then name_property rest
+    else Err Line)))))))))))))))))))
 
 -- the line is cut at its first space, if it has one
 abbrev pub cut_line : List ℕ → Option (List ℕ × List ℕ) → Result Command LineRefusal

@@ -9,7 +9,7 @@ use Rattle.value_text.specs.Numbers.{signed_text}
 use Rattle.command_text.specs.declared.reply.DataLine.{DataLine}
 use Rattle.command_text.specs.declared.reply.DataLine.TheVariants.{Folder, Search, Foreign, Message, Property, Recipient, Attachment}
 use Rattle.command_text.specs.declared.reply.LastLine.{LastLine}
-use Rattle.command_text.specs.declared.reply.LastLine.TheVariants.{Done, Made, Count, Row, Attached, Value, Refused, NoMemory}
+use Rattle.command_text.specs.declared.reply.LastLine.TheVariants.{Done, Made, Count, Row, Attached, Value, Refused, NoMemory, Named}
 use Rattle.command_text.specs.declared.reply.Reply.{Reply}
 use Rattle.command_text.specs.Refusals.{refusal_words}
 
@@ -71,6 +71,7 @@ last_text (Made id) = codes "ok " ++ id_text id.bits ++ 10 ∷ []
 last_text (Count count) = codes "ok " ++ decimal count ++ 10 ∷ []
 last_text (Row row) = codes "ok " ++ decimal row ++ 10 ∷ []
 last_text (Attached id) = codes "ok " ++ id_text id.bits ++ 10 ∷ []
+last_text (Named property) = codes "ok " ++ id_text property ++ 10 ∷ []
 last_text (Value value) = codes "ok " ++ value_text value ++ 10 ∷ []
 last_text (Refused refusal) = codes "no " ++ refusal_words refusal ++ 10 ∷ []
 last_text NoMemory = codes "no memory" ++ 10 ∷ []

@@ -5,6 +5,8 @@ use Rattle.std.specs.Char.{is_digit}
 use Rattle.std.specs.Str.Parse.{digits_value}
 use Rattle.mapi_values.specs.Spelling.{units_of}
 use Rattle.mapi_values.specs.declared.value.Tag.{Tag}
+use Rattle.value_text.specs.Forms.{guid_bytes}
+use Rattle.value_text.specs.Hex.{hex_bytes}
 use Rattle.value_text.specs.Numbers.{magnitude}
 
 -- what stands before and after the first space, if there is one
@@ -49,6 +51,10 @@ recipient_type word = number_to 3 word
 -- the row of a table: a number below 2^32
 unfoldable pub row_of : List ℕ → Option ℕ
 row_of word = number_to 4294967295 word
+
+-- the 16 bytes of a GUID, which 32 hex digits write
+unfoldable pub guid_of : List ℕ → Option (List ℕ)
+guid_of word = option_and_then guid_bytes (hex_bytes word)
 
 -- the units of a name: a text with good escapes, of 1 to 255 units
 unfoldable pub name_of : List ℕ → Option (List ℕ)

@@ -101,6 +101,11 @@ pub enum Command {
         message: Nid,
         attachment: Nid,
     },
+    /// `name GUID ID`: the id of the property that the number ID names under a GUID, whose bytes stand in their order in a file.
+    NameProperty {
+        guid: [u8; 16],
+        number: u32,
+    },
     /// `save`: what is known of the file is written down in full.
     Save,
     /// `quit`: the session ends.

@@ -167,6 +167,11 @@ fn push_last(alloc: Global, text: &mut String, last: &LastLine) -> Result<(), Al
             text.push_str("ok ")?;
             push_id(text, *id)?;
         }
+        LastLine::Named(property) => {
+            text.push_str("ok ")?;
+            let bits = u32::from(*property);
+            push_id(text, Nid { bits })?;
+        }
         LastLine::Value(value) => {
             text.push_str("ok ")?;
             text.push_str(value_text(alloc, value)?.as_str())?;

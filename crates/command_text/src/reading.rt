@@ -1,10 +1,11 @@
 //! A line read as a command.
 ghost use Rattle.pst_base.specs.Stops.{Gives};
-ghost use Rattle.command_text.specs.Lines.{make_folder, rename_folder, move_folder, remove_folder, list_folder, new_message, set_property, unset_property, get_property, list_properties, move_message, copy_message, remove_message, add_recipient, remove_recipient, add_attachment, append_data, remove_attachment, fetch_data, one_word, with_arguments, command};
+ghost use Rattle.command_text.specs.Lines.{make_folder, rename_folder, move_folder, remove_folder, list_folder, new_message, set_property, unset_property, get_property, list_properties, move_message, copy_message, remove_message, add_recipient, remove_recipient, add_attachment, append_data, remove_attachment, fetch_data, one_word, with_arguments, command, name_property};
 
 use crate::arguments::{id_and_name, id_and_tag, one_id, two_ids};
 use crate::command::{Command, LineRefusal};
-use crate::words::{as_text, cut, read_data, read_name, read_recipient_type, read_row, read_tag};
+use crate::words::{as_text, cut, read_data, read_name, read_recipient_type, read_row, read_tag, read_guid};
+
 use pst_base::MemOr;
 use std::alloc::Global;
 use value_text::{magnitude, parse_value};
@@ -262,6 +263,19 @@ fn fetch_data(rest: &str) -> Result<Command, MemOr<LineRefusal>>
     })
 }
 
+/// What stands behind `name `: the GUID, and the number, which is written as an id is.
+#[tactic(auto, unfolding(crate::specs::Lines::name_property))]
+fn name_property(alloc: Global, rest: &str) -> Result<Command, MemOr<LineRefusal>>
+    ensures { Gives (λ c. c) result (name_property rest.now) }
+{
+    let Some((guid, number)) = cut(rest) else {
+        return Err(MemOr::Refused(LineRefusal::Line));
+    };
+    let guid = read_guid(alloc, guid)?;
+    let number = one_id(number)?.bits;
+    Ok(Command::NameProperty { guid, number })
+}
+
 /// A line without a space.
 #[tactic(auto, unfolding(crate::specs::Lines::one_word))]
 fn one_word(word: &str) -> Result<Command, MemOr<LineRefusal>>
@@ -299,13 +313,14 @@ fn with_arguments(alloc: Global, word: &str, rest: &str) -> Result<Command, MemO
         "append" => append_data(alloc, rest),
         "detach" => remove_attachment(rest),
         "fetch" => fetch_data(rest),
+        "name" => name_property(alloc, rest),
         _ => Err(MemOr::Refused(LineRefusal::Line)),
     }
 }
 
 /// The command that a line is, without its LF. A line is cut at each single space, so that two spaces make an empty word; a name or a value runs to the end of the line.
 ///
-/// `Line` says that it isn't UTF-8 or is none of the forms: that its first word or the number of its words is another one, that an id isn't `0x` and 1 to 8 hex digits, that a tag isn't `0x` and 8 of them, that data isn't an even number of them or `-` for none, or that a time isn't decimal digits of a number below 2^64, a row of one below 2^32, or a recipient's type of one up to 3. `Value` says that only a name of a folder, a recipient or a file, a class, an address or a value in it isn't of its form: a name, a class and an address are text with good escapes, of 1 to 255 units; a value is what `parse_value` says of its tag.
+/// `Line` says that it isn't UTF-8 or is none of the forms: that its first word or the number of its words is another one, that an id isn't `0x` and 1 to 8 hex digits, that a tag isn't `0x` and 8 of them, that data isn't an even number of them or `-` for none, that a GUID isn't 32 of them, or that a time isn't decimal digits of a number below 2^64, a row of one below 2^32, or a recipient's type of one up to 3. `Value` says that only a name of a folder, a recipient or a file, a class, an address or a value in it isn't of its form: a name, a class and an address are text with good escapes, of 1 to 255 units; a value is what `parse_value` says of its tag.
 #[tactic(auto, unfolding(crate::specs::Lines::command))]
 pub fn read_line(alloc: Global, line: &[u8]) -> Result<Command, MemOr<LineRefusal>>
     ensures { Gives (λ c. c) result (command line.now) }

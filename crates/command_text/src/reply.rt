@@ -164,6 +164,8 @@ pub enum LastLine {
     Row(u32),
     /// `ok` and the id of an attachment.
     Attached(Nid),
+    /// `ok` and the id of a property that has a name.
+    Named(u16),
     /// `ok` and a value.
     Value(Value),
     /// `no` and the refusal.

@@ -4,7 +4,7 @@ ghost use Rattle.std.specs.Str.{is_utf8};
 ghost use Rattle.pst_base.specs.Stops.{Gives};
 ghost use Rattle.value_text.specs.Hex.{hex_bytes};
 ghost use Rattle.command_text.specs.declared.command.LineRefusal.{LineRefusal};
-ghost use Rattle.command_text.specs.Words.{cut, hex_value, hex_number, id_of, tag_digits, tag_of, name_of, number_to, recipient_type, row_of};
+ghost use Rattle.command_text.specs.Words.{cut, hex_value, hex_number, id_of, tag_digits, tag_of, name_of, number_to, recipient_type, row_of, guid_of};
 
 use crate::command::LineRefusal;
 use mapi_values::{Tag, Units, parse_units};
@@ -140,6 +140,22 @@ pub fn read_data(alloc: Global, word: &str) -> Result<Bytes, MemOr<LineRefusal>>
         Ok(bytes) => Ok(bytes),
         Err(MemOr::Refused(_)) => Err(MemOr::Refused(LineRefusal::Line)),
         Err(MemOr::Memory) => Err(MemOr::Memory),
+    }
+}
+
+/// The 16 bytes of a GUID, which a word writes in 32 hex digits in their order.
+#[tactic(auto, unfolding(crate::specs::Words::guid_of, value_text::specs::Forms::guid_bytes))]
+pub fn read_guid(alloc: Global, word: &str) -> Result<[u8; 16], MemOr<LineRefusal>>
+    ensures { Gives (λ guid. guid) result (ok_or (guid_of word.now) LineRefusal.Line) }
+{
+    let bytes = match read_hex(alloc, word.as_bytes()) {
+        Ok(bytes) => bytes,
+        Err(MemOr::Refused(_)) => return Err(MemOr::Refused(LineRefusal::Line)),
+        Err(MemOr::Memory) => return Err(MemOr::Memory),
+    };
+    match <[u8; 16]>::try_from(bytes.as_slice()) {
+        Ok(guid) => Ok(guid),
+        Err(_) => Err(MemOr::Refused(LineRefusal::Line)),
     }
 }
 

@@ -1,5 +1,5 @@
 -- A store with no folder but the root is whole.
-use Rattle.std.proofs.Common.{◌≡◌, ℕ, ◌==◌, ◌%◌, true, List, [], ◌∷◌, IsSome, is_some, Option, None, Some, refl, sym, subst, ap, ◌∙◌, ◌⊎◌, inl, inr, if◌then◌else◌}
+use Rattle.std.proofs.Common.{◌≡◌, ℕ, ◌==◌, ◌%◌, true, List, [], ◌∷◌, IsSome, is_some, Option, None, Some, refl, sym, subst, ap, ◌∙◌, ◌⊎◌, inl, inr, if◌then◌else◌, arith}
 use Rattle.std.proofs.lemmas.Bool.{cases_Bool, eqb-true, false≢true}
 use Rattle.std.proofs.lemmas.Option.{none-some, same_Some}
 use Rattle.std.specs.Cmp.{nat_cmp_total}
@@ -13,6 +13,8 @@ use Rattle.mail_objects.specs.Forms.{Ctx}
 use Rattle.mail_objects.specs.declared.object.Object.{Object}
 use Rattle.mail_objects.specs.declared.object.Object.TheVariants.{Context, Table, Message}
 use Rattle.mail_tree.specs.declared.places.FolderPlace.{FolderPlace}
+use Rattle.named_props.specs.Holding.{is_form, names_in, names_of}
+use Rattle.mail_tree.specs.Names.{AreNames}
 use Rattle.mail_tree.specs.Changing.{associated, contents, hierarchy}
 use Rattle.mail_tree.specs.Places.{ROOT, find_place}
 use Rattle.mail_tree.specs.Columns.{contents_table, hierarchy_table}
@@ -31,17 +33,20 @@ places = place ROOT ROOT ∷ []
 store : Object
 store = Context (record { parent = 0; props = []; kept = [] })
 
+names : Ctx
+names = record { parent = 0; props = []; kept = [] }
+
 root_values : Ctx
 root_values = record { parent = ROOT; props = folder_props []; kept = [] }
 
 objects : List (ℕ × Object)
-objects = (0x21, store) ∷ (0x122, Context root_values) ∷ (0x12D, Table hierarchy_table) ∷ (0x12E, Table contents_table) ∷ []
+objects = (0x21, store) ∷ (0x61, Context names) ∷ (0x122, Context root_values) ∷ (0x12D, Table hierarchy_table) ∷ (0x12E, Table contents_table) ∷ []
 
 pub beginning : Tree
 beginning = record { places = places; objects = map.from_entries objects; others = no_nodes; last = [] }
 
 abbrev at : ℕ → Option Object
-at q = if q == 0x21 then Some store else if q == 0x122 then Some (Context root_values) else if q == 0x12D then Some (Table hierarchy_table) else if q == 0x12E then Some (Table contents_table) else None
+at q = if q == 0x21 then Some store else if q == 0x61 then Some (Context names) else if q == 0x122 then Some (Context root_values) else if q == 0x12D then Some (Table hierarchy_table) else if q == 0x12E then Some (Table contents_table) else None
 
 at_is : at ≡ object_at beginning
 unfolding beginning objects
@@ -51,19 +56,22 @@ at_is i q = sym (map.get-from_entries nat_cmp_total objects q ∙ found q) i
     same x y = tied (x == y) x y refl
 
     found : (q : ℕ) → map.find nat_cmp q objects ≡ at q
-    found q = rw (same q 0x21, same q 0x122, same q 0x12D, same q 0x12E) refl
+    found q = rw (same q 0x21, same q 0x61, same q 0x122, same q 0x12D, same q 0x12E) refl
 
 -- what stands there
-stands : (q : ℕ) (o : Object) → at q ≡ Some o → ((q ≡ 0x21) × (store ≡ o)) ⊎ (((q ≡ 0x122) × (Context root_values ≡ o)) ⊎ (((q ≡ 0x12D) × (Table hierarchy_table ≡ o)) ⊎ ((q ≡ 0x12E) × (Table contents_table ≡ o))))
+stands : (q : ℕ) (o : Object) → at q ≡ Some o → ((q ≡ 0x21) × (store ≡ o)) ⊎ (((q ≡ 0x61) × (Context names ≡ o)) ⊎ (((q ≡ 0x122) × (Context root_values ≡ o)) ⊎ (((q ≡ 0x12D) × (Table hierarchy_table ≡ o)) ⊎ ((q ≡ 0x12E) × (Table contents_table ≡ o)))))
 stands q o e = elim (cases_Bool (q == 0x21)) [
   | inl t ↦ inl (eqb-true q 0x21 t, same_Some store o (rw t at e))
-  | inr t ↦ elim (cases_Bool (q == 0x122)) [
-    | inl u ↦ inr (inl (eqb-true q 0x122 u, same_Some (Context root_values) o (rw (t, u) at e)))
-    | inr u ↦ elim (cases_Bool (q == 0x12D)) [
-      | inl v ↦ inr (inr (inl (eqb-true q 0x12D v, same_Some (Table hierarchy_table) o (rw (t, u, v) at e))))
-      | inr v ↦ elim (cases_Bool (q == 0x12E)) [
-        | inl w ↦ inr (inr (inr (eqb-true q 0x12E w, same_Some (Table contents_table) o (rw (t, u, v, w) at e))))
-        | inr w ↦ absurd (none-some o (rw (t, u, v, w) at e))
+  | inr t ↦ elim (cases_Bool (q == 0x61)) [
+    | inl n ↦ inr (inl (eqb-true q 0x61 n, same_Some (Context names) o (rw (t, n) at e)))
+    | inr n ↦ elim (cases_Bool (q == 0x122)) [
+      | inl u ↦ inr (inr (inl (eqb-true q 0x122 u, same_Some (Context root_values) o (rw (t, n, u) at e))))
+      | inr u ↦ elim (cases_Bool (q == 0x12D)) [
+        | inl v ↦ inr (inr (inr (inl (eqb-true q 0x12D v, same_Some (Table hierarchy_table) o (rw (t, n, u, v) at e)))))
+        | inr v ↦ elim (cases_Bool (q == 0x12E)) [
+          | inl w ↦ inr (inr (inr (inr (eqb-true q 0x12E w, same_Some (Table contents_table) o (rw (t, n, u, v, w) at e)))))
+          | inr w ↦ absurd (none-some o (rw (t, n, u, v, w) at e))
+        ]
       ]
     ]
   ]
@@ -81,10 +89,15 @@ fits q k o x a b e = subst (λ z. fits_id q z ≡ true) b (subst (λ z. fits_id 
 
 no_message : (m : ℕ) (M : Mes) → at m ≡ Some (Message M) → ⊥
 unfolding store
-no_message m M is = elim (stands m (Message M) is) [ inl s ↦ cc s.1 | inr t ↦ elim t [ inl s ↦ cc s.1 | inr t ↦ elim t [ inl s ↦ cc s.1 | inr s ↦ cc s.1 ] ] ]
+no_message m M is = elim (stands m (Message M) is) [ inl s ↦ cc s.1 | inr t ↦ elim t [ inl s ↦ cc s.1 | inr t ↦ elim t [ inl s ↦ cc s.1 | inr t ↦ elim t [ inl s ↦ cc s.1 | inr s ↦ cc s.1 ] ] ] ]
+
+-- no values hold no names
+no_names : AreNames names.props
+unfolding names names_of is_form
+no_names = (names_in [], refl, record { buckets = refl; others = refl; guids_fit = omega arith; entries_fit = omega arith }, refl)
 
 is_whole : AreWhole places at
-unfolding places store root_values
+unfolding places store names root_values
 is_whole = record {
   ascend = refl;
   root = (place ROOT ROOT, refl, refl, refl);
@@ -92,19 +105,26 @@ is_whole = record {
   parents = λ f p e no_root. absurd (no_root (sym (placed f p e).0));
   typed = λ q o e. elim (stands q o e) [
     | inl s ↦ fits q 0x21 o store s.0 s.1 refl
-    | inr t ↦ elim t [ inl s ↦ fits q 0x122 o (Context root_values) s.0 s.1 refl | inr t ↦ elim t [ inl s ↦ fits q 0x12D o (Table hierarchy_table) s.0 s.1 refl | inr s ↦ fits q 0x12E o (Table contents_table) s.0 s.1 refl ] ]
+    | inr t ↦ elim t [
+      | inl s ↦ fits q 0x61 o (Context names) s.0 s.1 refl
+      | inr t ↦ elim t [ inl s ↦ fits q 0x122 o (Context root_values) s.0 s.1 refl | inr t ↦ elim t [ inl s ↦ fits q 0x12D o (Table hierarchy_table) s.0 s.1 refl | inr s ↦ fits q 0x12E o (Table contents_table) s.0 s.1 refl ] ]
+    ]
   ];
   rows_ascend = λ q t e. elim (stands q (Table t) e) [
     | inl s ↦ cc
-    | inr u ↦ elim u [
+    | inr n ↦ elim n [
       | inl s ↦ cc
       | inr u ↦ elim u [
-        | inl s ↦ subst (λ x. keys_ascend (λ r. r.0) 0 x.table.rows ≡ true) (same_table hierarchy_table t (ap (λ x. Some x) s.1)) refl
-        | inr s ↦ subst (λ x. keys_ascend (λ r. r.0) 0 x.table.rows ≡ true) (same_table contents_table t (ap (λ x. Some x) s.1)) refl
+        | inl s ↦ cc
+        | inr u ↦ elim u [
+          | inl s ↦ subst (λ x. keys_ascend (λ r. r.0) 0 x.table.rows ≡ true) (same_table hierarchy_table t (ap (λ x. Some x) s.1)) refl
+          | inr s ↦ subst (λ x. keys_ascend (λ r. r.0) 0 x.table.rows ≡ true) (same_table contents_table t (ap (λ x. Some x) s.1)) refl
+        ]
       ]
     ]
   ];
   store = refl;
+  names = (names, refl, no_names);
   contexts = λ f p e. let w = placed f p e in (root_values, ap at (sym w.0), λ no_root. ap (λ (x : FolderPlace). x.parent.bits) w.1);
   tables = λ f p e plain. let w = placed f p e in subst (λ x. IsSome (at (hierarchy x)) × IsSome (at (contents x))) w.0 (refl, refl);
   listed = λ f p t m e plain is row four.

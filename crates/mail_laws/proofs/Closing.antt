@@ -35,6 +35,7 @@ whole_message places at m n four listed held = record {
   typed = n.typed;
   rows_ascend = n.rows_ascend;
   store = n.store;
+  names = n.names;
   contexts = λ f p e. let c = n.contexts f p e in (c.0, c.1, λ no_root. c.2 no_root (no_folder n m f p four e));
   tables = n.tables;
   listed = λ f p t k e plain at row kind. elim (cases_eq k m) [
@@ -74,6 +75,7 @@ whole_folder places at f parent q n kind other_root eq plain_q row values folder
   typed = n.typed;
   rows_ascend = n.rows_ascend;
   store = n.store;
+  names = n.names;
   contexts = λ g p e. elim (cases_eq g f) [
     | inl same ↦ (values.0, ap at same ∙ values.1, λ no_root. values.2 ∙ ap (λ x. x.parent.bits) (is_here g p same e))
     | inr other ↦ let w = n.contexts g p (was g p other e) in (w.0, w.1, λ no_root. w.2 no_root other)
@@ -116,6 +118,7 @@ whole_without places at f w other_root no_folders no_messages = record {
   typed = w.typed;
   rows_ascend = w.rows_ascend;
   store = w.store;
+  names = w.names;
   contexts = λ g p e. w.contexts g p (was g p e);
   tables = λ g p e. w.tables g p (was g p e);
   listed = λ g p t m e. w.listed g p t m (was g p e);

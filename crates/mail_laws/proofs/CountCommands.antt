@@ -13,7 +13,7 @@ use Rattle.mapi_values.specs.Tables.{find_row}
 use Rattle.mapi_values.specs.Values.{Val}
 use Rattle.mapi_values.specs.declared.value.Tag.{Tag}
 use Rattle.command_text.specs.declared.command.Command.{Command}
-use Rattle.command_text.specs.declared.command.Command.TheVariants.{MakeFolder, RenameFolder, MoveFolder, RemoveFolder, ListFolder, NewMessage, SetProperty, UnsetProperty, GetProperty, ListProperties, MoveMessage, CopyMessage, RemoveMessage, AddRecipient, RemoveRecipient, AddAttachment, AppendData, RemoveAttachment, FetchData, Save, Quit}
+use Rattle.command_text.specs.declared.command.Command.TheVariants.{MakeFolder, RenameFolder, MoveFolder, RemoveFolder, ListFolder, NewMessage, SetProperty, UnsetProperty, GetProperty, ListProperties, MoveMessage, CopyMessage, RemoveMessage, AddRecipient, RemoveRecipient, AddAttachment, AppendData, RemoveAttachment, FetchData, Save, Quit, NameProperty}
 use Rattle.command_text.specs.declared.reply.LastLine.TheVariants.{Attached, Done, Row}
 use Rattle.command_text.specs.declared.reply.Reply.{Reply}
 use Rattle.mail_objects.specs.Forms.{Ctx, Tbl}
@@ -24,6 +24,8 @@ use Rattle.mail_tree.specs.Places.{ROOT, children, find_place, is_child, is_deep
 use Rattle.mail_tree.specs.Tree.{Tree}
 use Rattle.mail_tree.specs.Values.{bytes_of, crowds, finished, folder_props, is_set_protected, is_unset_protected, message_props, name_of, text, truth, with_props}
 use Rattle.command_text.specs.declared.reply.CommandRefusal.TheVariants.{Ids, Limit, Object as NoObject, Property as NoProperty}
+use Rattle.mail_tree.specs.Names.{NAMES, named_property, unless_nameless}
+use Rattle.mail_laws.proofs.NameSteps.{PutsNames, puts_names_after}
 use Rattle.mail_tree.specs.Changing.{Answer, Changed, ◌>>=◌, add_shown, associated, beside, contents, context_at, drop_shown, hierarchy, nothing, now_at, put_shown, table_at, with_object, within_limits}
 use Rattle.mail_tree.specs.Columns.{contents_table, hierarchy_table}
 use Rattle.mail_tree.specs.Settling.{message_ids, mirrored, settled, with_context}
@@ -177,7 +179,7 @@ module _ (T : Tree) (w : Before T) (E : ℕ → Type 0) (s : AreCountedBut E T.p
   unfolding set_value Home
   sets m v = if_then _ (Home m) (message_in T m) _ (from_fine _ (message_in T m) (fine_message_in T m w)) (λ M h. elim (cases_Bool (is_set_protected v.id M.props)) [
     | inl t ↦ rw t tt
-    | inr t ↦ rw t (elim (cases_Bool (nat_le 0x8000 v.id)) [ inl u ↦ rw u tt | inr u ↦ rw u (if_weaker (Ends M.folder) (Home m) (changed_message T M (put v M.props)) (changes m M (put v M.props) h.0 h.1) (λ o k. (M, h.0, k))) ])
+    | inr t ↦ rw t (if_then (λ u. Unit {0}) (Home m) (unless_nameless T v.id) _ (if_any (unless_nameless T v.id)) (λ u x. if_weaker (Ends M.folder) (Home m) (changed_message T M (put v M.props)) (changes m M (put v M.props) h.0 h.1) (λ o k. (M, h.0, k))))
   ])
 
   pub unsets : (m : ℕ) (tag : Tag) → IfOk (unset_value T m tag) (Home m)
@@ -552,5 +554,11 @@ module _ (T : Tree) (w : Before T) (E : ℕ → Type 0) (s : AreCountedBut E T.p
   counted_after (AppendData message attachment bytes) = if_weaker (Home message.bits) Keeps (appended_data T message.bits attachment.bits bytes) (appends_data message.bits attachment.bits bytes) (λ o k. home_fewer message.bits o k)
   counted_after (RemoveAttachment message attachment) = if_weaker (Home message.bits) Keeps (removed_attachment T message.bits attachment.bits) (removes_attachment message.bits attachment.bits) (λ o k. home_fewer message.bits o k)
   counted_after (FetchData message attachment) = fetches message.bits attachment.bits
+  counted_after (NameProperty guid number) = if_weaker (PutsNames T) Keeps (named_property T guid number) (puts_names_after T guid number w) (λ o k.
+      subst (λ places. AreCountedBut E places (now_at T o.changed)) (sym k.places_are)
+      (counted_put E T.places (now_at T nothing) (now_at T o.changed) NAMES (Some (Context k.new)) s k.puts
+      (λ f p c e plain free same is. absurd (omega (arith, ids f p e plain)))
+      (λ f p e plain free same. omega (arith, beside_kind f 14 (omega arith)))
+      (λ f p t e plain free is row four. omega arith)))
   counted_after Save = s
   counted_after Quit = s

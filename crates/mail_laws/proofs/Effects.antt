@@ -17,6 +17,7 @@ use Rattle.mail_tree.specs.declared.places.FolderPlace.{FolderPlace}
 use Rattle.mail_tree.specs.Places.{find_place, is_plain}
 use Rattle.mail_tree.specs.Tree.{Tree, object_at}
 use Rattle.mail_tree.specs.Values.{bytes_of, crowds, finished, has_object, has_parts, is_own_id, is_set_protected, is_unset_protected, message_props, number, number_of, text, time_value, with_attachment_flag, with_flag, with_props}
+use Rattle.mail_tree.specs.Names.{unless_nameless}
 use Rattle.mail_tree.specs.Changing.{◌>>=◌, add_shown, as_message, contents, drop_shown, nothing, now_at, put_shown, with_object, within_limits}
 use Rattle.mail_tree.specs.Settling.{settled}
 use Rattle.mail_tree.specs.Ids.{is_spent, message_kinds, new_id, next_index}
@@ -374,11 +375,9 @@ pub sets : (T : Tree) (m : ℕ) (v : Val) → Before T → IfOk (set_value T m v
 unfolding set_value
 sets T m v w = if_then _ _ (message_in T m) _ (from_fine _ (message_in T m) (fine_message_in T m w)) (λ M h. elim (cases_Bool (is_set_protected v.id M.props)) [
   | inl t ↦ rw t tt
-  | inr t ↦ rw t (elim (cases_Bool (nat_le 0x8000 v.id)) [
-    | inl u ↦ rw u tt
-    | inr u ↦ rw u (if_weaker (ChangedValues T m (λ M. put v M.props)) _ (changed_message T M (put v M.props)) (changed T m M (λ M. put v M.props) w h.0 h.1)
-        (λ o c. (c, eqb-false v.id 0x0E08 (or_parts (v.id == 0x0E08) _ (or_parts (is_own_id v.id) (has_object v.id M.props) t).0).0)))
-  ])
+  | inr t ↦ rw t (if_then (λ u. Unit {0}) _ (unless_nameless T v.id) _ (if_any (unless_nameless T v.id)) (λ u x.
+      if_weaker (ChangedValues T m (λ M. put v M.props)) _ (changed_message T M (put v M.props)) (changed T m M (λ M. put v M.props) w h.0 h.1)
+      (λ o c. (c, eqb-false v.id 0x0E08 (or_parts (v.id == 0x0E08) _ (or_parts (is_own_id v.id) (has_object v.id M.props) t).0).0))))
 ])
 
 pub unsets : (T : Tree) (m : ℕ) (tag : Tag) → Before T → IfOk (unset_value T m tag) (λ o. ChangedValues T m (λ M. remove_id tag.id M.props) o × (tag.id ≡ 0x0E07 → ⊥) × (tag.id ≡ 0x0E08 → ⊥))

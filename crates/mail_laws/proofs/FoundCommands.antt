@@ -16,7 +16,7 @@ use Rattle.mapi_values.specs.Tables.{drop_row, find_row}
 use Rattle.mapi_values.specs.Values.{Val}
 use Rattle.mapi_values.specs.declared.value.Tag.{Tag}
 use Rattle.command_text.specs.declared.command.Command.{Command}
-use Rattle.command_text.specs.declared.command.Command.TheVariants.{MakeFolder, RenameFolder, MoveFolder, RemoveFolder, ListFolder, NewMessage, SetProperty, UnsetProperty, GetProperty, ListProperties, MoveMessage, CopyMessage, RemoveMessage, AddRecipient, RemoveRecipient, AddAttachment, AppendData, RemoveAttachment, FetchData, Save, Quit}
+use Rattle.command_text.specs.declared.command.Command.TheVariants.{MakeFolder, RenameFolder, MoveFolder, RemoveFolder, ListFolder, NewMessage, SetProperty, UnsetProperty, GetProperty, ListProperties, MoveMessage, CopyMessage, RemoveMessage, AddRecipient, RemoveRecipient, AddAttachment, AppendData, RemoveAttachment, FetchData, Save, Quit, NameProperty}
 use Rattle.command_text.specs.declared.reply.LastLine.TheVariants.{Attached, Done, Row}
 use Rattle.command_text.specs.declared.reply.Reply.{Reply}
 use Rattle.mail_objects.specs.Forms.{Ctx, Tbl}
@@ -27,6 +27,8 @@ use Rattle.mail_tree.specs.Places.{ROOT, children, find_place, is_deep, is_plain
 use Rattle.mail_tree.specs.Tree.{Tree, object_at}
 use Rattle.mail_tree.specs.Values.{bytes_of, crowds, finished, folder_props, is_set_protected, is_unset_protected, message_props, name_of, text, with_props}
 use Rattle.command_text.specs.declared.reply.CommandRefusal.TheVariants.{Ids, Limit, Object as NoObject, Property as NoProperty}
+use Rattle.mail_tree.specs.Names.{NAMES, named_property, unless_nameless}
+use Rattle.mail_laws.proofs.NameSteps.{PutsNames, puts_names_after}
 use Rattle.mail_tree.specs.Changing.{Answer, Changed, ◌>>=◌, add_shown, associated, contents, context_at, drop_shown, hierarchy, newest, nothing, now_at, put_shown, table_at, with_object, with_rows, within_limits}
 use Rattle.mail_tree.specs.Columns.{contents_table, hierarchy_table}
 use Rattle.mail_tree.specs.Settling.{mirrored, settled, with_context}
@@ -277,7 +279,7 @@ module _ (T : Tree) (w : Before T) (h : IsFound T) where
   unfolding set_value
   sets m v = if_then _ After (message_in T m) _ (from_fine _ (message_in T m) (fine_message_in T m w)) (λ M k. elim (cases_Bool (is_set_protected v.id M.props)) [
     | inl t ↦ rw t tt
-    | inr t ↦ rw t (elim (cases_Bool (nat_le 0x8000 v.id)) [ inl u ↦ rw u tt | inr u ↦ rw u (changes m M (put v M.props) k.0 k.1) ])
+    | inr t ↦ rw t (if_then (λ u. Unit {0}) After (unless_nameless T v.id) _ (if_any (unless_nameless T v.id)) (λ u x. changes m M (put v M.props) k.0 k.1))
   ])
 
   -- `unset`
@@ -322,7 +324,8 @@ module _ (T : Tree) (w : Before T) (h : IsFound T) where
   -- what belongs where it stands does so still when a folder gets a place
   belongs_more : (f parent k : ℕ) (o : Object) → BelongsAt T.places k o → BelongsAt (put_key place_id (place f parent) T.places) k o
   belongs_more f parent k (Context c) (inl e) = inl e
-  belongs_more f parent k (Context c) (inr is) = inr (kept-put place_id k (place f parent) T.places is)
+  belongs_more f parent k (Context c) (inr (inl e)) = inr (inl e)
+  belongs_more f parent k (Context c) (inr (inr is)) = inr (inr (kept-put place_id k (place f parent) T.places is))
   belongs_more f parent k (Table t) x = (x.0, plain_still T.places f parent x.0 x.1.0 x.1.1 x.1.2, x.2)
   belongs_more f parent k (Message m) x = tt
 
@@ -339,7 +342,7 @@ module _ (T : Tree) (w : Before T) (h : IsFound T) where
       let D2 = with_object (hierarchy f) (Some (Table hierarchy_table)) D1 in
       let D3 = with_object (contents f) (Some (Table contents_table)) D2 in
       let D4 = with_object (associated f) (Some (Table contents_table)) D3 in
-      let own1 = owned_put Q (now_at T nothing) (now_at T D1) f (Some c) (puts_object T nothing f (Some c)) (some_belongs Q f c (inr (subst IsSome (sym is) refl))) (owned_more f parent) in
+      let own1 = owned_put Q (now_at T nothing) (now_at T D1) f (Some c) (puts_object T nothing f (Some c)) (some_belongs Q f c (inr (inr (subst IsSome (sym is) refl)))) (owned_more f parent) in
       let own2 = owned_put Q (now_at T D1) (now_at T D2) (hierarchy f) (Some (Table hierarchy_table)) (puts_object T D1 (hierarchy f) (Some (Table hierarchy_table))) (some_belongs Q (hierarchy f) (Table hierarchy_table) (f, (place f parent, is, refl), inl refl)) own1 in
       let own3 = owned_put Q (now_at T D2) (now_at T D3) (contents f) (Some (Table contents_table)) (puts_object T D2 (contents f) (Some (Table contents_table))) (some_belongs Q (contents f) (Table contents_table) (f, (place f parent, is, refl), inr (inl refl))) own2 in
       owned_put Q (now_at T D3) (now_at T D4) (associated f) (Some (Table contents_table)) (puts_object T D3 (associated f) (Some (Table contents_table))) (some_belongs Q (associated f) (Table contents_table) (f, (place f parent, is, refl), inr (inr refl))) own3
@@ -372,7 +375,8 @@ module _ (T : Tree) (w : Before T) (h : IsFound T) where
 
   belongs_less : (f q : ℕ) (o : Object) → Elsewhere f q → BelongsAt T.places q o → BelongsAt (drop_key place_id f T.places) q o
   belongs_less f q (Context c) away (inl e) = inl e
-  belongs_less f q (Context c) away (inr is) = inr (subst IsSome (sym (find-drop_other place_id q f T.places away.0)) is)
+  belongs_less f q (Context c) away (inr (inl e)) = inr (inl e)
+  belongs_less f q (Context c) away (inr (inr is)) = inr (inr (subst IsSome (sym (find-drop_other place_id q f T.places away.0)) is))
   belongs_less f q (Table t) away x =
       let other : x.0 ≡ f → ⊥ = λ same. elim x.2 [
         | inl e ↦ away.1 (e ∙ ap hierarchy same)
@@ -546,7 +550,7 @@ module _ (T : Tree) (w : Before T) (h : IsFound T) where
           ])
           (λ k three. get_other nothing f k o (λ same. omega arith) ∙ map.get-empty nat_cmp k)
           (owned_put (put_key place_id (place f parent) T.places) (now_at T nothing) (now_at T D) f o puts
-          (some_belongs (put_key place_id (place f parent) T.places) f (Context (record c { parent = parent })) (inr (subst IsSome (sym (find-put_same place_id (place f parent) T.places)) refl))) (owned_more f parent))
+          (some_belongs (put_key place_id (place f parent) T.places) f (Context (record c { parent = parent })) (inr (inr (subst IsSome (sym (find-put_same place_id (place f parent) T.places)) refl)))) (owned_more f parent))
 
   -- `rmdir`
   removes_folder : (f : ℕ) → IfOk (removed_folder T f) After
@@ -611,6 +615,9 @@ module _ (T : Tree) (w : Before T) (h : IsFound T) where
   finds_after (AppendData message attachment bytes) = appends_data message.bits attachment.bits bytes
   finds_after (RemoveAttachment message attachment) = removes_attachment message.bits attachment.bits
   finds_after (FetchData message attachment) = if_weaker (λ o. o ≡ unchanged T o.reply) After (outcome T (FetchData message attachment)) (reads_only T (FetchData message attachment) refl) looks
+  finds_after (NameProperty guid number) = if_weaker (PutsNames T) After (named_property T guid number) (puts_names_after T guid number w) (λ o k.
+      subst (λ places. Finds T places o.changed × AreReached places) (sym k.places_are)
+      (finds_elsewhere T T.places ids nothing o.changed NAMES (Some (Context k.new)) start k.puts k.gets (λ e. omega arith) (λ e. omega arith) (λ e. omega arith) (some_belongs T.places NAMES (Context k.new) (inr (inl refl))), h.reached))
   finds_after Save = (start, h.reached)
   finds_after Quit = (start, h.reached)
 

@@ -50,13 +50,16 @@ is_plain_one None = false
 is_plain_one (Some p) = is_plain p
 
 belongs : ℕ → Object → Bool
-belongs q (Context c) = (q == 0x21) || is_some (find_place q start_places)
+belongs q (Context c) = (q == 0x21) || ((q == 0x61) || is_some (find_place q start_places))
 belongs q (Table t) = is_plain_one (find_place (beside q 2) start_places) && ((q % 32 == 13) || ((q % 32 == 14) || (q % 32 == 15)))
 belongs q (Message m) = true
 
 belongs_is : (q : ℕ) (o : Object) → belongs q o ≡ true → BelongsAt start_places q o
 unfolding belongs is_plain_one
-belongs_is q (Context c) e = elim (or_cases (q == 0x21) (is_some (find_place q start_places)) e) [ inl t ↦ inl (eqb-true q 0x21 t) | inr is ↦ inr is ]
+belongs_is q (Context c) e = elim (or_cases (q == 0x21) ((q == 0x61) || is_some (find_place q start_places)) e) [
+  | inl t ↦ inl (eqb-true q 0x21 t)
+  | inr u ↦ inr (elim (or_cases (q == 0x61) (is_some (find_place q start_places)) u) [ inl t ↦ inl (eqb-true q 0x61 t) | inr is ↦ inr is ])
+]
 belongs_is q (Message m) e = tt
 belongs_is q (Table t) e =
     let p = and_parts (is_plain_one (find_place (beside q 2) start_places)) ((q % 32 == 13) || ((q % 32 == 14) || (q % 32 == 15))) e in

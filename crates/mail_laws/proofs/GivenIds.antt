@@ -11,8 +11,8 @@ use Rattle.mapi_values.specs.Properties.{put, remove_id}
 use Rattle.mapi_values.specs.Values.{Val}
 use Rattle.mapi_values.specs.declared.value.Tag.{Tag}
 use Rattle.command_text.specs.declared.command.Command.{Command}
-use Rattle.command_text.specs.declared.command.Command.TheVariants.{MakeFolder, RenameFolder, MoveFolder, RemoveFolder, ListFolder, NewMessage, SetProperty, UnsetProperty, GetProperty, ListProperties, MoveMessage, CopyMessage, RemoveMessage, AddRecipient, RemoveRecipient, AddAttachment, AppendData, RemoveAttachment, FetchData, Save, Quit}
-use Rattle.command_text.specs.declared.reply.CommandRefusal.TheVariants.{Property, NotEmpty, Cycle, Protected, Limit, Ids, Object}
+use Rattle.command_text.specs.declared.command.Command.TheVariants.{MakeFolder, RenameFolder, MoveFolder, RemoveFolder, ListFolder, NewMessage, SetProperty, UnsetProperty, GetProperty, ListProperties, MoveMessage, CopyMessage, RemoveMessage, AddRecipient, RemoveRecipient, AddAttachment, AppendData, RemoveAttachment, FetchData, Save, Quit, NameProperty}
+use Rattle.command_text.specs.declared.reply.CommandRefusal.TheVariants.{Property, NotEmpty, Cycle, Protected, Limit, Ids, Object, Line}
 use Rattle.command_text.specs.declared.reply.Limit.TheVariants.{Depth, Rows}
 use Rattle.command_text.specs.declared.reply.LastLine.TheVariants.{Attached, Done, Row}
 use Rattle.mail_objects.specs.declared.object.Object.TheVariants.{Message}
@@ -20,7 +20,14 @@ use Rattle.mail_tree.specs.declared.places.FolderPlace.{FolderPlace}
 use Rattle.mail_tree.specs.Places.{children, is_child, is_deep, is_plain, is_within, moves_deep, place_id}
 use Rattle.mail_tree.specs.Tree.{Tree}
 use Rattle.mail_tree.specs.Values.{bytes_of, crowds, finished, folder_props, is_set_protected, is_unset_protected, message_props, name_of, text, with_props}
-use Rattle.mail_tree.specs.Changing.{Answer, Changed, ◌>>=◌, add_shown, contents, context_at, drop_shown, found, hierarchy, nothing, put_shown, refused_if, table_at, with_object, within_limits}
+use Rattle.mail_tree.specs.Changing.{Answer, Changed, ◌>>=◌, add_shown, contents, context_at, drop_shown, found, hierarchy, nothing, put_shown, refused_if, table_at, with_object, within_limits, known}
+use Rattle.named_props.specs.Adding as adding
+use Rattle.named_props.specs.Finding.{name_at}
+use Rattle.named_props.specs.Holding.{names_of, written}
+use Rattle.named_props.specs.declared.names.Names.{Names}
+use Rattle.command_text.specs.declared.reply.Limit.TheVariants as limits
+use Rattle.mail_tree.specs.Names.{NAMES, found_or_added, is_name, named_property, unless_nameless}
+use Rattle.mail_objects.specs.Forms.{Ctx}
 use Rattle.mail_tree.specs.Settling.{message_ids, mirrored, settled, with_context}
 use Rattle.mail_tree.specs.Ids.{LAST_INDEX, folder_kinds, greatest, is_spent, is_used, message_kinds, new_id, next_index}
 use Rattle.mail_tree.specs.Folders.{Outcome, associated_in, changing, folder_in, folder_lines, has_associated, has_rows, listing, made_folder, making, making_folder, message_lines, moved_between, moved_folder, moving, place, removed_folder, renamed_folder, replied, siblings, unless_full, unless_named, unless_plain, unless_protected, with_folder, without_folder, replying, unless}
@@ -185,7 +192,7 @@ module _ (T : Tree) where
 
   sets : (m : ℕ) (v : Val) → IfOk (set_value T m v) Right
   unfolding set_value
-  sets m v = then_any (message_in T m) _ (λ M. then_any (refused_if (is_set_protected v.id M.props) Protected) _ (λ u. then_any (refused_if (nat_le 0x8000 v.id) Property) _ (λ w. changes M (put v M.props))))
+  sets m v = then_any (message_in T m) _ (λ M. then_any (refused_if (is_set_protected v.id M.props) Protected) _ (λ u. then_any (unless_nameless T v.id) _ (λ w. changes M (put v M.props))))
 
   unsets : (m : ℕ) (tag : Tag) → IfOk (unset_value T m tag) Right
   unfolding unset_value
@@ -212,6 +219,14 @@ module _ (T : Tree) where
   unfolding removed_message
   removes m = then_any (message_in T m) _ (λ M. then_changing (drop_shown T (contents M.folder) m (with_object m None nothing) >>= settled T T.places M.folder))
 
+  names_property : (guid : List ℕ) (number : ℕ) → IfOk (named_property T guid number) Right
+  unfolding named_property found_or_added
+  names_property guid number = then_any (refused_if (not (is_name guid number)) Line) _ (λ u. then_any (context_at T nothing NAMES) _ (λ c. then_any (known (names_of c.props)) _ (λ n. by_name c n (name_at n.guids n.entries guid number))))
+    where
+      by_name : (c : Ctx) (n : Names) (o : Option ℕ) → IfOk (found_or_added T c n guid number o) Right
+      by_name c n (Some property) = refl
+      by_name c n None = then_any (refused_if (adding.is_full n guid number) (Limit limits.Names)) _ (λ u. then_any (within_limits (with_context NAMES c (written (adding.added n guid number)) nothing)) _ (λ v. refl))
+
   pub gives_new : (c : Command) → IfOk (outcome T c) (λ o. Counted T.last o.last o.reply.last)
   unfolding outcome
   gives_new (MakeFolder parent name) = makes_folder parent.bits name
@@ -233,5 +248,6 @@ module _ (T : Tree) where
   gives_new (AppendData message attachment bytes) = appends_data message.bits attachment.bits bytes
   gives_new (RemoveAttachment message attachment) = removes_attachment message.bits attachment.bits
   gives_new (FetchData message attachment) = fetches message.bits attachment.bits
+  gives_new (NameProperty guid number) = names_property guid number
   gives_new Save = refl
   gives_new Quit = refl

@@ -15,7 +15,7 @@ use Rattle.mapi_values.specs.Properties.{put, remove_id}
 use Rattle.mapi_values.specs.Values.{Val}
 use Rattle.mapi_values.specs.declared.value.Tag.{Tag}
 use Rattle.command_text.specs.declared.command.Command.{Command}
-use Rattle.command_text.specs.declared.command.Command.TheVariants.{MakeFolder, RenameFolder, MoveFolder, RemoveFolder, ListFolder, NewMessage, SetProperty, UnsetProperty, GetProperty, ListProperties, MoveMessage, CopyMessage, RemoveMessage, AddRecipient, RemoveRecipient, AddAttachment, AppendData, RemoveAttachment, FetchData, Save, Quit}
+use Rattle.command_text.specs.declared.command.Command.TheVariants.{MakeFolder, RenameFolder, MoveFolder, RemoveFolder, ListFolder, NewMessage, SetProperty, UnsetProperty, GetProperty, ListProperties, MoveMessage, CopyMessage, RemoveMessage, AddRecipient, RemoveRecipient, AddAttachment, AppendData, RemoveAttachment, FetchData, Save, Quit, NameProperty}
 use Rattle.command_text.specs.declared.reply.LastLine.TheVariants.{Attached, Done, Row}
 use Rattle.command_text.specs.declared.reply.Reply.{Reply}
 use Rattle.mail_objects.specs.Forms.{Ctx}
@@ -26,6 +26,8 @@ use Rattle.mail_tree.specs.Places.{ROOT, children, find_place, is_deep, is_plain
 use Rattle.mail_tree.specs.Tree.{Tree, object_at}
 use Rattle.mail_tree.specs.Values.{bytes_of, crowds, finished, folder_props, is_set_protected, is_unset_protected, message_props, name_of, text, with_props}
 use Rattle.command_text.specs.declared.reply.CommandRefusal.TheVariants.{Ids, Limit, Object as NoObject, Property as NoProperty}
+use Rattle.mail_tree.specs.Names.{NAMES, named_property, unless_nameless}
+use Rattle.mail_laws.proofs.NameSteps.{PutsNames, puts_names_after}
 use Rattle.mail_tree.specs.Changing.{Answer, Changed, ◌>>=◌, add_shown, associated, beside, contents, drop_shown, hierarchy, nothing, now_at, put_shown, table_at, with_object, within_limits}
 use Rattle.mail_tree.specs.Columns.{contents_table, hierarchy_table}
 use Rattle.mail_tree.specs.Settling.{mirrored, settled, with_context}
@@ -34,14 +36,14 @@ use Rattle.mail_tree.specs.Folders.{Outcome, associated_in, changing, has_associ
 use Rattle.mail_tree.specs.Messages.{added_attachment, added_message, added_recipient, adding_attachment, adding_recipient, appended_data, appending, removed_attachment, spent_index, too_long, changed_message, copied_message, copy_of, copying, in_folder, is_crowded_message, is_overfull, making_message, message_in, moved_message, new_message, plain_message, remaking, removed_message, removed_recipient, set_value, spent_row, unset_value, with_message}
 use Rattle.mail_tree.specs.Parts.{attachment_props, attachment_tags, has_recipient, is_full, is_wide, lengthened, new_row, next_part, next_row, part_in, part_nid, part_with, plain_part, recipient_props, recipient_tags, room_for, rows_of, with_attachment, with_bytes, with_part, with_recipient, without_attachment, without_recipient}
 use Rattle.mail_laws.specs.ComesAndGoes.{takes}
-use Rattle.mail_laws.specs.Stays.{StaysFolder, gives_name}
+use Rattle.mail_laws.specs.Stays.{StaysFolder, gives_name, adds_name}
 use Rattle.mail_tree.specs.Step.{outcome}
 use Rattle.mail_tree.specs.Whole.{IsWhole}
 use Rattle.mail_tree.proofs.AfterTree.{now_nothing}
 use Rattle.mail_tree.proofs.FineLaws.{cases_Option}
 use Rattle.mail_laws.proofs.FolderSteps.{fine_protected}
 use Rattle.mail_laws.proofs.Keeping.{from_fine, if_any, if_found, if_test, if_then, if_weaker, never_made, if_replying}
-use Rattle.mail_laws.proofs.KeptObjects.{KeepsObjects, Scope, fits_context, fits_gone, fits_message, fits_new, keeps_all, keeps_more, touched_here, touched_still}
+use Rattle.mail_laws.proofs.KeptObjects.{KeepsObjects, Scope, fits_context, fits_gone, fits_message, fits_new, keeps_all, keeps_more, touched_here, touched_still, keeps_names}
 use Rattle.mail_laws.proofs.KeptSteps.{add_good, context_good, drop_good, mirrored_good, put_good, stood, table_elsewhere, then_good}
 use Rattle.mail_tree.proofs.KeyedFinds.{find-put_other}
 use Rattle.mail_tree.proofs.KindsOfPuts.{low}
@@ -122,8 +124,8 @@ module _ (T : Tree) (whole : IsWhole T) (scope : Scope) where
   in_tree : (q : ℕ) (x : Object) → now_at T nothing q ≡ Some x → object_at T q ≡ Some x
   in_tree q x is = sym (ap (λ g. g q) (now_nothing T false)) ∙ is
 
-  -- a folder isn't the store
-  place_elsewhere : (f : ℕ) (p : FolderPlace) → find_place f T.places ≡ Some p → f ≡ 0x21 → ⊥
+  -- a folder isn't the store's values or the names
+  place_elsewhere : (f : ℕ) (p : FolderPlace) → find_place f T.places ≡ Some p → f % 32 ≡ 1 → ⊥
   place_elsewhere f p e same = let (above, below) = low f (folder_kind p.sort f (whole.objects.kinds f p e)) in omega arith
 
   then_settled : (places : List FolderPlace) (a : Answer Changed) (f : ℕ) (p : FolderPlace) → find_place f T.places ≡ Some p → IfOk a Kept → IfOk (a >>= settled T places f) Kept
@@ -279,7 +281,7 @@ module _ (T : Tree) (whole : IsWhole T) (scope : Scope) where
   unfolding set_value
   sets m v = if_then _ After (message_in T m) _ (from_fine _ (message_in T m) (fine_message_in T m w)) (λ M h. elim (cases_Bool (is_set_protected v.id M.props)) [
     | inl t ↦ rw t tt
-    | inr t ↦ rw t (elim (cases_Bool (nat_le 0x8000 v.id)) [ inl u ↦ rw u tt | inr u ↦ rw u (changes m M (put v M.props) h.0 h.1) ])
+    | inr t ↦ rw t (if_then (λ u. Unit {0}) After (unless_nameless T v.id) _ (if_any (unless_nameless T v.id)) (λ u x. changes m M (put v M.props) h.0 h.1))
   ])
 
   unsets : (m : ℕ) (tag : Tag) → IfOk (unset_value T m tag) After
@@ -318,8 +320,15 @@ module _ (T : Tree) (whole : IsWhole T) (scope : Scope) where
     ])
   ]
 
+  -- `name`
+  names_property : (guid : List ℕ) (number : ℕ) → scope.adds_name ≡ true → IfOk (named_property T guid number) After
+  names_property guid number adds = if_weaker (PutsNames T) After (named_property T guid number) (puts_names_after T guid number w) (λ o k. elim k.objects_are [
+    | inl e ↦ subst (KeepsObjects T scope) (sym e) none_yet
+    | inr e ↦ subst (KeepsObjects T scope) (sym e) (keeps_names T scope k.old k.new (in_tree NAMES (Context k.old) k.was) adds)
+  ])
+
   -- an object comes where nothing stood
-  new_good : (q : ℕ) (x : Object) (D : Changed) → Free T q → (q ≡ 0x21 → ⊥) → scope.brings q ≡ true → Kept D → Kept (with_object q (Some x) D)
+  new_good : (q : ℕ) (x : Object) (D : Changed) → Free T q → (q % 32 ≡ 1 → ⊥) → scope.brings q ≡ true → Kept D → Kept (with_object q (Some x) D)
   new_good q x D free other brings k = keeps_more T scope D.objects q (Some x) k (fits_new T scope D.objects q x free.0 free.1 other brings)
 
   -- `mkdir`
@@ -406,10 +415,10 @@ module _ (T : Tree) (whole : IsWhole T) (scope : Scope) where
   ]
 
   -- an object that stood there goes
-  gone_good : (q : ℕ) (D : Changed) → (object_at T q ≡ None → ⊥) → (q ≡ 0x21 → ⊥) → scope.takes q ≡ true → Kept D → Kept (with_object q None D)
+  gone_good : (q : ℕ) (D : Changed) → (object_at T q ≡ None → ⊥) → (q % 32 ≡ 1 → ⊥) → scope.takes q ≡ true → Kept D → Kept (with_object q None D)
   gone_good q D there other takes k = keeps_more T scope D.objects q None k (fits_gone T scope D.objects q there other takes)
 
-  node_good : (q : ℕ) (taken : Bool) (D : Changed) → (taken ≡ true → object_at T q ≡ None → ⊥) → (q ≡ 0x21 → ⊥) → scope.takes q ≡ true → Kept D → Kept (without_node q taken D)
+  node_good : (q : ℕ) (taken : Bool) (D : Changed) → (taken ≡ true → object_at T q ≡ None → ⊥) → (q % 32 ≡ 1 → ⊥) → scope.takes q ≡ true → Kept D → Kept (without_node q taken D)
   node_good q false D there other takes k = k
   node_good q true D there other takes k = gone_good q D (there refl) other takes k
 
@@ -454,7 +463,7 @@ brings_of T other q = false
 
 -- what each command names, takes and brings
 abbrev pub scope_of : Tree → Command → Scope
-scope_of T c = record { names = gives_name c; takes = takes c; brings = brings_of T c }
+scope_of T c = record { names = gives_name c; takes = takes c; brings = brings_of T c; adds_name = adds_name c }
 
 -- each command
 pub kept_after : (T : Tree) → IsWhole T → (c : Command) → IfOk (outcome T c) (λ o. KeepsObjects T (scope_of T c) o.changed.objects)
@@ -478,5 +487,6 @@ kept_after T w (AddAttachment message name bytes) = adds_attachment T w (scope_o
 kept_after T w (AppendData message attachment bytes) = appends_data T w (scope_of T (AppendData message attachment bytes)) message.bits attachment.bits bytes
 kept_after T w (RemoveAttachment message attachment) = removes_attachment T w (scope_of T (RemoveAttachment message attachment)) message.bits attachment.bits
 kept_after T w (FetchData message attachment) = if_weaker _ _ (outcome T (FetchData message attachment)) (reads_only T (FetchData message attachment) refl) (looks T w (scope_of T (FetchData message attachment)))
+kept_after T w (NameProperty guid number) = names_property T w (scope_of T (NameProperty guid number)) guid number refl
 kept_after T w Save = keeps_all T (scope_of T Save)
 kept_after T w Quit = keeps_all T (scope_of T Quit)

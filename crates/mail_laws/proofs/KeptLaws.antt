@@ -1,5 +1,5 @@
 -- In the words of mail: which nodes, values and tables are as they were after each command.
-use Rattle.std.proofs.Common.{◌≡◌, ℕ, true, false, cond, Option, None, Some, IfOk, IsSome, is_some, refl, sym, subst, ap, ◌∙◌, inl, inr}
+use Rattle.std.proofs.Common.{◌≡◌, ℕ, true, false, cond, Option, None, Some, IfOk, IsSome, is_some, refl, sym, subst, ap, ◌∙◌, inl, inr, ◌%◌, arith}
 use Rattle.std.proofs.lemmas.Bool.{eqb-true, false≢true}
 use Rattle.std.proofs.lemmas.Option.{none-some}
 use Rattle.std.specs.FinMap as map
@@ -7,7 +7,7 @@ use Rattle.node_port.specs.Nodes.{node_at}
 use Rattle.pst_base.specs.Ids.{index_of}
 use Rattle.mapi_values.specs.Messages.{Mes}
 use Rattle.command_text.specs.declared.command.Command.{Command}
-use Rattle.command_text.specs.declared.command.Command.TheVariants.{MakeFolder, RenameFolder, MoveFolder, RemoveFolder, ListFolder, NewMessage, SetProperty, UnsetProperty, GetProperty, ListProperties, MoveMessage, CopyMessage, RemoveMessage, AddRecipient, RemoveRecipient, AddAttachment, AppendData, RemoveAttachment, FetchData, Save, Quit}
+use Rattle.command_text.specs.declared.command.Command.TheVariants.{MakeFolder, RenameFolder, MoveFolder, RemoveFolder, ListFolder, NewMessage, SetProperty, UnsetProperty, GetProperty, ListProperties, MoveMessage, CopyMessage, RemoveMessage, AddRecipient, RemoveRecipient, AddAttachment, AppendData, RemoveAttachment, FetchData, Save, Quit, NameProperty}
 use Rattle.command_text.specs.declared.reply.LastLine.TheVariants.{Made}
 use Rattle.command_text.specs.declared.reply.Reply.{Reply}
 use Rattle.mail_objects.specs.Forms.{Ctx, Tbl}
@@ -16,6 +16,8 @@ use Rattle.mail_objects.specs.declared.object.Object.TheVariants.{Context, Table
 use Rattle.mail_tree.specs.declared.places.FolderPlace.{FolderPlace}
 use Rattle.mail_tree.specs.Places.{find_place}
 use Rattle.mail_tree.specs.Tree.{Tree, object_at}
+use Rattle.mail_tree.proofs.KindsOfPuts.{low}
+use Rattle.mail_tree.proofs.Nearly.{folder_kind}
 use Rattle.mail_tree.specs.Changing.{as_message, newest, nothing, now_at}
 use Rattle.mail_laws.specs.ComesAndGoes.{Brings, ComesAndGoes}
 use Rattle.mail_tree.specs.Folders.{Outcome, made_folder, nid, replied}
@@ -83,10 +85,17 @@ module _ (T : Tree) (o : Outcome) where
     -- a folder that stays
     same_values : (f : ℕ) (p : FolderPlace) (old : Ctx) → Keeps T o → find_place f o.places ≡ Some p → object_at T f ≡ Some (Context old)
         → (new : Ctx) × (object_at (after T o) f ≡ Some (Context new)) × StaysFolder (scope.names f) old new
-    same_values f p old w e is = let c = w.contexts f p e in (c.0, after_is f ∙ c.1, subst (KeepsFolder (scope.names f) old) c.1 (k.folders f old is))
+    same_values f p old w e is =
+        let c = w.contexts f p e in
+        let names_apart : f ≡ 0x61 → ⊥ = λ same. let (above, below) = low f (folder_kind p.sort f (w.kinds f p e)) in omega arith in
+        (c.0, after_is f ∙ c.1, subst (KeepsFolder (scope.names f) old) c.1 (k.folders f old names_apart is))
 
     same_store : object_at (after T o) 0x21 ≡ object_at T 0x21
     same_store = after_is 0x21 ∙ ap (λ r. newest r (object_at T 0x21)) k.store
+
+    -- the names stay where none is added
+    same_names : scope.adds_name ≡ false → object_at (after T o) 0x61 ≡ object_at T 0x61
+    same_names none = after_is 0x61 ∙ ap (λ r. newest r (object_at T 0x61)) (k.names none)
 
     -- a table that stays
     same_table : (q : ℕ) (old new : Tbl) → object_at T q ≡ Some (Table old) → object_at (after T o) q ≡ Some (Table new) → StaysTable T (after T o) old new
@@ -111,6 +120,7 @@ keeps_values = record {
   folders = λ T c w. both (Keeps T) (λ o. KeepsObjects T (scope_of T c) o.changed.objects) _ (outcome T c) (from_fine (Keeps T) (outcome T c) (keeps_whole T c (before T w) w.no_stray)) (kept_after T w c)
       (λ o w' k f p old. same_values T o (scope_of T c) k f p old w');
   store = λ T c w. if_weaker _ _ (outcome T c) (kept_after T w c) (λ o k. same_store T o (scope_of T c) k);
+  names = λ T c w none. if_weaker _ _ (outcome T c) (kept_after T w c) (λ o k. same_names T o (scope_of T c) k none);
 }
 
 pub keeps_tables : KeepsTables
@@ -174,6 +184,7 @@ module _ (T : Tree) (w : IsWhole T) where
   brings (AppendData message attachment bytes) = nothing_comes (AppendData message attachment bytes) (λ q. refl)
   brings (RemoveAttachment message attachment) = nothing_comes (RemoveAttachment message attachment) (λ q. refl)
   brings (FetchData message attachment) = nothing_comes (FetchData message attachment) (λ q. refl)
+  brings (NameProperty guid number) = nothing_comes (NameProperty guid number) (λ q. refl)
   brings Save = nothing_comes Save (λ q. refl)
   brings Quit = nothing_comes Quit (λ q. refl)
 

@@ -1,6 +1,6 @@
 -- What the changes of a command leave of the objects that stood: what holds of them after each step.
 use Rattle.std.proofs.Common.{◌≡◌, ℕ, ◌%◌, ◌==◌, ◌||◌, Bool, true, false, List, Option, None, Some, IsSome, arith, refl, sym, subst, ap, ◌∙◌, inl, inr}
-use Rattle.std.proofs.lemmas.Bool.{cases_eq, eq-eqb, eqb-true, ne_eqb, or_cases}
+use Rattle.std.proofs.lemmas.Bool.{cases_eq, eq-eqb, eqb-true, ne_eqb, or_cases, false≢true}
 use Rattle.std.proofs.lemmas.Option.{none-some, same_Some}
 use Rattle.std.specs.Cmp.{nat_cmp_total}
 use Rattle.std.specs.Ordering.{nat_cmp}
@@ -51,19 +51,21 @@ KeepsTable R old (Some (Message m)) = ⊥
 abbrev pub Untouched : Tree → Changes → ℕ → Type 0
 Untouched T m r = (object_at T r ≡ None) × (map.get m r ≡ None)
 
--- which folders a command gives names, what it takes away, and what it brings
+-- which folders a command gives names, what it takes away, what it brings, and whether it may add a name of a property
 pub record Scope : Type 0 where
   pub names : ℕ → Bool
   pub takes : ℕ → Bool
   pub brings : ℕ → Bool
+  pub adds_name : Bool
 
 -- what holds after each step
 pub record KeepsObjects (T : Tree) (scope : Scope) (m : Changes) : Type 0 where
   -- where no object stood, one comes, and no other node stood
   pub clear : (q : ℕ) (o : Option Object) → map.get m q ≡ Some o → object_at T q ≡ None → IsSome o × (node_at T.others q ≡ None)
-  pub folders : (f : ℕ) (old : Ctx) → object_at T f ≡ Some (Context old) → KeepsFolder (scope.names f) old (now T m f)
+  pub folders : (f : ℕ) (old : Ctx) → (f ≡ 0x61 → ⊥) → object_at T f ≡ Some (Context old) → KeepsFolder (scope.names f) old (now T m f)
   pub tables : (q : ℕ) (old : Tbl) → object_at T q ≡ Some (Table old) → KeepsTable (Untouched T m) old (now T m q)
   pub store : map.get m 0x21 ≡ None
+  pub names : scope.adds_name ≡ false → map.get m 0x61 ≡ None
   pub goes : (q : ℕ) → map.get m q ≡ Some None → scope.takes q ≡ true
   pub comes : (q : ℕ) (o : Option Object) → map.get m q ≡ Some o → object_at T q ≡ None → scope.brings q ≡ true
 
@@ -72,7 +74,7 @@ pub record Fits (T : Tree) (scope : Scope) (m : Changes) (q : ℕ) (o : Option O
   pub clear : object_at T q ≡ None → IsSome o × (node_at T.others q ≡ None)
   pub folder : (old : Ctx) → object_at T q ≡ Some (Context old) → KeepsFolder (scope.names q) old o
   pub table : (old : Tbl) → object_at T q ≡ Some (Table old) → KeepsTable (Untouched T (map.insert m q o)) old o
-  pub store : q ≡ 0x21 → ⊥
+  pub store : q % 32 ≡ 1 → ⊥
   pub goes : o ≡ None → scope.takes q ≡ true
   pub comes : object_at T q ≡ None → scope.brings q ≡ true
 
@@ -109,9 +111,10 @@ fewer R S old (Some (Message M)) less k = k
 pub keeps_all : (T : Tree) (scope : Scope) → KeepsObjects T scope map.empty
 keeps_all T scope = record {
   clear = λ q o e none. absurd (none-some o (sym (map.get-empty nat_cmp q) ∙ e));
-  folders = λ f old is. subst (KeepsFolder (scope.names f) old) (sym (start f ∙ is)) (record { kept = refl; values = λ id count name. refl });
+  folders = λ f old no_names is. subst (KeepsFolder (scope.names f) old) (sym (start f ∙ is)) (record { kept = refl; values = λ id count name. refl });
   tables = λ q old is. subst (KeepsTable (Untouched T map.empty) old) (sym (start q ∙ is)) (record { parent = refl; columns = refl; ends = refl; kept = refl; rows = λ r u. refl });
   store = map.get-empty nat_cmp 0x21;
+  names = λ none. map.get-empty nat_cmp 0x61;
   goes = λ q e. absurd (none-some None (sym (map.get-empty nat_cmp q) ∙ e));
   comes = λ q o e none. absurd (none-some o (sym (map.get-empty nat_cmp q) ∙ e));
 }
@@ -129,15 +132,16 @@ keeps_more T scope m q o k fits = record {
         (subst IsSome is c.0, ap (node_at T.others) same ∙ c.1)
     | inr other ↦ k.clear x y (sym (got_other m q o x other) ∙ e) none
   ];
-  folders = λ f old is. elim (cases_eq f q) [
+  folders = λ f old no_names is. elim (cases_eq f q) [
     | inl same ↦ subst (KeepsFolder (scope.names f) old) (sym (here f same)) (subst (λ x. KeepsFolder (scope.names x) old o) (sym same) (fits.folder old (ap (object_at T) (sym same) ∙ is)))
-    | inr other ↦ subst (KeepsFolder (scope.names f) old) (sym (elsewhere f other)) (k.folders f old is)
+    | inr other ↦ subst (KeepsFolder (scope.names f) old) (sym (elsewhere f other)) (k.folders f old no_names is)
   ];
   tables = λ x old is. elim (cases_eq x q) [
     | inl same ↦ subst (KeepsTable (Untouched T (map.insert m q o)) old) (sym (here x same)) (fits.table old (ap (object_at T) (sym same) ∙ is))
     | inr other ↦ subst (KeepsTable (Untouched T (map.insert m q o)) old) (sym (elsewhere x other)) (fewer (Untouched T m) (Untouched T (map.insert m q o)) old (now T m x) (untouched_before T m q o) (k.tables x old is))
   ];
-  store = got_other m q o 0x21 (λ e. fits.store (sym e)) ∙ k.store;
+  store = got_other m q o 0x21 (λ e. fits.store (ap (λ x. x % 32) (sym e))) ∙ k.store;
+  names = λ none. got_other m q o 0x61 (λ e. fits.store (ap (λ x. x % 32) (sym e))) ∙ k.names none;
   goes = λ x e. elim (cases_eq x q) [
     | inl same ↦ subst (λ z. scope.takes z ≡ true) (sym same) (fits.goes (same_Some o None (sym (got_here m q o) ∙ ap (map.get (map.insert m q o)) (sym same) ∙ e)))
     | inr other ↦ k.goes x (sym (got_other m q o x other) ∙ e)
@@ -167,11 +171,11 @@ came_brings : (T : Tree) (scope : Scope) (m : Changes) (q : ℕ) (x : Object) �
 came_brings T scope m q x k is none = let c = came (map.get m q) (object_at T q) x is none in k.comes q c.0 c.1 none
 
 -- a table gets other rows, of which that of one id changes: an object stood there, or something changed there
-pub fits_rows : (T : Tree) (scope : Scope) (m : Changes) (q id : ℕ) (t : Tbl) (rows : List (ℕ × List Val)) → KeepsObjects T scope m → now T m q ≡ Some (Table t) → (q ≡ 0x21 → ⊥) → (Untouched T m id → ⊥)
+pub fits_rows : (T : Tree) (scope : Scope) (m : Changes) (q id : ℕ) (t : Tbl) (rows : List (ℕ × List Val)) → KeepsObjects T scope m → now T m q ≡ Some (Table t) → (q % 32 ≡ 1 → ⊥) → (Untouched T m id → ⊥)
     → ((r : ℕ) → (r ≡ id → ⊥) → find_row r rows ≡ find_row r t.table.rows) → Fits T scope m q (Some (with_rows rows t))
 fits_rows T scope m q id t rows k is other touched same = record {
   clear = λ none. (refl, came_free T scope m q (Table t) k is none);
-  folder = λ old was. absurd (subst (KeepsFolder (scope.names q) old) is (k.folders q old was));
+  folder = λ old was. absurd (subst (KeepsFolder (scope.names q) old) is (k.folders q old (λ e. other (ap (λ x. x % 32) e)) was));
   table = λ old was.
       let s : SameTable (Untouched T m) old t = subst (KeepsTable (Untouched T m) old) is (k.tables q old was) in
       record {
@@ -189,11 +193,11 @@ fits_rows T scope m q id t rows k is other touched same = record {
 }
 
 -- a folder gets other values, or another parent
-pub fits_context : (T : Tree) (scope : Scope) (m : Changes) (f : ℕ) (c new : Ctx) → KeepsObjects T scope m → now T m f ≡ Some (Context c) → (f ≡ 0x21 → ⊥) → StaysFolder (scope.names f) c new → Fits T scope m f (Some (Context new))
+pub fits_context : (T : Tree) (scope : Scope) (m : Changes) (f : ℕ) (c new : Ctx) → KeepsObjects T scope m → now T m f ≡ Some (Context c) → (f % 32 ≡ 1 → ⊥) → StaysFolder (scope.names f) c new → Fits T scope m f (Some (Context new))
 fits_context T scope m f c new k is other stays = record {
   clear = λ none. (refl, came_free T scope m f (Context c) k is none);
   folder = λ old was.
-      let s : StaysFolder (scope.names f) old c = subst (KeepsFolder (scope.names f) old) is (k.folders f old was) in
+      let s : StaysFolder (scope.names f) old c = subst (KeepsFolder (scope.names f) old) is (k.folders f old (λ e. other (ap (λ x. x % 32) e)) was) in
       record { kept = stays.kept ∙ s.kept; values = λ id count name. stays.values id count name ∙ s.values id count name };
   table = λ old was. absurd (subst (KeepsTable (Untouched T m) old) is (k.tables f old was));
   store = other;
@@ -227,11 +231,11 @@ fits_message T scope m q o typed four clear takes brings = record {
 }
 
 -- an object goes
-pub fits_gone : (T : Tree) (scope : Scope) (m : Changes) (q : ℕ) → (object_at T q ≡ None → ⊥) → (q ≡ 0x21 → ⊥) → scope.takes q ≡ true → Fits T scope m q None
+pub fits_gone : (T : Tree) (scope : Scope) (m : Changes) (q : ℕ) → (object_at T q ≡ None → ⊥) → (q % 32 ≡ 1 → ⊥) → scope.takes q ≡ true → Fits T scope m q None
 fits_gone T scope m q there other takes = record { goes = λ e. takes; comes = λ none. absurd (there none); clear = λ none. absurd (there none); folder = λ old was. tt; table = λ old was. tt; store = other }
 
 -- an object comes where nothing stood
-pub fits_new : (T : Tree) (scope : Scope) (m : Changes) (q : ℕ) (x : Object) → object_at T q ≡ None → node_at T.others q ≡ None → (q ≡ 0x21 → ⊥) → scope.brings q ≡ true → Fits T scope m q (Some x)
+pub fits_new : (T : Tree) (scope : Scope) (m : Changes) (q : ℕ) (x : Object) → object_at T q ≡ None → node_at T.others q ≡ None → (q % 32 ≡ 1 → ⊥) → scope.brings q ≡ true → Fits T scope m q (Some x)
 fits_new T scope m q x none free other brings = record {
   goes = λ e. absurd (none-some x (sym e));
   comes = λ e. brings;
@@ -240,3 +244,36 @@ fits_new T scope m q x none free other brings = record {
   table = λ old was. absurd (none-some (Table old) (sym none ∙ was));
   store = other;
 }
+
+-- the names get a name
+pub keeps_names : (T : Tree) (scope : Scope) (c new : Ctx) → object_at T 0x61 ≡ Some (Context c) → scope.adds_name ≡ true → KeepsObjects T scope (map.insert map.empty 0x61 (Some (Context new)))
+keeps_names T scope c new is adds = record {
+  clear = λ q x e none. elim (cases_eq q 0x61) [
+    | inl same ↦ absurd (none-some (Context c) (sym none ∙ ap (object_at T) same ∙ is))
+    | inr other ↦ k.clear q x (sym (got_other map.empty 0x61 o q other) ∙ e) none
+  ];
+  folders = λ f old no_names was. subst (KeepsFolder (scope.names f) old) (sym (elsewhere f no_names)) (k.folders f old no_names was);
+  tables = λ q old was. elim (cases_eq q 0x61) [
+    | inl same ↦ cc (sym was ∙ ap (object_at T) same ∙ is)
+    | inr other ↦ subst (KeepsTable (Untouched T (map.insert map.empty 0x61 o)) old) (sym (elsewhere q other)) (fewer (Untouched T map.empty) (Untouched T (map.insert map.empty 0x61 o)) old (now T map.empty q) (untouched_before T map.empty 0x61 o) (k.tables q old was))
+  ];
+  store = got_other map.empty 0x61 o 0x21 (λ e. omega arith) ∙ k.store;
+  names = λ none. absurd (false≢true (sym none ∙ adds));
+  goes = λ q e. elim (cases_eq q 0x61) [
+    | inl same ↦ absurd (none-some (Context new) (sym (same_Some o None (sym (got_here map.empty 0x61 o) ∙ ap (map.get (map.insert map.empty 0x61 o)) (sym same) ∙ e))))
+    | inr other ↦ k.goes q (sym (got_other map.empty 0x61 o q other) ∙ e)
+  ];
+  comes = λ q x e none. elim (cases_eq q 0x61) [
+    | inl same ↦ absurd (none-some (Context c) (sym none ∙ ap (object_at T) same ∙ is))
+    | inr other ↦ k.comes q x (sym (got_other map.empty 0x61 o q other) ∙ e) none
+  ];
+}
+  where
+    o : Option Object
+    o = Some (Context new)
+
+    k : KeepsObjects T scope map.empty
+    k = keeps_all T scope
+
+    elsewhere : (x : ℕ) → (x ≡ 0x61 → ⊥) → now T (map.insert map.empty 0x61 o) x ≡ now T map.empty x
+    elsewhere x other = ap (λ r. newest r (object_at T x)) (got_other map.empty 0x61 o x other)

@@ -1,5 +1,5 @@
 -- Steps that leave what a command doesn't speak of as it was.
-use Rattle.std.proofs.Common.{◌≡◌, ℕ, ◌<◌, ◌==◌, ◌||◌, Bool, length, List, Some, IfOk, arith, refl, sym, ◌∙◌, inl, inr}
+use Rattle.std.proofs.Common.{◌≡◌, ℕ, ◌<◌, ◌==◌, ◌||◌, Bool, length, List, Some, IfOk, arith, refl, sym, ◌∙◌, inl, inr, ◌%◌}
 use Rattle.std.specs.List.{list_any}
 use Rattle.std.proofs.lemmas.Bool.{cases_Bool, eqb-false, or_parts}
 use Rattle.std.proofs.lemmas.Option.{none-some}
@@ -36,8 +36,8 @@ counts_stay named c messages unread has_folders = record {
       ∙ find-put_other (λ v. v.id) id (number 0x3602 messages) c.props (eqb-false id 0x3602 a.0);
 }
 
--- a table isn't where the store's values are
-pub table_elsewhere : (f kind : ℕ) → kind < 32 → 4 < kind → beside f kind ≡ 0x21 → ⊥
+-- a table isn't where the store's values or the names are
+pub table_elsewhere : (f kind : ℕ) → kind < 32 → 4 < kind → beside f kind % 32 ≡ 1 → ⊥
 table_elsewhere f kind small large e = omega (arith, beside_kind f kind small)
 
 -- an object stood there
@@ -48,13 +48,13 @@ module _ (T : Tree) (scope : Scope) where
   abbrev pub Good : Changed → Type 0
   Good D = KeepsObjects T scope D.objects
 
-  pub put_good : (q id : ℕ) (props : List Val) (D : Changed) → (q ≡ 0x21 → ⊥) → (Untouched T D.objects id → ⊥) → Good D → IfOk (put_shown T q id props D) Good
+  pub put_good : (q id : ℕ) (props : List Val) (D : Changed) → (q % 32 ≡ 1 → ⊥) → (Untouched T D.objects id → ⊥) → Good D → IfOk (put_shown T q id props D) Good
   unfolding put_shown
   put_good q id props D other touched k = if_then (λ t. now_at T D q ≡ Some (Table t)) Good (table_at T D q) _ (if_table T D q) (λ t is.
       keeps_more T scope D.objects q (Some (with_rows (shown_row id props t.table) t)) k
       (fits_rows T scope D.objects q id t (shown_row id props t.table) k is other touched (λ r apart. find-put_other (λ r. r.0) r (id, mirror t.table.columns props) t.table.rows apart)))
 
-  pub add_good : (q id : ℕ) (props : List Val) (D : Changed) → (q ≡ 0x21 → ⊥) → (Untouched T D.objects id → ⊥) → Good D → IfOk (add_shown T q id props D) Good
+  pub add_good : (q id : ℕ) (props : List Val) (D : Changed) → (q % 32 ≡ 1 → ⊥) → (Untouched T D.objects id → ⊥) → Good D → IfOk (add_shown T q id props D) Good
   unfolding add_shown
   add_good q id props D other touched k = if_then (λ t. now_at T D q ≡ Some (Table t)) Good (table_at T D q) _ (if_table T D q) (λ t is.
       elim (cases_Bool (overfills t.table.rows (shown_row id props t.table))) [
@@ -63,17 +63,17 @@ module _ (T : Tree) (scope : Scope) where
             (fits_rows T scope D.objects q id t (shown_row id props t.table) k is other touched (λ r apart. find-put_other (λ r. r.0) r (id, mirror t.table.columns props) t.table.rows apart)))
       ])
 
-  pub drop_good : (q id : ℕ) (D : Changed) → (q ≡ 0x21 → ⊥) → (Untouched T D.objects id → ⊥) → Good D → IfOk (drop_shown T q id D) Good
+  pub drop_good : (q id : ℕ) (D : Changed) → (q % 32 ≡ 1 → ⊥) → (Untouched T D.objects id → ⊥) → Good D → IfOk (drop_shown T q id D) Good
   unfolding drop_shown
   drop_good q id D other touched k = if_then (λ t. now_at T D q ≡ Some (Table t)) Good (table_at T D q) _ (if_table T D q) (λ t is.
       keeps_more T scope D.objects q (Some (with_rows (drop_row id t.table.rows) t)) k
       (fits_rows T scope D.objects q id t (drop_row id t.table.rows) k is other touched (λ r apart. find-drop_other (λ r. r.0) r id t.table.rows apart)))
 
   -- a folder gets other values
-  pub context_good : (f : ℕ) (c : Ctx) (props : List Val) (D : Changed) → (f ≡ 0x21 → ⊥) → now_at T D f ≡ Some (Context c) → StaysFolder (scope.names f) c (record c { props = props }) → Good D → Good (with_context f c props D)
+  pub context_good : (f : ℕ) (c : Ctx) (props : List Val) (D : Changed) → (f % 32 ≡ 1 → ⊥) → now_at T D f ≡ Some (Context c) → StaysFolder (scope.names f) c (record c { props = props }) → Good D → Good (with_context f c props D)
   context_good f c props D other is stays k = keeps_more T scope D.objects f (Some (Context (record c { props = props }))) k (fits_context T scope D.objects f c (record c { props = props }) k is other stays)
 
-  counted_good : (places : List FolderPlace) (f : ℕ) (D : Changed) → (f ≡ 0x21 → ⊥) → Good D → IfOk (counted T places f D) Good
+  counted_good : (places : List FolderPlace) (f : ℕ) (D : Changed) → (f % 32 ≡ 1 → ⊥) → Good D → IfOk (counted T places f D) Good
   unfolding counted
   counted_good places f D other k =
       if_then (λ c. now_at T D f ≡ Some (Context c)) Good (context_at T D f) _ (if_context T D f) (λ c is.
@@ -89,7 +89,7 @@ module _ (T : Tree) (scope : Scope) where
   ]
 
   -- a folder that stood there is settled
-  pub then_good : (places : List FolderPlace) (a : Answer Changed) (f : ℕ) (x : Object) → (f ≡ 0x21 → ⊥) → object_at T f ≡ Some x → IfOk a Good → IfOk (a >>= settled T places f) Good
+  pub then_good : (places : List FolderPlace) (a : Answer Changed) (f : ℕ) (x : Object) → (f % 32 ≡ 1 → ⊥) → object_at T f ≡ Some x → IfOk a Good → IfOk (a >>= settled T places f) Good
   unfolding settled
   then_good places a f x other is h = if_then Good Good a (settled T places f) h (λ D k.
       if_then Good Good (counted T places f D) (mirrored T f) (counted_good places f D other k) (λ D' k'. mirrored_good f D' (stood T D'.objects f x is) k'))

@@ -5,6 +5,7 @@ pub mod NewIds
 pub mod MessageSteps
 pub mod FolderSteps
 pub mod Keeping
+pub mod NameSteps
 pub mod CommandSteps
 pub mod Effects
 pub mod PlaceEffects

@@ -21,6 +21,8 @@ use Rattle.mail_tree.specs.Places.{find_place, is_plain}
 use Rattle.mail_tree.specs.Tree.{Tree}
 use Rattle.mail_tree.specs.Values.{bytes_of, crowds, finished, is_set_protected, is_unset_protected, message_props, with_props}
 use Rattle.command_text.specs.declared.reply.CommandRefusal.TheVariants.{Ids, Limit, Object as NoObject, Property as NoProperty}
+use Rattle.named_props.specs.Finding.{is_property_named}
+use Rattle.mail_tree.specs.Names.{names_in, unless_nameless}
 use Rattle.mail_tree.specs.Changing.{Answer, Changed, ◌>>=◌, add_shown, contents, drop_shown, nothing, now_at, overfills, put_shown, shown_row, with_object, with_rows, within_limits}
 use Rattle.mail_tree.specs.Settling.{settled}
 use Rattle.mail_tree.specs.Folders.{Outcome, changing, making, replied, unless_full, replying}
@@ -30,7 +32,7 @@ use Rattle.mail_tree.specs.Ids.{is_spent, message_kinds, new_id, next_index}
 use Rattle.mail_tree.specs.Whole.{AreWhole, Fine}
 use Rattle.mail_tree.proofs.AfterTree.{now_nothing, puts_object, puts_values}
 use Rattle.mail_laws.proofs.NewIds.{free_message, new_id_is, next_is_free}
-use Rattle.mail_tree.proofs.FineLaws.{after_found, after_limits, after_test, cases_Option, fine_then}
+use Rattle.mail_tree.proofs.FineLaws.{after_found, after_limits, after_test, cases_Option, fine_then, fine_either, fine_test}
 use Rattle.mail_tree.proofs.Nearly.{AreNearly, Puts, message_id, table_of}
 use Rattle.mail_tree.proofs.KindsOfPuts.{beside_kind}
 use Rattle.mail_laws.proofs.Closing.{whole_message}
@@ -198,13 +200,20 @@ pub fine_fetched_data : (T : Tree) (m n : ℕ) → Before T → Fine (fetched_da
 unfolding fetched_data
 fine_fetched_data T m n w = fine_then _ (Keeps T) (message_in T m) _ (fine_message_in T m w) (λ M h.
     after_found (Keeps T) NoObject (part_in n M) _ (λ part is. after_found (Keeps T) NoProperty (value_of data_tag part.props) _ (λ v is'. w)))
+-- the names are there
+fine_nameless : (T : Tree) (id : ℕ) → Before T → Fine (unless_nameless T id) (λ u. Unit {0})
+unfolding unless_nameless names_in
+fine_nameless T id w =
+    let names = w.names in
+    let n = names.2 in
+    fine_either (λ u. Unit {0}) (nat_le 0x8000 id) _ _ (λ b. rw (names.1, n.1) (fine_test (not (is_property_named n.0.entries id)) NoProperty)) (λ b. tt)
 
 -- `set`
 pub fine_set : (T : Tree) (m : ℕ) (v : Val) → Before T → Fine (set_value T m v) (Keeps T)
 unfolding set_value
 fine_set T m v w = fine_then _ (Keeps T) (message_in T m) _ (fine_message_in T m w) (λ M h. elim (cases_Bool (is_set_protected v.id M.props)) [
   | inl t ↦ rw t tt
-  | inr t ↦ rw t (elim (cases_Bool (nat_le 0x8000 v.id)) [ inl u ↦ rw u tt | inr u ↦ rw u (fine_changed T m M (put v M.props) w h.0 h.1) ])
+  | inr t ↦ rw t (fine_then (λ u. Unit {0}) (Keeps T) (unless_nameless T v.id) _ (fine_nameless T v.id w) (λ u x. fine_changed T m M (put v M.props) w h.0 h.1))
 ])
 
 -- `unset`

@@ -2,7 +2,7 @@
 use Rattle.command_text.specs.declared.reply.LastLine.{LastLine}
 use Rattle.command_text.specs.declared.reply.Limit.TheVariants.{Rows}
 use Rattle.command_text.specs.declared.reply.CommandRefusal.{CommandRefusal}
-use Rattle.std.proofs.Common.{◌≡◌, ℕ, ◌%◌, ◌<◌, ◌==◌, ◌||◌, Bool, true, false, nat_le, filter, List, [], Option, None, Some, IfOk, is_some, arith, refl, sym, ap, ◌∙◌, inl, inr, not}
+use Rattle.std.proofs.Common.{◌≡◌, ℕ, ◌%◌, ◌<◌, ◌==◌, ◌||◌, Bool, true, false, nat_le, filter, List, [], Option, None, Some, IfOk, is_some, arith, refl, sym, ap, ◌∙◌, inl, inr, not, subst}
 use Rattle.std.proofs.lemmas.Bool.{cases_Bool, cases_eq, or_parts}
 use Rattle.std.proofs.lemmas.Option.{none-some}
 use Rattle.mapi_values.specs.Characters.{folded}
@@ -13,7 +13,7 @@ use Rattle.mapi_values.specs.Tables.{find_row}
 use Rattle.mapi_values.specs.Values.{Val}
 use Rattle.mapi_values.specs.declared.value.Tag.{Tag}
 use Rattle.command_text.specs.declared.command.Command.{Command}
-use Rattle.command_text.specs.declared.command.Command.TheVariants.{MakeFolder, RenameFolder, MoveFolder, RemoveFolder, ListFolder, NewMessage, SetProperty, UnsetProperty, GetProperty, ListProperties, MoveMessage, CopyMessage, RemoveMessage, AddRecipient, RemoveRecipient, AddAttachment, AppendData, RemoveAttachment, FetchData, Save, Quit}
+use Rattle.command_text.specs.declared.command.Command.TheVariants.{MakeFolder, RenameFolder, MoveFolder, RemoveFolder, ListFolder, NewMessage, SetProperty, UnsetProperty, GetProperty, ListProperties, MoveMessage, CopyMessage, RemoveMessage, AddRecipient, RemoveRecipient, AddAttachment, AppendData, RemoveAttachment, FetchData, Save, Quit, NameProperty}
 use Rattle.command_text.specs.declared.reply.LastLine.TheVariants.{Attached, Done, Row}
 use Rattle.command_text.specs.declared.reply.Reply.{Reply}
 use Rattle.mail_objects.specs.Forms.{Ctx, Tbl}
@@ -24,6 +24,8 @@ use Rattle.mail_tree.specs.Places.{ROOT, children, find_place, is_child, is_deep
 use Rattle.mail_tree.specs.Tree.{Tree}
 use Rattle.mail_tree.specs.Values.{bytes_of, crowds, finished, folder_props, is_set_protected, is_unset_protected, message_props, name_of, text, with_props}
 use Rattle.command_text.specs.declared.reply.CommandRefusal.TheVariants.{Ids, Limit, Object as NoObject, Property as NoProperty}
+use Rattle.mail_tree.specs.Names.{NAMES, named_property, unless_nameless}
+use Rattle.mail_laws.proofs.NameSteps.{PutsNames, puts_names_after}
 use Rattle.mail_tree.specs.Changing.{Answer, Changed, ◌>>=◌, add_shown, associated, beside, contents, context_at, drop_shown, hierarchy, nothing, now_at, put_shown, table_at, with_object, within_limits}
 use Rattle.mail_tree.specs.Columns.{contents_table, hierarchy_table}
 use Rattle.mail_tree.specs.Settling.{message_ids, mirrored, settled, with_context}
@@ -213,7 +215,7 @@ module _ (T : Tree) (w : Before T) (s : AreShownBut (λ x. ⊥) T.places (now_at
   unfolding set_value
   sets m v = if_then _ After (message_in T m) _ (from_fine _ (message_in T m) (fine_message_in T m w)) (λ M h. elim (cases_Bool (is_set_protected v.id M.props)) [
     | inl t ↦ rw t tt
-    | inr t ↦ rw t (elim (cases_Bool (nat_le 0x8000 v.id)) [ inl u ↦ rw u tt | inr u ↦ rw u (changes m M (put v M.props) h.0 h.1) ])
+    | inr t ↦ rw t (if_then (λ u. Unit {0}) After (unless_nameless T v.id) _ (if_any (unless_nameless T v.id)) (λ u x. changes m M (put v M.props) h.0 h.1))
   ])
 
   unsets : (m : ℕ) (tag : Tag) → IfOk (unset_value T m tag) After
@@ -468,5 +470,8 @@ module _ (T : Tree) (w : Before T) (s : AreShownBut (λ x. ⊥) T.places (now_at
   mirrored_after (AppendData message attachment bytes) = appends_data message.bits attachment.bits bytes
   mirrored_after (RemoveAttachment message attachment) = removes_attachment message.bits attachment.bits
   mirrored_after (FetchData message attachment) = fetches message.bits attachment.bits
+  mirrored_after (NameProperty guid number) = if_weaker (PutsNames T) After (named_property T guid number) (puts_names_after T guid number w) (λ o k.
+      subst (λ places. AreShownBut (λ x. ⊥) places (now_at T o.changed)) (sym k.places_are)
+      (shown_put (λ x. ⊥) (λ x. ⊥) T.places (now_at T nothing) (now_at T o.changed) NAMES (Some (Context k.new)) s (λ x e. e) k.puts (λ e. omega arith) (λ e. omega arith) (λ p e. elim (ids NAMES p e) [ inl x ↦ omega arith | inr x ↦ omega arith ]) (λ M e. cc e)))
   mirrored_after Save = s
   mirrored_after Quit = s

@@ -1,5 +1,5 @@
 -- The tree of a new store is whole, its rows mirror what they show, and its counts are right.
-use Rattle.std.proofs.Common.{◌≡◌, ℕ, ◌==◌, ◌%◌, Bool, true, false, List, [], ◌∷◌, IsSome, is_some, Option, None, Some, refl, sym, subst, ap, ◌∙◌, inl, inr, cond}
+use Rattle.std.proofs.Common.{◌≡◌, ℕ, ◌==◌, ◌%◌, Bool, true, false, List, [], ◌∷◌, IsSome, is_some, Option, None, Some, refl, sym, subst, ap, ◌∙◌, inl, inr, cond, arith}
 use Rattle.std.proofs.lemmas.Bool.{cases_Bool, eqb-true, false≢true, and_parts}
 use Rattle.std.proofs.lemmas.Option.{none-some, same_Some}
 use Rattle.std.specs.Cmp.{nat_cmp_total}
@@ -14,6 +14,8 @@ use Rattle.mail_objects.specs.Forms.{Ctx, Tbl}
 use Rattle.mail_objects.specs.declared.object.Object.{Object}
 use Rattle.mail_objects.specs.declared.object.Object.TheVariants.{Context, Table, Message}
 use Rattle.mail_tree.specs.declared.places.FolderPlace.{FolderPlace}
+use Rattle.named_props.specs.Holding.{is_form, names_in, names_of}
+use Rattle.mail_tree.specs.Names.{AreNames}
 use Rattle.mail_tree.specs.Changing.{associated, contents, hierarchy}
 use Rattle.mail_tree.specs.Places.{ROOT, find_place, is_plain}
 use Rattle.mail_tree.specs.Columns.{contents_table, hierarchy_table}
@@ -22,7 +24,7 @@ use Rattle.mail_tree.specs.Tree.{Tree, object_at}
 use Rattle.mail_tree.specs.Values.{folder_props}
 use Rattle.mail_tree.specs.Whole.{AreWhole, HasRow, HasNoStray, IsWhole, fits_id, kind_of_sort}
 use Rattle.mail_laws.specs.Laws.{AreCountedBut, AreShown, Counts, IsCounted, Mirrors, Shows}
-use Rattle.mail_tree.specs.Start.{DELETED, IsStart, SEARCH_ROOT, TOP, deleted_name, root_hierarchy, root_props, search_name, start_objects, start_others, start_places, start_row, top_name}
+use Rattle.mail_tree.specs.Start.{DELETED, IsStart, SEARCH_ROOT, TOP, deleted_name, names_props, root_hierarchy, root_props, search_name, start_objects, start_others, start_places, start_row, top_name}
 use Rattle.mail_tree.proofs.AfterTree.{tied}
 use Rattle.mail_tree.proofs.KindsOfPuts.{same_table}
 
@@ -86,8 +88,16 @@ same_context a b e = cc
 no_rows : (t : Tbl) (m : ℕ) → ◌≡◌ {A = Option Object} (Some (Table contents_table)) (Some (Table t)) → IsSome (find_row m t.table.rows) → ⊥
 no_rows t m is row = false≢true (ap (λ x. is_some (find_row m x.table.rows)) (same_table contents_table t is) ∙ row)
 
+names_context : Ctx
+names_context = record { parent = 0; props = names_props; kept = [] }
+
+-- a new store has no names
+no_names : AreNames names_context.props
+unfolding names_context names_of is_form
+no_names = (names_in names_props, refl, record { buckets = refl; others = refl; guids_fit = omega arith; entries_fit = omega arith }, refl)
+
 is_whole : (name : List ℕ) → AreWhole start_places (at name)
-unfolding at start_objects root_hierarchy rows_rise no_message listing root_context folder_context
+unfolding at start_objects root_hierarchy rows_rise no_message listing root_context folder_context names_context
 is_whole name = record {
   ascend = refl;
   root = (place ROOT ROOT, refl, refl, refl);
@@ -97,6 +107,7 @@ is_whole name = record {
   typed = λ q o e. find_passes fits_id (start_objects name) q o e refl;
   rows_ascend = λ q t e. find_passes rows_rise (start_objects name) q (Table t) e refl;
   store = refl;
+  names = (names_context, refl, no_names);
   contexts = four (λ f p. (c : Ctx) × (at name f ≡ Some (Context c)) × ((f ≡ ROOT → ⊥) → c.parent ≡ p.parent.bits))
       (root_context, refl, λ no. refl) (folder_context top_name, refl, λ no. refl) (folder_context search_name, refl, λ no. refl) (folder_context deleted_name, refl, λ no. refl);
   tables = four (λ f p. is_plain p ≡ true → IsSome (at name (hierarchy f)) × IsSome (at name (contents f))) (λ plain. (refl, refl)) (λ plain. (refl, refl)) (λ plain. (refl, refl)) (λ plain. (refl, refl));

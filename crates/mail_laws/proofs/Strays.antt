@@ -7,12 +7,14 @@ use Rattle.std.specs.FinMap as map
 use Rattle.node_port.specs.Nodes.{Nodes, node_at}
 use Rattle.node_port.specs.declared.node.NodeRec.{NodeRec}
 use Rattle.command_text.specs.declared.command.Command.{Command}
-use Rattle.command_text.specs.declared.command.Command.TheVariants.{MakeFolder, RenameFolder, MoveFolder, RemoveFolder, ListFolder, NewMessage, SetProperty, UnsetProperty, GetProperty, ListProperties, MoveMessage, CopyMessage, RemoveMessage, AddRecipient, RemoveRecipient, AddAttachment, AppendData, RemoveAttachment, FetchData, Save, Quit}
+use Rattle.command_text.specs.declared.command.Command.TheVariants.{MakeFolder, RenameFolder, MoveFolder, RemoveFolder, ListFolder, NewMessage, SetProperty, UnsetProperty, GetProperty, ListProperties, MoveMessage, CopyMessage, RemoveMessage, AddRecipient, RemoveRecipient, AddAttachment, AppendData, RemoveAttachment, FetchData, Save, Quit, NameProperty}
 use Rattle.mapi_values.specs.Messages.{Mes}
 use Rattle.mail_objects.specs.declared.object.Object.{Object}
 use Rattle.mail_tree.specs.declared.places.FolderPlace.{FolderPlace}
 use Rattle.mail_tree.specs.Places.{find_place, is_plain}
 use Rattle.mail_tree.specs.Tree.{Tree}
+use Rattle.mail_tree.specs.Names.{named_property}
+use Rattle.mail_laws.proofs.NameSteps.{PutsNames, puts_names_after}
 use Rattle.mail_tree.specs.Changing.{Answer, associated}
 use Rattle.mail_tree.specs.Folders.{Outcome, moved_folder, made_folder, place, removed_folder, renamed_folder, unchanged}
 use Rattle.mail_tree.specs.Messages.{copied_message, moved_message, new_message, removed_message, set_value, unset_value, added_recipient, removed_recipient, added_attachment, appended_data, removed_attachment}
@@ -106,6 +108,7 @@ module _ (T : Tree) (w : Before T) (clear : HasNoStray T) where
   stays_clear (AppendData message attachment bytes) = if_weaker _ (Clear T) (appended_data T message.bits attachment.bits bytes) (appends_data T message.bits attachment.bits bytes w) (λ o k. changes_one _ _ o k.1.3)
   stays_clear (RemoveAttachment message attachment) = if_weaker _ (Clear T) (removed_attachment T message.bits attachment.bits) (removes_attachment T message.bits attachment.bits w) (λ o k. changes_one _ _ o k.3)
   stays_clear (FetchData message attachment) = if_weaker _ (Clear T) (outcome T (FetchData message attachment)) (reads_only T (FetchData message attachment) refl) looks
+  stays_clear (NameProperty guid number) = if_weaker (PutsNames T) (Clear T) (named_property T guid number) (puts_names_after T guid number w) (λ o k. clear_places T o clear k.places_are)
   stays_clear Save = clear
   stays_clear Quit = clear
 

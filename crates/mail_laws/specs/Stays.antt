@@ -1,10 +1,10 @@
 -- What each command leaves as it was, and which ids it gives.
-use Rattle.std.specs.Prelude.{◌≡◌, ◌<◌, ℕ, ◌%◌, ◌==◌, ◌&&◌, ◌||◌, Bool, false, IfOk, IsSome, List, set, get_or, None, Some}
+use Rattle.std.specs.Prelude.{◌≡◌, ◌<◌, ℕ, ◌%◌, ◌==◌, ◌&&◌, ◌||◌, Bool, true, false, IfOk, IsSome, List, set, get_or, None, Some}
 use Rattle.pst_base.specs.Ids.{index_of}
 use Rattle.mapi_values.specs.Properties.{find}
 use Rattle.mapi_values.specs.Tables.{find_row}
 use Rattle.command_text.specs.declared.command.Command.{Command}
-use Rattle.command_text.specs.declared.command.Command.TheVariants.{RenameFolder}
+use Rattle.command_text.specs.declared.command.Command.TheVariants.{NameProperty, RenameFolder}
 use Rattle.command_text.specs.declared.reply.LastLine.{LastLine}
 use Rattle.command_text.specs.declared.reply.LastLine.TheVariants.{Made}
 use Rattle.mail_objects.specs.Forms.{Ctx, Tbl}
@@ -23,6 +23,11 @@ abbrev pub gives_name : Command → ℕ → Bool
 gives_name (RenameFolder folder name) f = folder.bits == f
 gives_name other f = false
 
+-- the command may add a name of a property
+abbrev pub adds_name : Command → Bool
+adds_name (NameProperty guid number) = true
+adds_name other = false
+
 -- the id is that of one of a folder's counts
 abbrev pub is_count : ℕ → Bool
 is_count id = (id == 0x3602) || ((id == 0x3603) || (id == 0x360A))
@@ -32,11 +37,12 @@ pub record StaysFolder (named : Bool) (old new : Ctx) : Type 0 where
   pub kept : new.kept ≡ old.kept
   pub values : (id : ℕ) → is_count id ≡ false → (named && (id == 0x3001)) ≡ false → find id new.props ≡ find id old.props
 
--- each folder that stays has its values still, and the store all of its own
+-- each folder that stays has its values still, the store all of its own, and the names are the same but where one may be added
 pub record KeepsValues : Type 0 where
   pub folders : (T : Tree) (c : Command) → IsWhole T → IfOk (outcome T c) (λ o. (f : ℕ) (p : FolderPlace) (old : Ctx) → find_place f o.places ≡ Some p → object_at T f ≡ Some (Context old)
       → (new : Ctx) × (object_at (after T o) f ≡ Some (Context new)) × StaysFolder (gives_name c f) old new)
   pub store : (T : Tree) (c : Command) → IsWhole T → IfOk (outcome T c) (λ o. object_at (after T o) 0x21 ≡ object_at T 0x21)
+  pub names : (T : Tree) (c : Command) → IsWhole T → adds_name c ≡ false → IfOk (outcome T c) (λ o. object_at (after T o) 0x61 ≡ object_at T 0x61)
 
 -- a table has still its columns, what it keeps below it, and each row that names no object of either tree
 pub record StaysTable (T T' : Tree) (old new : Tbl) : Type 0 where

@@ -46,9 +46,9 @@ fine_either Q true x y next other = next refl
 fine_either Q false x y next other = other refl
 
 -- a test is fine
-tested : (b : Bool) (refusal : CommandRefusal) → Fine (refused_if b refusal) (λ u. Unit {0})
-tested true refusal = tt
-tested false refusal = tt
+pub fine_test : (b : Bool) (refusal : CommandRefusal) → Fine (refused_if b refusal) (λ u. Unit {0})
+fine_test true refusal = tt
+fine_test false refusal = tt
 
 -- the changes keep to the limits, or the command is refused
 pub after_limits : {B : Type 0} (Q : B → Type 0) (D : Changed) (f : Unit {0} → Answer B) → Fine (f tt) Q → Fine (within_limits D >>= f) Q

@@ -10,6 +10,7 @@ use Rattle.mail_objects.specs.declared.object.Object.TheVariants.{Context, Table
 use Rattle.mail_tree.specs.declared.places.FolderPlace.{FolderPlace}
 use Rattle.mail_tree.specs.Places.{ROOT, find_place, is_plain}
 use Rattle.mail_tree.specs.Changing.{beside, contents, hierarchy}
+use Rattle.mail_tree.specs.Names.{AreNames, NAMES}
 use Rattle.mail_tree.specs.Whole.{HasRow, fits_id}
 use Rattle.mail_tree.proofs.Nearly.{AreNearly, Puts, folder_kind, plain_id, puts_suiting}
 
@@ -18,8 +19,8 @@ some_fits : (q : ℕ) (y : Object) → fits_id q y ≡ true → (x : Object) →
 some_fits q y fits x e = subst (λ z. fits_id q z ≡ true) (same_Some y x e) fits
 
 pub folder_fits : (f : ℕ) (c : Ctx) → (f % 32 ≡ 2) ⊎ (f % 32 ≡ 3) → fits_id f (Context c) ≡ true
-folder_fits f c (inl e) = or_right (f == 0x21) _ (or_left (f % 32 == 2) (f % 32 == 3) (eq-eqb (f % 32) 2 e))
-folder_fits f c (inr e) = or_right (f == 0x21) _ (or_right (f % 32 == 2) (f % 32 == 3) (eq-eqb (f % 32) 3 e))
+folder_fits f c (inl e) = or_right (f == 0x21) _ (or_right (f == 0x61) _ (or_left (f % 32 == 2) (f % 32 == 3) (eq-eqb (f % 32) 2 e)))
+folder_fits f c (inr e) = or_right (f == 0x21) _ (or_right (f == 0x61) _ (or_right (f % 32 == 2) (f % 32 == 3) (eq-eqb (f % 32) 3 e)))
 
 pub same_table : (t u : Tbl) → ◌≡◌ {A = Option Object} (Some (Table t)) (Some (Table u)) → t ≡ u
 same_table t u e = cc
@@ -46,6 +47,7 @@ module _ (E : ℕ → Type 0) (places : List FolderPlace) (at at' : ℕ → Opti
         typed = some_fits f (Context c) (folder_fits f c kind);
         rows_ascend = λ t e. cc;
         store = λ e. refl;
+        names = λ e. absurd (omega arith);
         context = λ r e'. (c, refl, λ no_root free. parent no_root free ∙ ap (λ x. x.parent.bits) (same_Some p r (sym e ∙ e')));
         folders = λ g r e' plain same. absurd (omega (arith, beside_kind g 13 (omega arith)));
         messages = λ g r e' plain same. absurd (omega (arith, beside_kind g 14 (omega arith)));
@@ -62,6 +64,7 @@ module _ (E : ℕ → Type 0) (places : List FolderPlace) (at at' : ℕ → Opti
         typed = some_fits (hierarchy f) (Table t) (or_left (hierarchy f % 32 == 13) _ (eq-eqb (hierarchy f % 32) 13 kind));
         rows_ascend = λ t' e'. subst (λ x. keys_ascend (λ r. r.0) 0 x.table.rows ≡ true) (same_table t t' e') ascend;
         store = λ e. refl;
+        names = λ e. absurd (omega arith);
         context = λ r e'. absurd (let (above, below) = low (hierarchy f) (folder_kind r.sort (hierarchy f) (n.kinds (hierarchy f) r e')) in omega arith);
         folders = λ g r e' plain' same.
             let one : f ≡ g = same_folder f g 13 (plain_id n f p e plain) (plain_id n g r e' plain') same in
@@ -80,6 +83,7 @@ module _ (E : ℕ → Type 0) (places : List FolderPlace) (at at' : ℕ → Opti
         typed = some_fits (contents f) (Table t') (or_right (contents f % 32 == 13) _ (or_left (contents f % 32 == 14) _ (eq-eqb (contents f % 32) 14 kind)));
         rows_ascend = λ u e'. subst (λ x. keys_ascend (λ r. r.0) 0 x.table.rows ≡ true) (same_table t' u e') ascend;
         store = λ e. refl;
+        names = λ e. absurd (omega arith);
         context = λ r e'. absurd (let (above, below) = low (contents f) (folder_kind r.sort (contents f) (n.kinds (contents f) r e')) in omega arith);
         folders = λ g r e' plain same. absurd (omega (arith, beside_kind g 13 (omega arith)));
         messages = λ g r e' plain' same.
@@ -104,6 +108,7 @@ module _ (E : ℕ → Type 0) (places : List FolderPlace) (at at' : ℕ → Opti
     typed = fits;
     rows_ascend = λ t e. absurd (no_table t e);
     store = λ e. absurd (omega arith);
+    names = λ e. absurd (omega arith);
     context = λ r e'. absurd (let (above, below) = low m (folder_kind r.sort m (n.kinds m r e')) in omega arith);
     folders = λ g r e' plain same. absurd (omega (arith, beside_kind g 13 (omega arith)));
     messages = λ g r e' plain same. absurd (omega (arith, beside_kind g 14 (omega arith)));
@@ -119,8 +124,22 @@ module _ (E : ℕ → Type 0) (places : List FolderPlace) (at at' : ℕ → Opti
         typed = fits;
         rows_ascend = ascend;
         store = λ e. absurd (elim kinds [ inl k ↦ omega arith | inr k ↦ omega arith ]);
+        names = λ e. absurd (elim kinds [ inl k ↦ omega arith | inr k ↦ omega arith ]);
         context = λ r e'. absurd (let (above, below) = low q (folder_kind r.sort q (n.kinds q r e')) in apart q r e' (elim kinds [ inl k ↦ omega arith | inr k ↦ omega arith ]));
         folders = λ g r e' plain same. absurd (apart g r e' (omega (arith, plain_id n g r e' plain)));
         messages = λ g r e' plain same. absurd (apart g r e' (omega (arith, plain_id n g r e' plain)));
         message = λ free four. elim kinds [ inl k ↦ omega arith | inr k ↦ omega arith ];
       })
+
+  -- the names are put again, with others
+  pub puts_names : (c : Ctx) → AreNames c.props → Puts at at' NAMES (Some (Context c)) → AreNearly E places at'
+  puts_names c names puts = puts_suiting E places at at' NAMES (Some (Context c)) n puts (record {
+    typed = some_fits NAMES (Context c) refl;
+    rows_ascend = λ t e. cc;
+    store = λ e. refl;
+    names = λ e. (c, refl, names);
+    context = λ r e'. absurd (let (above, below) = low NAMES (folder_kind r.sort NAMES (n.kinds NAMES r e')) in omega arith);
+    folders = λ g r e' plain same. absurd (omega (arith, beside_kind g 13 (omega arith)));
+    messages = λ g r e' plain same. absurd (omega (arith, beside_kind g 14 (omega arith)));
+    message = λ free four. omega arith;
+  })

@@ -12,6 +12,7 @@ use Rattle.mail_tree.specs.declared.places.Sort.{Sort}
 use Rattle.mail_tree.specs.declared.places.Sort.TheVariants.{Plain, Foreign}
 use Rattle.mail_tree.specs.Places.{ROOT, find_place, is_plain, is_plain_sort, place_id}
 use Rattle.mail_tree.specs.Changing.{contents, hierarchy}
+use Rattle.mail_tree.specs.Names.{HoldsNames}
 use Rattle.mail_tree.specs.Whole.{AreWhole, HasRow, fits_id, kind_of_sort}
 
 -- at one id stands this, and elsewhere what stood there
@@ -29,6 +30,7 @@ pub record AreNearly (E : ℕ → Type 0) (places : List FolderPlace) (at : ℕ 
   pub typed : (q : ℕ) (o : Object) → at q ≡ Some o → fits_id q o ≡ true
   pub rows_ascend : (q : ℕ) (t : Tbl) → at q ≡ Some (Table t) → keys_ascend (λ r. r.0) 0 t.table.rows ≡ true
   pub store : IsSome (at 0x21)
+  pub names : HoldsNames (at 0x61)
   pub contexts : (f : ℕ) (p : FolderPlace) → find_place f places ≡ Some p → (c : Ctx) × (at f ≡ Some (Context c)) × ((f ≡ ROOT → ⊥) → (E f → ⊥) → c.parent ≡ p.parent.bits)
   pub tables : (f : ℕ) (p : FolderPlace) → find_place f places ≡ Some p → is_plain p ≡ true → IsSome (at (hierarchy f)) × IsSome (at (contents f))
   pub listed : (f : ℕ) (p : FolderPlace) (t : Tbl) (m : ℕ) → find_place f places ≡ Some p → is_plain p ≡ true → at (contents f) ≡ Some (Table t)
@@ -45,6 +47,7 @@ nearly E places at w = record {
   typed = w.typed;
   rows_ascend = w.rows_ascend;
   store = w.store;
+  names = w.names;
   contexts = λ f p e. let c = w.contexts f p e in (c.0, c.1, λ no_root free. c.2 no_root);
   tables = w.tables;
   listed = λ f p t m e plain at row kind free. w.listed f p t m e plain at row kind;
@@ -61,6 +64,7 @@ whole places at n = record {
   typed = n.typed;
   rows_ascend = n.rows_ascend;
   store = n.store;
+  names = n.names;
   contexts = λ f p e. let c = n.contexts f p e in (c.0, c.1, λ no_root. c.2 no_root (λ x. x));
   tables = n.tables;
   listed = λ f p t m e plain at row kind. n.listed f p t m e plain at row kind (λ x. x);
@@ -83,11 +87,14 @@ plain_id n f p e plain = n.kinds f p e ∙ plain_kind p.sort plain
 pub message_id : (m : ℕ) (M : Mes) → fits_id m (Message M) ≡ true → (m % 32 ≡ 4) × (M.nid ≡ m)
 message_id m M e = let p = and_parts (m % 32 == 4) (M.nid == m) e in (eqb-true (m % 32) 4 p.0, eqb-true M.nid m p.1)
 
--- values stand at ids of three kinds
-pub context_id : (q : ℕ) (c : Ctx) → fits_id q (Context c) ≡ true → (q ≡ 0x21) ⊎ ((q % 32 ≡ 2) ⊎ (q % 32 ≡ 3))
-context_id q c e = elim (or_cases (q == 0x21) ((q % 32 == 2) || (q % 32 == 3)) e) [
-  | inl a ↦ inl (eqb-true q 0x21 a)
-  | inr b ↦ elim (or_cases (q % 32 == 2) (q % 32 == 3) b) [ inl a ↦ inr (inl (eqb-true (q % 32) 2 a)) | inr a ↦ inr (inr (eqb-true (q % 32) 3 a)) ]
+-- values stand at two ids, and at those of two kinds
+pub context_id : (q : ℕ) (c : Ctx) → fits_id q (Context c) ≡ true → (q % 32 ≡ 1) ⊎ ((q % 32 ≡ 2) ⊎ (q % 32 ≡ 3))
+context_id q c e = elim (or_cases (q == 0x21) ((q == 0x61) || ((q % 32 == 2) || (q % 32 == 3))) e) [
+  | inl a ↦ inl (ap (λ x. x % 32) (eqb-true q 0x21 a))
+  | inr b ↦ elim (or_cases (q == 0x61) ((q % 32 == 2) || (q % 32 == 3)) b) [
+    | inl a ↦ inl (ap (λ x. x % 32) (eqb-true q 0x61 a))
+    | inr d ↦ elim (or_cases (q % 32 == 2) (q % 32 == 3) d) [ inl a ↦ inr (inl (eqb-true (q % 32) 2 a)) | inr a ↦ inr (inr (eqb-true (q % 32) 3 a)) ]
+  ]
 ]
 
 no_context : (q : ℕ) (c : Ctx) → fits_id q (Context c) ≡ true → (q % 32 ≡ 13) ⊎ ((q % 32 ≡ 14) ⊎ (q % 32 ≡ 15)) → ⊥
@@ -107,6 +114,7 @@ pub record Suits (E : ℕ → Type 0) (places : List FolderPlace) (at : ℕ → 
   pub typed : (x : Object) → o ≡ Some x → fits_id q x ≡ true
   pub rows_ascend : (t : Tbl) → o ≡ Some (Table t) → keys_ascend (λ r. r.0) 0 t.table.rows ≡ true
   pub store : q ≡ 0x21 → IsSome o
+  pub names : q ≡ 0x61 → HoldsNames o
   pub context : (p : FolderPlace) → find_place q places ≡ Some p → (c : Ctx) × (o ≡ Some (Context c)) × ((q ≡ ROOT → ⊥) → (E q → ⊥) → c.parent ≡ p.parent.bits)
   pub folders : (f : ℕ) (p : FolderPlace) → find_place f places ≡ Some p → is_plain p ≡ true → q ≡ hierarchy f
       → IsSome o × ((g : ℕ) (r : FolderPlace) → find_place g places ≡ Some r → (g ≡ ROOT → ⊥) → (E g → ⊥) → r.parent.bits ≡ f → HasRow o g)
@@ -157,6 +165,10 @@ module _ (E : ℕ → Type 0) (places : List FolderPlace) (at at' : ℕ → Opti
     store = elim (cases_eq 0x21 q) [
       | inl same ↦ subst IsSome (sym (ap at' same ∙ puts.here)) (suits.store (sym same))
       | inr other ↦ subst IsSome (sym (puts.others 0x21 other)) n.store
+    ];
+    names = elim (cases_eq 0x61 q) [
+      | inl same ↦ subst HoldsNames (sym (ap at' same ∙ puts.here)) (suits.names (sym same))
+      | inr other ↦ subst HoldsNames (sym (puts.others 0x61 other)) n.names
     ];
     contexts = λ f p e. elim (cases_eq f q) [
       | inl same ↦ let w = suits.context p (subst (λ x. find_place x places ≡ Some p) same e) in

@@ -22,9 +22,9 @@ StandsBelow places (suc n) f = (f ≡ ROOT → ⊥) × ((p : FolderPlace) × (fi
 abbrev pub named_sort : Tree → ℕ → Option Sort
 named_sort T r = if r % 32 == 2 then Some Plain else (if (r % 32 == 3) && is_taken T r then Some Foreign else None)
 
--- the object belongs at the id: values at that of the store or of a folder, a table at that of one beside a plain folder; of messages their folders' tables tell
+-- the object belongs at the id: values at that of the store, of the names or of a folder, a table at that of one beside a plain folder; of messages their folders' tables tell
 abbrev pub BelongsAt : List FolderPlace → ℕ → Object → Type 0
-BelongsAt places q (Context c) = (q ≡ 0x21) ⊎ IsSome (find_place q places)
+BelongsAt places q (Context c) = (q ≡ 0x21) ⊎ ((q ≡ 0x61) ⊎ IsSome (find_place q places))
 BelongsAt places q (Table t) = (f : ℕ) × ((p : FolderPlace) × (find_place f places ≡ Some p) × (is_plain p ≡ true)) × ((q ≡ hierarchy f) ⊎ ((q ≡ contents f) ⊎ (q ≡ associated f)))
 BelongsAt places q (Message m) = Unit {0}
 

@@ -6,6 +6,7 @@ pub mod Settling
 pub mod Columns
 pub mod Ids
 pub mod Folders
+pub mod Names
 pub mod Parts
 pub mod Messages
 pub mod Step

@@ -1,5 +1,5 @@
 -- The commands on messages: what each refuses, in its order, and what it changes.
-use Rattle.std.specs.Prelude.{ℕ, ◌==◌, ◌||◌, Bool, false, not, nat_le, nat_lt, List, [], ◌++◌, length, map, Option, None, Some, Ok, if◌then◌else◌}
+use Rattle.std.specs.Prelude.{ℕ, ◌==◌, ◌||◌, Bool, false, not, nat_lt, List, [], ◌++◌, length, map, Option, None, Some, Ok, if◌then◌else◌}
 use Rattle.std.specs.Option.{option_map, option_and_then, is_some}
 use Rattle.std.specs.List.{list_any}
 use Rattle.pst_base.specs.Ids.{kind_of}
@@ -27,6 +27,7 @@ use Rattle.mail_tree.specs.Changing.{Answer, Changed, ◌>>=◌, add_shown, cont
 use Rattle.mail_tree.specs.Settling.{settled}
 use Rattle.mail_tree.specs.Parts.{attachment_props, attachment_tags, data_tag, has_recipient, is_full, is_spent_row, is_too_long, is_wide, lengthened, new_row, next_part, next_row, part_in, part_nid, part_with, plain_part, recipient_props, recipient_tags, room_for, rows_of, with_attachment, with_bytes, with_part, with_recipient, without_attachment, without_recipient}
 use Rattle.mail_tree.specs.Ids.{is_spent, message_kinds, new_id, next_index}
+use Rattle.mail_tree.specs.Names.{unless_nameless}
 use Rattle.mail_tree.specs.Folders.{Outcome, changing, folder_in, listed, making, replied, replying, unchanged, unless_full, unless_plain}
 
 -- the parent that an object tells
@@ -82,9 +83,9 @@ unfoldable pub new_message : Tree → ℕ → List ℕ → ℕ → Answer Outcom
 new_message T folder class time = folder_in T folder >>= λ p. unless_plain p >>= λ u. context_at T nothing 0x21 >>= λ store. unless_full T (contents folder) >>= λ v.
     making_message T folder class time store.props (next_index T 4 message_kinds)
 
--- `set`: until names are there, no id of 8000h or more has one
+-- `set`
 unfoldable pub set_value : Tree → ℕ → Val → Answer Outcome
-set_value T m v = message_in T m >>= λ M. refused_if (is_set_protected v.id M.props) Protected >>= λ u. refused_if (nat_le 0x8000 v.id) Property >>= λ w.
+set_value T m v = message_in T m >>= λ M. refused_if (is_set_protected v.id M.props) Protected >>= λ u. unless_nameless T v.id >>= λ w.
     changed_message T M (put v M.props)
 
 -- `unset`

@@ -9,6 +9,7 @@ use Rattle.mail_objects.specs.Objects.{ShowsContext, ShowsMail, ShowsTable}
 use Rattle.mail_tree.specs.Changing.{associated, contents, hierarchy}
 use Rattle.mail_tree.specs.Folders.{nid, place}
 use Rattle.mail_tree.specs.Found.{StandsBelow}
+use Rattle.mail_tree.specs.Names.{AreNames}
 use Rattle.mail_tree.specs.Places.{ROOT, find_place, is_plain, place_id}
 use Rattle.mail_tree.specs.Whole.{kind_of_sort}
 use Rattle.mail_tree.specs.declared.places.FolderPlace.{FolderPlace}
@@ -52,9 +53,9 @@ IsListed N places f r = (s : Sort) → names_sort N r ≡ Some s → (r ≡ ROOT
 
 -- The nodes have a tree, whose folders stand at these places.
 pub record HasTree (N : Nodes) (places : List FolderPlace) : Type 0 where
-  -- the store's values and the names
+  -- the store's values, and the names
   pub store : (c : Ctx) × HasContext N 0x21 c
-  pub names : (c : Ctx) × HasContext N 0x61 c
+  pub names : (c : Ctx) × HasContext N 0x61 c × AreNames c.props
   -- the places ascend by id, and the root stands in itself
   pub ascend : keys_ascend place_id 0 places ≡ true
   pub root : find_place ROOT places ≡ Some (place ROOT ROOT)

@@ -86,19 +86,19 @@ root_hierarchy = with_rows (start_row TOP top_name ∷ start_row SEARCH_ROOT sea
 abbrev pub folder_nodes : ℕ → List ℕ → List (ℕ × Object)
 folder_nodes f name = (f, context ROOT (folder_props name)) ∷ (f + 11, Table hierarchy_table) ∷ (f + 12, Table contents_table) ∷ (f + 13, Table contents_table) ∷ []
 
--- the objects of the tree of a new store
-unfoldable pub start_objects : List ℕ → List (ℕ × Object)
-start_objects name = (0x21, context 0 (store_props name))
-    ∷ (0x122, context ROOT root_props) ∷ (0x12D, root_hierarchy) ∷ (0x12E, Table contents_table) ∷ (0x12F, Table contents_table)
-    ∷ folder_nodes TOP top_name ++ (folder_nodes SEARCH_ROOT search_name ++ folder_nodes DELETED deleted_name)
-
 -- the values of the node of names, of which there are none
 abbrev pub names_props : List Val
 names_props = number 0x0001 251 ∷ value 0x0002 0x0102 [] ∷ value 0x0003 0x0102 [] ∷ value 0x0004 0x0102 [] ∷ []
 
--- the other nodes with values or tables: the names, and templates of all kinds of tables
+-- the objects of the tree of a new store
+unfoldable pub start_objects : List ℕ → List (ℕ × Object)
+start_objects name = (0x21, context 0 (store_props name)) ∷ (0x61, context 0 names_props)
+    ∷ (0x122, context ROOT root_props) ∷ (0x12D, root_hierarchy) ∷ (0x12E, Table contents_table) ∷ (0x12F, Table contents_table)
+    ∷ folder_nodes TOP top_name ++ (folder_nodes SEARCH_ROOT search_name ++ folder_nodes DELETED deleted_name)
+
+-- the other nodes with tables: templates of all kinds of them
 unfoldable pub start_others : List (ℕ × Object)
-start_others = (0x61, context 0 names_props) ∷ (0x60D, Table hierarchy_table) ∷ (0x60E, Table contents_table) ∷ (0x60F, Table contents_table) ∷ (0x610, Table contents_table)
+start_others = (0x60D, Table hierarchy_table) ∷ (0x60E, Table contents_table) ∷ (0x60F, Table contents_table) ∷ (0x610, Table contents_table)
     ∷ (0x671, Table attachments_table) ∷ (0x692, Table recipients_table) ∷ []
 
 -- a node without data

@@ -11,7 +11,7 @@ use Rattle.mail_tree.specs.declared.places.FolderPlace.{FolderPlace}
 abbrev pub Objects : Type 0
 Objects = map.FinMap nat_cmp Object
 
--- The tree: where its folders stand; by their ids the store's own values (21h), each folder's values, the tables of each plain
+-- The tree: where its folders stand; by their ids the store's own values (21h), the names (61h), each folder's values, the tables of each plain
 -- folder (its folders, its messages, its associated messages) and each message; all other nodes, as they are; and the counters.
 pub record Tree : Type 0 where
   pub places : List FolderPlace

@@ -11,6 +11,7 @@ use Rattle.mail_tree.specs.declared.places.Sort.{Sort}
 use Rattle.mail_tree.specs.declared.places.Sort.TheVariants.{Plain, Foreign}
 use Rattle.mail_tree.specs.Places.{ROOT, find_place, is_plain, place_id}
 use Rattle.mail_tree.specs.Tree.{Tree, object_at}
+use Rattle.mail_tree.specs.Names.{HoldsNames}
 use Rattle.mail_tree.specs.Changing.{Answer, associated, contents, hierarchy}
 use Rattle.node_port.specs.Nodes.{node_at}
 
@@ -19,9 +20,9 @@ abbrev pub kind_of_sort : Sort → ℕ
 kind_of_sort Plain = 2
 kind_of_sort Foreign = 3
 
--- the object may stand at the id: values at that of the store or of a folder, a table at that of one, a message at its own
+-- the object may stand at the id: values at that of the store, of the names or of a folder, a table at that of one, a message at its own
 abbrev pub fits_id : ℕ → Object → Bool
-fits_id q (Context c) = (q == 0x21) || ((q % 32 == 2) || (q % 32 == 3))
+fits_id q (Context c) = (q == 0x21) || ((q == 0x61) || ((q % 32 == 2) || (q % 32 == 3)))
 fits_id q (Table t) = (q % 32 == 13) || ((q % 32 == 14) || (q % 32 == 15))
 fits_id q (Message m) = (q % 32 == 4) && (m.nid == q)
 
@@ -42,8 +43,9 @@ pub record AreWhole (places : List FolderPlace) (at : ℕ → Option Object) : T
   pub typed : (q : ℕ) (o : Object) → at q ≡ Some o → fits_id q o ≡ true
   -- the rows of each table ascend by id
   pub rows_ascend : (q : ℕ) (t : Tbl) → at q ≡ Some (Table t) → keys_ascend (λ r. r.0) 0 t.table.rows ≡ true
-  -- the store's values, each folder's, of which all but the root's name its parent, and the tables of each plain folder are there
+  -- the store's values, the names, each folder's values, of which all but the root's name its parent, and the tables of each plain folder are there
   pub store : IsSome (at 0x21)
+  pub names : HoldsNames (at 0x61)
   pub contexts : (f : ℕ) (p : FolderPlace) → find_place f places ≡ Some p → (c : Ctx) × (at f ≡ Some (Context c)) × ((f ≡ ROOT → ⊥) → c.parent ≡ p.parent.bits)
   pub tables : (f : ℕ) (p : FolderPlace) → find_place f places ≡ Some p → is_plain p ≡ true → IsSome (at (hierarchy f)) × IsSome (at (contents f))
   -- each row of a message in a plain folder's table names a message in it

@@ -1,3 +1,4 @@
+pub mod AddedLaws
 pub mod EntryLaws
 pub mod FoundLaws
 pub mod KeyLaws

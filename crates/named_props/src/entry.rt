@@ -25,6 +25,7 @@ impl NameEntry {
     pub(crate) fn from_bytes(bytes: &[u8; 8]) -> NameEntry
         ensures entry { result ≡ entry_of bytes.now }
         ensures guid { result.guid ≤ 32767 }
+        ensures number { result.id < 2 ^ 32 }
     {
         let word = u16_at(bytes, 4);
         NameEntry {

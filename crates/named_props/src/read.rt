@@ -1,8 +1,8 @@
 //! Reading names.
-ghost use Rattle.std.specs.Prelude.{IfOk, IsTrue, map};
+ghost use Rattle.std.specs.Prelude.{◌≡◌, IfOk, IsTrue, map, true};
 ghost use Rattle.std.specs.List.{list_all};
 ghost use Rattle.pst_base.specs.Stops.{Finds};
-ghost use Rattle.named_props.specs.Entries.{all_in_range, entry_of, in_range};
+ghost use Rattle.named_props.specs.Entries.{all_in_range, entry_of, fits_id, in_range};
 ghost use Rattle.named_props.specs.Holding.{IsWritable, names_of};
 
 use crate::entries::NameEntries;
@@ -23,6 +23,7 @@ pub struct NamesFault;
 fn read_entries(alloc: Global, chunks: &[[u8; 8]]) -> Result<Vec<NameEntry>, MemOr<NamesFault>>
     ensures exact { Finds (λ v. v.items) result (all_in_range (map entry_of chunks.now)) }
     ensures range { IfOk result (λ v. IsTrue (list_all in_range v.items)) }
+    ensures numbers { IfOk result (λ v. list_all fits_id v.items ≡ true) }
 {
     let mut entries = Vec::with_capacity(alloc, chunks.len())?;
     for chunk in chunks {
@@ -40,6 +41,7 @@ fn read_entries(alloc: Global, chunks: &[[u8; 8]]) -> Result<Vec<NameEntry>, Mem
 pub fn read_names(alloc: Global, p: &Props) -> Result<Names, MemOr<NamesFault>>
     ensures exact { Finds (λ n. n) result (names_of p.now) }
     ensures writable { IfOk result IsWritable }
+    ensures numbers { IfOk result (λ n. list_all fits_id n.entries ≡ true) }
 {
     let (guids, guids_rest) = bytes_at(p, PID_TAG_NAMEID_STREAM_GUID.id).as_chunks::<16>();
     let (entries, entries_rest) = bytes_at(p, PID_TAG_NAMEID_STREAM_ENTRY.id).as_chunks::<8>();

@@ -4,7 +4,7 @@ use Rattle.std.proofs.lemmas.Bool.{cases_Bool, eqb-true, false≢true}
 use Rattle.std.proofs.lemmas.Option.{none-some, same_Some}
 use Rattle.mapi_values.specs.Messages.{Mes}
 use Rattle.mapi_values.specs.Tables.{find_row}
-use Rattle.mail_objects.specs.Forms.{Ctx, Tbl}
+use Rattle.mail_objects.specs.Forms.{Tbl}
 use Rattle.mail_objects.specs.Objects.{ShowsObject}
 use Rattle.mail_objects.specs.declared.object.Object.{Object}
 use Rattle.mail_objects.specs.declared.object.Object.TheVariants.{Context, Table, Message}
@@ -18,15 +18,13 @@ use Rattle.mail_tree.specs.Folders.{place}
 use Rattle.mail_tree.specs.Found.{BelongsAt, IsFound, named_sort}
 use Rattle.mail_tree.specs.Ids.{is_taken}
 use Rattle.mail_tree.specs.Places.{ROOT, find_place, is_plain, is_plain_sort, place_id}
-use Rattle.mail_tree.specs.Start.{IsStart, names_props, start_others}
-use Rattle.mail_tree.specs.Standing.{HasContext, HasTable, HasTables, HasTree, ListsFolder, ListsMessage, names_sort}
+use Rattle.mail_tree.specs.Standing.{HasTable, HasTables, HasTree, ListsFolder, ListsMessage, names_sort}
 use Rattle.mail_tree.specs.Tree.{StandsAt, Tree, object_at}
-use Rattle.mail_tree.specs.Whole.{IsWhole, fits_id}
+use Rattle.mail_tree.specs.Whole.{IsWhole}
 use Rattle.mail_tree.proofs.KindsOfPuts.{beside_kind}
-use Rattle.mail_tree.proofs.Nearly.{context_id, message_id, table_of}
+use Rattle.mail_tree.proofs.Nearly.{message_id, table_of}
 use Rattle.mail_tree.proofs.Settles.{folders_of, messages_of, store_of}
 use Rattle.tree_shown.specs.Shows.{IsOwned, Shows}
-use Rattle.tree_shown.proofs.Made.{table_id}
 use Rattle.tree_shown.proofs.Owned.{one_table_at}
 
 -- the place of an id tells it
@@ -97,10 +95,10 @@ module _ (N : Nodes) (T : Tree) (w : IsWhole T) (h : IsFound T) (at : (q : ℕ) 
       let same = one_table_at N (hierarchy f) x.0 t.0 x.1 (node_of (hierarchy f) (Table t.0) t.1) in
       h.listed f p t.0 r s e plain t.1 (subst (λ (u : Tbl). IsSome (find_row r u.table.rows)) same x.2) (named r ∙ names)
 
-  has_tree : ((c : Ctx) × HasContext N 0x61 c) → HasTree N T.places
-  has_tree names = record {
+  has_tree : HasTree N T.places
+  has_tree = record {
     store = let c = store_of w.objects in (c.0, node_of 0x21 (Context c.0) c.1);
-    names = names;
+    names = let c = w.objects.names in (c.0, node_of 0x61 (Context c.0) c.1, c.2);
     ascend = w.objects.ascend;
     root = let p = w.objects.root in p.1 ∙ ap (λ (x : FolderPlace). Some x) (plain_place p.0 ROOT ROOT (placed_id ROOT T.places p.0 p.1) p.3 p.2);
     kinds = w.objects.kinds;
@@ -112,8 +110,9 @@ module _ (N : Nodes) (T : Tree) (w : IsWhole T) (h : IsFound T) (at : (q : ℕ) 
   }
 
   owned_is : (q : ℕ) (o : Object) → object_at T q ≡ Some o → BelongsAt T.places q o → IsOwned N T.places q
-  owned_is q (Context c) e (inl same) = inl same
-  owned_is q (Context c) e (inr placed) = inr (inl placed)
+  owned_is q (Context c) e (inl same) = inl (inl same)
+  owned_is q (Context c) e (inr (inl same)) = inl (inr same)
+  owned_is q (Context c) e (inr (inr placed)) = inr (inl placed)
   owned_is q (Table t) e (f, p, inl same) = inr (inr (f, p, inl same))
   owned_is q (Table t) e (f, p, inr (inl same)) = inr (inr (f, p, inr (inl same)))
   owned_is q (Table t) e (f, p, inr (inr same)) = inr (inr (f, p, inr (inr (inl (same, some_node q (subst IsSome (sym e) refl))))))
@@ -123,7 +122,8 @@ module _ (N : Nodes) (T : Tree) (w : IsWhole T) (h : IsFound T) (at : (q : ℕ) 
       inr (inr (m.folder, (v.0, v.1, v.2), inr (inr (inr (v.3.0, node_of (contents m.folder) (Table v.3.0) v.3.1, v.3.2, four)))))
 
   is_owned : (q : ℕ) → IsOwned N T.places q → IsSome (object_at T q)
-  is_owned q (inl same) = subst (λ x. IsSome (object_at T x)) (sym same) w.objects.store
+  is_owned q (inl (inl same)) = subst (λ x. IsSome (object_at T x)) (sym same) w.objects.store
+  is_owned q (inl (inr same)) = subst (λ x. IsSome (object_at T x)) (sym same) (subst IsSome (sym w.objects.names.1) refl)
   is_owned q (inr (inl placed)) = go (find_place q T.places) refl placed
     where
       go : (x : Option FolderPlace) → find_place q T.places ≡ x → IsSome x → IsSome (object_at T q)
@@ -147,41 +147,11 @@ module _ (N : Nodes) (T : Tree) (w : IsWhole T) (h : IsFound T) (at : (q : ℕ) 
       go None e is = absurd (false≢true is)
       go (Some o) e is = owned_is q o e (h.owned q o e)
 
--- nodes that show a whole tree that an opening finds, and among which the names are, show that one by what an opening finds
-pub shows_found : (N : Nodes) (T : Tree) → IsWhole T → IsFound T → ((q : ℕ) → StandsAt q (node_at N q) (object_at T q) (node_at T.others q)) → ((c : Ctx) × HasContext N 0x61 c) → Shows N T
-shows_found N T w h at names = record {
-  tree = has_tree N T w h at names;
+-- nodes that show a whole tree that an opening finds show that one by what an opening finds
+pub shows_found : (N : Nodes) (T : Tree) → IsWhole T → IsFound T → ((q : ℕ) → StandsAt q (node_at N q) (object_at T q) (node_at T.others q)) → Shows N T
+shows_found N T w h at = record {
+  tree = has_tree N T w h at;
   at = at;
   typed = w.objects.typed;
   owned = λ q. (owns N T w h at q, is_owned N T w h at q);
 }
-
--- no object stands at another id of the store's kind than that of its values
-no_other : (q : ℕ) (o : Object) → q % 32 ≡ 1 → (q ≡ 0x21 → ⊥) → fits_id q o ≡ true → ⊥
-no_other q (Context c) kind other e = elim (context_id q c e) [ inl k ↦ other k | inr r ↦ elim r [ inl k ↦ omega arith | inr k ↦ omega arith ] ]
-no_other q (Table t) kind other e = let high = table_id q t e in omega arith
-no_other q (Message m) kind other e = let four = (message_id q m e).0 in omega arith
-
--- no object stands where the names stand
-pub names_apart : (T : Tree) → IsWhole T → object_at T 0x61 ≡ None
-names_apart T w = go (object_at T 0x61) refl
-  where
-    go : (x : Option Object) → object_at T 0x61 ≡ x → x ≡ None
-    go None e = refl
-    go (Some o) e = absurd (no_other 0x61 o refl (λ k. false≢true (ap (λ x. x == 0x61) (sym k))) (w.objects.typed 0x61 o e))
-
--- where the other node there stays, the names stay
-pub names_stay : (N N' : Nodes) (T T' : Tree) → IsWhole T → IsWhole T' → ((q : ℕ) → StandsAt q (node_at N q) (object_at T q) (node_at T.others q)) → ((q : ℕ) → StandsAt q (node_at N' q) (object_at T' q) (node_at T'.others q))
-    → node_at T'.others 0x61 ≡ node_at T.others 0x61 → ((c : Ctx) × HasContext N 0x61 c) → (c : Ctx) × HasContext N' 0x61 c
-names_stay N N' T T' w w' at at' same names =
-    let here = subst (λ x. StandsAt 0x61 (node_at N 0x61) x (node_at T.others 0x61)) (names_apart T w) (at 0x61) in
-    let there = subst (λ x. StandsAt 0x61 (node_at N' 0x61) x (node_at T'.others 0x61)) (names_apart T' w') (at' 0x61) in
-    (names.0, (names.1.0, there ∙ same ∙ sym here ∙ names.1.1, names.1.2))
-
--- a new store has the names
-pub names_start : (name : List ℕ) (N : Nodes) (T : Tree) → IsStart name T → IsWhole T → ((q : ℕ) → StandsAt q (node_at N q) (object_at T q) (node_at T.others q)) → (c : Ctx) × HasContext N 0x61 c
-unfolding start_others
-names_start name N T start w at =
-    let other = start.others 0x61 in
-    let here = subst (λ x. StandsAt 0x61 (node_at N 0x61) x (node_at T.others 0x61)) (names_apart T w) (at 0x61) in
-    (record { parent = 0; props = names_props; kept = [] }, (other.0, here ∙ other.1, other.2))

@@ -18,7 +18,7 @@ use Rattle.mail_tree.specs.Whole.{AreWhole, HasNoStray, HasRow, IsWhole, fits_id
 use Rattle.mail_tree.proofs.FineLaws.{cases_Option}
 use Rattle.mail_tree.proofs.KindsOfPuts.{beside_kind, low}
 use Rattle.mail_tree.proofs.Nearly.{context_id, folder_kind, message_id, table_of}
-use Rattle.tree_shown.specs.Shows.{IsBeside, IsOwned, Shows}
+use Rattle.tree_shown.specs.Shows.{IsBeside, IsFixed, IsOwned, Shows}
 use Rattle.tree_shown.proofs.Gather.{Gathered, gather}
 use Rattle.tree_shown.proofs.Owned.{IsAt, object_of, one_context_at, one_mail_at, one_table_at, owned}
 use Rattle.tree_shown.proofs.Rows.{rows_rise}
@@ -37,6 +37,11 @@ table_id q t e = elim (or_cases (q % 32 == 13) ((q % 32 == 14) || (q % 32 == 15)
 pub context_low : (q : ℕ) (c : Ctx) → fits_id q (Context c) ≡ true → q % 32 < 4
 context_low q c e = elim (context_id q c e) [ inl k ↦ omega arith | inr r ↦ elim r [ inl k ↦ omega arith | inr k ↦ omega arith ] ]
 
+-- the store's values and the names are of one kind
+fixed_kind : (q : ℕ) → IsFixed q → q % 32 ≡ 1
+fixed_kind q (inl e) = ap (λ x. x % 32) e
+fixed_kind q (inr e) = ap (λ x. x % 32) e
+
 -- what stands beside a folder has another id than values
 beside_high : (N : Nodes) (f q : ℕ) → IsBeside N f q → 4 ≤ q % 32
 beside_high N f q (inl same) = omega (arith, beside_kind f 13 (omega arith))
@@ -45,11 +50,11 @@ beside_high N f q (inr (inr (inl x))) = let same = x.0 in omega (arith, beside_k
 beside_high N f q (inr (inr (inr x))) = let four = x.3 in omega arith
 
 -- what stands at the id of a folder, a table or a message is of the form that is there
-is_context : (N : Nodes) (q : ℕ) (c : Ctx) (o : Option Object) → IsSome o → ((x : Object) → o ≡ Some x → IsAt N q x) → (q % 32 ≡ 2) ⊎ (q % 32 ≡ 3) → HasContext N q c → o ≡ Some (Context c)
-is_context N q c None is each kind has = absurd (false≢true is)
-is_context N q c (Some (Context d)) is each kind has = ap (λ (x : Ctx). Some (Context x)) (one_context_at N q d c (each (Context d) refl).0 has)
-is_context N q c (Some (Table t)) is each kind has = let (above, below) = low q kind in let more = table_id q t (each (Table t) refl).1 in absurd (omega arith)
-is_context N q c (Some (Message m)) is each kind has = let (above, below) = low q kind in let four = (message_id q m (each (Message m) refl).1).0 in absurd (omega arith)
+is_context : (N : Nodes) (q : ℕ) (c : Ctx) (o : Option Object) → IsSome o → ((x : Object) → o ≡ Some x → IsAt N q x) → q % 32 < 4 → HasContext N q c → o ≡ Some (Context c)
+is_context N q c None is each below has = absurd (false≢true is)
+is_context N q c (Some (Context d)) is each below has = ap (λ (x : Ctx). Some (Context x)) (one_context_at N q d c (each (Context d) refl).0 has)
+is_context N q c (Some (Table t)) is each below has = let more = table_id q t (each (Table t) refl).1 in absurd (omega arith)
+is_context N q c (Some (Message m)) is each below has = let four = (message_id q m (each (Message m) refl).1).0 in absurd (omega arith)
 
 is_table : (N : Nodes) (q : ℕ) (t : Tbl) (o : Option Object) → IsSome o → ((x : Object) → o ≡ Some x → IsAt N q x) → (q % 32 ≡ 13) ⊎ ((q % 32 ≡ 14) ⊎ (q % 32 ≡ 15)) → HasTable N q t → o ≡ Some (Table t)
 is_table N q t o is each kind has =
@@ -62,7 +67,7 @@ is_mail N q m (Some (Message n)) is each kind has = ap (λ (x : Mes). Some (Mess
 is_mail N q m (Some (Table t)) is each kind has = let more = table_id q t (each (Table t) refl).1 in absurd (omega arith)
 is_mail N q m (Some (Context c)) is each kind has = absurd (no_message (context_id q c (each (Context c) refl).1))
   where
-    no_message : (q ≡ 0x21) ⊎ ((q % 32 ≡ 2) ⊎ (q % 32 ≡ 3)) → ⊥
+    no_message : (q % 32 ≡ 1) ⊎ ((q % 32 ≡ 2) ⊎ (q % 32 ≡ 3)) → ⊥
     no_message (inl e) = omega arith
     no_message (inr (inl e)) = omega arith
     no_message (inr (inr e)) = omega arith
@@ -91,7 +96,7 @@ module _ (N : Nodes) (places : List FolderPlace) (last : List ℕ) (h : HasTree 
       go (Some o) e = let is = made.is q o e in (is.2, is.0.0)
 
   context_at : (f : ℕ) (p : FolderPlace) (c : Ctx) → find_place f places ≡ Some p → HasContext N f c → object_at tree f ≡ Some (Context c)
-  context_at f p c e is = is_context N f c (object_at tree f) (has f (inr (inl (subst IsSome (sym e) refl)))) (stands f) (folder_kind p.sort f (h.kinds f p e)) is
+  context_at f p c e is = is_context N f c (object_at tree f) (has f (inr (inl (subst IsSome (sym e) refl)))) (stands f) (let (above, below) = low f (folder_kind p.sort f (h.kinds f p e)) in below) is
 
   folders_at : (f : ℕ) (p : FolderPlace) (t : Tbl) → find_place f places ≡ Some p → is_plain p ≡ true → HasTable N (hierarchy f) t → object_at tree (hierarchy f) ≡ Some (Table t)
   folders_at f p t e plain is = is_table N (hierarchy f) t (object_at tree (hierarchy f)) (has (hierarchy f) (inr (inr (f, (p, e, plain), inl refl)))) (stands (hierarchy f)) (inl (beside_kind f 13 (omega arith))) is
@@ -101,7 +106,7 @@ module _ (N : Nodes) (places : List FolderPlace) (last : List ℕ) (h : HasTree 
 
   -- a message object is one that a folder lists
   message_held : (m : ℕ) (M : Mes) → object_at tree m ≡ Some (Message M) → IsOwned N places m → (p : FolderPlace) × (find_place M.folder places ≡ Some p) × (is_plain p ≡ true) × HasRow (object_at tree (contents M.folder)) m
-  message_held m M e (inl same) = let four = (message_id m M (stands m (Message M) e).1).0 in absurd (omega arith)
+  message_held m M e (inl fixed) = let four = (message_id m M (stands m (Message M) e).1).0 in let one = fixed_kind m fixed in absurd (omega arith)
   message_held m M e (inr (inl placed)) =
       let four = (message_id m M (stands m (Message M) e).1).0 in
       elim (cases_Option (find_place m places)) [
@@ -128,7 +133,8 @@ module _ (N : Nodes) (places : List FolderPlace) (last : List ℕ) (h : HasTree 
     parents = λ f p e no_root. let v = h.parents f p e no_root in (v.0, v.1, v.2, (v.3.0, folders_at p.parent.bits v.0 v.3.0 v.1 v.2 v.3.1, v.3.2));
     typed = λ q o e. (stands q o e).1;
     rows_ascend = λ q t e. let is = (stands q (Table t) e).0 in rows_rise is.0.blocks is.0.subs t.table (is.2).table;
-    store = has 0x21 (inl refl);
+    store = has 0x21 (inl (inl refl));
+    names = let n = h.names in (n.0, is_context N 0x61 n.0 (object_at tree 0x61) (has 0x61 (inl (inr refl))) (stands 0x61) (omega arith) n.1, n.2);
     contexts = λ f p e. let c = h.contexts f p e in (c.0, context_at f p c.0 e c.1, c.2);
     tables = λ f p e plain. (has (hierarchy f) (inr (inr (f, (p, e, plain), inl refl))), has (contents f) (inr (inr (f, (p, e, plain), inr (inl refl)))));
     listed = λ f p t m e plain is row four.
@@ -167,10 +173,11 @@ module _ (N : Nodes) (places : List FolderPlace) (last : List ℕ) (h : HasTree 
   -- each object belongs where it stands
   belongs_is : (q : ℕ) (o : Object) → fits_id q o ≡ true → IsOwned N places q → BelongsAt places q o
   belongs_is q (Message m) fits is = tt
-  belongs_is q (Context c) fits (inl same) = inl same
-  belongs_is q (Context c) fits (inr (inl placed)) = inr placed
+  belongs_is q (Context c) fits (inl (inl same)) = inl same
+  belongs_is q (Context c) fits (inl (inr same)) = inr (inl same)
+  belongs_is q (Context c) fits (inr (inl placed)) = inr (inr placed)
   belongs_is q (Context c) fits (inr (inr (f, p, x))) = let less = context_low q c fits in let more = beside_high N f q x in absurd (omega arith)
-  belongs_is q (Table t) fits (inl same) = let more = table_id q t fits in absurd (omega arith)
+  belongs_is q (Table t) fits (inl fixed) = let more = table_id q t fits in let one = fixed_kind q fixed in absurd (omega arith)
   belongs_is q (Table t) fits (inr (inl placed)) = let more = table_id q t fits in let less = placed_low q placed in absurd (omega arith)
   belongs_is q (Table t) fits (inr (inr (f, p, inl same))) = (f, p, inl same)
   belongs_is q (Table t) fits (inr (inr (f, p, inr (inl same)))) = (f, p, inr (inl same))

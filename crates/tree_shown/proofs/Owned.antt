@@ -21,7 +21,7 @@ use Rattle.mail_tree.specs.Whole.{fits_id}
 use Rattle.mail_tree.proofs.FineLaws.{cases_Option}
 use Rattle.mail_tree.proofs.KindsOfPuts.{beside_kind, folder_fits}
 use Rattle.mail_tree.proofs.Nearly.{folder_kind}
-use Rattle.tree_shown.specs.Shows.{IsBeside, IsOwned, IsPlainIn}
+use Rattle.tree_shown.specs.Shows.{IsFixed, IsBeside, IsOwned, IsPlainIn}
 use Rattle.tree_shown.proofs.Ids.{IsIn, Lists, each, either, like, nothing, one}
 
 -- the node at an id is at most one object of a form
@@ -113,7 +113,7 @@ module _ (N : Nodes) (places : List FolderPlace) (h : HasTree N places) where
 
   pub owned : Lists (IsOwned N places)
   owned =
-      either (λ q. q ≡ 0x21) (λ q. IsSome (find_place q places) ⊎ ((f : ℕ) × IsPlainIn places f × IsBeside N f q)) (one 0x21)
+      either IsFixed (λ q. IsSome (find_place q places) ⊎ ((f : ℕ) × IsPlainIn places f × IsBeside N f q)) (either (λ q. q ≡ 0x21) (λ q. q ≡ 0x61) (one 0x21) (one 0x61))
       (either (λ q. IsSome (find_place q places)) (λ q. (f : ℕ) × IsPlainIn places f × IsBeside N f q)
       (record { ids = map place_id places; are = λ q is. placed_is q places is; all = λ q is. is_placed q places is })
       (like (λ q. (f : ℕ) × IsIn f (map place_id places) × (IsPlainIn places f × IsBeside N f q)) (λ q. (f : ℕ) × IsPlainIn places f × IsBeside N f q)
@@ -131,7 +131,8 @@ module _ (N : Nodes) (places : List FolderPlace) (h : HasTree N places) where
       (Message m.0, (m.1, and_from (q % 32 == 4) (m.0.nid == q) (eq-eqb (q % 32) 4 x.3) (eq-eqb m.0.nid q (m.1.2).message.id)))
 
   pub object_of : (q : ℕ) → IsOwned N places q → (o : Object) × IsAt N q o
-  object_of q (inl same) = let c = h.store in (Context c.0, (subst (λ x. HasContext N x c.0) (sym same) c.1, subst (λ x. fits_id x (Context c.0) ≡ true) (sym same) refl))
+  object_of q (inl (inl same)) = let c = h.store in (Context c.0, (subst (λ x. HasContext N x c.0) (sym same) c.1, subst (λ x. fits_id x (Context c.0) ≡ true) (sym same) refl))
+  object_of q (inl (inr same)) = let c = h.names in (Context c.0, (subst (λ x. HasContext N x c.0) (sym same) c.1, subst (λ x. fits_id x (Context c.0) ≡ true) (sym same) refl))
   object_of q (inr (inl placed)) = elim (cases_Option (find_place q places)) [
     | inl none ↦ absurd (false≢true (sym (ap is_some none) ∙ placed))
     | inr p ↦ let c = h.contexts q p.0 p.1 in (Context c.0, (c.1, folder_fits q c.0 (folder_kind p.0.sort q (h.kinds q p.0 p.1))))

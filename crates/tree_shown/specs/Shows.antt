@@ -17,9 +17,13 @@ IsPlainIn places f = (p : FolderPlace) × (find_place f places ≡ Some p) × (i
 abbrev pub IsBeside : Nodes → ℕ → ℕ → Type 0
 IsBeside N f q = (q ≡ hierarchy f) ⊎ ((q ≡ contents f) ⊎ (((q ≡ associated f) × IsSome (node_at N q)) ⊎ ListsMessage N f q))
 
--- the id is that of the store's values, of a folder, of a table of a plain folder that is there, or of a message that one lists
+-- the id is that of the store's values, or of the names
+abbrev pub IsFixed : ℕ → Type 0
+IsFixed q = (q ≡ 0x21) ⊎ (q ≡ 0x61)
+
+-- the id is that of the store's values, of the names, of a folder, of a table of a plain folder that is there, or of a message that one lists
 abbrev pub IsOwned : Nodes → List FolderPlace → ℕ → Type 0
-IsOwned N places q = (q ≡ 0x21) ⊎ (IsSome (find_place q places) ⊎ ((f : ℕ) × IsPlainIn places f × IsBeside N f q))
+IsOwned N places q = IsFixed q ⊎ (IsSome (find_place q places) ⊎ ((f : ℕ) × IsPlainIn places f × IsBeside N f q))
 
 -- The nodes show the tree: they have one with its places, its objects are those of the nodes that belong to the store, and it keeps all other nodes as they are.
 pub record Shows (N : Nodes) (T : Tree) : Type 0 where

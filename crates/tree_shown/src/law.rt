@@ -1,10 +1,9 @@
 //! From nodes to the tree that they show.
 ghost use Rattle.std.specs.Prelude.{◌≡◌, ℕ, List};
-ghost use Rattle.mail_objects.specs.Forms.{Ctx};
 ghost use Rattle.node_port.specs.Nodes.{Nodes, node_at};
 ghost use Rattle.mail_tree.specs.declared.places.FolderPlace.{FolderPlace};
 ghost use Rattle.mail_tree.specs.Found.{IsFound};
-ghost use Rattle.mail_tree.specs.Standing.{HasContext, HasTree};
+ghost use Rattle.mail_tree.specs.Standing.{HasTree};
 ghost use Rattle.mail_tree.specs.Tree.{StandsAt, Tree, object_at};
 ghost use Rattle.mail_tree.specs.Whole.{IsWhole};
 ghost use Rattle.tree_shown.specs.Shows.{Shows};
@@ -19,7 +18,7 @@ pub fn one_tree()
     ensures { (N : Nodes) (T U : Tree) → Shows N T → Shows N U → T.last ≡ U.last → T ≡ U }
 {}
 
-/// Nodes of a whole tree that an opening finds, among which the names are, show that very tree.
+/// Nodes of a whole tree that an opening finds show that very tree.
 pub fn shows_found()
-    ensures { (N : Nodes) (T : Tree) → IsWhole T → IsFound T → ((q : ℕ) → StandsAt q (node_at N q) (object_at T q) (node_at T.others q)) → ((c : Ctx) × HasContext N 0x61 c) → Shows N T }
+    ensures { (N : Nodes) (T : Tree) → IsWhole T → IsFound T → ((q : ℕ) → StandsAt q (node_at N q) (object_at T q) (node_at T.others q)) → Shows N T }
 {}
