@@ -8,8 +8,8 @@ use Rattle.mapi_values.specs.Tables.{find_row, mirror}
 use Rattle.mapi_values.specs.Values.{Val}
 use Rattle.mapi_values.specs.declared.value.Tag.{Tag}
 use Rattle.command_text.specs.declared.command.Command.{Command}
-use Rattle.command_text.specs.declared.command.Command.TheVariants.{MakeFolder, RenameFolder, MoveFolder, RemoveFolder, ListFolder, NewMessage, SetProperty, UnsetProperty, GetProperty, ListProperties, MoveMessage, CopyMessage, RemoveMessage, AddRecipient, RemoveRecipient, Save, Quit}
-use Rattle.command_text.specs.declared.reply.LastLine.TheVariants.{Made, Row, Value}
+use Rattle.command_text.specs.declared.command.Command.TheVariants.{MakeFolder, RenameFolder, MoveFolder, RemoveFolder, ListFolder, NewMessage, SetProperty, UnsetProperty, GetProperty, ListProperties, MoveMessage, CopyMessage, RemoveMessage, AddRecipient, RemoveRecipient, NameProperty, Save, Quit}
+use Rattle.command_text.specs.declared.reply.LastLine.TheVariants.{Made, Named, Row, Value}
 use Rattle.mail_objects.specs.Forms.{Ctx, Tbl}
 use Rattle.mail_objects.specs.declared.object.Object.{Object}
 use Rattle.mail_objects.specs.declared.object.Object.TheVariants.{Context, Message, Table}
@@ -19,7 +19,10 @@ use Rattle.mail_tree.specs.Tree.{Tree, object_at}
 use Rattle.mail_tree.specs.Values.{is_read, number, text, time_value, truth, with_props}
 use Rattle.mail_tree.specs.Changing.{as_message, contents, hierarchy}
 use Rattle.mail_tree.specs.Settling.{message_ids}
-use Rattle.mail_tree.specs.Folders.{place, replied, unchanged}
+use Rattle.mail_tree.specs.Folders.{Outcome, place, replied, unchanged}
+use Rattle.mail_tree.specs.Names.{NAMES, names_in}
+use Rattle.named_props.specs.Finding.{guids_known, name_at}
+use Rattle.named_props.specs.declared.names.Names.{Names}
 use Rattle.mail_tree.specs.Messages.{copy_of, in_folder}
 use Rattle.mail_tree.specs.Parts.{recipient_props, rows_of, with_recipient, without_recipient}
 use Rattle.mail_tree.specs.Step.{after, outcome}
@@ -177,3 +180,20 @@ pub record CountsAnew : Type 0 where
   pub removes : (T : Tree) (m : Nid) → IsWhole T → IfOk (outcome T (RemoveMessage m)) (λ o. (M : Mes) × (message_with T m.bits ≡ Some M) × CountsOf (after T o) M.folder)
   pub adds_recipient : (T : Tree) (m : Nid) (kind : ℕ) (address name : List ℕ) → IsWhole T → IfOk (outcome T (AddRecipient m kind address name)) (λ o. (M : Mes) × (message_with T m.bits ≡ Some M) × CountsOf (after T o) M.folder)
   pub removes_recipient : (T : Tree) (m : Nid) (row : ℕ) → IsWhole T → IfOk (outcome T (RemoveRecipient m row)) (λ o. (M : Mes) × (message_with T m.bits ≡ Some M) × CountsOf (after T o) M.folder)
+
+-- After `name` the property that is replied is that of the name, each name that was there keeps its property, if no entry names an index that no GUID has, and all but the names is as it was.
+pub record FindsName (T : Tree) (guid : List ℕ) (number : ℕ) (o : Outcome) : Type 0 where
+  pub old : Names
+  pub new : Names
+  pub property : ℕ
+  pub was : names_in T ≡ Ok old
+  pub is : names_in (after T o) ≡ Ok new
+  pub reply : o.reply ≡ replied (Named property)
+  pub finds : guids_known old.guids old.entries ≡ true → name_at new.guids new.entries guid number ≡ Some property
+  pub keeps : guids_known old.guids old.entries ≡ true → (other : List ℕ) (id kept : ℕ) → name_at old.guids old.entries other id ≡ Some kept → name_at new.guids new.entries other id ≡ Some kept
+  pub others : (q : ℕ) → (q ≡ NAMES → ⊥) → object_at (after T o) q ≡ object_at T q
+  pub places : o.places ≡ T.places
+
+-- so does each `name`
+abbrev pub NamesProperty : Type 0
+NamesProperty = (T : Tree) (guid : List ℕ) (number : ℕ) → IsWhole T → IfOk (outcome T (NameProperty guid number)) (FindsName T guid number)
