@@ -6,6 +6,7 @@ pub mod MessageSteps
 pub mod FolderSteps
 pub mod Keeping
 pub mod NameSteps
+pub mod NameEffects
 pub mod CommandSteps
 pub mod Effects
 pub mod PlaceEffects

@@ -9,8 +9,8 @@ use Rattle.mapi_values.specs.Values.{Val}
 use Rattle.mapi_values.specs.declared.part.Part.{Part}
 use Rattle.mapi_values.specs.declared.value.Tag.{Tag}
 use Rattle.command_text.specs.declared.command.Command.{Command}
-use Rattle.command_text.specs.declared.command.Command.TheVariants.{MakeFolder, RenameFolder, MoveFolder, RemoveFolder, ListFolder, NewMessage, SetProperty, UnsetProperty, GetProperty, ListProperties, MoveMessage, CopyMessage, RemoveMessage, AddRecipient, RemoveRecipient, AddAttachment, AppendData, RemoveAttachment, FetchData, Save, Quit}
-use Rattle.command_text.specs.declared.reply.LastLine.TheVariants.{Attached, Made, Row, Value}
+use Rattle.command_text.specs.declared.command.Command.TheVariants.{MakeFolder, RenameFolder, MoveFolder, RemoveFolder, ListFolder, NewMessage, SetProperty, UnsetProperty, GetProperty, ListProperties, MoveMessage, CopyMessage, RemoveMessage, AddRecipient, RemoveRecipient, AddAttachment, AppendData, RemoveAttachment, FetchData, Save, Quit, NameProperty}
+use Rattle.command_text.specs.declared.reply.LastLine.TheVariants.{Attached, Made, Row, Value, Named}
 use Rattle.mail_objects.specs.Forms.{Ctx, Tbl}
 use Rattle.mail_objects.specs.declared.object.Object.{Object}
 use Rattle.mail_objects.specs.declared.object.Object.TheVariants.{Context, Message, Table}
@@ -20,7 +20,10 @@ use Rattle.mail_tree.specs.Tree.{Tree, object_at}
 use Rattle.mail_tree.specs.Values.{bytes_of, is_read, number, text, time_value, truth, with_props}
 use Rattle.mail_tree.specs.Changing.{as_message, contents, hierarchy}
 use Rattle.mail_tree.specs.Settling.{message_ids}
-use Rattle.mail_tree.specs.Folders.{place, replied, unchanged}
+use Rattle.mail_tree.specs.Folders.{Outcome, place, replied, unchanged}
+use Rattle.mail_tree.specs.Names.{NAMES, names_in}
+use Rattle.named_props.specs.Finding.{guids_known, name_at}
+use Rattle.named_props.specs.declared.names.Names.{Names}
 use Rattle.mail_tree.specs.Messages.{copy_of, in_folder}
 use Rattle.mail_tree.specs.Parts.{attachment_props, part_in, part_with, plain_part, recipient_props, rows_of, with_attachment, with_bytes, with_part, with_recipient, without_attachment, without_recipient}
 use Rattle.mail_tree.specs.Step.{after, outcome}
@@ -197,3 +200,20 @@ pub record CountsAnew : Type 0 where
   pub adds_attachment : (T : Tree) (m : Nid) (name bytes : List ℕ) → IsWhole T → IfOk (outcome T (AddAttachment m name bytes)) (λ o. (M : Mes) × (message_with T m.bits ≡ Some M) × CountsOf (after T o) M.folder)
   pub appends_data : (T : Tree) (m n : Nid) (bytes : List ℕ) → IsWhole T → IfOk (outcome T (AppendData m n bytes)) (λ o. (M : Mes) × (message_with T m.bits ≡ Some M) × CountsOf (after T o) M.folder)
   pub removes_attachment : (T : Tree) (m n : Nid) → IsWhole T → IfOk (outcome T (RemoveAttachment m n)) (λ o. (M : Mes) × (message_with T m.bits ≡ Some M) × CountsOf (after T o) M.folder)
+
+-- After `name` the property that is replied is that of the name, each name that was there keeps its property, if no entry names an index that no GUID has, and all but the names is as it was.
+pub record FindsName (T : Tree) (guid : List ℕ) (number : ℕ) (o : Outcome) : Type 0 where
+  pub old : Names
+  pub new : Names
+  pub property : ℕ
+  pub was : names_in T ≡ Ok old
+  pub is : names_in (after T o) ≡ Ok new
+  pub reply : o.reply ≡ replied (Named property)
+  pub finds : guids_known old.guids old.entries ≡ true → name_at new.guids new.entries guid number ≡ Some property
+  pub keeps : guids_known old.guids old.entries ≡ true → (other : List ℕ) (id kept : ℕ) → name_at old.guids old.entries other id ≡ Some kept → name_at new.guids new.entries other id ≡ Some kept
+  pub others : (q : ℕ) → (q ≡ NAMES → ⊥) → object_at (after T o) q ≡ object_at T q
+  pub places : o.places ≡ T.places
+
+-- so does each `name`
+abbrev pub NamesProperty : Type 0
+NamesProperty = (T : Tree) (guid : List ℕ) (number : ℕ) → IsWhole T → IfOk (outcome T (NameProperty guid number)) (FindsName T guid number)

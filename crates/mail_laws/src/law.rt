@@ -2,7 +2,7 @@
 ghost use Rattle.std.specs.Prelude.{ℕ, List};
 ghost use Rattle.command_text.specs.declared.command.Command.{Command};
 ghost use Rattle.mail_laws.specs.ComesAndGoes.{ComesAndGoes};
-ghost use Rattle.mail_laws.specs.Laws.{AddsAttachment, AddsRecipient, AppendsData, Copies, Counts, CountsAnew, CountsStay, GetsWhatWasSet, MakesFolder, MakesMessage, Mirrors, MirrorsStay, Moves, MovesFolder, Reads, Removes, RemovesAttachment, RemovesFolder, RemovesRecipient, RenamesFolder, Sets, Unsets};
+ghost use Rattle.mail_laws.specs.Laws.{AddsAttachment, AddsRecipient, AppendsData, Copies, Counts, CountsAnew, CountsStay, GetsWhatWasSet, MakesFolder, MakesMessage, Mirrors, MirrorsStay, Moves, MovesFolder, Reads, Removes, RemovesAttachment, RemovesFolder, RemovesRecipient, RenamesFolder, Sets, Unsets, NamesProperty};
 ghost use Rattle.mail_tree.specs.Start.{IsStart};
 ghost use Rattle.mail_laws.specs.Stays.{GivesNewIds, KeepsNodes, KeepsTables, KeepsValues, StaysFound};
 ghost use Rattle.mail_tree.specs.Step.{after, outcome};
@@ -92,6 +92,11 @@ pub fn appends_data()
 /// `detach` takes an attachment from a message, and leaves its others and all other messages as they were.
 pub fn removes_attachment()
     ensures { RemovesAttachment }
+{}
+
+/// `name` replies the property of the name, which is found from then on, leaves each name that was there its property, and leaves all but the names as it was.
+pub fn names_property()
+    ensures { NamesProperty }
 {}
 
 /// `ls`, `get`, `props`, `fetch`, `save` and `quit` change nothing.

@@ -10,6 +10,6 @@ mod law;
 pub use law::{
     comes_and_goes, copies, counts_anew, counts_stay, gets_what_was_set, gives_new_ids,
     keeps_nodes, keeps_tables, keeps_values, makes_folder, makes_message, mirrors_stay, moves,
-    moves_folder, reads, removes, removes_folder, renames_folder, sets, some_is_whole,
-    starts_whole, stays_found, stays_whole, unsets,
+    moves_folder, names_property, reads, removes, removes_folder, renames_folder, sets,
+    some_is_whole, starts_whole, stays_found, stays_whole, unsets,
 };

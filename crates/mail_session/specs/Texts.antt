@@ -130,6 +130,7 @@ tree_word trees.Cycle = codes "cycle"
 abbrev pub look_line : LookRefusal → List ℕ
 look_line (looks.Node nid fault) = line (codes "refused node " ++ hex nid.bits ++ codes " " ++ form_word fault)
 look_line (looks.Tree nid fault) = line (codes "refused tree " ++ hex nid.bits ++ codes " " ++ tree_word fault)
+look_line looks.Names = line (codes "refused node 0x61 names")
 
 -- the line of an opening's refusal
 abbrev pub file_line : FileRefusal → List ℕ

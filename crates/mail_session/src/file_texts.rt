@@ -37,6 +37,7 @@ fn look_line(alloc: Global, refusal: LookRefusal) -> Result<String, AllocError>
         LookRefusal::Tree { nid, fault } => {
             writeln!(text, "refused tree 0x{:x} {}", nid.bits, tree_word(fault))?
         }
+        LookRefusal::Names => writeln!(text, "refused node 0x61 names")?,
     }
     Ok(text)
 }

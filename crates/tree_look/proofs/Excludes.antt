@@ -6,6 +6,9 @@ use Rattle.mail_objects.specs.Forms.{Ctx, Tbl}
 use Rattle.mail_objects.specs.Objects.{ShowsContext, ShowsMail, ShowsTable}
 use Rattle.mail_tree.specs.Changing.{associated, contents, hierarchy}
 use Rattle.mail_tree.specs.Folders.{nid, place}
+use Rattle.mail_objects.proofs.OneLaws.{one-context}
+use Rattle.named_props.specs.Holding.{names_of}
+use Rattle.mail_tree.specs.Names.{AreNames}
 use Rattle.mail_tree.specs.Found.{StandsBelow}
 use Rattle.mail_tree.specs.Places.{ROOT, find_place, is_plain}
 use Rattle.mail_tree.specs.declared.places.FolderPlace.{FolderPlace}
@@ -52,7 +55,7 @@ no_node N q node none some = none-some node (sym none ∙ some)
 
 fixed_context : (N : Nodes) (places : List FolderPlace) → HasTree N places → (q : ℕ) → IsFixed q → (c : Ctx) × HasContext N q c
 fixed_context N places tree q (inl e) = subst (λ k. (c : Ctx) × HasContext N k c) (sym e) tree.store
-fixed_context N places tree q (inr e) = subst (λ k. (c : Ctx) × HasContext N k c) (sym e) tree.names
+fixed_context N places tree q (inr e) = subst (λ k. (c : Ctx) × HasContext N k c) (sym e) (tree.names.0, tree.names.1)
 
 reached_context : (N : Nodes) (places : List FolderPlace) → HasTree N places → (n q : ℕ) → IsReached N n q → (c : Ctx) × HasContext N q c
 reached_context N places tree n q is = let at = reached_placed N places tree n q is in let has = tree.contexts q at.0 at.1 in (has.0, has.1)
@@ -95,9 +98,17 @@ formless N places tree q node fault at (inr (inr (message, none))) =
     let has = (opened_tables N places tree message.0 message.1).listed q message.2 in
     none.0 has.0 (subst (λ (n : NodeRec). ShowsMail q n has.0) (same_Some has.1.0 node (sym has.1.1 ∙ at)) has.1.2)
 
+-- a node of names whose values hold none
+no_names : (N : Nodes) → ((c : Ctx) × HasContext N 0x61 c × (names_of c.props ≡ None)) → ((c : Ctx) × HasContext N 0x61 c × AreNames c.props) → ⊥
+no_names N bad good =
+    let node = same_Some bad.1.0 good.1.0 (sym bad.1.1 ∙ good.1.1) in
+    let same : bad.0 ≡ good.0 = one-context good.1.0 bad.0 good.0 (subst (λ (n : NodeRec). ShowsContext n bad.0) node bad.1.2) good.1.2 in
+    none-some good.2.0 (sym bad.2 ∙ ap (λ (c : Ctx). names_of c.props) same ∙ good.2.1)
+
 pub fault_excludes : (N : Nodes) (refusal : LookRefusal) → HasFault N refusal → (places : List FolderPlace) → HasTree N places → ⊥
 fault_excludes N (refusals.Node q fault) is places tree = formless N places tree q.bits is.0 fault is.1 is.2
 fault_excludes N (refusals.Tree q fault) is places tree = unfit N places tree q.bits fault is
+fault_excludes N refusals.Names is places tree = no_names N is tree.names
 
 -- so where a look is refused, there is no tree
 pub excludes : {A : Type 0} (result : Result A LookStop) (e : LookStop) (holds : Nodes → Type 0) → IsErrAnd result (λ x. x ≡ e) → ((N : Nodes) → holds N → Stops N e)

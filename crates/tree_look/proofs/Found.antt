@@ -1,5 +1,5 @@
 -- Answers of looks at single nodes, and what is at most once.
-use Rattle.std.proofs.Common.{◌≡◌, ◌⊎◌, inl, inr, ⊎_elim, ◌∙◌, ℕ, zero, suc, ◌%◌, ◌==◌, ◌<◌, ◌≤◌, ◌+◌, Bool, true, List, [], ◌∷◌, length, get_or, drop, drop-cons, add-one, is_some, Option, None, Some, IsSome, Result, Ok, Err, arith, refl, sym, subst, ap}
+use Rattle.std.proofs.Common.{◌≡◌, ◌⊎◌, inl, inr, ⊎_elim, ◌∙◌, ℕ, zero, suc, ◌%◌, ◌==◌, ◌<◌, ◌≤◌, ◌+◌, Bool, true, List, [], ◌∷◌, length, get_or, drop, drop-cons, add-one, is_some, Option, None, Some, IsSome, Result, Ok, Err, IfErr, arith, refl, sym, subst, ap}
 use Rattle.std.proofs.lemmas.Bool.{cases_Bool, eqb-true, eq-eqb}
 use Rattle.std.proofs.lemmas.List.{drop_all}
 use Rattle.std.proofs.lemmas.Option.{none-some, same_Some}
@@ -10,7 +10,7 @@ use Rattle.message_obj.specs.Answers.{Refuses}
 use Rattle.message_obj.specs.declared.fault.MessageFault.{MessageFault}
 use Rattle.mapi_values.specs.Tables.{find_row}
 use Rattle.mapi_values.specs.Values.{Val}
-use Rattle.mail_objects.specs.Forms.{Tbl}
+use Rattle.mail_objects.specs.Forms.{Ctx, Tbl}
 use Rattle.mail_objects.specs.Objects.{ShowsTable}
 use Rattle.mail_objects.proofs.OneLaws.{one-table}
 use Rattle.mail_tree.specs.Found.{StandsBelow}
@@ -24,9 +24,9 @@ use Rattle.node_port.specs.Stops.{Room}
 use Rattle.pst_outside.specs.World.{World}
 use Rattle.pst_outside.specs.Calls.{Untouched}
 use Rattle.node_port.specs.declared.node.NodeRec.{NodeRec}
-use Rattle.mail_tree.specs.Standing.{HasTable, names_sort}
+use Rattle.mail_tree.specs.Standing.{HasContext, HasTable, names_sort}
 use Rattle.std.specs.Result.{IsErrAnd}
-use Rattle.tree_look.specs.Faults.{Finds, IsFormless, IsReached, IsTreeFault, Stops}
+use Rattle.tree_look.specs.Faults.{Finds, HoldNames, IsFormless, IsReached, IsTreeFault, Stops}
 use Rattle.tree_look.specs.Stops.{formless, sort_with}
 use Rattle.tree_look.specs.Walk.{Comes, IsCaused, Looks}
 use Rattle.tree_look.specs.declared.stops.LookRefusal.TheVariants as refusals
@@ -47,6 +47,26 @@ formless_caused disk before after q e (or_memory.Refused fault) is = rw is tt
 
 pub unfit_found : (N : Nodes) (q : Nid) (fault : TreeFault) (e : LookStop) → e ≡ stops.Refused (refusals.Tree q fault) → IsTreeFault N q.bits fault → Stops N e
 unfit_found N q fault e is so = rw is so
+
+-- values of the node of names that hold none
+pub names_stop : (N : Nodes) (c : Ctx) (e : LookStop) → HasContext N 0x61 c → HoldNames c.props (Err e) → Stops N e
+names_stop N c (stops.Refused refusals.Names) has lacks = (c, has, lacks)
+names_stop N c (stops.Refused (refusals.Node q fault)) has lacks = absurd lacks
+names_stop N c (stops.Refused (refusals.Tree q fault)) has lacks = absurd lacks
+names_stop N c stops.Fault has lacks = tt
+names_stop N c (stops.Changed ib stored computed) has lacks = absurd lacks
+names_stop N c stops.Memory has lacks = tt
+
+-- which is no fault of a disk
+pub names_caused : {A : Type 0} (disk : Bool) (before after : ℕ) (props : List Val) (e : LookStop) (result : Result A LookStop) → HoldNames props (Err e) → IsErrAnd result (λ x. x ≡ e) → IfErr result (IsCaused disk before after)
+names_caused disk before after props e (Ok y) lacks h = tt
+names_caused disk before after props e (Err x) lacks h = rw h (caused e lacks)
+  where
+    caused : (e : LookStop) → HoldNames props (Err e) → IsCaused disk before after e
+    caused (stops.Refused refusal) lacks = tt
+    caused stops.Fault lacks = absurd lacks
+    caused (stops.Changed ib stored computed) lacks = tt
+    caused stops.Memory lacks = tt
 
 -- a stop that is passed on
 pub stops_on : {A : Type 0} (N : Nodes) (P : A → Type 0) (stop : LookStop) (result : Result A LookStop) → IsErrAnd result (λ e. e ≡ stop) → Stops N stop → Finds N P result

@@ -11,6 +11,7 @@ use Rattle.mapi_values.proofs.KeyedLaws.{put-ascends}
 use Rattle.mail_objects.specs.Forms.{Ctx, Tbl}
 use Rattle.mail_tree.specs.Changing.{hierarchy}
 use Rattle.mail_tree.specs.Folders.{nid}
+use Rattle.mail_tree.specs.Names.{AreNames}
 use Rattle.mail_tree.specs.Found.{StandsBelow}
 use Rattle.mail_tree.specs.Places.{ROOT, find_place, is_plain, is_plain_sort, place_id}
 use Rattle.mail_tree.specs.Whole.{kind_of_sort}
@@ -283,7 +284,7 @@ begins N above n row c old ids part comes awaits deep named has suits table reac
     self (Some p) is waits other e free = none-some waits.3.0 (sym (subst (λ k. find_place k old ≡ None) (sym e) free) ∙ waits.3.1)
 
 -- all folders were found
-pub has_tree : (N : Nodes) (places : List FolderPlace) → ((c : Ctx) × HasContext N 0x21 c) → ((c : Ctx) × HasContext N 0x61 c) → Follows N None ROOT [] places → HasTree N places
+pub has_tree : (N : Nodes) (places : List FolderPlace) → ((c : Ctx) × HasContext N 0x21 c) → ((c : Ctx) × HasContext N 0x61 c × AreNames c.props) → Follows N None ROOT [] places → HasTree N places
 has_tree N places store names follows = record {
   store = store;
   names = names;

@@ -1,13 +1,17 @@
 -- Why nodes have no tree.
-use Rattle.std.specs.Prelude.{◌≡◌, ◌⊎◌, ℕ, zero, suc, ◌%◌, None, Some, Result, Ok, Err}
+use Rattle.std.specs.Prelude.{◌≡◌, ◌⊎◌, ℕ, List, zero, suc, ◌%◌, None, Some, Result, Ok, Err}
 use Rattle.message_obj.specs.declared.fault.MessageFault.{MessageFault}
 use Rattle.mail_tree.specs.Changing.{associated, contents, hierarchy}
+use Rattle.mail_tree.specs.Names.{AreNames}
 use Rattle.mail_tree.specs.Places.{ROOT}
+use Rattle.mapi_values.specs.Values.{Val}
 use Rattle.mail_tree.specs.declared.places.Sort.{Sort}
 use Rattle.node_port.specs.Nodes.{Nodes, node_at}
 use Rattle.node_port.specs.declared.node.NodeRec.{NodeRec}
 use Rattle.tree_look.specs.Forms.{IsNoContext, IsNoMail, IsNoTable}
-use Rattle.mail_tree.specs.Standing.{ListsFolder, ListsMessage, names_sort}
+use Rattle.mail_objects.specs.Forms.{Ctx}
+use Rattle.mail_tree.specs.Standing.{HasContext, ListsFolder, ListsMessage, names_sort}
+use Rattle.named_props.specs.Holding.{names_of}
 use Rattle.tree_look.specs.declared.stops.LookRefusal.{LookRefusal}
 use Rattle.tree_look.specs.declared.stops.LookRefusal.TheVariants as refusals
 use Rattle.tree_look.specs.declared.stops.LookStop.{LookStop}
@@ -51,6 +55,7 @@ IsFormless N q node fault =
 abbrev pub HasFault : Nodes → LookRefusal → Type 0
 HasFault N (refusals.Node q fault) = (node : NodeRec) × (node_at N q.bits ≡ Some node) × IsFormless N q.bits node fault
 HasFault N (refusals.Tree q fault) = IsTreeFault N q.bits fault
+HasFault N refusals.Names = (c : Ctx) × HasContext N 0x61 c × (names_of c.props ≡ None)
 
 -- the refusal holds; a fault of the disk and want of memory are no matter of the nodes
 abbrev pub Stops : Nodes → LookStop → Type 0
@@ -58,6 +63,13 @@ Stops N (stops.Refused refusal) = HasFault N refusal
 Stops N stops.Fault = Unit {0}
 Stops N (stops.Changed ib stored computed) = ⊥
 Stops N stops.Memory = Unit {0}
+
+-- the values hold names, or don't, or there was no memory
+abbrev pub HoldNames : List Val → Result (Unit {0}) LookStop → Type 0
+HoldNames props (Ok u) = AreNames props
+HoldNames props (Err (stops.Refused refusals.Names)) = names_of props ≡ None
+HoldNames props (Err stops.Memory) = Unit {0}
+HoldNames props other = ⊥
 
 -- what is found is so, or the stop says why nothing is
 abbrev pub Finds : {A : Type 0} → Nodes → (A → Type 0) → Result A LookStop → Type 0

@@ -2,10 +2,13 @@
 ghost use Rattle.std.specs.Prelude.{◌≡◌};
 ghost use Rattle.message_obj.specs.Answers.{Reads, context_fault, table_fault};
 ghost use Rattle.mail_objects.specs.Objects.{ShowsContext, ShowsMail, ShowsTable};
+ghost use Rattle.tree_look.specs.Faults.{HoldNames};
 ghost use Rattle.tree_look.specs.Forms.{IsNoContext, IsNoMail, IsNoTable};
 
+use crate::stops::{LookRefusal, LookStop};
 use mail_objects::{Context, Mail, TableNode};
 use message_obj::{MessageFault, is_formed, read_message};
+use named_props::read_names;
 use node_port::NodeRec;
 use node_values::ids_ascend;
 use property_context::{PcFault, read_pc};
@@ -49,6 +52,17 @@ pub(crate) fn context_of(alloc: Global, node: &NodeRec) -> Result<Context, MemOr
         }
         Err(MemOr::Memory) => Err(MemOr::Memory),
         Err(MemOr::Refused(fault)) => Err(MemOr::Refused(context_fault(fault))),
+    }
+}
+
+/// Looks whether the values of the node of names hold names.
+pub(crate) fn check_names(alloc: Global, context: &Context) -> Result<(), LookStop>
+    ensures { HoldNames context.now.props result }
+{
+    match read_names(alloc, context.props()) {
+        Ok(_) => Ok(()),
+        Err(MemOr::Refused(_)) => Err(LookStop::Refused(LookRefusal::Names)),
+        Err(MemOr::Memory) => Err(LookStop::Memory),
     }
 }
 

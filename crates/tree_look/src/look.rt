@@ -9,6 +9,7 @@ ghost use Rattle.tree_look.specs.declared.stops.LookRefusal.{LookRefusal as Refu
 ghost use Rattle.tree_look.specs.declared.stops.LookStop.TheVariants.{Refused};
 ghost use Rattle.tree_look.specs.Walk.{parent_of, Awaits, Comes, Follows, IsCaused, IsPart, Looks};
 
+use crate::forms::check_names;
 use crate::nodes::{check_row, look_fixed, look_tables};
 use crate::stops::LookStop;
 use mail_tree::{FolderPlace, Places, ROOT_FOLDER, Sort};
@@ -83,7 +84,8 @@ pub fn look_folders<W: Outside, K: NodeReader<W>>(
     ensures cause { IfErr result (IsCaused K.has_disk (W.view w.old).disk_faults (W.view w.new).disk_faults) }
 {
     look_fixed(alloc, keeper, w, Nid { bits: 0x21 })?;
-    look_fixed(alloc, keeper, w, Nid { bits: 0x61 })?;
+    let names = look_fixed(alloc, keeper, w, Nid { bits: 0x61 })?;
+    check_names(alloc, &names)?;
     let mut places = Places::new(alloc);
     follow(
         alloc,

@@ -18,7 +18,7 @@ ghost use Rattle.tree_look.specs.Walk.{Checked, Comes, IsCaused, Looks};
 
 use crate::forms::{context_of, mail_of, table_of};
 use crate::stops::{LookStop, TreeFault};
-use mail_objects::TableNode;
+use mail_objects::{Context, TableNode};
 use mail_tree::{ROOT_FOLDER, Sort};
 use node_port::{NodeReader, NodeRec};
 use pst_base::Nid;
@@ -39,14 +39,14 @@ fn node_at<W: Outside, K: NodeReader<W>>(
     Ok(keeper.get(alloc, w, nid)?)
 }
 
-/// Looks at a node of values that every store has.
+/// The values of a node that every store has.
 pub(crate) fn look_fixed<W: Outside, K: NodeReader<W>>(
     alloc: Global,
     keeper: &mut K,
     w: &mut W,
     nid: Nid,
-) -> Result<(), LookStop>
-    ensures found { (N : Nodes) → K.holds keeper.old (W.view w.old) N → IsFixed nid.bits → Finds N (λ u. (c : Ctx) × HasContext N nid.bits c) result }
+) -> Result<Context, LookStop>
+    ensures found { (N : Nodes) → K.holds keeper.old (W.view w.old) N → IsFixed nid.bits → Finds N (HasContext N nid.bits) result }
     ensures looks { Looks (K.holds keeper.old (W.view w.old)) (K.holds keeper.new (W.view w.new)) (K.last keeper.old) (K.last keeper.new) (K.room keeper.old) (K.room keeper.new) (W.view w.old) (W.view w.new) }
     ensures cause { IfErr result (IsCaused K.has_disk (W.view w.old).disk_faults (W.view w.new).disk_faults) }
 {
@@ -54,7 +54,7 @@ pub(crate) fn look_fixed<W: Outside, K: NodeReader<W>>(
         return Err(LookStop::unfit(nid, TreeFault::Missing));
     };
     match context_of(alloc, &node) {
-        Ok(_) => Ok(()),
+        Ok(context) => Ok(context),
         Err(why) => Err(LookStop::formless(nid, why)),
     }
 }

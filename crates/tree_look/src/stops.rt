@@ -26,6 +26,8 @@ pub enum LookRefusal {
     Node { nid: Nid, fault: MessageFault },
     /// Folders and tables don't fit together at this node.
     Tree { nid: Nid, fault: TreeFault },
+    /// The values of the node of names (61h) hold none.
+    Names,
 }
 
 /// Why no tree is found.

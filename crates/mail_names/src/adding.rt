@@ -1,0 +1,97 @@
+//! `name`
+ghost use Rattle.std.specs.Prelude.{◌≡◌, IfErr, IfOk, None};
+ghost use Rattle.mail_tree.specs.Tree.{Shown, Tree};
+ghost use Rattle.mail_tree.specs.Names.{found_or_added, named_property};
+ghost use Rattle.mail_draft.specs.Answers.{IsCalm, IsCaused, Looks, Says};
+ghost use Rattle.mail_draft.specs.Outcomes.{outcome_of};
+ghost use Rattle.mail_names.specs.Parts.{with_another};
+ghost use Rattle.named_props.specs.Finding.{name_at};
+ghost use Rattle.named_props.specs.Holding.{IsWritable};
+
+use crate::reading::{NAMES, names_of};
+use command_text::{CommandRefusal, LastLine, Limit, Reply};
+use mail_draft::{Draft, Outcome, Stop, context_at, replying, with_context};
+use mail_objects::Context;
+use named_props::{Names, write_names};
+use node_port::NodeReader;
+use pst_base::MemOr;
+use pst_outside::Outside;
+use std::alloc::Global;
+
+/// The names with another one of a number under a GUID, and its property. Refused where there is no room for it.
+fn added_name(
+    alloc: Global,
+    names: Names,
+    guid: [u8; 16],
+    number: u32,
+) -> Result<(Names, u16), Stop>
+    requires new { name_at names.guids names.entries guid number ≡ None }
+    requires writable { IsWritable names }
+    ensures answer { Says (λ n. n) (with_another names guid number) result }
+    ensures writable { IfOk result (λ n. IsWritable n.0) }
+    ensures cause { IfErr result IsCalm }
+{
+    let mut names = names;
+    match names.lookup_or_add(alloc, guid, number) {
+        Ok(property) => Ok((names, property)),
+        Err(MemOr::Refused(_)) => Err(Stop::Refused(CommandRefusal::Limit(Limit::Names))),
+        Err(MemOr::Memory) => Err(Stop::Memory),
+    }
+}
+
+/// Adds a name of a number under a GUID. Refused where there is no room for it, or the values would pass a limit.
+fn add_name(
+    alloc: Global,
+    context: Context,
+    names: Names,
+    guid: [u8; 16],
+    number: u32,
+) -> Result<Outcome, Stop>
+    requires new { name_at names.guids names.entries guid number ≡ None }
+    requires writable { IsWritable names }
+    ensures answer { (T : Tree) → Says (outcome_of T) (found_or_added T context names guid number None) result }
+    ensures cause { IfErr result IsCalm }
+{
+    let (names, property) = added_name(alloc, names, guid, number)?;
+    let props = write_names(alloc, &names)?;
+    let draft = with_context(Draft::new(alloc), NAMES, context, props)?;
+    replying(alloc, draft, None, LastLine::Named(property))
+}
+
+/// The property of a name of a number under a GUID, which is added where it isn't there.
+fn found_or_added(
+    alloc: Global,
+    context: Context,
+    names: Names,
+    guid: [u8; 16],
+    number: u32,
+) -> Result<Outcome, Stop>
+    requires { IsWritable names }
+    ensures answer { (T : Tree) → Says (outcome_of T) (found_or_added T context names guid number (name_at names.guids names.entries guid number)) result }
+    ensures cause { IfErr result IsCalm }
+{
+    match names.find(&guid, number) {
+        Some(property) => {
+            let reply = Reply::without_data(alloc, LastLine::Named(property));
+            Ok(Outcome::unchanged(alloc, reply))
+        }
+        None => add_name(alloc, context, names, guid, number),
+    }
+}
+
+/// The property whose name is a number under a GUID, whose bytes stand in their order in a file. A name that isn't there is added: its property has the index after the greatest. Refused where there is no room for it (`Limit`).
+pub fn name_property<W: Outside, K: NodeReader<W>>(
+    alloc: Global,
+    keeper: &mut K,
+    w: &mut W,
+    guid: [u8; 16],
+    number: u32,
+) -> Result<Outcome, Stop>
+    ensures answer { (T : Tree) → Shown (K.holds keeper.old (W.view w.old)) (K.last keeper.old) T → Says (outcome_of T) (named_property T guid number) result }
+    ensures looks { Looks (K.holds keeper.old (W.view w.old)) (K.holds keeper.new (W.view w.new)) (K.last keeper.old) (K.last keeper.new) (K.room keeper.old) (K.room keeper.new) (W.view w.old) (W.view w.new) }
+    ensures cause { IfErr result (IsCaused K.has_disk (W.view w.old).disk_faults (W.view w.new).disk_faults) }
+{
+    let context = context_at(alloc, keeper, w, &Draft::new(alloc), NAMES)?;
+    let names = names_of(alloc, &context)?;
+    found_or_added(alloc, context, names, guid, number)
+}
