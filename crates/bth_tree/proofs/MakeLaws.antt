@@ -7,7 +7,7 @@ use Rattle.byteorder.proofs.Bytes.{take-bytes_low_first}
 use Rattle.std.specs.Option.{option_and_then}
 use Rattle.byteorder.specs.Endian.{little_bytes, little_number}
 use Rattle.byteorder.specs.Numbers.{length-bytes_low_first, little_number-reads_back}
-use Rattle.heap_on_node.specs.Packing.{item_in}
+use Rattle.heap_on_node.specs.Packing.{item_in, spend}
 use Rattle.heap_on_node.proofs.PackingLaws.{item_in-off}
 use Rattle.pst_base.specs.Fields.{number_at}
 use Rattle.pst_base.proofs.Numbers.{number_at-first}
@@ -69,6 +69,25 @@ Parts-push get k [] recs part p h some first here = (part, [], ap (λ (r : List 
 Parts-push get k (q ∷ ps) recs part p h some first here =
     (h.0, h.1 ++ part, ap (λ (r : List (ℕ × List ℕ)). r ++ part) h.2 ∙ append_assoc h.0 h.1 part, h.3, h.4, h.5, Parts-push get k ps h.1 part p h.6 some first here)
 
+-- the bytes of some records, and of others behind them
+length-spelled-append : (k : ℕ) (xs ys : List (ℕ × List ℕ)) → length (spelled k (xs ++ ys)) ≡ length (spelled k xs) + length (spelled k ys)
+length-spelled-append k [] ys = omega arith
+length-spelled-append k (x ∷ xs) ys =
+    omega (
+      arith,
+      length-append (little_bytes k x.0) (x.1 ++ spelled k (xs ++ ys)),
+      length-append x.1 (spelled k (xs ++ ys)),
+      length-append (little_bytes k x.0) (x.1 ++ spelled k xs),
+      length-append x.1 (spelled k xs),
+      length-spelled-append k xs ys,
+    )
+
+-- pairs have at most 8 bytes each
+pub length-pairs : (k : ℕ) (ps : List (ℕ × List ℕ)) → k ≤ 4 → AreRecords k 4 ps → length (spelled k ps) ≤ 8 * length ps
+length-pairs k [] small are = omega arith
+length-pairs k (p ∷ ps) small are =
+    omega (arith, length-append (little_bytes k p.0) (p.1 ++ spelled k ps), length-append p.1 (spelled k ps), length-bytes_low_first 0 k p.0, are.1, length-pairs k ps small are.2)
+
 -- one more item of a level
 pub level-step : (old mid new : List (List (List ℕ))) (k e : ℕ) (done part ps : List (ℕ × List ℕ)) (p : ℕ × List ℕ) → MakesLevel old mid k done ps → AddsPart mid new k part p
     → 0 < length part → AreRecords k e part → MakesLevel old new k (done ++ part) (ps ++ p ∷ [])
@@ -77,6 +96,8 @@ level-step old mid new k e done part ps p m a some recs = record {
   parts = Parts-push (item_in new) k ps done part p (Parts-kept (item_in mid) (item_in new) k ps done a.kept m.parts) some a.first a.here;
   pairs = AreRecords-push k 4 ps p m.pairs (first-fits k e part p.0 some recs a.first) a.size;
   blocks = omega (arith, m.blocks, a.blocks, length_push ps p);
+  half = omega (arith, m.half, a.half, length_push ps p);
+  spent = omega (arith, m.spent, a.spent, length_push ps p, length-spelled-append k done part);
 }
   where
     first-fits : (k e : ℕ) (part : List (ℕ × List ℕ)) (n : ℕ) → 0 < length part → AreRecords k e part → n ≡ end_of part → n < 256 ^ k
@@ -85,7 +106,7 @@ level-step old mid new k e done part ps p m a some recs = record {
 
 -- an empty level
 pub level-none : (old : List (List (List ℕ))) (k : ℕ) → MakesLevel old old k [] []
-level-none old k = record { kept = λ hid x h. h; parts = refl; pairs = tt; blocks = omega arith }
+level-none old k = record { kept = λ hid x h. h; parts = refl; pairs = tt; blocks = omega arith; half = omega arith; spent = omega arith }
 
 pub along : (k e : ℕ) (xs ys : List (ℕ × List ℕ)) → xs ≡ ys → AreRecords k e xs → AreRecords k e ys
 along k e xs ys same h = subst (λ (ws : List (ℕ × List ℕ)). AreRecords k e ws) same h
@@ -299,13 +320,14 @@ pub record Fewer (k : ℕ) : Type 0 where
   pub less : (m : ℕ) → 1 < m → chunks (per_item (k + 4)) m < m
   pub second : (m : ℕ) → m ≤ 65535 → chunks (per_item (k + 4)) m ≤ 147
   pub third : (m : ℕ) → m ≤ 147 → chunks (per_item (k + 4)) m ≤ 1
+  pub half : (m : ℕ) → 1 < m → 2 * chunks (per_item (k + 4)) m ≤ m
 
 pub fewer : (k : ℕ) → 1 ≤ k → k ≤ 4 → Fewer k
 fewer zero a b = absurd (omega arith)
-fewer (suc zero) a b = record { pos = omega arith; less = λ m h. omega arith; second = λ m h. omega arith; third = λ m h. omega arith }
-fewer (suc (suc zero)) a b = record { pos = omega arith; less = λ m h. omega arith; second = λ m h. omega arith; third = λ m h. omega arith }
-fewer (suc (suc (suc zero))) a b = record { pos = omega arith; less = λ m h. omega arith; second = λ m h. omega arith; third = λ m h. omega arith }
-fewer (suc (suc (suc (suc zero)))) a b = record { pos = omega arith; less = λ m h. omega arith; second = λ m h. omega arith; third = λ m h. omega arith }
+fewer (suc zero) a b = record { pos = omega arith; less = λ m h. omega arith; second = λ m h. omega arith; third = λ m h. omega arith; half = λ m h. omega arith }
+fewer (suc (suc zero)) a b = record { pos = omega arith; less = λ m h. omega arith; second = λ m h. omega arith; third = λ m h. omega arith; half = λ m h. omega arith }
+fewer (suc (suc (suc zero))) a b = record { pos = omega arith; less = λ m h. omega arith; second = λ m h. omega arith; third = λ m h. omega arith; half = λ m h. omega arith }
+fewer (suc (suc (suc (suc zero)))) a b = record { pos = omega arith; less = λ m h. omega arith; second = λ m h. omega arith; third = λ m h. omega arith; half = λ m h. omega arith }
 fewer (suc (suc (suc (suc (suc k))))) a b = absurd (omega arith)
 
 -- one item above all others
@@ -413,6 +435,20 @@ room-level h ch x bound a b = omega arith
 
 pub room-last : (h x bound : ℕ) → h + x + 1 ≤ bound → h + 1 ≤ bound
 room-last h x bound a = omega arith
+
+-- what a tree counts for, level by level: each item above takes the place of two below
+pub spent-first : (s0 s1 len q m : ℕ) → s1 ≤ s0 + (2 * len + 4 * m) → m ≡ q → s1 + 44 * m ≤ s0 + (2 * len + 48 * q)
+spent-first s0 s1 len q m a b = omega arith
+
+pub spent-next : (s1 s2 m n bound len : ℕ) → s1 + 44 * m ≤ bound → s2 ≤ s1 + (2 * len + 4 * n) → len ≤ 8 * m → 2 * n ≤ m → s2 + 44 * n ≤ bound
+spent-next s1 s2 m n bound len a b c d = omega arith
+
+pub spent-last : (s m s0 len q : ℕ) → m ≡ 1 → s + 44 * m ≤ s0 + (2 * len + 48 * q) → s + 18 ≤ s0 + (2 * len + 48 * q + 18)
+spent-last s m s0 len q a b = omega arith
+
+-- a header counts for 18
+pub header-spend : (k e level hid : ℕ) → spend (header_of k e level hid) ≡ 18
+header-spend k e level hid = omega (arith, length-bytes_low_first 0 4 hid)
 
 -- one more record with the next key
 pub within-push : (low n : ℕ) (rs : List (ℕ × List ℕ)) (x : List ℕ) → low ≤ n → within low n rs ≡ true → within low (n + 1) (rs ++ (n, x) ∷ []) ≡ true

@@ -1,7 +1,7 @@
 -- What the maker of a tree leaves.
-use Rattle.std.specs.Prelude.{ℕ, zero, suc, ◌≡◌, ◌+◌, ◌-◌, ◌/◌, ◌<◌, ◌≤◌, ◌^◌, nat_le, if◌then◌else◌, List, [], ◌∷◌, ◌++◌, length, Option, Some}
+use Rattle.std.specs.Prelude.{ℕ, zero, suc, ◌≡◌, ◌+◌, ◌-◌, ◌*◌, ◌/◌, ◌<◌, ◌≤◌, ◌^◌, nat_le, if◌then◌else◌, List, [], ◌∷◌, ◌++◌, length, Option, Some}
 use Rattle.byteorder.specs.Endian.{little_bytes, little_number}
-use Rattle.heap_on_node.specs.Packing.{item_in}
+use Rattle.heap_on_node.specs.Packing.{halves, item_in, spend, spread}
 use Rattle.bth_tree.specs.Tree.{bth, end_of, root as root_of}
 
 -- the bytes of records with keys of k bytes
@@ -48,12 +48,20 @@ pub record MakesLevel (old new : List (List (List ℕ))) (k : ℕ) (recs ps : Li
   pub parts : Parts (item_in new) k ps recs
   pub pairs : AreRecords k 4 ps
   pub blocks : length new ≤ length old + length ps
+  pub half : halves new ≤ halves old + length ps
+  pub spent : spread new ≤ spread old + (2 * length (spelled k recs) + 4 * length ps)
 
--- a tree of these records was made under a heap id, all other items stay, and the items take at most a block each
+-- what a tree of these records counts for at most: their bytes twice, 48 for each leaf, and the header
+abbrev pub tree_spend : ℕ → ℕ → List (ℕ × List ℕ) → ℕ
+tree_spend k e recs = 2 * length (spelled k recs) + 48 * chunks (per_item (k + e)) (length recs) + 18
+
+-- a tree of these records was made under a heap id, all other items stay, and the items take at most half a block each
 pub record Makes (old new : List (List (List ℕ))) (hid k e : ℕ) (recs : List (ℕ × List ℕ)) : Type 0 where
   pub kept : Keeps (item_in old) (item_in new)
   pub tree : bth (item_in new) hid k e ≡ Some recs
   pub blocks : length new ≤ length old + items_made k e (length recs)
+  pub half : halves new ≤ halves old + items_made k e (length recs)
+  pub spent : spread new ≤ spread old + tree_spend k e recs
 
 -- an item of these records was added, which the pair names
 pub record AddsPart (old new : List (List (List ℕ))) (k : ℕ) (part : List (ℕ × List ℕ)) (p : ℕ × List ℕ) : Type 0 where
@@ -62,6 +70,8 @@ pub record AddsPart (old new : List (List (List ℕ))) (k : ℕ) (part : List (�
   pub size : length p.1 ≡ 4
   pub here : item_in new (little_number 4 p.1) ≡ Some (spelled k part)
   pub blocks : length new ≤ length old + 1
+  pub half : halves new ≤ halves old + 1
+  pub spent : spread new ≡ spread old + spend (spelled k part)
 
 -- the levels of a tree of these records were made, with its level count and its root
 pub record MakesLevels (old new : List (List (List ℕ))) (k e : ℕ) (recs : List (ℕ × List ℕ)) (level hid : ℕ) : Type 0 where
@@ -69,6 +79,8 @@ pub record MakesLevels (old new : List (List (List ℕ))) (k e : ℕ) (recs : Li
   pub root : root_of (item_in new) k e level hid ≡ Some recs
   pub some : hid ≡ 0 → ⊥
   pub blocks : length new + 1 ≤ length old + items_made k e (length recs)
+  pub half : halves new + 1 ≤ halves old + items_made k e (length recs)
+  pub spent : spread new + 18 ≤ spread old + tree_spend k e recs
 
 -- the header of a tree
 abbrev pub header_of : ℕ → ℕ → ℕ → ℕ → List ℕ

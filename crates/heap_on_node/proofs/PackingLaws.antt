@@ -5,8 +5,9 @@ use Rattle.std.proofs.lemmas.List.{append-nil, get_or_append_left, get_or_push, 
 use Rattle.std.proofs.lemmas.Option.{slice_get_past, slice_get-get_or}
 use Rattle.std.specs.List.{concat}
 use Rattle.heap_on_node.specs.Heap.{block_of, index_of}
-use Rattle.heap_on_node.specs.Packing.{Adds, IsPacked, fit_block, has_room, head_size, item_in}
+use Rattle.heap_on_node.specs.Packing.{Adds, IsPacked, fit_block, halves, has_half, has_room, head_size, item_in}
 use Rattle.heap_on_node.proofs.DraftLaws.{concat-append}
+use Rattle.heap_on_node.proofs.SpreadLaws.{half-in_last, halves-push, spent-in_last, spent-in_new}
 
 slice_get-push : (xs : List (List ℕ)) (x : List ℕ) (j : ℕ) → (j ≡ length xs → ⊥) → slice_get (xs ++ x ∷ []) j ≡ slice_get xs j
 slice_get-push [] x zero h = absurd (h refl)
@@ -36,6 +37,11 @@ head-bounds k = elim (cases_Bool (k == 0)) [
     | inr f1 ↦ rw (f, f1) (omega arith, omega arith, refl)
   ]
 ]
+
+-- room is what its two limits say
+pub room-from : (k count n : ℕ) → count ≤ 2047 → head_size k + n + n % 2 + 6 + 2 * count ≤ 8176 → has_room k count n ≡ true
+room-from k count n a b =
+    and_from (nat_le count 2047) (nat_le (head_size k + n + n % 2 + 6 + 2 * count) 8176) (le-leb count 2047 a) (le-leb (head_size k + n + n % 2 + 6 + 2 * count) 8176 b)
 
 -- a block has room for one item
 room-alone : (k n : ℕ) → n ≤ 3580 → has_room k 1 n ≡ true
@@ -105,6 +111,32 @@ packed-in_new F L x h size full =
           ];
     }
 
+half-alone : (k : ℕ) (x : List ℕ) → length x ≤ 3580 → has_half k (x ∷ []) ≡ true
+half-alone k x size =
+    let head = head-bounds k in
+    let high = head.1 in
+    room-from k (1 + 1) (length (x ++ []) + 3580) (omega arith) (omega (arith, ap length (append-nil x)))
+
+-- where an item has no room, none of 3580 bytes has
+no-half : (k count n size : ℕ) → size ≤ 3580 → has_room k count (n + size) ≡ false → has_room k count (n + 3580) ≡ false
+no-half k count n size le full = elim (cases_Bool (has_room k count (n + 3580))) [
+  | inr f ↦ f
+  | inl t ↦
+      let parts = room-parts k count (n + 3580) t in
+      let low = parts.1 in
+      absurd (true-false (sym (room-from k count (n + size) parts.0 (omega arith)) ∙ full))
+]
+  where
+    true-false : true ≡ false → ⊥
+    true-false e = cc
+
+-- an item that begins a block takes half a block
+pub half-in_new : (F : List (List (List ℕ))) (L : List (List ℕ)) (x : List ℕ) → length x ≤ 3580 → has_room (length F) (length L + 1) (length (concat L) + length x) ≡ false
+    → halves ((F ++ L ∷ []) ++ (x ∷ []) ∷ []) ≤ halves (F ++ L ∷ []) + 1
+half-in_new F L x size full =
+    let none : has_half (length F) L ≡ false = no-half (length F) (length L + 1) (length (concat L)) (length x) size full in
+    rw (halves-push (F ++ L ∷ []) (x ∷ []), halves-push F L, half-alone (length (F ++ L ∷ [])) x size, none) (omega (arith, length_push F L))
+
 -- a heap id's parts
 pub hid-parts : (n m : ℕ) → 0 < m → m < 2048 → ((n * 65536 + m * 32) % 32 ≡ 0) × (block_of (n * 65536 + m * 32) ≡ n) × (index_of (n * 65536 + m * 32) ≡ m)
 hid-parts n m low high = (omega arith, omega arith, omega arith)
@@ -164,6 +196,8 @@ adds-in_last F L x small =
             ]
           ]);
       blocks = omega (arith, length_push F L, length_push F (L ++ x ∷ []));
+      half = half-in_last F L x;
+      spent = spent-in_last F L x;
     }
 
 -- an empty group at the end adds nothing
@@ -180,14 +214,16 @@ item_in-empty G h = item_in-same (G ++ [] ∷ []) G h (λ a b.
     ]))
 
 -- what an item in a new group adds
-pub adds-in_new : (G : List (List (List ℕ))) (x : List ℕ) → Adds G x (G ++ (x ∷ []) ∷ []) (length G * 65536 + 32)
-adds-in_new G x =
+pub adds-in_new : (G : List (List (List ℕ))) (x : List ℕ) → halves (G ++ (x ∷ []) ∷ []) ≤ halves G + 1 → Adds G x (G ++ (x ∷ []) ∷ []) (length G * 65536 + 32)
+adds-in_new G x half =
     let a = adds-in_last G [] x (omega arith) in
     record {
       here = a.here;
       free = sym (item_in-empty G (length G * 65536 + 32)) ∙ a.free;
       others = λ h other. a.others h other ∙ item_in-empty G h;
       blocks = omega (arith, length_push G (x ∷ []));
+      half = half;
+      spent = spent-in_new G x;
     }
 
 -- what was there stays

@@ -32,12 +32,36 @@ item_in groups hid =
     then slice_get (get_or groups (block_of hid) []) (index_of hid - 1)
     else None
 
--- the new groups have x under a heap id that was free, all other items as before, and at most one block more
+-- block k has room for one item more beside these, whatever its size
+abbrev pub has_half : ℕ → List (List ℕ) → Bool
+has_half k items = has_room k (length items + 1) (length (concat items) + 3580)
+
+-- the half blocks that are taken: two for each block, or one for the last while it has room for any item
+unfoldable pub halves : List (List (List ℕ)) → ℕ
+halves groups = 2 * length groups - (if has_half (length groups - 1) (get_or groups (length groups - 1) []) then 1 else 0)
+
+-- what an item counts for: twice its bytes, and 2; but 4 at least
+abbrev pub spend : List ℕ → ℕ
+spend x = 4 + 2 * (length x - 1)
+
+-- what the items of a group count for
+abbrev pub spread_of : List (List ℕ) → ℕ
+spread_of [] = 0
+spread_of (x ∷ xs) = spend x + spread_of xs
+
+-- what all items count for
+abbrev pub spread : List (List (List ℕ)) → ℕ
+spread [] = 0
+spread (g ∷ gs) = spread_of g + spread gs
+
+-- the new groups have x under a heap id that was free, all other items as before, and at most one block more; x takes half a block at most
 pub record Adds (old : List (List (List ℕ))) (x : List ℕ) (new : List (List (List ℕ))) (hid : ℕ) : Type 0 where
   pub here : item_in new hid ≡ Some x
   pub free : item_in old hid ≡ None
   pub others : (h : ℕ) → h ≢ hid → item_in new h ≡ item_in old h
   pub blocks : length new ≤ length old + 1
+  pub half : halves new ≤ halves old + 1
+  pub spent : spread new ≡ spread old + spend x
 
 -- no block's first item would have fitted into the block before it
 abbrev pub PacksTight : List (List ℕ) → Type 0

@@ -1,12 +1,14 @@
 -- Which node is which object, and which objects are small enough to be written.
-use Rattle.std.specs.Prelude.{◌≡◌, ◌==◌, ℕ, Bool, true}
+use Rattle.std.specs.Prelude.{◌≡◌, ◌==◌, ◌+◌, ◌≤◌, ℕ, Bool, true, length}
 use Rattle.mapi_values.specs.Messages.{Mes}
+use Rattle.node_port.specs.Stops.{subs_size}
 use Rattle.node_port.specs.declared.node.NodeRec.{NodeRec}
 use Rattle.property_context.specs.Context.{IsPropertyContext}
 use Rattle.node_values.specs.Subnodes.{ids_ascend}
 use Rattle.table_context.specs.Context.{IsTableContext}
 use Rattle.message_obj.specs.Message.{ShowsMessage, is_formed}
 use Rattle.write_limits.specs.Limits.{props_fit, table_fits, message_fits}
+use Rattle.space_bound.specs.Space.{kept_space, props_space}
 use Rattle.mail_objects.specs.Forms.{Ctx, Tbl}
 use Rattle.mail_objects.specs.declared.object.Object.{Object}
 use Rattle.mail_objects.specs.declared.object.Object.TheVariants.{Context, Table, Message}
@@ -45,3 +47,13 @@ abbrev pub object_fits : Object → Bool
 object_fits (Context c) = props_fit c.props c.kept
 object_fits (Table t) = table_fits t.table
 object_fits (Message m) = message_fits m
+
+-- what a node takes, with its subnodes
+abbrev pub node_size : NodeRec → ℕ
+node_size node = length node.blocks + subs_size node.subs + 1
+
+-- a node of properties takes no more than the room for it
+abbrev pub ContextIsSmall : Object → NodeRec → Type 0
+ContextIsSmall (Context c) node = node_size node ≤ props_space c.props + kept_space c.kept
+ContextIsSmall (Table t) node = Unit {0}
+ContextIsSmall (Message m) node = Unit {0}

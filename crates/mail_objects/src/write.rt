@@ -1,7 +1,8 @@
 //! Writing objects as nodes.
-ghost use Rattle.std.specs.Prelude.{◌≡◌, ℕ, true, IfOk};
+ghost use Rattle.std.specs.Prelude.{◌≡◌, ◌+◌, ◌≤◌, ℕ, true, IfOk};
+ghost use Rattle.space_bound.specs.Space.{kept_space, props_space};
 ghost use Rattle.write_limits.specs.Limits.{props_fit, table_fits};
-ghost use Rattle.mail_objects.specs.Objects.{ShowsContext, ShowsObject, ShowsTable, object_fits, stands_at};
+ghost use Rattle.mail_objects.specs.Objects.{ContextIsSmall, ShowsContext, ShowsObject, ShowsTable, node_size, object_fits, stands_at};
 
 use crate::context::Context;
 use crate::object::Object;
@@ -27,7 +28,8 @@ pub fn object_fits(object: &Object) -> bool
 /// The node of properties.
 fn write_context(alloc: Global, context: &Context) -> Result<NodeRec, AllocError>
     requires { props_fit context.now.props context.now.kept ≡ true }
-    ensures { IfOk result (λ node. ShowsContext node context.now) }
+    ensures shows { IfOk result (λ node. ShowsContext node context.now) }
+    ensures small { IfOk result (λ node. node_size node ≤ props_space context.now.props + kept_space context.now.kept) }
 {
     let (blocks, subs) = write_pc(alloc, context.props(), context.kept().copy(alloc)?)?;
     Ok(NodeRec {
@@ -50,10 +52,11 @@ fn write_table(alloc: Global, table: &TableNode) -> Result<NodeRec, AllocError>
     })
 }
 
-/// The node of an object that is small enough. The error: memory ran out.
+/// The node of an object that is small enough. A node of properties takes no more blocks than there is room for. The error: memory ran out.
 pub fn write_object(alloc: Global, object: &Object) -> Result<NodeRec, AllocError>
     requires { object_fits object.now ≡ true }
-    ensures { IfOk result (λ node. (nid : ℕ) → stands_at nid object.now ≡ true → ShowsObject nid node object.now) }
+    ensures shows { IfOk result (λ node. (nid : ℕ) → stands_at nid object.now ≡ true → ShowsObject nid node object.now) }
+    ensures small { IfOk result (ContextIsSmall object.now) }
 {
     match object {
         Object::Context(context) => write_context(alloc, context),

@@ -5,3 +5,4 @@ pub mod KeptLaws
 pub mod OneLaws
 pub mod OrderLaws
 pub mod PartLaws
+pub mod SizeLaws

@@ -1,5 +1,5 @@
 -- What the writer's parts make.
-use Rattle.std.specs.Prelude.{◌≡◌, ◌++◌, ℕ, Bool, false, true, List, [], ◌∷◌, Option, None, Some}
+use Rattle.std.specs.Prelude.{◌≡◌, ◌≤◌, ◌+◌, ◌++◌, ℕ, Bool, false, true, List, [], ◌∷◌, length, Option, None, Some}
 use Rattle.pst_base.specs.Flat.{Flat}
 use Rattle.pst_base.specs.declared.subs.Sub.{Sub}
 use Rattle.mapi_values.specs.declared.part.Part.{Part}
@@ -7,15 +7,18 @@ use Rattle.mapi_values.specs.Keyed.{keys_ascend}
 use Rattle.mapi_values.specs.Messages.{Mes, is_own, part_id}
 use Rattle.mapi_values.specs.Tables.{Tab}
 use Rattle.write_limits.specs.Limits.{props_fit}
+use Rattle.space_bound.specs.Space.{kept_space, props_space}
+use Rattle.node_port.specs.Stops.{subs_size}
 use Rattle.property_context.specs.Context.{IsPropertyContext}
 use Rattle.node_values.specs.Subnodes.{ids_ascend, without}
 use Rattle.table_context.specs.Context.{IsTableContext}
 use Rattle.message_obj.specs.Answers.{ShowsBelow}
 
--- the subnode is that of an attachment
+-- the subnode is that of an attachment, and takes no more than the room for it
 pub record IsPart (part : Part) (sub : Sub) : Type 0 where
   pub id : sub.nid.bits ≡ part_id part
   pub context : IsPropertyContext sub.blocks sub.subs part.props part.kept
+  pub small : length sub.blocks + subs_size sub.subs + 1 ≤ props_space part.props + kept_space part.kept
 
 -- each subnode is that of its attachment
 abbrev pub AreParts : List Part → List Sub → Type 0

@@ -3,7 +3,9 @@ ghost use Rattle.std.specs.Prelude.{◌≡◌, ◌≤◌, ℕ, true, length, IfO
 ghost use Rattle.std.specs.Ordering.{nat_cmp};
 ghost use Rattle.std.specs.BTreeMap.{get, btree_map_len};
 ghost use Rattle.mapi_values.specs.Keyed.{find_key, keys_ascend};
+ghost use Rattle.node_port.specs.Stops.{subs_size};
 ghost use Rattle.node_values.specs.Subnodes.{sub_id};
+ghost use Rattle.pst_base.specs.Subs.{flattened};
 
 use pst_base::Sub;
 use std::alloc::{AllocError, Global};
@@ -27,6 +29,7 @@ pub fn in_order(alloc: Global, subs: Vec<Sub>) -> Result<Vec<Sub>, AllocError>
     ensures found { IfOk result (λ sorted. (nid : ℕ) → find_key sub_id nid sorted.items ≡ find_key sub_id nid subs.items) }
     ensures ascend { IfOk result (λ sorted. keys_ascend sub_id 0 sorted.items ≡ true) }
     ensures len { IfOk result (λ sorted. length sorted.items ≤ length subs.items) }
+    ensures size { IfOk result (λ sorted. subs_size (flattened sorted.items) ≤ subs_size (flattened subs.items)) }
 {
     let map = by_id(alloc, subs)?;
     let mut sorted = Vec::with_capacity(alloc, map.len())?;

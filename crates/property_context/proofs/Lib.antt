@@ -1,5 +1,6 @@
-pub mod ValueLaws
-pub mod UniqueLaws
 pub mod PlaceLaws
-pub mod WriteLaws
 pub mod RoomLaws
+pub mod SpaceLaws
+pub mod UniqueLaws
+pub mod ValueLaws
+pub mod WriteLaws

@@ -26,12 +26,13 @@ use Rattle.bth_tree.proofs.MakeLaws.{bth-kept}
 use Rattle.heap_on_node.specs.Heap.{IsHeap, item}
 use Rattle.bth_tree.proofs.OptionLaws.{none-some, some-injective}
 use Rattle.bth_tree.proofs.MakeLaws.{AreRecords-push, item_in-zero}
+use Rattle.space_bound.specs.Space.{short_bytes, values_bytes}
 use Rattle.property_context.specs.declared.placing.Placer.{Placer}
 use Rattle.property_context.specs.Context.{IsPropertyContext, fitting, is_named, names, of_field, value_of, values_of}
 use Rattle.node_values.specs.Subnodes.{data_of, without}
 use Rattle.node_values.specs.Named.{KeepsData, named, pieces}
 use Rattle.property_context.specs.Placing.{AddsLong, Places, Placing, is_id, long_bytes, placed_data, span}
-use Rattle.property_context.specs.Writing.{ArePlain, Grows, Holds, IsPlainRecord, PutsBytes, PutsValue, PutsValues, WritesFields, hnid_is, slot_of}
+use Rattle.property_context.specs.Writing.{ArePlain, Grows, Holds, IsPlainRecord, PutsBytes, PutsValue, PutsValues, WritesFields, hnid_is, in_heap, slot_of}
 use Rattle.property_context.proofs.RoomLaws.{few-records, holds-none, two-a_block}
 use Rattle.node_values.proofs.SubLaws.{flattened-append, without-same}
 use Rattle.node_values.proofs.NamedLaws.{named-item, named-sub, named-zero}
@@ -103,6 +104,7 @@ puts-none heap p [] len = record {
   bytes_are = refl;
   reads = λ get sub k d. named-zero get sub;
   subnode = λ nid. refl;
+  spent = omega arith;
 }
 puts-none heap p (x ∷ xs) len = absurd (omega arith)
 
@@ -126,7 +128,12 @@ puts-item heap heap2 p bytes hid some len a =
       bytes_are = sym (rw (le-ltb 3580 (length bytes) len) refl);
       reads = λ get sub k d. named-item get sub hid id.1 id.0 ∙ k hid bytes a.here;
       subnode = λ nid. rw (eq-eqb (hid % 32) 0 id.0) refl;
+      spent = rw (le-ltb 3580 (length bytes) len) (omega (arith, a.spent, pos (length bytes) some));
     }
+  where
+    pos : (n : ℕ) → (n ≡ 0 → ⊥) → 0 < n
+    pos zero h = absurd (h refl)
+    pos (suc n) h = omega arith
 
 pub puts-sub : (heap : List (List (List ℕ))) (old new : Placer) (bytes : List ℕ) (nid : ℕ) → 3580 < length bytes → Places old new nid bytes → PutsBytes heap heap old new bytes nid
 puts-sub heap old new bytes nid len p = record {
@@ -136,6 +143,7 @@ puts-sub heap old new bytes nid len p = record {
   bytes_are = sym (rw (lt-ltb 3580 (length bytes) len) refl);
   reads = λ get sub k d. named-sub get sub nid p.kind ∙ ap (option_map concat) (d nid (pieces bytes) p.here) ∙ ap Some (concat-pieces bytes);
   subnode = λ n. rw (ne_eqb (nid % 32) 0 (λ e. omega (arith, p.kind))) (elim (cases_Bool (nid == n)) [ inl t ↦ rw t refl | inr f ↦ rw f refl ]);
+  spent = omega arith;
 }
 
 -- ---- a value under a record
@@ -220,7 +228,12 @@ puts-fixed heap p v width id small fit is =
       plain = rw is (entry-field v.kind v.bytes);
       key = id;
       size = entry-size v.kind v.bytes (omega arith);
+      spent = omega arith;
     }
+
+short-is : (v : Val) → short_bytes v ≡ in_heap v.bytes
+unfolding short_bytes
+short-is v = refl
 
 -- a value that the field names
 pub puts-named : (heap heap2 : List (List (List ℕ))) (old new : Placer) (v : Val) (id : ℕ) → v.id < 65536 → v.kind < 65536 → fits v.kind (length v.bytes) ≡ true → in_field v.kind ≡ None → id < 2 ^ 32
@@ -240,6 +253,7 @@ puts-named heap heap2 old new v id key small fit is high p =
       plain = rw is (ap (λ (f : List ℕ). hnid_is v.bytes (number_at 4 0 f)) (entry-field v.kind (little_bytes 4 id)) ∙ ap (hnid_is v.bytes) number ∙ p.plain);
       key = key;
       size = entry-size v.kind (little_bytes 4 id) (omega (arith, length-bytes_low_first 0 4 id));
+      spent = rw (short-is v) p.spent;
     }
 
 -- ---- values one after the other
@@ -292,6 +306,10 @@ plain-push [] (s ∷ rs) v r h k = absurd h
 plain-push (w ∷ vs) [] v r h k = absurd h
 plain-push (w ∷ vs) (s ∷ rs) v r h k = (h.0, plain-push vs rs v r h.1 k)
 
+bytes-push : (vs : List Val) (v : Val) → values_bytes (vs ++ v ∷ []) ≡ values_bytes vs + short_bytes v
+bytes-push [] v = omega arith
+bytes-push (w ∷ vs) v = omega (arith, bytes-push vs v)
+
 pub puts-start : (h : List (List (List ℕ))) (p : Placer) → PutsValues h h p p [] []
 puts-start h p = record {
   added = [];
@@ -302,6 +320,7 @@ puts-start h p = record {
   records = tt;
   plain = tt;
   count = refl;
+  spent = omega arith;
 }
 
 pub puts-step : (h h1 h2 : List (List (List ℕ))) (p p1 p2 : Placer) (vs : List Val) (rs : List (ℕ × List ℕ)) (v : Val) (r : ℕ × List ℕ) → PutsValues h h1 p p1 vs rs → PutsValue h1 h2 p1 p2 v r
@@ -316,6 +335,7 @@ puts-step h h1 h2 p p1 p2 vs rs v r s q = record {
   records = AreRecords-push 2 6 rs r s.records q.key q.size;
   plain = plain-push vs rs v r s.plain q.plain;
   count = length_push rs r ∙ ap (λ (n : ℕ). n + 1) s.count ∙ sym (length_push vs v);
+  spent = omega (arith, s.spent, q.spent, bytes-push vs v, length_push vs v);
 }
 
 -- ---- what a writer may still take

@@ -5,10 +5,11 @@ use Rattle.pst_base.specs.Flat.{Flat}
 use Rattle.pst_base.specs.Fields.{number_at}
 use Rattle.mapi_values.specs.Values.{Val, in_field}
 use Rattle.heap_on_node.specs.Heap.{IsHeap, block_of, index_of, item}
-use Rattle.heap_on_node.specs.Packing.{item_in}
+use Rattle.heap_on_node.specs.Packing.{item_in, spread}
 use Rattle.bth_tree.specs.Tree.{bth}
 use Rattle.bth_tree.specs.Making.{AreRecords, Keeps}
 use Rattle.node_values.specs.Named.{KeepsData, named}
+use Rattle.space_bound.specs.Space.{short_bytes, values_bytes}
 use Rattle.property_context.specs.declared.placing.Placer.{Placer}
 use Rattle.property_context.specs.Context.{is_named, names, value_of, values_of}
 use Rattle.property_context.specs.Placing.{Placing, is_id, long_bytes, placed_data, span}
@@ -64,6 +65,10 @@ abbrev pub Gives : {X : Type 0} → List (List (List ℕ)) → Placer → ((ℕ 
 Gives heap placer reading x =
     (get : ℕ → Option (List ℕ)) (sub : ℕ → Option (List (List ℕ))) → Keeps (item_in heap) get → KeepsData (placed_data placer) sub → reading get sub ≡ Some x
 
+-- the bytes that stand in the heap
+abbrev pub in_heap : List ℕ → ℕ
+in_heap bytes = if nat_lt 3580 (length bytes) then 0 else length bytes
+
 -- bytes were put where an id names them
 pub record PutsBytes (heap heap2 : List (List (List ℕ))) (old new : Placer) (bytes : List ℕ) (id : ℕ) : Type 0 where
   pub added : List (ℕ × List ℕ)
@@ -72,6 +77,7 @@ pub record PutsBytes (heap heap2 : List (List (List ℕ))) (old new : Placer) (b
   pub bytes_are : map (λ (l : ℕ × List ℕ). l.1) added ≡ (if nat_lt 3580 (length bytes) then bytes ∷ [] else [])
   pub reads : Gives heap2 new (λ get sub. named get sub id) bytes
   pub subnode : (nid : ℕ) → (if id % 32 == 0 then false else id == nid) ≡ is_id added nid
+  pub spent : spread heap2 ≤ spread heap + (2 * in_heap bytes + 2)
 
 -- a value was put where a record names it
 pub record PutsValue (heap heap2 : List (List (List ℕ))) (old new : Placer) (v : Val) (r : ℕ × List ℕ) : Type 0 where
@@ -83,6 +89,7 @@ pub record PutsValue (heap heap2 : List (List (List ℕ))) (old new : Placer) (v
   pub plain : IsPlainRecord v r
   pub key : r.0 < 65536
   pub size : length r.1 ≡ 6
+  pub spent : spread heap2 ≤ spread heap + (2 * short_bytes v + 2)
 
 -- values were put where records name them
 pub record PutsValues (heap heap2 : List (List (List ℕ))) (old new : Placer) (vs : List Val) (rs : List (ℕ × List ℕ)) : Type 0 where
@@ -94,3 +101,4 @@ pub record PutsValues (heap heap2 : List (List (List ℕ))) (old new : Placer) (
   pub records : AreRecords 2 6 rs
   pub plain : ArePlain vs rs
   pub count : length rs ≡ length vs
+  pub spent : spread heap2 ≤ spread heap + (2 * values_bytes vs + 2 * length vs)

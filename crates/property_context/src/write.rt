@@ -2,8 +2,10 @@
 ghost use Rattle.std.specs.Prelude.{◌≡◌, ◌+◌, ◌-◌, ◌*◌, ◌≤◌, ◌<◌, ◌^◌, ◌∷◌, ◌++◌, ℕ, List, [], true, length, get_or, replicate, IfOk};
 ghost use Rattle.byteorder.specs.Endian.{little_bytes};
 ghost use Rattle.pst_base.specs.Flat.{Flat};
-ghost use Rattle.heap_on_node.specs.Packing.{IsPlain, PacksTight};
+ghost use Rattle.heap_on_node.specs.Packing.{IsPacked, IsPlain, PacksTight};
 ghost use Rattle.mapi_values.specs.Properties.{ascend_from};
+ghost use Rattle.node_port.specs.Stops.{subs_size};
+ghost use Rattle.space_bound.specs.Space.{kept_space, props_space};
 ghost use Rattle.write_limits.specs.Limits.{long_values, props_fit};
 ghost use Rattle.property_context.specs.Context.{IsPropertyContext};
 ghost use Rattle.node_values.specs.Subnodes.{ids_ascend};
@@ -85,6 +87,7 @@ fn put_values(
     ensures puts { IfOk result (λ made. PutsValues ([] ∷ []) made.0 p.old p.new values.now made.1.items) }
     ensures blocks { IfOk result (λ made. length made.0 ≤ 32769) }
     ensures few { IfOk result (λ made. length made.1.items ≤ 65536) }
+    ensures packed { IfOk result (λ made. IsPacked made.0) }
 {
     let mut heap = HeapMaker::new(alloc);
     let mut records = Vec::with_capacity(alloc, values.len())?;
@@ -103,6 +106,8 @@ pub fn write_pc(alloc: Global, p: &Props, rest: Subs) -> Result<(Blocks, Subs), 
     ensures subnodes { IfOk result (λ made. AddsLong p.now rest made.1) }
     ensures plain { IfOk result (λ made. (k : ℕ) → k < length made.0 → IsPlain k (get_or made.0 k [])) }
     ensures tight { IfOk result (λ made. PacksTight made.0) }
+    ensures own { IfOk result (λ made. length made.0 + subs_size made.1 + 1 ≤ props_space p.now + subs_size rest) }
+    ensures small { IfOk result (λ made. length made.0 + subs_size made.1 + 1 ≤ props_space p.now + kept_space rest) }
 {
     let mut placer = begin(alloc, rest);
     let (mut heap, records) = put_values(alloc, &mut placer, p.values())?;

@@ -5,6 +5,7 @@ use Rattle.pst_base.specs.declared.subs.Sub.{Sub}
 use Rattle.mapi_values.specs.Keyed.{find_key}
 use Rattle.node_values.specs.Subnodes.{sub_id}
 use Rattle.message_obj.proofs.OrderLaws.{all-above, are-at, found-at, sorted-ascends, values-ascend, values-found}
+use Rattle.message_obj.proofs.SizeLaws.{order-size}
 use Rattle.message_obj.proofs.order.in_order.Goals as goal
 
 pub returns-clause-found : goal.returns-clause-found
@@ -26,3 +27,6 @@ returns-clause-ascend c =
     let ascend = sorted-ascends 0 es (all-above _) c.len.ensures.ordered in
     let at = are-at 0 es (λ (n : ℕ). find_key sub_id n c.args.subs.items) ascend (λ n le. c.in_ok-map.ensures.found n) (found-at c.args.subs.items) in
     rw all (values-ascend 0 es at ascend)
+
+pub returns-clause-size : goal.returns-clause-size
+returns-clause-size c = order-size c.loop-sub.sorted.items c.args.subs.items (returns-clause-ascend c) (returns-clause-found c)

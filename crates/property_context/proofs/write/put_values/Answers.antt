@@ -34,3 +34,6 @@ returns-clause-blocks c =
 pub returns-clause-few : goal.returns-clause-few
 returns-clause-few c =
     few-values ([] ∷ []) c.loop-value.heap c.args.p.now c.loop-value.p c.loop-value.value-index c.args.values.now c.loop-value.records.items c.loop-value.invariant.puts c.requires.ascend
+
+pub returns-clause-packed : goal.returns-clause-packed
+returns-clause-packed c = c.loop-value.invariant.packed
