@@ -6,3 +6,4 @@ pub mod Outcomes
 pub mod Written
 pub mod Standing
 pub mod Walks
+pub mod Space

@@ -1,5 +1,7 @@
 //! A draft as changes of nodes.
 ghost use Rattle.std.specs.Prelude.{◌≡◌, ℕ, true, IsTrue, IfErr, IfOk, OnOk};
+ghost use Rattle.std.specs.FinMap as map;
+ghost use Rattle.std.specs.List.{AllZip};
 ghost use Rattle.node_port.specs.Nodes.{Nodes, ascend, changed, node_at};
 ghost use Rattle.mail_tree.specs.Tree.{StandsAt, Tree, object_at};
 ghost use Rattle.mail_tree.specs.Changing.{entry_fits, within_limits};
@@ -7,7 +9,7 @@ ghost use Rattle.mail_tree.specs.Folders.{Outcome};
 ghost use Rattle.mail_tree.specs.Step.{after};
 ghost use Rattle.mail_draft.specs.Answers.{IsRefused, Says};
 ghost use Rattle.mail_draft.specs.Drafts.{all_fit, changed_of};
-ghost use Rattle.mail_draft.specs.Written.{IsWritten};
+ghost use Rattle.mail_draft.specs.Written.{IsWritten, Writes};
 
 use crate::draft::Draft;
 use crate::stop::Stop;
@@ -71,6 +73,7 @@ fn write_entry(alloc: Global, object: &Option<Object>) -> Result<Option<NodeRec>
 pub fn finish(alloc: Global, draft: &Draft) -> Result<Vec<(Nid, Option<NodeRec>)>, AllocError>
     requires { all_fit (changed_of draft.now) ≡ true }
     ensures ascend { IfOk result (λ cs. IsTrue (ascend 0 cs.items)) }
+    ensures written { IfOk result (λ cs. AllZip Writes (map.entries (changed_of draft.now).objects) cs.items) }
     // Where nodes show a tree, they show the tree after the changes once these nodes are changed.
     ensures shows { IfOk result (λ cs. (N : Nodes) (T : Tree) (o : Outcome) → o.changed ≡ changed_of draft.now → ((q : ℕ) → StandsAt q (node_at N q) (object_at T q) (node_at T.others q))
         → (q : ℕ) → StandsAt q (node_at (changed N cs.items) q) (object_at (after T o) q) (node_at (after T o).others q)) }

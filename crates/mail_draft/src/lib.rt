@@ -15,6 +15,7 @@ mod outcomes;
 mod read;
 mod rows;
 mod settle;
+mod space;
 mod stop;
 mod values;
 
@@ -27,6 +28,7 @@ pub use outcomes::{changing, making, moving, replying};
 pub use read::{context_at, message_at, table_at};
 pub use rows::{add_shown, drop_shown, put_shown};
 pub use settle::{counted, mirrored, settled, with_context};
+pub use space::space_needed;
 pub use stop::Stop;
 pub use values::{
     bytes_of, crowds, is_read, name_of, number_of, put_number, put_text, put_time, put_truth,

@@ -61,6 +61,13 @@ returns-clause-ascend c =
     written-ascend 0 es c.loop-nid.nodes.items (sorted-keys es c.len.ensures.ordered) (starts es)
     (all-written es written.0 c.loop-nid.nid-iterator c.loop-nid.nodes.items written.1 c.in-None.ensures.steps.0 written.2)
 
+pub returns-clause-written : goal.returns-clause-written
+returns-clause-written c =
+    let es = c.args.draft.now.objects.entries in
+    let written = c.loop-nid.invariant.written in
+    subst (λ (xs : List (ℕ × Option Object)). AllZip Writes xs c.loop-nid.nodes.items) (sym (entries-kept es (sorted-keys es c.len.ensures.ordered)))
+    (all-written es written.0 c.loop-nid.nid-iterator c.loop-nid.nodes.items written.1 c.in-None.ensures.steps.0 written.2)
+
 pub returns-clause-shows : goal.returns-clause-shows
 returns-clause-shows c = λ N T o is stands q.
     let es = c.args.draft.now.objects.entries in
