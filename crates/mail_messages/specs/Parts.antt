@@ -18,8 +18,8 @@ use Rattle.mail_tree.specs.Settling.{settled}
 use Rattle.mail_tree.specs.Ids.{is_spent, message_kinds, next_index}
 use Rattle.mail_tree.specs.Folders.{Outcome, changing, making, replied, replying, unchanged, unless_full}
 use Rattle.mail_messages.specs.Finding.{plain_at}
-use Rattle.mail_tree.specs.Messages.{added_message, attachment_line, changed_message, copying, is_overfull, adding_recipient, making_message, property_line, recipient_line, remaking, value_of}
-use Rattle.mail_tree.specs.Parts.{has_recipient, is_full, is_wide, next_row, recipient_props, recipient_tags, rows_of, without_recipient}
+use Rattle.mail_tree.specs.Messages.{added_message, attachment_line, changed_message, copying, is_overfull, making_message, property_line, recipient_line, value_of}
+use Rattle.mail_tree.specs.Parts.{rows_of}
 use Rattle.mail_messages.specs.Pieces.{moving_message}
 
 -- a folder is counted anew, and that is all
@@ -101,15 +101,3 @@ copying_into T folder M = plain_at folder Reserved T.places >>= λ u. may_copy M
 -- the lines that tell of a message
 abbrev pub detail_lines : Mes → List DataLine
 detail_lines M = map property_line M.props ++ (map recipient_line (rows_of M.recipients) ++ map attachment_line M.parts)
-
--- a message with a recipient table that has room gets a recipient
-abbrev pub adding_to : Tree → Mes → List Val → Answer Outcome
-adding_to T M props = refused_if (is_wide recipient_tags M.recipients) (Limit Rows) >>= λ u. adding_recipient T M props (next_row (rows_of M.recipients))
-
--- a message gets a recipient of these values
-abbrev pub adding_one : Tree → Mes → List Val → Answer Outcome
-adding_one T M props = refused_if (is_full M.recipients) (Limit Rows) >>= λ u. adding_to T M props
-
--- a message loses the recipient in this row
-abbrev pub removing_one : Tree → ℕ → Mes → Answer Outcome
-removing_one T row M = refused_if (not (has_recipient row M)) Object >>= λ u. remaking T M (without_recipient row M) false None Done

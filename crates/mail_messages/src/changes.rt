@@ -98,7 +98,7 @@ fn showing_message<W: Outside, K: NodeReader<W>>(
 }
 
 /// Puts another message in place of one that had so many values: its flags and its size are made right, and it is shown.
-pub(crate) fn remake_message<W: Outside, K: NodeReader<W>>(
+pub fn remake_message<W: Outside, K: NodeReader<W>>(
     alloc: Global,
     keeper: &mut K,
     w: &mut W,

@@ -62,7 +62,7 @@ fn recipient_line(alloc: Global, recipient: &(u32, Props)) -> Result<DataLine, A
 }
 
 /// The rows of a table, none where there is no table.
-pub(crate) fn rows_of(table: &Option<Table>) -> &[(u32, Props)]
+pub fn rows_of(table: &Option<Table>) -> &[(u32, Props)]
     ensures { result.now ≡ rows_of table.now }
 {
     match table {

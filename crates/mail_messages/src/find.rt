@@ -111,7 +111,7 @@ fn message_below<W: Outside, K: NodeReader<W>>(
 }
 
 /// The message with this id, which the folder that is its node's parent lists. Refused otherwise.
-pub(crate) fn message_in<W: Outside, K: NodeReader<W>>(
+pub fn message_in<W: Outside, K: NodeReader<W>>(
     alloc: Global,
     keeper: &mut K,
     w: &mut W,

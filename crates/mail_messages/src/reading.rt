@@ -32,17 +32,25 @@ fn find_value(props: &Props, tag: Tag) -> Option<&Value>
 }
 
 /// The value of this id and kind as the reply. Refused where there is none.
-fn tell_value(alloc: Global, mail: &Mail, tag: Tag) -> Result<Outcome, Stop>
-    ensures answer { (T : Tree) → Says (outcome_of T) (telling_value T tag mail.now.props) result }
+pub fn tell_value(alloc: Global, props: &Props, tag: Tag) -> Result<Outcome, Stop>
+    ensures answer { (T : Tree) → Says (outcome_of T) (telling_value T tag props.now) result }
     ensures cause { IfErr result IsCalm }
 {
-    match find_value(&mail.message().props, tag) {
+    match find_value(props, tag) {
         Some(value) => {
             let told = LastLine::Value(value.copy(alloc)?);
             Ok(Outcome::unchanged(alloc, Reply::without_data(alloc, told)))
         }
         None => Err(Stop::Refused(CommandRefusal::Property)),
     }
+}
+
+/// The value of a message of this id and kind as the reply. Refused where there is none.
+fn tell_of(alloc: Global, mail: &Mail, tag: Tag) -> Result<Outcome, Stop>
+    ensures answer { (T : Tree) → Says (outcome_of T) (telling_value T tag mail.now.props) result }
+    ensures cause { IfErr result IsCalm }
+{
+    tell_value(alloc, &mail.message().props, tag)
 }
 
 /// The value of this id and kind. Refused where the message isn't there, or has none.
@@ -59,7 +67,7 @@ pub fn get_value<W: Outside, K: NodeReader<W>>(
     ensures cause { IfErr result (IsCaused K.has_disk (W.view w.old).disk_faults (W.view w.new).disk_faults) }
 {
     let mail = message_in(alloc, keeper, w, places, message)?;
-    tell_value(alloc, &mail, tag)
+    tell_of(alloc, &mail, tag)
 }
 
 /// The lines that tell of a message as the reply.

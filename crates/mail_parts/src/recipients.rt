@@ -9,17 +9,14 @@ ghost use Rattle.mail_tree.specs.Messages.{added_recipient, adding_recipient, re
 ghost use Rattle.mail_tree.specs.Parts.{has_recipient, is_full, new_row};
 ghost use Rattle.mail_draft.specs.Outcomes.{outcome_of};
 ghost use Rattle.mail_draft.specs.Answers.{IsCalm, IsCaused, Looks, Says};
-ghost use Rattle.mail_messages.specs.Parts.{adding_one, adding_to, removing_one};
+ghost use Rattle.mail_parts.specs.Pieces.{adding_one, adding_to, removing_one};
 
-use crate::changes::remake_message;
-use crate::details::rows_of;
-use crate::ending::Ending;
-use crate::find::message_in;
 use crate::with_recipients::{
     has_recipient, new_row, next_row, recipient_props, with_recipient, without_recipient,
 };
 use command_text::{CommandRefusal, LastLine, Limit};
 use mail_draft::{Outcome, Stop};
+use mail_messages::{Ending, message_in, remake_message, rows_of};
 use mail_objects::Mail;
 use mail_tree::Places;
 use mapi_values::{Props, Units};

@@ -3,7 +3,6 @@ ghost use Rattle.std.specs.Prelude.{◌≡◌, ◌≤◌, ◌^◌, None, Some, I
 ghost use Rattle.mail_tree.specs.Changing.{shown_row};
 ghost use Rattle.mail_tree.specs.Parts.{has_recipient, is_spent_row, is_wide, new_row, next_row, recipient_props, recipient_tags, recipients_for, rows_of, with_recipient, without_recipient};
 
-use crate::details::rows_of;
 use column_layout::completed;
 use mail_draft::{put_number, put_text};
 use mail_objects::Mail;

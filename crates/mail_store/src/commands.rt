@@ -9,9 +9,10 @@ use command_text::{Command, LastLine, Reply};
 use mail_draft::{Outcome, Stop};
 use mail_folders::{list_folder, make_folder, move_folder, remove_folder, rename_folder};
 use mail_messages::{
-    add_recipient, copy_message, get_value, list_details, move_message, new_message,
-    remove_message, remove_recipient, set_value, unset_value,
+    copy_message, get_value, list_details, move_message, new_message, remove_message, set_value,
+    unset_value,
 };
+use mail_parts::{add_recipient, append, attach, detach, fetch, remove_recipient};
 use mail_tree::Places;
 use node_port::Keeper;
 use pst_outside::Outside;
@@ -73,6 +74,24 @@ pub(crate) fn outcome<W: Outside, K: Keeper<W>>(
         Command::RemoveRecipient { message, row } => {
             remove_recipient(alloc, keeper, w, places, *message, *row)
         }
+        Command::AddAttachment {
+            message,
+            name,
+            data,
+        } => attach(alloc, keeper, w, places, *message, name, data),
+        Command::AppendData {
+            message,
+            attachment,
+            data,
+        } => append(alloc, keeper, w, places, *message, *attachment, data),
+        Command::RemoveAttachment {
+            message,
+            attachment,
+        } => detach(alloc, keeper, w, places, *message, *attachment),
+        Command::FetchData {
+            message,
+            attachment,
+        } => fetch(alloc, keeper, w, places, *message, *attachment),
         Command::Save | Command::Quit => {
             let reply = Reply::without_data(alloc, LastLine::Done);
             Ok(Outcome::unchanged(alloc, reply))

@@ -14,4 +14,4 @@ returns-in_err-mail-clause-answer g c = λ T s p.
 pub returns-clause-answer : goal.returns-clause-answer
 unfolding value_in
 returns-clause-answer g c = λ T s p.
-    then_says (λ (m : Mes). m) (outcome_of T) (message_in T c.args.message.bits) (λ M. telling_value T c.args.tag M.props) _ _ (c.in_ok-mail.ensures.answer T s p) (c.tell_value.ensures.answer T)
+    then_says (λ (m : Mes). m) (outcome_of T) (message_in T c.args.message.bits) (λ M. telling_value T c.args.tag M.props) _ _ (c.in_ok-mail.ensures.answer T s p) (c.tell_of.ensures.answer T)

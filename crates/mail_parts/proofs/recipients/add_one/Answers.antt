@@ -3,9 +3,9 @@ use Rattle.command_text.specs.declared.reply.Limit.TheVariants.{Rows}
 use Rattle.mail_draft.specs.Outcomes.{outcome_of}
 use Rattle.mail_tree.specs.Changing.{refused_if}
 use Rattle.mail_tree.specs.Parts.{is_full}
-use Rattle.mail_messages.specs.Parts.{adding_to}
+use Rattle.mail_parts.specs.Pieces.{adding_to}
 use Rattle.mail_messages.proofs.Calls.{exits}
-use Rattle.mail_messages.proofs.recipients.add_one.Goals as goal
+use Rattle.mail_parts.proofs.recipients.add_one.Goals as goal
 
 pub returns-in_err-check_room-clause-answer : goal.returns-in_err-check_room-clause-answer
 returns-in_err-check_room-clause-answer g c = λ T s p.

@@ -6,9 +6,9 @@ use Rattle.mail_draft.specs.Outcomes.{outcome_of}
 use Rattle.mapi_values.specs.Values.{Val}
 use Rattle.mail_tree.specs.Messages.{added_recipient, message_in}
 use Rattle.mail_tree.specs.Parts.{recipient_props}
-use Rattle.mail_messages.specs.Parts.{adding_one}
+use Rattle.mail_parts.specs.Pieces.{adding_one}
 use Rattle.mail_messages.proofs.Calls.{as_at, exits}
-use Rattle.mail_messages.proofs.recipients.add_recipient.Goals as goal
+use Rattle.mail_parts.proofs.recipients.add_recipient.Goals as goal
 
 pub returns-in_err-mail-clause-answer : goal.returns-in_err-mail-clause-answer
 unfolding added_recipient

@@ -10,8 +10,8 @@ use Rattle.mail_draft.specs.Outcomes.{outcome_of}
 use Rattle.mail_tree.specs.Messages.{adding_recipient, remaking, spent_row}
 use Rattle.mail_tree.specs.Parts.{is_wide, new_row, next_row, recipient_tags, rows_of, with_recipient}
 use Rattle.mail_messages.proofs.Calls.{as_at4}
-use Rattle.mail_messages.proofs.Tests.{passed_says, some_where}
-use Rattle.mail_messages.proofs.recipients.add_to.Goals as goal
+use Rattle.mail_parts.proofs.Tests.{passed_says, some_where}
+use Rattle.mail_parts.proofs.recipients.add_to.Goals as goal
 
 pub returns-in-Some-clause-answer : goal.returns-in-Some-clause-answer
 unfolding adding_recipient

@@ -10,7 +10,7 @@ use Rattle.mail_tree.specs.Changing.{refused_if}
 use Rattle.mail_tree.specs.Messages.{remaking}
 use Rattle.mail_tree.specs.Parts.{has_recipient, without_recipient}
 use Rattle.mail_messages.proofs.Calls.{as_at4, exits}
-use Rattle.mail_messages.proofs.recipients.remove_one.Goals as goal
+use Rattle.mail_parts.proofs.recipients.remove_one.Goals as goal
 
 pub returns-in_err-check_recipient-clause-answer : goal.returns-in_err-check_recipient-clause-answer
 returns-in_err-check_recipient-clause-answer g c = λ T s p.

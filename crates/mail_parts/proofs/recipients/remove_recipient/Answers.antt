@@ -3,9 +3,9 @@ use Rattle.mail_draft.proofs.Looking.{shown_still}
 use Rattle.mail_draft.proofs.Passes.{then_says}
 use Rattle.mail_draft.specs.Outcomes.{outcome_of}
 use Rattle.mail_tree.specs.Messages.{message_in, removed_recipient}
-use Rattle.mail_messages.specs.Parts.{removing_one}
+use Rattle.mail_parts.specs.Pieces.{removing_one}
 use Rattle.mail_messages.proofs.Calls.{exits}
-use Rattle.mail_messages.proofs.recipients.remove_recipient.Goals as goal
+use Rattle.mail_parts.proofs.recipients.remove_recipient.Goals as goal
 
 pub returns-in_err-mail-clause-answer : goal.returns-in_err-mail-clause-answer
 unfolding removed_recipient

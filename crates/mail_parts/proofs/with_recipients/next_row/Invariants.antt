@@ -1,6 +1,6 @@
 use Rattle.std.proofs.Common.{◌≡◌, ◌≤◌, ◌^◌, drop, max}
 use Rattle.mail_tree.specs.Parts.{next_row}
-use Rattle.mail_messages.proofs.with_recipients.next_row.Given as goal
+use Rattle.mail_parts.proofs.with_recipients.next_row.Given as goal
 
 -- what is left is looked at
 abbrev pub invariant-loop-row : goal.invariant-loop-row

@@ -1,0 +1,3 @@
+pub mod PartTables
+pub mod KeptIds
+pub mod Tests

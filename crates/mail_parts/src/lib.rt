@@ -1,0 +1,19 @@
+//! The commands on the recipients and attachments of messages.
+//!
+//! Promises: each call answers what the definition of its command in mail_tree says of every tree that the nodes show, and only looks at the nodes; what changes stands in the draft.
+//!
+//! Leaves to others: how a changed message is shown and counted, and carrying the changes out.
+#![tactic(auto)]
+
+mod appending;
+mod attachments;
+mod part_ids;
+mod part_places;
+mod part_values;
+mod recipients;
+mod with_attachments;
+mod with_recipients;
+
+pub use appending::append;
+pub use attachments::{attach, detach, fetch};
+pub use recipients::{add_recipient, remove_recipient};
