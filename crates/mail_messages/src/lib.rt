@@ -17,8 +17,8 @@ mod moving;
 mod reading;
 mod recipients;
 mod removing;
-mod with_recipients;
 mod values;
+mod with_recipients;
 
 pub use copying::copy_message;
 pub use making::new_message;

@@ -12,6 +12,7 @@ use mail_messages::{
     add_recipient, copy_message, get_value, list_details, move_message, new_message,
     remove_message, remove_recipient, set_value, unset_value,
 };
+use mail_names::name_property;
 use mail_tree::Places;
 use node_port::Keeper;
 use pst_outside::Outside;
@@ -72,6 +73,9 @@ pub(crate) fn outcome<W: Outside, K: Keeper<W>>(
         } => add_recipient(alloc, keeper, w, places, *message, *kind, address, name),
         Command::RemoveRecipient { message, row } => {
             remove_recipient(alloc, keeper, w, places, *message, *row)
+        }
+        Command::NameProperty { guid, number } => {
+            name_property(alloc, keeper, w, *guid, *number)
         }
         Command::Save | Command::Quit => {
             let reply = Reply::without_data(alloc, LastLine::Done);
