@@ -1,5 +1,5 @@
 -- Commands on messages, part by part.
-use Rattle.std.specs.Prelude.{ℕ, ◌==◌, ◌||◌, ◌++◌, List, length, map, nat_le, not, is_some, Option, None, Some, Ok, false, if◌then◌else◌}
+use Rattle.std.specs.Prelude.{ℕ, ◌==◌, ◌||◌, ◌++◌, List, length, map, nat_le, not, is_some, Option, None, Ok, false, if◌then◌else◌}
 use Rattle.command_text.specs.declared.reply.CommandRefusal.{CommandRefusal}
 use Rattle.command_text.specs.declared.reply.CommandRefusal.TheVariants.{Ids, Limit, Object, Property, Protected, Reserved}
 use Rattle.command_text.specs.declared.reply.Limit.TheVariants.{Rows}
@@ -16,6 +16,7 @@ use Rattle.mail_tree.specs.Values.{bytes_of, is_set_protected, is_unset_protecte
 use Rattle.mail_tree.specs.Changing.{Answer, Changed, ◌>>=◌, add_shown, contents, found, put_shown, refused_if}
 use Rattle.mail_tree.specs.Settling.{settled}
 use Rattle.mail_tree.specs.Ids.{is_spent, message_kinds, next_index}
+use Rattle.mail_tree.specs.Names.{unless_nameless}
 use Rattle.mail_tree.specs.Folders.{Outcome, changing, making, replied, replying, unchanged, unless_full}
 use Rattle.mail_messages.specs.Finding.{plain_at}
 use Rattle.mail_tree.specs.Messages.{added_message, attachment_line, changed_message, copying, is_overfull, making_message, property_line, recipient_line, value_of}
@@ -34,13 +35,13 @@ ending T f reason last D = settled T T.places f D >>= replying T reason (replied
 abbrev pub showing_row : Tree → ℕ → ℕ → List Val → Option CommandRefusal → LastLine → Changed → Answer Outcome
 showing_row T f m props reason last D = put_shown T (contents f) m props D >>= ending T f reason last
 
--- a value of this id may be set
+-- the value of this id isn't the store's own
 abbrev pub may_set : ℕ → List Val → Answer (Unit {0})
-may_set id props = refused_if (is_set_protected id props) Protected >>= λ u. refused_if (nat_le 0x8000 id) Property
+may_set id props = refused_if (is_set_protected id props) Protected
 
 -- a message gets a value
 abbrev pub putting_value : Tree → Val → Mes → Answer Outcome
-putting_value T v M = may_set v.id M.props >>= λ u. changed_message T M (put v M.props)
+putting_value T v M = may_set v.id M.props >>= λ u. unless_nameless T v.id >>= λ w. changed_message T M (put v M.props)
 
 -- the value of this id and kind may be removed
 abbrev pub may_unset : Tag → List Val → Answer (Unit {0})

@@ -12,11 +12,12 @@ use crate::find::message_in;
 use crate::mails::{with_value, without_value};
 use command_text::CommandRefusal;
 use mail_draft::{Outcome, Stop, bytes_of};
+use mail_names::check_named;
 use mail_objects::Mail;
 use mail_tree::Places;
 use mapi_values::tags::{
-    FIRST_NAMED_ID, ID_LTP_ROW_ID, ID_LTP_ROW_VER, ID_MESSAGE_ATTACHMENTS, ID_MESSAGE_FLAGS,
-    ID_MESSAGE_RECIPIENTS, ID_MESSAGE_SIZE, ID_SEARCH_KEY, PTYP_OBJECT,
+    ID_LTP_ROW_ID, ID_LTP_ROW_VER, ID_MESSAGE_ATTACHMENTS, ID_MESSAGE_FLAGS, ID_MESSAGE_RECIPIENTS,
+    ID_MESSAGE_SIZE, ID_SEARCH_KEY, PTYP_OBJECT,
 };
 use mapi_values::{Props, Tag, Value};
 use node_port::NodeReader;
@@ -55,16 +56,13 @@ fn is_unset_protected(tag: Tag, props: &Props) -> bool
         || (tag.kind == PTYP_OBJECT && bytes_of(props, tag.id, PTYP_OBJECT).is_some())
 }
 
-/// Checks that a value of this id may be set.
+/// Checks that a value of this id isn't the store's own.
 fn check_set(id: u16, mail: &Mail) -> Result<(), Stop>
     ensures answer { Says (λ u. u) (may_set id mail.now.props) result }
     ensures cause { IfErr result IsCalm }
 {
     if is_set_protected(id, &mail.message().props) {
         return Err(Stop::Refused(CommandRefusal::Protected));
-    }
-    if id >= FIRST_NAMED_ID {
-        return Err(Stop::Refused(CommandRefusal::Property));
     }
     Ok(())
 }
@@ -97,7 +95,9 @@ fn put_value<W: Outside, K: NodeReader<W>>(
     ensures looks { Looks (K.holds keeper.old (W.view w.old)) (K.holds keeper.new (W.view w.new)) (K.last keeper.old) (K.last keeper.new) (K.room keeper.old) (K.room keeper.new) (W.view w.old) (W.view w.new) }
     ensures cause { IfErr result (IsCaused K.has_disk (W.view w.old).disk_faults (W.view w.new).disk_faults) }
 {
-    check_set(value.id(), &mail)?;
+    let id = value.id();
+    check_set(id, &mail)?;
+    check_named(alloc, keeper, w, id)?;
     let props = with_value(alloc, &mail, value)?;
     change_message(alloc, keeper, w, places, mail, props)
 }
@@ -120,7 +120,7 @@ fn remove_value<W: Outside, K: NodeReader<W>>(
     change_message(alloc, keeper, w, places, mail, props)
 }
 
-/// Puts a value into a message. Refused where the message isn't there, the id is the store's own or that of an object (`Protected`), or it is 8000h or more (`Property`).
+/// Puts a value into a message. Refused where the message isn't there, the id is the store's own or that of an object (`Protected`), or it is 8000h or more and no name has it (`Property`).
 pub fn set_value<W: Outside, K: NodeReader<W>>(
     alloc: Global,
     keeper: &mut K,

@@ -12,6 +12,7 @@ use mail_messages::{
     copy_message, get_value, list_details, move_message, new_message, remove_message, set_value,
     unset_value,
 };
+use mail_names::name_property;
 use mail_parts::{add_recipient, append, attach, detach, fetch, remove_recipient};
 use mail_tree::Places;
 use node_port::Keeper;
@@ -92,6 +93,9 @@ pub(crate) fn outcome<W: Outside, K: Keeper<W>>(
             message,
             attachment,
         } => fetch(alloc, keeper, w, places, *message, *attachment),
+        Command::NameProperty { guid, number } => {
+            name_property(alloc, keeper, w, *guid, *number)
+        }
         Command::Save | Command::Quit => {
             let reply = Reply::without_data(alloc, LastLine::Done);
             Ok(Outcome::unchanged(alloc, reply))
