@@ -64,7 +64,15 @@ fn add_to<W: Outside, K: NodeReader<W>>(
     let added = with_recipient(alloc, mail, new_row(row), props)?;
     match added {
         Some(mail) => {
-            remake_message(alloc, keeper, w, places, old_len, mail, recipient_ending(row))
+            remake_message(
+                alloc,
+                keeper,
+                w,
+                places,
+                old_len,
+                mail,
+                recipient_ending(row),
+            )
         }
         None => Err(Stop::Refused(CommandRefusal::Limit(Limit::Rows))),
     }

@@ -32,7 +32,12 @@ pub(crate) fn recipient_props(
 {
     let smtp = Units::from_vec(Vec::from_slice(alloc, &[83, 77, 84, 80])?);
     let mut props = Props::new(alloc);
-    put_number(alloc, &mut props, PID_TAG_RECIPIENT_TYPE.id, u64::from(kind))?;
+    put_number(
+        alloc,
+        &mut props,
+        PID_TAG_RECIPIENT_TYPE.id,
+        u64::from(kind),
+    )?;
     put_text(alloc, &mut props, PID_TAG_DISPLAY_NAME.id, name)?;
     put_text(alloc, &mut props, PID_TAG_ADDRESS_TYPE.id, &smtp)?;
     put_text(alloc, &mut props, PID_TAG_EMAIL_ADDRESS.id, address)?;
