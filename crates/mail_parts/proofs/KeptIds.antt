@@ -19,5 +19,5 @@ kept_step g i subs s h is =
     let more : drop i subs ≡ s ∷ drop (i + 1) subs = drop_more subs i s h ∙ ap (λ (x : Sub). x ∷ drop (i + 1) subs) (sym is) in
     let first = deeper s.subs (flattened (drop (i + 1) subs)) in
     let all : greatest_kept (flattened (drop i subs)) ≡ max (part_index s.nid.bits) (greatest_kept (flattened (drop (i + 1) subs))) =
-        ap (λ (ss : List Sub). greatest_kept (flattened ss)) more ∙ ap (λ (n : ℕ). max (part_index s.nid.bits) n) first in
+    ap (λ (ss : List Sub). greatest_kept (flattened ss)) more ∙ ap (λ (n : ℕ). max (part_index s.nid.bits) n) first in
     omega arith

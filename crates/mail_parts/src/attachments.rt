@@ -91,7 +91,15 @@ fn attach_to<W: Outside, K: NodeReader<W>>(
     let added = with_attachment(alloc, mail, index, props)?;
     match added {
         Some(mail) => {
-            remake_message(alloc, keeper, w, places, old_len, mail, attachment_ending(index))
+            remake_message(
+                alloc,
+                keeper,
+                w,
+                places,
+                old_len,
+                mail,
+                attachment_ending(index),
+            )
         }
         None => Err(Stop::Refused(CommandRefusal::Limit(Limit::Rows))),
     }

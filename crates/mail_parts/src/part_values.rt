@@ -36,7 +36,12 @@ pub(crate) fn attachment_props(
     ensures { IfOk result (λ p. p ≡ attachment_props name.now bytes.now) }
 {
     let mut props = Props::new(alloc);
-    put_number(alloc, &mut props, PID_TAG_ATTACH_SIZE.id, bytes.len() as u64)?;
+    put_number(
+        alloc,
+        &mut props,
+        PID_TAG_ATTACH_SIZE.id,
+        bytes.len() as u64,
+    )?;
     put_data(&mut props, bytes.copy(alloc)?)?;
     put_text(alloc, &mut props, PID_TAG_ATTACH_FILENAME.id, name)?;
     put_number(alloc, &mut props, PID_TAG_ATTACH_METHOD.id, 1)?;

@@ -4,8 +4,7 @@ ghost use Rattle.mapi_values.specs.Keyed.{put_key};
 ghost use Rattle.mapi_values.specs.Messages.{AreNamed, are_others, part_id};
 ghost use Rattle.mapi_values.specs.declared.part.Part.{Part};
 ghost use Rattle.message_obj.specs.Message.{part_is_formed};
-ghost use Rattle.mail_tree.specs.Ids.{new_id};
-ghost use Rattle.mail_tree.specs.Parts.{attachment_tags, attachments_for, is_wide, next_part, part_in, room_for, shown_anew, with_attachment, with_part, without_attachment};
+ghost use Rattle.mail_tree.specs.Parts.{attachment_tags, attachments_for, is_wide, part_in, room_for, shown_anew, with_attachment, with_part, without_attachment};
 
 use crate::part_places::{place, put_at};
 use column_layout::{completed, has_columns};
@@ -70,9 +69,8 @@ fn attachments_for(
 /// The message that an attachment of this index is put into: where no index is left, it is without what it keeps, and changes are planned with the last index.
 #[tactic(auto, unfolding(message_obj::specs::Message::is_formed))]
 pub(crate) fn room_for(alloc: Global, index: u64, mail: Mail) -> Mail
-    requires { index ≡ next_part mail }
     ensures value { result ≡ room_for index mail }
-    ensures free { (part : Part) → part_id part ≡ new_id 5 index → are_others (put_key part_id part result.parts) result.kept ≡ true }
+    ensures others { are_others mail.parts mail.kept ≡ true }
 {
     let message = mail.into_message();
     let mut kept = message.kept;
