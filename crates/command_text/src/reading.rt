@@ -4,8 +4,9 @@ ghost use Rattle.command_text.specs.Lines.{make_folder, rename_folder, move_fold
 
 use crate::arguments::{id_and_name, id_and_tag, one_id, two_ids};
 use crate::command::{Command, LineRefusal};
-use crate::words::{as_text, cut, read_data, read_name, read_recipient_type, read_row, read_tag, read_guid};
-
+use crate::words::{
+    as_text, cut, read_data, read_guid, read_name, read_recipient_type, read_row, read_tag,
+};
 use pst_base::MemOr;
 use std::alloc::Global;
 use value_text::{magnitude, parse_value};

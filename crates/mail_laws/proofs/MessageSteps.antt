@@ -200,6 +200,7 @@ pub fine_fetched_data : (T : Tree) (m n : ℕ) → Before T → Fine (fetched_da
 unfolding fetched_data
 fine_fetched_data T m n w = fine_then _ (Keeps T) (message_in T m) _ (fine_message_in T m w) (λ M h.
     after_found (Keeps T) NoObject (part_in n M) _ (λ part is. after_found (Keeps T) NoProperty (value_of data_tag part.props) _ (λ v is'. w)))
+
 -- the names are there
 fine_nameless : (T : Tree) (id : ℕ) → Before T → Fine (unless_nameless T id) (λ u. Unit {0})
 unfolding unless_nameless names_in

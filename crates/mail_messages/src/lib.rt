@@ -17,7 +17,6 @@ mod moving;
 mod reading;
 mod removing;
 mod values;
-mod with_recipients;
 
 pub use changes::remake_message;
 pub use copying::copy_message;
