@@ -1,15 +1,16 @@
 -- Sets of folders, and which of them are in a scope.
 use Rattle.std.proofs.Common.{◌≡◌, ℕ, suc, ◌<◌, ◌==◌, ◌&&◌, ◌||◌, Bool, true, false, List, [], ◌∷◌, ◌++◌, length, map, take, reverse, get_or, refl, sym, ap, subst, ◌∙◌, inl, inr}
+use Rattle.std.specs.Prelude.{not}
 use Rattle.std.specs.List.{list_any}
 use Rattle.std.specs.Option.{is_some}
 use Rattle.std.proofs.Math.Seq.{take-suc}
-use Rattle.std.proofs.lemmas.Bool.{cases_Bool, eq-eqb, eqb-true, true≢false}
+use Rattle.std.proofs.lemmas.Bool.{and_parts, cases_Bool, eq-eqb, eqb-true, or_cases, true≢false}
 use Rattle.std.proofs.lemmas.List.{map-append, reverse-append}
 use Rattle.mapi_values.specs.Keyed.{keys_ascend, put_key}
 use Rattle.pst_base.specs.declared.ids.Nid.{Nid}
 use Rattle.search_obj.specs.declared.scoping.Member.{Member}
 use Rattle.search_obj.specs.Crits.{CritSet}
-use Rattle.search_obj.specs.Scope.{ids_of_pair, in_scope, in_scope_back, is_among, is_member, is_plain, member_id}
+use Rattle.search_obj.specs.Scope.{are_in_order, are_in_order_back, ids_of_pair, in_scope, in_scope_back, is_among, is_listed, is_member, is_plain, member_id}
 use Rattle.search_obj.proofs.PropLaws.{find_put_other, find_put_same}
 
 -- a folder that was put is in the set, beside those that were
@@ -153,6 +154,84 @@ scope_given s plain f is listed = given_back s.flags.recursive (is_among s.scope
 pub scope_shallow : (s : CritSet) (plain : List (ℕ × ℕ)) (f : ℕ) → s.flags.recursive ≡ false → in_scope s plain f ≡ (is_plain plain f && is_among s.scope f)
 unfolding in_scope
 scope_shallow s plain f is = rw is (shallow_back (is_among s.scope) (reverse plain) f ∙ ap (λ b. b && is_among s.scope f) (any_reverse (λ p. p.0 == f) plain))
+
+-- ---- what a parent decides
+
+-- a folder that is listed isn't one that isn't
+not_that : (k f : ℕ) (ps : List (ℕ × ℕ)) → is_plain ps f ≡ true → not (is_plain ps k) ≡ true → (k == f) ≡ false
+not_that k f ps plain other =
+    elim (cases_Bool (k == f)) [
+      | inl t ↦
+          let here : not (is_plain ps f) ≡ true = subst (λ (j : ℕ). not (is_plain ps j) ≡ true) (eqb-true k f t) other in
+          let gone : false ≡ true = rw plain at here in
+          cc
+      | inr n ↦ n
+    ]
+
+listed_plain : (ps : List (ℕ × ℕ)) (f p : ℕ) → is_listed ps f p ≡ true → is_plain ps f ≡ true
+listed_plain [] f p is = is
+listed_plain (q ∷ ps) f p is =
+    elim (cases_Bool (q.0 == f)) [
+      | inl t ↦ rw t refl
+      | inr n ↦ rw n (listed_plain ps f p (rw n at is))
+    ]
+
+-- the parent of a folder that is listed is listed
+listed_parent : (ps : List (ℕ × ℕ)) (f p : ℕ) → are_in_order_back ps ≡ true → is_listed ps f p ≡ true → is_plain ps p ≡ true
+listed_parent [] f p order is = is
+listed_parent (q ∷ ps) f p order is =
+    let rest = and_parts ((q.1 == q.0) || is_plain ps q.1) (are_in_order_back ps) (and_parts (not (is_plain ps q.0)) _ order).1 in
+    elim (cases_Bool ((q.0 == f) && (q.1 == p))) [
+      | inl t ↦
+          let parent : q.1 ≡ p = eqb-true q.1 p (and_parts (q.0 == f) (q.1 == p) t).1 in
+          elim (or_cases (q.1 == q.0) (is_plain ps q.1) rest.0) [
+            | inl own ↦ rw (eq-eqb q.0 p (sym (eqb-true q.1 q.0 own) ∙ parent)) refl
+            | inr there ↦ let here : is_plain ps p ≡ true = subst (λ (j : ℕ). is_plain ps j ≡ true) parent there in rw here (or_swap (q.0 == p) true)
+          ]
+      | inr n ↦ let here = listed_parent ps f p rest.1 (rw n at is) in rw here (or_swap (q.0 == p) true)
+    ]
+
+-- a folder that isn't listed isn't in the scope
+left_out : (given : ℕ → Bool) (ps : List (ℕ × ℕ)) (k : ℕ) → not (is_plain ps k) ≡ true → in_scope_back true given ps k ≡ false
+left_out given ps k other =
+    elim (cases_Bool (in_scope_back true given ps k)) [
+      | inl t ↦ let gone : false ≡ true = rw (plain_back true given ps k t) at other in cc
+      | inr n ↦ n
+    ]
+
+both_ways : (x g e : Bool) → ((x || g) || false) ≡ (g || ((e && (x || g)) || x))
+both_ways true true e = refl
+both_ways true false true = refl
+both_ways true false false = refl
+both_ways false true e = refl
+both_ways false false true = refl
+both_ways false false false = refl
+
+-- of the last folder that is listed
+decides_last : (given : ℕ → Bool) (ps : List (ℕ × ℕ)) (q : ℕ × ℕ) (f p : ℕ) → q.0 ≡ f → q.1 ≡ p → not (is_plain ps q.0) ≡ true
+    → in_scope_back true given (q ∷ ps) f ≡ (given f || in_scope_back true given (q ∷ ps) p)
+decides_last given ps q f p folder parent other =
+    rw (← folder, ← parent, eq-eqb q.0 q.0 refl, left_out given ps q.0 other) (both_ways (in_scope_back true given ps q.1) (given q.0) (q.0 == q.1))
+
+decides_back : (given : ℕ → Bool) (ps : List (ℕ × ℕ)) (f p : ℕ) → are_in_order_back ps ≡ true → is_listed ps f p ≡ true
+    → in_scope_back true given ps f ≡ (given f || in_scope_back true given ps p)
+decides_back given [] f p order is = absurd (true≢false (sym is))
+decides_back given (q ∷ ps) f p order is =
+    let parts = and_parts (not (is_plain ps q.0)) _ order in
+    let rest = and_parts ((q.1 == q.0) || is_plain ps q.1) (are_in_order_back ps) parts.1 in
+    elim (cases_Bool ((q.0 == f) && (q.1 == p))) [
+      | inl t ↦ let both = and_parts (q.0 == f) (q.1 == p) t in decides_last given ps q f p (eqb-true q.0 f both.0) (eqb-true q.1 p both.1) parts.0
+      | inr n ↦
+          let listed : is_listed ps f p ≡ true = rw n at is in
+          rw (not_that q.0 f ps (listed_plain ps f p listed) parts.0, not_that q.0 p ps (listed_parent ps f p rest.1 listed) parts.0) (decides_back given ps f p rest.1 listed)
+    ]
+
+-- a folder of a recursive search is in the scope where it is given or its parent is in the scope
+pub scope_decides : (s : CritSet) (plain : List (ℕ × ℕ)) (f p : ℕ) → are_in_order plain ≡ true → s.flags.recursive ≡ true → is_listed plain f p ≡ true
+    → in_scope s plain f ≡ (is_among s.scope f || in_scope s plain p)
+unfolding in_scope
+scope_decides s plain f p order deep listed =
+    rw deep (decides_back (is_among s.scope) (reverse plain) f p order (any_reverse (λ q. (q.0 == f) && (q.1 == p)) plain ∙ listed))
 
 -- ---- the set as a list of folders
 

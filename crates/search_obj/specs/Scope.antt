@@ -28,6 +28,19 @@ in_scope_back deep given (p ∷ before) f = ((p.0 == f) && ((deep && in_scope_ba
 unfoldable pub in_scope : CritSet → List (ℕ × ℕ) → ℕ → Bool
 in_scope s plain f = in_scope_back s.flags.recursive (is_among s.scope) (reverse plain) f
 
+-- each folder is listed once, and after its parent, if it isn't its own; told from the last back to the first
+abbrev pub are_in_order_back : List (ℕ × ℕ) → Bool
+are_in_order_back [] = true
+are_in_order_back (p ∷ before) = not (is_plain before p.0) && (((p.1 == p.0) || is_plain before p.1) && are_in_order_back before)
+
+-- the same of folders that are listed from the first on
+abbrev pub are_in_order : List (ℕ × ℕ) → Bool
+are_in_order plain = are_in_order_back (reverse plain)
+
+-- the folder is listed with this parent
+abbrev pub is_listed : List (ℕ × ℕ) → ℕ → ℕ → Bool
+is_listed plain f parent = list_any (λ p. (p.0 == f) && (p.1 == parent)) plain
+
 -- a folder in a set
 abbrev pub member_id : Member → ℕ
 member_id m = m.nid.bits

@@ -17,7 +17,9 @@ mod writing;
 pub use changing::NoCriteria;
 pub use criteria::{Criteria, CriteriaSet, Version};
 pub use flags::{SearchFlags, SearchState};
-pub use law::{criteria_are_unique, flags_are_their_number, scopes_have_the_given_folders};
+pub use law::{
+    criteria_are_unique, flags_are_their_number, parents_decide, scopes_have_the_given_folders,
+};
 pub use reading::{CriteriaFault, read_search};
 pub use scoping::scope_of;
 pub use values::{SEARCH_BUILDS, SEARCH_FLAGS, SEARCH_MARK, SEARCH_RESTRICTION, SEARCH_SCOPE};
