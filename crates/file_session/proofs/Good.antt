@@ -41,8 +41,8 @@ command_good : (T U : Tree) (c : Command) (said : List ℕ) → IsGood T → Ste
 command_good T U c said h steps = step_good T U steps.0 (outcome T c) h (whole_after T c h.whole) (stays_found T c h.whole h.is_found) steps.1
 
 carried_good : (room : Room) (T U : Tree) (asked : Result Command LineRefusal) (said : List ℕ) → IsGood T → Carries room T asked said U → IsGood U
-carried_good room T U (Ok c) said h (inl steps) = command_good T U c said h steps
-carried_good room T U (Ok c) said h (inr hinders) = subst IsGood (sym hinders.2) h
+carried_good room T U (Ok c) said h (inl done) = command_good T U c said h done.0
+carried_good room T U (Ok c) said h (inr hinders) = subst IsGood (sym hinders.3) h
 carried_good room T U (Err refusal) said h carries = subst IsGood (sym carries.1) h
 
 answer_good : (room : Room) (T U : Tree) (piece : Piece) (said : List ℕ) → IsGood T → Answers room T piece said U → IsGood U

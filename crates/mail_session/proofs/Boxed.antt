@@ -22,7 +22,7 @@ use Rattle.mail_store.specs.declared.store.Store.{Store}
 use Rattle.mail_laws.proofs.Starting.{starts_whole}
 use Rattle.mail_laws.proofs.Strays.{whole_after}
 use Rattle.mail_tree.specs.declared.places.FolderPlace.{FolderPlace}
-use Rattle.mail_tree.specs.Changing.{Answer}
+use Rattle.mail_tree.specs.Changing.{Answer, Changed as Changes}
 use Rattle.mail_tree.specs.Folders.{Outcome, replied}
 use Rattle.mail_tree.specs.Start.{IsStart, start_last, start_places}
 use Rattle.mail_tree.specs.Step.{after, outcome, step, stepped}
@@ -57,16 +57,16 @@ new_holds store nodes T start at keeps counts places = record {
 }
 
 -- in memory nothing hinders a command but want of memory
-pub no_hindrance : (refusal : CommandRefusal) → is_full refusal ≡ false → IsHindered ample (Refused refusal) → ⊥
-no_hindrance (Full free need) small h = false≢true (sym small)
-no_hindrance Ids small h = false≢true h
-no_hindrance other small h = h
+pub no_hindrance : (refusal : CommandRefusal) → is_full refusal ≡ false → (D : Changes) → IsHindered ample D (Refused refusal) → ⊥
+no_hindrance (Full free need) small D h = false≢true (sym small)
+no_hindrance Ids small D h = false≢true h.1
+no_hindrance other small D h = h
 
 -- what a refusal does
 refused_by : (old new : Store MapKeeper) (c : Command) (said : List ℕ) (refusal : CommandRefusal) {P : Type 0} (plans : Outcome → P → Type 0) (T : Tree) (answer : Answer Outcome)
-    → outcome T c ≡ answer → (IsHindered ample (Refused refusal) → ⊥) → said ≡ refused refusal → Holds new T
+    → outcome T c ≡ answer → ((D : Changes) → IsHindered ample D (Refused refusal) → ⊥) → said ≡ refused refusal → Holds new T
     → Fine answer (λ o. IsWhole (after T o)) → Plans {P = P} ample plans answer (Err (Refused refusal)) → (U : Tree) × Steps T c said U × Holds new U
-refused_by old new c said refusal plans T (Ok o) is free gave h fine answer = absurd (free answer)
+refused_by old new c said refusal plans T (Ok o) is free gave h fine answer = absurd (free o.changed answer)
 refused_by old new c said refusal plans T (Err (Some r)) is free gave h fine answer =
     (T, (replied (last.Refused r), ap (stepped T) is, gave ∙ ap refused answer), h)
 refused_by old new c said refusal plans T (Err None) is free gave h fine answer = absurd fine
@@ -84,7 +84,7 @@ done_by : (new : Store MapKeeper) (c : Command) {P : Type 0} (planned : P) (plan
     → ((o : Outcome) → plans o planned → Stores (Keeps new.keeper.nodes) new.keeper.counts.last new.places (after T o))
     → Fine answer (λ o. IsWhole (after T o)) → Plans {P = P} ample plans answer (Ok planned) → (U : Tree) × Steps T c (reply_of planned) U × Holds new U
 done_by new c planned plans reply_of T (Ok o) is said makes fine answer =
-    (after T o, (o.reply, ap (stepped T) is, said o answer), record { stores = makes o answer; whole = fine })
+    (after T o, (o.reply, ap (stepped T) is, said o answer.0), record { stores = makes o answer.0; whole = fine })
 done_by new c planned plans reply_of T (Err (Some r)) is said makes fine answer = absurd answer
 done_by new c planned plans reply_of T (Err None) is said makes fine answer = absurd fine
 

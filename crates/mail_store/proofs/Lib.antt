@@ -1,2 +1,4 @@
 pub mod StoreLaws
 pub mod OpeningLaws
+pub mod QuietLaws
+pub mod SpaceLaws

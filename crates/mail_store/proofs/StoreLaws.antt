@@ -1,8 +1,6 @@
 -- What a store plans and commits.
-use Rattle.std.proofs.Common.{◌≡◌, ◌⊎◌, inl, inr, refl, ℕ, Bool, true, false, List, Option, None, Some, Result, Ok, Err, sym, subst, ◌∙◌}
-use Rattle.std.specs.Bool.{OnTrue}
+use Rattle.std.proofs.Common.{◌≡◌, ◌⊎◌, inl, inr, refl, ℕ, List, Option, None, Some, Result, Ok, Err, IfOk, ap, sym, subst, ◌∙◌}
 use Rattle.std.specs.Result.{OnOk}
-use Rattle.std.specs.FinMap as map
 use Rattle.command_text.specs.declared.reply.Reply.{Reply}
 use Rattle.node_port.specs.Nodes.{Nodes, changed}
 use Rattle.node_port.specs.Stops.{Room}
@@ -12,17 +10,14 @@ use Rattle.pst_outside.specs.World.{World}
 use Rattle.mail_tree.specs.declared.places.FolderPlace.{FolderPlace}
 use Rattle.mail_tree.specs.Changing.{Answer}
 use Rattle.mail_tree.specs.Folders.{Outcome}
-use Rattle.mail_tree.specs.Step.{after, with_changes, without_changed}
+use Rattle.mail_tree.specs.Step.{after}
 use Rattle.mail_tree.specs.Tree.{Shown, Tree}
 use Rattle.mail_draft.specs.Answers.{Looks, Says}
-use Rattle.mail_draft.specs.Drafts.{changed_of}
-use Rattle.mail_draft.specs.Outcomes.{last_after, outcome_of, places_after}
-use Rattle.mail_draft.specs.declared.outcome.Outcome.{Outcome as Coming}
 use Rattle.mail_draft.specs.declared.stop.Stop.{Stop}
 use Rattle.mail_draft.specs.declared.stop.Stop.TheVariants.{Refused, Fault, Changed, Memory}
-use Rattle.mail_draft.proofs.FitLaws.{no-entries}
 use Rattle.mail_draft.proofs.Looking.{shown_still}
 use Rattle.mail_store.specs.Planning.{Carries, IsHindered, Plans, ShowsTree, StandsFor, Stores, UnlessFault}
+use Rattle.mail_store.specs.Space.{HasRoom}
 
 -- what follows of what holds where a call succeeds
 pub on_ok : {A E P Q : Type 0} (r : Result A E) → OnOk r P → (P → Q) → OnOk r Q
@@ -42,37 +37,29 @@ applied (Ok u) holds holds' last last' fits ready rests told made kept = λ T o 
 }
 applied (Err e) holds holds' last last' fits ready rests told made kept = tt
 
--- a command that only replies leaves the tree
-pub quiet : (oc : Coming) → oc.places ≡ None → oc.last ≡ None → (changed_of oc.draft).objects ≡ map.empty → (T : Tree) → after T (outcome_of T oc) ≡ T
-quiet oc places last none T =
-    let entries = no-entries (changed_of oc.draft) none in
-    λ i. record {
-      places = places_after T.places (places i);
-      objects = with_changes (entries i) T.objects;
-      others = without_changed (entries i) T.others;
-      last = last_after T.last (last i);
-    }
+-- what holds where there is an answer holds of it
+pub of_answer : {A : Type 0} (P : A → Type 0) (answer : Answer A) (x : A) → IfOk answer P → answer ≡ Ok x → P x
+of_answer P (Ok y) x holds is = subst (λ a. IfOk a P) is holds
+of_answer P (Err e) x holds is = cc
 
-pub on_true : {A B : Type 0} (b : Bool) → (A → B) → OnTrue b A → OnTrue b B
-on_true true f h = f h
-on_true false f h = tt
-
--- what was planned of an answer
-pub plans_made : {A P : Type 0} (view : A → Outcome) (room : Room) (plans : Outcome → P → Type 0) (answer : Answer Outcome) (oc : A) (planned : P) → Says view answer (Ok oc) → plans (view oc) planned → Plans room plans answer (Ok planned)
-plans_made view room plans (Ok o) oc planned says made = subst (λ x. plans x planned) says made
-plans_made view room plans (Err None) oc planned says made = tt
-plans_made view room plans (Err (Some refusal)) oc planned says made = absurd says
+-- what was planned of an answer, and has room
+pub plans_made : {A P : Type 0} (view : A → Outcome) (room : Room) (plans : Outcome → P → Type 0) (answer : Answer Outcome) (oc : A) (planned : P)
+    → Says view answer (Ok oc) → (answer ≡ Ok (view oc) → plans (view oc) planned) → HasRoom room (view oc).changed → Plans room plans answer (Ok planned)
+plans_made view room plans (Ok o) oc planned says made has = subst (λ x. plans x planned × HasRoom room x.changed) says (made (ap Ok (sym says)), has)
+plans_made view room plans (Err None) oc planned says made has = tt
+plans_made view room plans (Err (Some refusal)) oc planned says made has = absurd says
 
 -- what hindered the plan of an answer
-pub plans_hindered : {A P : Type 0} (view : A → Outcome) (room : Room) (plans : Outcome → P → Type 0) (answer : Answer Outcome) (oc : A) (stop : Stop) → Says view answer (Ok oc) → IsHindered room stop → Plans room plans answer (Err stop)
-plans_hindered view room plans (Ok o) oc stop says hindered = hindered
+pub plans_hindered : {A P : Type 0} (view : A → Outcome) (room : Room) (plans : Outcome → P → Type 0) (answer : Answer Outcome) (oc : A) (stop : Stop)
+    → Says view answer (Ok oc) → IsHindered room (view oc).changed stop → Plans room plans answer (Err stop)
+plans_hindered view room plans (Ok o) oc stop says hindered = subst (λ x. IsHindered room x.changed stop) says hindered
 plans_hindered view room plans (Err None) oc stop says hindered = tt
 plans_hindered view room plans (Err (Some refusal)) oc stop says hindered = absurd says
 
 -- what was planned was done
 pub does_planned : {P : Type 0} (room : Room) (plans : Outcome → P → Type 0) (does : Outcome → Reply → Type 0) (answer : Answer Outcome) (planned : P) (reply : Reply)
     → Plans room plans answer (Ok planned) → ((o : Outcome) → plans o planned → does o reply) → Plans room does answer (Ok reply)
-does_planned room plans does (Ok o) planned reply said then = then o said
+does_planned room plans does (Ok o) planned reply said then = (then o said.0, said.1)
 does_planned room plans does (Err None) planned reply said then = tt
 does_planned room plans does (Err (Some refusal)) planned reply said then = said
 

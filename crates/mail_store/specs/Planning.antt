@@ -1,5 +1,6 @@
 -- What a store stands for, and what it plans.
-use Rattle.std.specs.Prelude.{◌≡◌, ◌<◌, ℕ, true, List, Option, None, Some, Result, Ok, Err}
+use Rattle.std.specs.Prelude.{◌≡◌, ℕ, true, List, Option, None, Some, Result, Ok, Err}
+use Rattle.std.specs.FinMap as map
 use Rattle.pst_base.specs.declared.ids.Nid.{Nid}
 use Rattle.pst_outside.specs.World.{Image}
 use Rattle.command_text.specs.declared.reply.CommandRefusal.TheVariants as refusals
@@ -8,7 +9,7 @@ use Rattle.node_port.specs.Nodes.{Nodes, changed, node_at}
 use Rattle.node_port.specs.Stops.{Room}
 use Rattle.node_port.specs.declared.node.NodeRec.{NodeRec}
 use Rattle.mail_tree.specs.declared.places.FolderPlace.{FolderPlace}
-use Rattle.mail_tree.specs.Changing.{Answer}
+use Rattle.mail_tree.specs.Changing.{Answer, Changed as Changes}
 use Rattle.mail_tree.specs.Folders.{Outcome}
 use Rattle.mail_tree.specs.Step.{after}
 use Rattle.mail_tree.specs.Tree.{Shown, StandsAt, Tree, object_at}
@@ -16,6 +17,7 @@ use Rattle.mail_draft.specs.Answers.{IsRefusal}
 use Rattle.mail_draft.specs.Outcomes.{places_after}
 use Rattle.mail_draft.specs.declared.stop.Stop.{Stop}
 use Rattle.mail_draft.specs.declared.stop.Stop.TheVariants.{Refused, Fault, Changed, Memory}
+use Rattle.mail_store.specs.Space.{HasRoom, IsFull, WritesNodes}
 
 -- a store over these nodes and counters, with these places, has the tree
 pub record Stores (holds : Nodes → Type 0) (last : List ℕ) (places : List FolderPlace) (T : Tree) : Type 0 where
@@ -35,6 +37,10 @@ abbrev pub Carries : {R : Type 0} → (R → List ℕ → List (Nid × Option No
 Carries fits T o None = after T o ≡ T
 Carries fits T o (Some ready) = (cs : List (Nid × Option NodeRec)) × fits ready o.last cs × ((N : Nodes) → ShowsTree N T → ShowsTree (changed N cs) (after T o))
 
+-- if it writes no node, the tree stays
+abbrev pub StaysUnwritten : Tree → Outcome → Type 0
+StaysUnwritten T o = o.changed.objects ≡ map.empty → after T o ≡ T
+
 -- what carrying out a plan does to the disk: what its keeper does, or nothing where there is nothing to change
 abbrev pub Alters : {R : Type 0} → (Image → Image → Type 0) → Option R → Image → Image → Type 0
 Alters applied None old new = new ≡ old
@@ -51,19 +57,19 @@ pub record PlansTo {R : Type 0} (fits : R → List ℕ → List (Nid × Option N
   pub places_are : o.places ≡ places_after T.places places
   pub carries : Carries fits T o change
 
--- A stop that is no matter of the tree: the disk failed, memory ran out, or the file has no room or no numbers left.
-abbrev pub IsHindered : Room → Stop → Type 0
-IsHindered room (Refused (refusals.Full free need)) = (free ≡ room.free) × (free < need)
-IsHindered room (Refused refusals.Ids) = room.spent ≡ true
-IsHindered room (Refused other) = ⊥
-IsHindered room Fault = Unit {0}
-IsHindered room (Changed ib stored computed) = ⊥
-IsHindered room Memory = Unit {0}
+-- A stop that is no matter of the tree: the disk failed, memory ran out, or the changes are to be written and the file has no room or no numbers left for them.
+abbrev pub IsHindered : Room → Changes → Stop → Type 0
+IsHindered room D (Refused (refusals.Full free need)) = IsFull room D free need
+IsHindered room D (Refused refusals.Ids) = WritesNodes D × (room.spent ≡ true)
+IsHindered room D (Refused other) = ⊥
+IsHindered room D Fault = Unit {0}
+IsHindered room D (Changed ib stored computed) = ⊥
+IsHindered room D Memory = Unit {0}
 
--- The answer of a command was planned as the definition says. Where something isn't of its form, nothing is said.
+-- The answer of a command was planned as the definition says, and there is room for what it writes. Where something isn't of its form, nothing is said.
 abbrev pub Plans : {P : Type 0} → Room → (Outcome → P → Type 0) → Answer Outcome → Result P Stop → Type 0
-Plans room plans (Ok o) (Ok planned) = plans o planned
-Plans room plans (Ok o) (Err stop) = IsHindered room stop
+Plans room plans (Ok o) (Ok planned) = plans o planned × HasRoom room o.changed
+Plans room plans (Ok o) (Err stop) = IsHindered room o.changed stop
 Plans room plans (Err (Some refusal)) (Ok planned) = ⊥
 Plans room plans (Err (Some refusal)) (Err stop) = IsRefusal refusal stop
 Plans room plans (Err None) result = Unit {0}

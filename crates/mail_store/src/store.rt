@@ -1,6 +1,5 @@
 //! The store over a keeper.
 ghost use Rattle.std.specs.Prelude.{◌≡◌, ◌⊎◌, ◌≤◌, ◌+◌, ℕ, List, Option, None, true, IfOk, IfErr, OnErr, OnOk};
-ghost use Rattle.std.specs.Bool.{OnTrue};
 ghost use Rattle.std.specs.Option.{ForSome};
 ghost use Rattle.pst_base.specs.declared.ids.Nid.{Nid as Id};
 ghost use Rattle.node_port.specs.declared.node.NodeRec.{NodeRec as Rec};
@@ -11,12 +10,13 @@ ghost use Rattle.mail_tree.specs.Folders.{Outcome as Coming};
 ghost use Rattle.mail_draft.specs.Answers.{IsCaused, Looks};
 ghost use Rattle.mail_draft.specs.Drafts.{all_fit, changed_of};
 ghost use Rattle.mail_draft.specs.Outcomes.{last_after, outcome_of, places_after};
-ghost use Rattle.mail_store.specs.Planning.{Alters, Carries, cost_of, Does, IsHindered, Plans, PlansTo, StandsFor, Stores, UnlessFault};
+ghost use Rattle.mail_store.specs.Planning.{Alters, Carries, cost_of, Does, IsHindered, Plans, PlansTo, StandsFor, StaysUnwritten, Stores, UnlessFault};
+ghost use Rattle.mail_store.specs.Space.{HasCells, HasRoom, WritesNodes};
 
 use crate::commands::outcome;
 use crate::planned::Planned;
 use command_text::{Command, Reply};
-use mail_draft::{Draft, Outcome, Stop, finish};
+use mail_draft::{Draft, Outcome, Stop, finish, space_needed};
 use mail_tree::Places;
 use node_port::{Changes, Counts, Keeper, Saver};
 use pst_outside::{Failed, Outside};
@@ -39,7 +39,7 @@ fn counts_after<W: Outside, K: Keeper<W>>(_w: &W, keeper: &K, last: &Option<Coun
     }
 }
 
-/// Plans the changes of a draft, all of which may be written.
+/// Plans the changes of a draft, of which there are some and all may be written.
 fn plan_changes<W: Outside, K: Keeper<W>>(
     alloc: Global,
     keeper: &mut K,
@@ -47,11 +47,13 @@ fn plan_changes<W: Outside, K: Keeper<W>>(
     draft: &Draft,
     last: &Option<Counts>,
 ) -> Result<K::Ready, Stop>
-    requires { all_fit (changed_of draft.now) ≡ true }
+    requires fits { all_fit (changed_of draft.now) ≡ true }
+    requires some { WritesNodes (changed_of draft.now) }
     ensures carries { IfOk result (λ ready. (T : Tree) (o : Coming) → Shown (K.holds keeper.old (W.view w.old)) (K.last keeper.old) T → o.changed ≡ changed_of draft.now → o.last ≡ last_after T.last last.now
         → Carries (K.fits keeper.new (W.view w.new)) T o (Option.Some ready)) }
     ensures fits { IfOk result (λ ready. (after : List ℕ) × (cs : List (Id × Option Rec)) × K.fits keeper.new (W.view w.new) ready after cs) }
-    ensures hindered { IfErr result (λ stop. (T : Tree) → Shown (K.holds keeper.old (W.view w.old)) (K.last keeper.old) T → IsHindered (K.room keeper.old) stop) }
+    ensures room { OnOk result ((T : Tree) → Shown (K.holds keeper.old (W.view w.old)) (K.last keeper.old) T → HasCells (K.room keeper.old) (changed_of draft.now)) }
+    ensures hindered { IfErr result (λ stop. (T : Tree) → Shown (K.holds keeper.old (W.view w.old)) (K.last keeper.old) T → IsHindered (K.room keeper.old) (changed_of draft.now) stop) }
     ensures looks { Looks (K.holds keeper.old (W.view w.old)) (K.holds keeper.new (W.view w.new)) (K.last keeper.old) (K.last keeper.new) (K.room keeper.old) (K.room keeper.new) (W.view w.old) (W.view w.new) }
     ensures cause { IfErr result (IsCaused K.has_disk (W.view w.old).disk_faults (W.view w.new).disk_faults) }
 {
@@ -60,45 +62,33 @@ fn plan_changes<W: Outside, K: Keeper<W>>(
     let changes = Changes {
         nodes,
         counts,
-        room: 0,
+        room: space_needed(draft),
     };
     Ok(keeper.prepare(alloc, w, changes)?)
 }
 
-/// Whether a command only replies.
-fn is_quiet(outcome: &Outcome) -> bool
-    ensures { OnTrue result ((T : Tree) → after T (outcome_of T outcome.now) ≡ T) }
-{
-    match &outcome.places {
-        Some(_) => false,
-        None => match &outcome.last {
-            Some(_) => false,
-            None => outcome.draft.is_empty(),
-        },
-    }
-}
-
-/// Plans what a command comes to, if it does more than reply.
+/// Plans what a command comes to, if it writes anything.
 fn plan_outcome<W: Outside, K: Keeper<W>>(
     alloc: Global,
     keeper: &mut K,
     w: &mut W,
     outcome: &Outcome,
 ) -> Result<Option<K::Ready>, Stop>
-    ensures carries { IfOk result (λ change. (T : Tree) → Shown (K.holds keeper.old (W.view w.old)) (K.last keeper.old) T → Carries (K.fits keeper.new (W.view w.new)) T (outcome_of T outcome.now) change) }
+    ensures carries { IfOk result (λ change. (T : Tree) → Shown (K.holds keeper.old (W.view w.old)) (K.last keeper.old) T → StaysUnwritten T (outcome_of T outcome.now) → Carries (K.fits keeper.new (W.view w.new)) T (outcome_of T outcome.now) change) }
     ensures fits { IfOk result (λ change. ForSome change (λ ready. (after : List ℕ) × (cs : List (Id × Option Rec)) × K.fits keeper.new (W.view w.new) ready after cs)) }
-    ensures hindered { IfErr result (λ stop. (T : Tree) → Shown (K.holds keeper.old (W.view w.old)) (K.last keeper.old) T → IsHindered (K.room keeper.old) stop) }
+    ensures room { OnOk result ((T : Tree) → Shown (K.holds keeper.old (W.view w.old)) (K.last keeper.old) T → HasRoom (K.room keeper.old) (changed_of outcome.now.draft)) }
+    ensures hindered { IfErr result (λ stop. (T : Tree) → Shown (K.holds keeper.old (W.view w.old)) (K.last keeper.old) T → IsHindered (K.room keeper.old) (changed_of outcome.now.draft) stop) }
     ensures looks { Looks (K.holds keeper.old (W.view w.old)) (K.holds keeper.new (W.view w.new)) (K.last keeper.old) (K.last keeper.new) (K.room keeper.old) (K.room keeper.new) (W.view w.old) (W.view w.new) }
     ensures cause { IfErr result (IsCaused K.has_disk (W.view w.old).disk_faults (W.view w.new).disk_faults) }
 {
-    if is_quiet(outcome) {
+    if outcome.draft.is_empty() {
         return Ok(None);
     }
     let ready = plan_changes(alloc, keeper, w, &outcome.draft, &outcome.last)?;
     Ok(Some(ready))
 }
 
-/// Plans a command: what it answers, and what is to be changed for it. Nothing changes. Refused as the command is refused, and where the file has no room (`Full`) or no numbers (`Ids`) left.
+/// Plans a command: what it answers, and what is to be changed for it. Nothing changes. Refused as the command is refused, and, where it writes, where the file has no room (`Full`) or no numbers (`Ids`) left.
 pub fn plan<W: Outside, K: Keeper<W>>(
     alloc: Global,
     store: &mut Store<K>,
@@ -213,7 +203,7 @@ pub fn save<W: Outside, K: Saver<W>>(store: &mut Store<K>, w: &mut W) -> Result<
     store.keeper.save(w)
 }
 
-/// Carries out a command: plans it, makes its changes, and gives its reply. Refused as the command is refused, and where the file has no room (`Full`) or no numbers (`Ids`) left. `Fault` comes where the disk failed, `Memory` where there was no memory, and `Changed` where something isn't as it was found before. An `Err` changes nothing, but for a `Fault`, after which the nodes may be those before or after the command, or neither.
+/// Carries out a command: plans it, makes its changes, and gives its reply. Refused as the command is refused, and, where it writes, where the file has no room (`Full`) or no numbers (`Ids`) left. `Fault` comes where the disk failed, `Memory` where there was no memory, and `Changed` where something isn't as it was found before. An `Err` changes nothing, but for a `Fault`, after which the nodes may be those before or after the command, or neither.
 pub fn do_command<W: Outside, K: Keeper<W>>(
     alloc: Global,
     store: &mut Store<K>,

@@ -1,5 +1,6 @@
 -- What carrying out a command comes to.
 use Rattle.std.proofs.Common.{◌≡◌, ◌⊎◌, inl, inr, ◌∙◌, ℕ, ◌≤◌, Bool, List, None, Some, Result, Ok, Err, IfErr, refl, sym, subst, ap, arith}
+use Rattle.std.specs.FinMap as map
 use Rattle.pst_outside.specs.World.{Image, World}
 use Rattle.pst_outside.specs.Calls.{LeavesOnly, NeverFall, Rose, Settled, Untouched}
 use Rattle.pst_outside.proofs.Moments.{continues, quiet, started, stays_settled}
@@ -19,6 +20,7 @@ use Rattle.mail_draft.specs.declared.stop.Stop.{Stop}
 use Rattle.mail_draft.specs.declared.stop.Stop.TheVariants as stops
 use Rattle.mail_draft.proofs.FitLaws.{no-entries}
 use Rattle.mail_store.specs.Planning.{Plans}
+use Rattle.mail_store.specs.Space.{HasRoom}
 use Rattle.mail_store.proofs.StoreLaws.{stores_still}
 use Rattle.mail_laws.proofs.Strays.{whole_after}
 use Rattle.mail_tree.specs.Changing.{Answer, nothing}
@@ -28,7 +30,7 @@ use Rattle.mail_tree.specs.Tree.{Tree}
 use Rattle.mail_tree.specs.Whole.{Fine, IsWhole}
 use Rattle.mail_tree.specs.declared.places.FolderPlace.{FolderPlace}
 use Rattle.store_session.specs.Carrying.{CarriesOut, ComesTo, Has, IsCaused, Leaves}
-use Rattle.store_session.specs.Run.{CommandAnswers, refused}
+use Rattle.store_session.specs.Run.{CommandAnswers, Suffices, refused}
 use Rattle.store_session.specs.declared.carrying.StoreStop.{StoreStop}
 use Rattle.store_session.specs.declared.carrying.StoreStop.TheVariants.{Disk, Changed}
 
@@ -62,9 +64,13 @@ not_formless : (T : Tree) (c : Command) → IsWhole T → outcome T c ≡ Err No
 not_formless T c whole e = subst (λ x. Fine x (λ o. IsWhole (after T o))) e (whole_after T c whole)
 
 module _ (room : Room) (T : Tree) (c : Command) (whole : IsWhole T) where
+  -- a refused command comes to nothing
+  never : (o : Outcome) (r : CommandRefusal) → outcome T c ≡ Ok o → outcome T c ≡ Err (Some r) → ⊥
+  never o r done refused_is = cc
+
   stop_refused : {P : Type 0} (plans : Outcome → P → Type 0) (refusal : CommandRefusal) (t : List ℕ) (x : Answer Outcome) → outcome T c ≡ x → Plans {P = P} room plans x (Err (stops.Refused refusal)) → t ≡ refused refusal → CommandAnswers room T c t T
-  stop_refused plans refusal t (Ok o) e is said = inl (inr ((o, e), (refusal, is, said), refl))
-  stop_refused plans refusal t (Err (Some r)) e is said = inl (inl (replied (last.Refused r), ap (stepped T) e, said ∙ ap refused is))
+  stop_refused plans refusal t (Ok o) e is said = inl (inr (o, e, (refusal, is, said), refl))
+  stop_refused plans refusal t (Err (Some r)) e is said = inl (inl ((replied (last.Refused r), ap (stepped T) e, said ∙ ap refused is), λ o done. absurd (never o r done e)))
   stop_refused plans refusal t (Err None) e is said = absurd (not_formless T c whole e)
 
   stop_changed : {P : Type 0} (plans : Outcome → P → Type 0) (ib stored computed : ℕ) (x : Answer Outcome) → outcome T c ≡ x → Plans {P = P} room plans x (Err (stops.Changed ib stored computed)) → ⊥
@@ -83,16 +89,19 @@ module _ (room : Room) (T : Tree) (c : Command) (whole : IsWhole T) where
       stop_changed plans ib stored computed (outcome T c) refl (subst (λ s. Plans room plans (outcome T c) (Err s)) is answers)
 
   -- a plan that was made
-  made : {P : Type 0} (plans : Outcome → P → Type 0) (p : P) (x : Answer Outcome) → outcome T c ≡ x → Plans room plans x (Ok p) → (o : Outcome) × (outcome T c ≡ Ok o) × plans o p
-  made plans p (Ok o) e is = (o, e, is)
+  made : {P : Type 0} (plans : Outcome → P → Type 0) (p : P) (x : Answer Outcome) → outcome T c ≡ x → Plans room plans x (Ok p) → (o : Outcome) × (outcome T c ≡ Ok o) × plans o p × HasRoom room o.changed
+  made plans p (Ok o) e is = (o, e, is.0, is.1)
   made plans p (Err (Some r)) e is = absurd is
   made plans p (Err None) e is = absurd (not_formless T c whole e)
 
-  pub plan_made : {P : Type 0} (plans : Outcome → P → Type 0) (p : P) → Plans room plans (outcome T c) (Ok p) → (o : Outcome) × (outcome T c ≡ Ok o) × plans o p
+  pub plan_made : {P : Type 0} (plans : Outcome → P → Type 0) (p : P) → Plans room plans (outcome T c) (Ok p) → (o : Outcome) × (outcome T c ≡ Ok o) × plans o p × HasRoom room o.changed
   plan_made plans p is = made plans p (outcome T c) refl is
 
-  pub made_answers : (o : Outcome) (reply : Reply) (t : List ℕ) → outcome T c ≡ Ok o → reply ≡ o.reply → t ≡ text reply → CommandAnswers room T c t (after T o)
-  made_answers o reply t e is said = inl (inl (o.reply, ap (stepped T) e, said ∙ ap text is))
+  same_outcome : (o p : Outcome) → outcome T c ≡ Ok o → outcome T c ≡ Ok p → o ≡ p
+  same_outcome o p e f = cc
+
+  pub made_answers : (o : Outcome) (reply : Reply) (t : List ℕ) → outcome T c ≡ Ok o → HasRoom room o.changed → reply ≡ o.reply → t ≡ text reply → CommandAnswers room T c t (after T o)
+  made_answers o reply t e has is said = inl (inl ((o.reply, ap (stepped T) e, said ∙ ap text is), λ p f. subst (λ (x : Outcome). HasRoom room x.changed) (same_outcome o p e f) has))
 
   pub made_whole : (o : Outcome) → outcome T c ≡ Ok o → IsWhole (after T o)
   made_whole o e = subst (λ x. Fine x (λ p. IsWhole (after T p))) e (whole_after T c whole)
@@ -127,6 +136,12 @@ quiet_then same counts told input = record {
 pub quiet_here : (v : World) → Quiet v v
 quiet_here v = record { counts = record { in_faults = omega arith; out_faults = omega arith; disk_faults = omega arith }; told = λ t. t; input = λ t. refl }
 
+-- a command that writes nothing needs no room
+quiet_suffices : (room : Room) (T : Tree) (o : Outcome) → outcome T Save ≡ Ok o → o.changed.objects ≡ map.empty → Suffices room T Save
+quiet_suffices room T o e none p f writes =
+    let same : o ≡ p = cc in
+    absurd (writes (sym (ap (λ (x : Outcome). x.changed.objects) same) ∙ none))
+
 -- `save` changes no tree
 pub saves : (room : Room) (T : Tree) (reply : Reply) (t : List ℕ) → reply ≡ replied last.Done → t ≡ text reply → CommandAnswers room T Save t T
 unfolding outcome
@@ -138,4 +153,4 @@ saves room T reply t is said =
       others = without_changed (entries i) T.others;
       last = T.last;
     } in
-    inl (inl (replied last.Done, ap (λ U. Some (U, replied last.Done)) same, said ∙ ap text is))
+    inl (inl ((replied last.Done, ap (λ U. Some (U, replied last.Done)) same, said ∙ ap text is), quiet_suffices room T (unchanged T (replied last.Done)) refl refl))

@@ -13,6 +13,7 @@ use Rattle.command_text.specs.Replies.{text}
 use Rattle.node_port.specs.Stops.{Room}
 use Rattle.mail_draft.specs.declared.stop.Stop.TheVariants as stops
 use Rattle.mail_store.specs.Planning.{IsHindered}
+use Rattle.mail_store.specs.Space.{HasRoom}
 use Rattle.mail_tree.specs.Folders.{Outcome, replied}
 use Rattle.mail_tree.specs.Step.{outcome, step}
 use Rattle.mail_tree.specs.Tree.{Tree}
@@ -26,18 +27,22 @@ refused refusal = text (replied (Refused refusal))
 abbrev pub Steps : Tree → Command → List ℕ → Tree → Type 0
 Steps before c said after = (reply : Reply) × (step before c ≡ Some (after, reply)) × (said ≡ text reply)
 
--- A command that isn't refused has no room in the file, or no number is left: it says so, and changes nothing.
-abbrev pub Hinders : Room → Tree → Command → List ℕ → Tree → Type 0
-Hinders room before c said after = ((o : Outcome) × (outcome before c ≡ Ok o)) × ((refusal : CommandRefusal) × IsHindered room (stops.Refused refusal) × (said ≡ refused refusal)) × (after ≡ before)
+-- there was room for what the command writes
+abbrev pub Suffices : Room → Tree → Command → Type 0
+Suffices room before c = (o : Outcome) → outcome before c ≡ Ok o → HasRoom room o.changed
 
--- what a line asks for: its command was carried out or hindered, or the line refused, which changes nothing
+-- A command that writes and isn't refused has no room in the file, or no number is left: it says so, and changes nothing.
+abbrev pub Hinders : Room → Tree → Command → List ℕ → Tree → Type 0
+Hinders room before c said after = (o : Outcome) × (outcome before c ≡ Ok o) × ((refusal : CommandRefusal) × IsHindered room o.changed (stops.Refused refusal) × (said ≡ refused refusal)) × (after ≡ before)
+
+-- what a line asks for: its command was carried out, for which there was room, or hindered, or the line refused, which changes nothing
 abbrev pub Carries : Room → Tree → Result Command LineRefusal → List ℕ → Tree → Type 0
-Carries room before (Ok c) said after = Steps before c said after ⊎ Hinders room before c said after
+Carries room before (Ok c) said after = (Steps before c said after × Suffices room before c) ⊎ Hinders room before c said after
 Carries room before (Err refusal) said after = (said ≡ refused (refusal_of refusal)) × (after ≡ before)
 
--- what is said to a command, and the tree after it: its step, or that the file has no room, or that there was no memory
+-- what is said to a command, and the tree after it: its step, for which there was room, or that the file has none, or that there was no memory
 abbrev pub CommandAnswers : Room → Tree → Command → List ℕ → Tree → Type 0
-CommandAnswers room before c said after = (Steps before c said after ⊎ Hinders room before c said after) ⊎ ((said ≡ text (replied NoMemory)) × (after ≡ before))
+CommandAnswers room before c said after = ((Steps before c said after × Suffices room before c) ⊎ Hinders room before c said after) ⊎ ((said ≡ text (replied NoMemory)) × (after ≡ before))
 
 -- a piece was answered: a line that is too long is answered once
 abbrev pub Replies : Room → Tree → Piece → List ℕ → Tree → Type 0

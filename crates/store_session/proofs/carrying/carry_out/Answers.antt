@@ -46,7 +46,7 @@ returns-in-Ok-commit-clause-carries g c = λ T h tells.
     (c.commit.ensures.any_moment T p.0 held.stores p.2 held.settled held.at_rest) in
     let rest = c.in-Ok-commit.ensures.rests held.settled held.at_rest in (
       U,
-      made_answers room T c.args.command.now h.whole p.0 c.in-Ok.planned.reply c.in-Ok-reply_text.text p.1 p.2.reply_is c.in-Ok-reply_text.ensures,
+      made_answers room T c.args.command.now h.whole p.0 c.in-Ok.planned.reply c.in-Ok-reply_text.text p.1 p.3 p.2.reply_is c.in-Ok-reply_text.ensures,
       record { stores = c.in-Ok-commit.ensures.made T p.0 held.stores p.2 held.at_rest tells; whole = made_whole room T c.args.command.now h.whole p.0 p.1; settled = rest.0; at_rest = rest.1 },
       plan_commits S T U h.settled c.plan.ensures.looks.world here c.commit.ensures.told moments,
     )
@@ -68,6 +68,6 @@ returns-in-Err-commit-clause-carries g c = λ T h tells.
     (c.commit.ensures.any_moment T p.0 held.stores p.2 held.settled held.at_rest) in (
       U,
       c.in-Ok-reply_text.text,
-      made_answers room T c.args.command.now h.whole p.0 c.in-Ok.planned.reply c.in-Ok-reply_text.text p.1 p.2.reply_is c.in-Ok-reply_text.ensures,
+      made_answers room T c.args.command.now h.whole p.0 c.in-Ok.planned.reply c.in-Ok-reply_text.text p.1 p.3 p.2.reply_is c.in-Ok-reply_text.ensures,
       plan_commits S T U h.settled c.plan.ensures.looks.world here c.commit.ensures.told moments,
     )
