@@ -12,24 +12,31 @@ use Rattle.mapi_values.specs.Properties.{put, remove_id}
 use Rattle.mapi_values.specs.Values.{Val}
 use Rattle.mapi_values.specs.declared.value.Tag.{Tag}
 use Rattle.command_text.specs.declared.command.Command.{Command}
-use Rattle.command_text.specs.declared.command.Command.TheVariants.{MakeFolder, RenameFolder, MoveFolder, RemoveFolder, ListFolder, NewMessage, SetProperty, UnsetProperty, GetProperty, ListProperties, MoveMessage, CopyMessage, RemoveMessage, AddRecipient, RemoveRecipient, Save, Quit}
+use Rattle.command_text.specs.declared.command.Command.TheVariants.{MakeFolder, RenameFolder, MoveFolder, RemoveFolder, ListFolder, NewMessage, SetProperty, UnsetProperty, GetProperty, ListProperties, MoveMessage, CopyMessage, RemoveMessage, AddRecipient, RemoveRecipient, AddAttachment, AppendData, RemoveAttachment, FetchData, NameProperty, Save, Quit}
 use Rattle.command_text.specs.declared.reply.CommandRefusal.{CommandRefusal}
-use Rattle.command_text.specs.declared.reply.CommandRefusal.TheVariants.{Property, NotEmpty, Cycle, Protected, Limit, Ids, Object}
-use Rattle.command_text.specs.declared.reply.Limit.TheVariants.{Depth, Rows}
+use Rattle.command_text.specs.declared.reply.CommandRefusal.TheVariants.{Property, NotEmpty, Cycle, Protected, Limit, Line, Ids, Object}
+use Rattle.command_text.specs.declared.reply.Limit.TheVariants.{Depth, Names, Rows}
 use Rattle.command_text.specs.declared.reply.LastLine.{LastLine}
-use Rattle.command_text.specs.declared.reply.LastLine.TheVariants.{Done, Row}
+use Rattle.command_text.specs.declared.reply.LastLine.TheVariants.{Attached, Done, Named, Row}
 use Rattle.mail_objects.specs.declared.object.Object.{Object as Obj}
 use Rattle.mail_objects.specs.declared.object.Object.TheVariants.{Message}
 use Rattle.mail_tree.specs.declared.places.FolderPlace.{FolderPlace}
 use Rattle.mail_tree.specs.Places.{ROOT, children, is_child, is_deep, is_plain, is_within, moves_deep, place_id}
 use Rattle.mail_tree.specs.Tree.{Tree}
-use Rattle.mail_tree.specs.Values.{bytes_of, finished, folder_props, is_set_protected, is_unset_protected, message_props, name_of, with_props}
-use Rattle.mail_tree.specs.Changing.{Answer, Changed, ◌>>=◌, add_shown, contents, context_at, drop_shown, found, hierarchy, nothing, put_shown, refused_if, table_at, with_object, within_limits}
-use Rattle.mail_tree.specs.Settling.{counted, message_ids, mirrored, settled, unread_among}
+use Rattle.mail_tree.specs.Values.{bytes_of, crowds, finished, folder_props, is_set_protected, is_unset_protected, message_props, name_of, with_props}
+use Rattle.mail_tree.specs.Changing.{Answer, Changed, ◌>>=◌, add_shown, contents, context_at, drop_shown, found, hierarchy, nothing, put_shown, refused_if, table_at, with_object, within_limits, known}
+use Rattle.mail_tree.specs.Settling.{counted, message_ids, mirrored, settled, unread_among, with_context}
 use Rattle.mail_tree.specs.Ids.{folder_kinds, is_spent, message_kinds, new_id, next_index}
 use Rattle.mail_tree.specs.Folders.{Outcome, associated_in, changing, folder_in, folder_lines, has_associated, has_rows, listing, made_folder, making, making_folder, message_lines, moved_between, moved_folder, moving, place, removed_folder, renamed_folder, replied, replying, siblings, unless, unless_full, unless_named, unless_plain, unless_protected, with_folder, without_folder}
-use Rattle.mail_tree.specs.Messages.{added_message, added_recipient, adding_recipient, changed_message, copied_message, copy_of, copying, details, in_folder, is_crowded_message, is_overfull, making_message, message_in, moved_message, new_message, plain_message, remaking, removed_message, removed_recipient, set_value, spent_row, unset_value, value_in, value_of}
-use Rattle.mail_tree.specs.Parts.{has_recipient, is_full, is_wide, new_row, next_row, recipient_props, recipient_tags, rows_of, with_recipient, without_recipient}
+use Rattle.mail_tree.specs.Messages.{added_attachment, added_message, added_recipient, adding_attachment, adding_recipient, appended_data, appending, fetched_data, removed_attachment, spent_index, too_long, changed_message, copied_message, copy_of, copying, details, in_folder, is_crowded_message, is_overfull, making_message, message_in, moved_message, new_message, plain_message, remaking, removed_message, removed_recipient, set_value, spent_row, unset_value, value_in, value_of}
+use Rattle.mail_tree.specs.Names.{NAMES, found_or_added, is_name, named_property, unless_nameless}
+use Rattle.named_props.specs.Adding as adding
+use Rattle.named_props.specs.Finding.{name_at}
+use Rattle.named_props.specs.Holding.{names_of, written}
+use Rattle.named_props.specs.declared.names.Names.{Names as Held}
+use Rattle.mail_objects.specs.Forms.{Ctx}
+use Rattle.mapi_values.specs.declared.part.Part.{Part}
+use Rattle.mail_tree.specs.Parts.{attachment_props, attachment_tags, data_tag, lengthened, next_part, part_in, part_nid, part_with, plain_part, room_for, with_attachment, with_bytes, with_part, without_attachment, has_recipient, is_full, is_wide, new_row, next_row, recipient_props, recipient_tags, rows_of, with_recipient, without_recipient}
 use Rattle.mail_tree.specs.Step.{outcome, with_changes, without_changed}
 use Rattle.mail_tree.proofs.AfterTree.{tied}
 use Rattle.mail_draft.proofs.FitLaws.{no-entries}
@@ -185,9 +192,39 @@ module _ (T : Tree) where
   unfolding removed_recipient
   removes_recipient m row = then_any (message_in T m) _ (λ M. then_any (refused_if (not (has_recipient row M)) Object) _ (λ u. remakes M (without_recipient row M) false None Done))
 
+  adds_attachment : (m : ℕ) (name bytes : List ℕ) → IfOk (added_attachment T m name bytes) Right
+  unfolding added_attachment adding_attachment
+  adds_attachment m name bytes = then_any (message_in T m) _ (λ M. then_any (refused_if (is_full M.attachments) (Limit Rows)) _ (λ u. then_any (refused_if (is_wide attachment_tags M.attachments) (Limit Rows)) _ (λ v.
+      let index = next_part M in
+      remakes M (with_attachment (plain_part (part_nid index) (attachment_props name bytes)) (room_for index M)) false (spent_index index) (Attached (part_nid index)))))
+
+  appends_data : (m n : ℕ) (more : List ℕ) → IfOk (appended_data T m n more) Right
+  unfolding appended_data appending
+  appends_data m n more = then_any (message_in T m) _ (λ M. then_any (found Object (part_in n M)) _ (λ part. then_any (found Property (bytes_of 0x3701 0x0102 part.props)) _ (λ old.
+      let props = with_bytes (lengthened old more) part.props in
+      remakes M (with_part (part_with props part) M) (crowds part.props props) (too_long old more) Done)))
+
+  removes_attachment : (m n : ℕ) → IfOk (removed_attachment T m n) Right
+  unfolding removed_attachment
+  removes_attachment m n = then_any (message_in T m) _ (λ M. then_any (refused_if (not (is_some (part_in n M))) Object) _ (λ u. remakes M (without_attachment n M) false None Done))
+
+  fetches_data : (m n : ℕ) → IfOk (fetched_data T m n) Right
+  unfolding fetched_data
+  fetches_data m n = then_any (message_in T m) _ (λ M. then_any (found Object (part_in n M)) _ (λ part. then_any (found Property (value_of data_tag part.props)) _ (λ v none. (refl, refl))))
+
+  finds_or_adds : (c : Ctx) (n : Held) (guid : List ℕ) (number : ℕ) (found_id : Option ℕ) → IfOk (found_or_added T c n guid number found_id) Right
+  finds_or_adds c n guid number (Some property) = λ none. (refl, refl)
+  finds_or_adds c n guid number None = then_any (refused_if (adding.is_full n guid number) (Limit Names)) _ (λ u.
+      then_any (within_limits (with_context NAMES c (written (adding.added n guid number)) nothing)) _ (λ v none. (refl, refl)))
+
+  names_property : (guid : List ℕ) (number : ℕ) → IfOk (named_property T guid number) Right
+  unfolding named_property
+  names_property guid number = then_any (refused_if (not (is_name guid number)) Line) _ (λ u. then_any (context_at T nothing NAMES) _ (λ c. then_any (known (names_of c.props)) _ (λ n.
+      finds_or_adds c n guid number (name_at n.guids n.entries guid number))))
+
   sets : (m : ℕ) (v : Val) → IfOk (set_value T m v) Right
   unfolding set_value
-  sets m v = then_any (message_in T m) _ (λ M. then_any (refused_if (is_set_protected v.id M.props) Protected) _ (λ u. then_any (refused_if (nat_le 0x8000 v.id) Property) _ (λ w. changes M (put v M.props))))
+  sets m v = then_any (message_in T m) _ (λ M. then_any (refused_if (is_set_protected v.id M.props) Protected) _ (λ u. then_any (unless_nameless T v.id) _ (λ w. changes M (put v M.props))))
 
   unsets : (m : ℕ) (tag : Tag) → IfOk (unset_value T m tag) Right
   unfolding unset_value
@@ -230,6 +267,11 @@ module _ (T : Tree) where
   right (RemoveMessage message) = removes message.bits
   right (AddRecipient message kind address name) = adds_recipient message.bits kind address name
   right (RemoveRecipient message row) = removes_recipient message.bits row
+  right (AddAttachment message name bytes) = adds_attachment message.bits name bytes
+  right (AppendData message attachment bytes) = appends_data message.bits attachment.bits bytes
+  right (RemoveAttachment message attachment) = removes_attachment message.bits attachment.bits
+  right (FetchData message attachment) = fetches_data message.bits attachment.bits
+  right (NameProperty guid number) = names_property guid number
   right Save = λ none. (refl, refl)
   right Quit = λ none. (refl, refl)
 
