@@ -1,3 +1,4 @@
 pub mod PartTables
+pub mod PartChanges
 pub mod KeptIds
 pub mod Tests

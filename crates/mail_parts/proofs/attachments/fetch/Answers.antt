@@ -1,5 +1,4 @@
 use Rattle.mapi_values.specs.Messages.{Mes}
-use Rattle.mail_draft.proofs.Looking.{shown_still}
 use Rattle.mail_draft.proofs.Passes.{then_says}
 use Rattle.mail_draft.specs.Outcomes.{outcome_of}
 use Rattle.mail_tree.specs.Messages.{message_in, fetched_data}
