@@ -152,7 +152,7 @@ put_drop {X} key low x (y ∷ ys) ascend =
         | inr ge ↦
             let le = ltb-false (key y) (key x) ge in
             let ne = eqb-false (key y) (key x) other in
-            rw (other, ge, drop_low key (key x) (suc (key y)) ys (omega arith) t.1) refl
+            rw (other, ge, drop_low key (key x) (suc (key y)) ys (omega arith) t.1, other) refl
       ]
     ]
 
