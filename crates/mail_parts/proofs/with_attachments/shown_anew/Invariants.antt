@@ -7,6 +7,6 @@ use Rattle.mail_parts.proofs.with_attachments.shown_anew.Given as goal
 -- the rows so far, with those of the rest, are all, and those so far suit the columns
 abbrev pub invariant-loop-part : goal.invariant-loop-part
 invariant-loop-part l = record {
-  all : l.rows.items ++ map (part_row l.table.columns) (drop l.part-index l.parts) ≡ map (part_row l.table.columns) l.parts;
-  suit : list_all (row_suits l.table.columns) l.rows.items ≡ true;
+  all : l.rows.items ++ map (part_row l.table-inside.columns.items) (drop l.part-index l.parts) ≡ map (part_row l.table-inside.columns.items) l.parts;
+  suit : list_all (row_suits l.table-inside.columns.items) l.rows.items ≡ true;
 }
