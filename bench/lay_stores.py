@@ -1,0 +1,254 @@
+#!/usr/bin/env python3
+"""Lays the small stores of another writer that cases load, by [MS-PST] alone: strange where other programs may be strange.
+
+Run by hand, with the folder of the case files: bench/lay_stores.py crates/cases/data
+"""
+import struct
+import sys
+
+TABLE = []
+for byte in range(256):
+    c = byte
+    for _ in range(8):
+        c = c >> 1 ^ 0xEDB88320 if c & 1 else c >> 1
+    TABLE.append(c)
+
+
+def crc(data):
+    c = 0
+    for byte in data:
+        c = TABLE[(c ^ byte) & 0xFF] ^ c >> 8
+    return c
+
+
+def sig(place, bid):
+    x = place ^ bid
+    return (x ^ x >> 16) & 0xFFFF
+
+
+def text(s):
+    return s.encode("utf-16-le")
+
+
+def u32(n):
+    return struct.pack("<I", n & 0xFFFFFFFF)
+
+
+def u64(n):
+    return struct.pack("<Q", n)
+
+
+class Heap:
+    """A heap in one block (2.3.1)."""
+
+    def __init__(self):
+        self.items = []
+
+    def add(self, item):
+        self.items.append(item)
+        return len(self.items) << 5
+
+    def block(self, client, root):
+        head = struct.pack("<HBBII", 0, 0xEC, client, root, 0)
+        offsets, body = [len(head)], b""
+        for item in self.items:
+            body += item
+            offsets.append(len(head) + len(body))
+        place = len(head) + len(body)
+        place += place % 2
+        page_map = struct.pack("<HH", len(self.items), 0) + b"".join(struct.pack("<H", it) for it in offsets)
+        whole = struct.pack("<H", place) + (head + body)[2:].ljust(place - 2, b"\0") + page_map
+        assert len(whole) <= 8176
+        return whole
+
+
+def bth(heap, header, key_size, entry_size, records):
+    """The records as one leaf under the header item, which was added already (2.3.2)."""
+    leaf = heap.add(b"".join(records)) if records else 0
+    heap.items[(header >> 5) - 1] = struct.pack("<BBBBI", 0xB5, key_size, entry_size, 0, leaf)
+
+
+IN_FIELD = {0x0002: 2, 0x0003: 4, 0x000B: 1}
+IN_CELL = {0x0002: 2, 0x0003: 4, 0x000B: 1, 0x0014: 8, 0x0040: 8}
+
+
+def properties(values):
+    """The block of a property context with values by (id, kind) (2.3.3)."""
+    heap, records = Heap(), []
+    header = heap.add(bytes(8))
+    for (ident, kind), value in sorted(values.items()):
+        if kind in IN_FIELD:
+            field = value.ljust(4, b"\0")
+        else:
+            field = u32(heap.add(value) if value else 0)
+        records.append(struct.pack("<HH", ident, kind) + field)
+    bth(heap, header, 2, 6, records)
+    return heap.block(0xBC, header)
+
+
+class Columns:
+    """Columns in the order of their cells, behind the row's id and version (2.3.4)."""
+
+    def __init__(self, tags):
+        self.columns, place, bit = {(0x67F2, 3): (0, 4, 0), (0x67F3, 3): (4, 4, 1)}, 8, 2
+        ends = []
+        for sizes in (8, 4), (2,), (1,):
+            for tag in tags:
+                size = IN_CELL.get(tag[1], 4)
+                if size in sizes:
+                    self.columns[tag] = place, size, bit
+                    place, bit = place + size, bit + 1
+            ends.append(place)
+        self.ends = [*ends, place + (bit + 7) // 8]
+
+    def row(self, heap, ident, values):
+        row = bytearray(self.ends[3])
+        for tag, (place, size, bit) in self.columns.items():
+            value = {(0x67F2, 3): u32(ident), (0x67F3, 3): u32(0)}.get(tag, values.get(tag))
+            if value is None:
+                continue
+            cell = value if tag[1] in IN_CELL else u32(heap.add(value) if value else 0)
+            row[place : place + size] = cell
+            row[self.ends[2] + bit // 8] |= 0x80 >> bit % 8
+        return bytes(row)
+
+
+def table(columns, rows):
+    """The block of a table context with rows by their ids."""
+    heap = Heap()
+    info, index = heap.add(b""), heap.add(bytes(8))
+    cells = [columns.row(heap, ident, rows[ident]) for ident in sorted(rows)]
+    matrix = heap.add(b"".join(cells)) if cells else 0
+    bth(heap, index, 4, 4, [u32(ident) + u32(at) for at, ident in enumerate(sorted(rows))])
+    listed = sorted((ident << 16 | kind, it) for (ident, kind), it in columns.columns.items())
+    heap.items[0] = struct.pack("<BB4HIII", 0x7C, len(listed), *columns.ends, index, matrix, 0) + b"".join(
+        struct.pack("<IHBB", tag, place, size, bit) for tag, (place, size, bit) in listed
+    )
+    return heap.block(0x7C, info)
+
+
+class Store:
+    """A file: blocks from 4C00h on, then the pages of both trees."""
+
+    def __init__(self):
+        self.blocks, self.nodes, self.bid = [], {}, 4
+
+    def block(self, data, internal=False):
+        bid = self.bid | 2 * internal
+        self.bid += 4
+        self.blocks.append((bid, data))
+        return bid
+
+    def subnodes(self, subs):
+        """The block that lists subnodes: (data, subnodes) by their ids."""
+        if not subs:
+            return 0
+        entries = b"".join(struct.pack("<QQQ", nid, self.block(data) if data else 0, self.subnodes(below)) for nid, (data, below) in sorted(subs.items()))
+        return self.block(struct.pack("<BBHI", 2, 0, len(subs), 0) + entries, internal=True)
+
+    def node(self, nid, data, parent=0, subs=None):
+        self.nodes[nid] = self.block(data) if data else 0, self.subnodes(subs or {}), parent
+
+    def bytes(self, counters):
+        file = bytearray(0x4C00)
+        entries = []
+        for bid, data in self.blocks:
+            place = len(file)
+            size = (len(data) + 16 + 63) // 64 * 64
+            trailer = struct.pack("<HHIQ", len(data), sig(place, bid), crc(data), bid)
+            file += data.ljust(size - 16, b"\0") + trailer
+            entries.append((bid, struct.pack("<QQHHI", bid, place, len(data), 2, 0)))
+        file += bytes(-len(file) % 512)
+        self.page_bid = 1
+        block_root = self.tree(file, 0x80, 24, sorted(entries))
+        node_root = self.tree(file, 0x81, 32, sorted((nid, struct.pack("<QQQII", nid, *it, 0)) for nid, it in self.nodes.items()))
+        file[:564] = self.header(len(file), block_root, node_root, counters)
+        return bytes(file)
+
+    def tree(self, file, kind, size, entries):
+        """Writes the pages of a tree, and gives the reference to its root."""
+        level = 0
+        while True:
+            fits = 488 // size
+            above = []
+            for at in range(0, max(len(entries), 1), fits):
+                part = entries[at : at + fits]
+                body = b"".join(it for _, it in part).ljust(488, b"\0") + struct.pack("<BBBBI", len(part), fits, size, level, 0)
+                place, bid = len(file), self.page_bid
+                self.page_bid += 1
+                file += body + struct.pack("<BBHIQ", kind, kind, sig(place, bid), crc(body), bid)
+                above.append((part[0][0] if part else 0, struct.pack("<QQQ", part[0][0] if part else 0, bid, place), bid, place))
+            if len(above) == 1:
+                return above[0][2:]
+            entries, size, level = [(key, it) for key, it, _, _ in above], 24, level + 1
+
+    def header(self, eof, block_root, node_root, counters):
+        h = bytearray(564)
+        h[0:4], h[8:16] = b"!BDN", b"SM" + struct.pack("<HHBB", 23, 19, 1, 1)
+        h[32:40], h[40:44] = u64(self.page_bid), u32(1)
+        for kind in range(32):
+            h[44 + 4 * kind : 48 + 4 * kind] = u32(counters.get(kind, 0x400))
+        root = u32(0) + u64(eof) + u64(0x4400) + u64(0) + u64(0)
+        h[180:252] = root + struct.pack("<QQQQ", *node_root, *block_root) + bytes(4)
+        h[256:512], h[512] = b"\xff" * 256, 0x80
+        h[516:524] = u64(self.bid)
+        h[4:8] = u32(crc(h[8:479]))
+        h[524:528] = u32(crc(h[8:524]))
+        return h
+
+
+FOLDER_COLUMNS = Columns([(0x3001, 0x1F), (0x3602, 3), (0x3603, 3), (0x360A, 0xB)])
+MESSAGE_COLUMNS = Columns([(0x001A, 0x1F), (0x0037, 0x1F), (0x0039, 0x40), (0x0E06, 0x40), (0x0E07, 3), (0x0E08, 3), (0x3007, 0x40), (0x3008, 0x40)])
+KEY = u32(crc(b"Strange")) + u32(7) + b"PSTORE01"
+FOLDERS = {0x8022: "Top of Personal Folders", 0x8042: "Search Root", 0x8062: "Deleted Items"}
+
+
+def folder(name, count, unread, has_folders):
+    return {(0x3001, 0x1F): text(name), (0x3602, 3): u32(count), (0x3603, 3): u32(unread), (0x360A, 0xB): bytes([has_folders])}
+
+
+def store(names, messages):
+    """A store with these values at the node of names, and these messages in 0x8022: their values and subnodes by their ids."""
+    s = Store()
+    entry_id = lambda nid: u32(0) + KEY + u32(nid)
+    s.node(0x21, properties({(0x0FF9, 0x102): KEY, (0x3001, 0x1F): text("Strange"), (0x35E0, 0x102): entry_id(0x8022), (0x35E3, 0x102): entry_id(0x8062), (0x35E7, 0x102): entry_id(0x8042)}))
+    s.node(0x61, properties({(0x0001, 3): u32(251), **names}))
+    s.node(0x122, properties(folder("", 0, 0, True)), parent=0x122)
+    values = {nid: folder(name, len(messages) if nid == 0x8022 else 0, len(messages) if nid == 0x8022 else 0, False) for nid, name in FOLDERS.items()}
+    s.node(0x12D, table(FOLDER_COLUMNS, values))
+    s.node(0x12E, table(MESSAGE_COLUMNS, {}))
+    s.node(0x12F, table(MESSAGE_COLUMNS, {}))
+    for nid in FOLDERS:
+        s.node(nid, properties(values[nid]), parent=0x122)
+        s.node(nid + 11, table(FOLDER_COLUMNS, {}))
+        s.node(nid + 12, table(MESSAGE_COLUMNS, {m: it[0] for m, it in messages.items()} if nid == 0x8022 else {}))
+        s.node(nid + 13, table(MESSAGE_COLUMNS, {}))
+    for nid, (props, subs) in messages.items():
+        s.node(nid, properties(props), parent=0x8022, subs=subs)
+    return s.bytes({2: 0x403, 3: 0x4000, 4: 0x10000 + len(messages), 8: 0x8000})
+
+
+def full_names():
+    """The last index that a property may have is taken."""
+    entry = u32(0x8501) + struct.pack("<HH", 1 << 1, 32766)
+    return store({(0x0002, 0x102): b"", (0x0003, 0x102): entry, (0x0004, 0x102): b"", (0x1000 + (0x8501 ^ 2) % 251, 0x102): entry}, {})
+
+
+def few_columns():
+    """A message whose tables of recipients and of attachments lack columns, with a subnode like an attachment that no row names, and one of a kind of its own."""
+    props = {(0x001A, 0x1F): text("IPM.Note"), (0x0037, 0x1F): text("Strange"), (0x0E07, 3): u32(16), (0x0E08, 3): u32(5)}
+    recipients = table(Columns([(0x0C15, 3), (0x3001, 0x1F)]), {5: {(0x0C15, 3): u32(2), (0x3001, 0x1F): text("Old")}})
+    parts = {0x8025: ("old.bin", b"\1\2"), 0x8065: ("two.bin", b"")}
+    values = {nid: {(0x3704, 0x1F): text(name), (0x3701, 0x102): data, (0x7FFF, 3): u32(9)} for nid, (name, data) in parts.items()}
+    attachments = table(Columns([(0x3704, 0x1F)]), {0x8025: {}, 0x8065: {(0x3704, 0x1F): text("stale")}})
+    subs = {0x671: (attachments, {}), 0x692: (recipients, {}), 0x80A5: (b"kept", {}), 0x9F: (b"unknown", {0x3F: (b"below", {})})}
+    for nid in parts:
+        subs[nid] = properties(values[nid]), {}
+    return store({}, {0x200024: (props, subs)})
+
+
+if __name__ == "__main__":
+    for name, made in ("full_names.pst", full_names()), ("few_columns.pst", few_columns()):
+        with open(f"{sys.argv[1]}/{name}", "wb") as file:
+            file.write(made)
+        print(name, len(made))
