@@ -39,33 +39,50 @@ def u64(n):
 
 
 class Heap:
-    """A heap in one block (2.3.1)."""
+    """A heap on the blocks of a node (2.3.1)."""
 
     def __init__(self):
-        self.items = []
+        self.blocks = [[]]
+
+    def head(self, at):
+        return 12 if at == 0 else 66 if at % 128 == 8 else 2
 
     def add(self, item):
-        self.items.append(item)
-        return len(self.items) << 5
+        at = len(self.blocks) - 1
+        last = self.blocks[at]
+        if self.head(at) + sum(map(len, last)) + len(item) + 1 + 6 + 2 * (len(last) + 1) > 8176:
+            self.blocks.append([])
+            at, last = at + 1, self.blocks[-1]
+        last.append(item)
+        return at << 16 | len(last) << 5
 
-    def block(self, client, root):
-        head = struct.pack("<HBBII", 0, 0xEC, client, root, 0)
-        offsets, body = [len(head)], b""
-        for item in self.items:
-            body += item
-            offsets.append(len(head) + len(body))
-        place = len(head) + len(body)
-        place += place % 2
-        page_map = struct.pack("<HH", len(self.items), 0) + b"".join(struct.pack("<H", it) for it in offsets)
-        whole = struct.pack("<H", place) + (head + body)[2:].ljust(place - 2, b"\0") + page_map
-        assert len(whole) <= 8176
+    def put(self, hid, item):
+        self.blocks[hid >> 16][(hid >> 5 & 0x7FF) - 1] = item
+
+    def made(self, client, root):
+        whole = []
+        for at, items in enumerate(self.blocks):
+            head = (struct.pack("<BBI", 0xEC, client, root) if at == 0 else b"").ljust(self.head(at) - 2, b"\0")
+            offsets, body = [self.head(at)], b""
+            for item in items:
+                body += item
+                offsets.append(self.head(at) + len(body))
+            place = self.head(at) + len(body)
+            place += place % 2
+            page_map = struct.pack("<HH", len(items), 0) + b"".join(struct.pack("<H", it) for it in offsets)
+            whole.append(struct.pack("<H", place) + (head + body).ljust(place - 2, b"\0") + page_map)
+            assert len(whole[-1]) <= 8176
         return whole
 
 
 def bth(heap, header, key_size, entry_size, records):
-    """The records as one leaf under the header item, which was added already (2.3.2)."""
-    leaf = heap.add(b"".join(records)) if records else 0
-    heap.items[(header >> 5) - 1] = struct.pack("<BBBBI", 0xB5, key_size, entry_size, 0, leaf)
+    """The records in leaves, and an item above them if there are several, under the header item, which was added already (2.3.2)."""
+    size, levels = key_size + entry_size, 0
+    fits = 3580 // size
+    items = [(it[:key_size], heap.add(b"".join(records[at : at + fits]))) for at in range(0, len(records), fits) for it in [records[at]]]
+    if len(items) > 1:
+        items, levels = [(b"", heap.add(b"".join(key + u32(hid) for key, hid in items)))], 1
+    heap.put(header, struct.pack("<BBBBI", 0xB5, key_size, entry_size, levels, items[0][1] if items else 0))
 
 
 IN_FIELD = {0x0002: 2, 0x0003: 4, 0x000B: 1}
@@ -73,7 +90,7 @@ IN_CELL = {0x0002: 2, 0x0003: 4, 0x000B: 1, 0x0014: 8, 0x0040: 8}
 
 
 def properties(values):
-    """The block of a property context with values by (id, kind) (2.3.3)."""
+    """The blocks of a property context with values by (id, kind) (2.3.3)."""
     heap, records = Heap(), []
     header = heap.add(bytes(8))
     for (ident, kind), value in sorted(values.items()):
@@ -83,7 +100,7 @@ def properties(values):
             field = u32(heap.add(value) if value else 0)
         records.append(struct.pack("<HH", ident, kind) + field)
     bth(heap, header, 2, 6, records)
-    return heap.block(0xBC, header)
+    return heap.made(0xBC, header)
 
 
 class Columns:
@@ -113,18 +130,36 @@ class Columns:
         return bytes(row)
 
 
+MATRIX = 0x3F
+
+
 def table(columns, rows):
-    """The block of a table context with rows by their ids."""
-    heap = Heap()
-    info, index = heap.add(b""), heap.add(bytes(8))
+    """The blocks of a table context with rows by their ids, and its subnodes: the rows, if they don't fit the heap."""
+    heap, subs = Heap(), {}
+    info, index = heap.add(bytes(22 + 8 * len(columns.columns))), heap.add(bytes(8))
     cells = [columns.row(heap, ident, rows[ident]) for ident in sorted(rows)]
-    matrix = heap.add(b"".join(cells)) if cells else 0
+    matrix = 0
+    if sum(map(len, cells)) > 3580:
+        matrix, fits = MATRIX, 8176 // columns.ends[3]
+        blocks = [b"".join(cells[at : at + fits]) for at in range(0, len(cells), fits)]
+        subs[MATRIX] = [it.ljust(8176, b"\0") for it in blocks[:-1]] + blocks[-1:], {}
+    elif cells:
+        matrix = heap.add(b"".join(cells))
     bth(heap, index, 4, 4, [u32(ident) + u32(at) for at, ident in enumerate(sorted(rows))])
     listed = sorted((ident << 16 | kind, it) for (ident, kind), it in columns.columns.items())
-    heap.items[0] = struct.pack("<BB4HIII", 0x7C, len(listed), *columns.ends, index, matrix, 0) + b"".join(
-        struct.pack("<IHBB", tag, place, size, bit) for tag, (place, size, bit) in listed
-    )
-    return heap.block(0x7C, info)
+    described = b"".join(struct.pack("<IHBB", tag, place, size, bit) for tag, (place, size, bit) in listed)
+    heap.put(info, struct.pack("<BB4HIII", 0x7C, len(listed), *columns.ends, index, matrix, 0) + described)
+    return heap.made(0x7C, info), subs
+
+
+REGION = 253952
+
+
+def room(file, size):
+    """Fills the file up to where so many bytes lie within one region, behind its maps."""
+    end = 0x4400 + ((len(file) - 0x4400) // REGION + 1) * REGION
+    if len(file) + size > end:
+        file += bytes(end + 2048 - len(file))
 
 
 class Store:
@@ -139,22 +174,30 @@ class Store:
         self.blocks.append((bid, data))
         return bid
 
+    def data(self, blocks):
+        """What names the data blocks: nothing, the one, or an XBLOCK."""
+        bids = [self.block(it) for it in blocks]
+        if len(bids) < 2:
+            return bids[0] if bids else 0
+        return self.block(struct.pack("<BBHI", 1, 1, len(bids), sum(map(len, blocks))) + b"".join(map(u64, bids)), internal=True)
+
     def subnodes(self, subs):
-        """The block that lists subnodes: (data, subnodes) by their ids."""
+        """The block that lists subnodes: (data blocks, subnodes) by their ids."""
         if not subs:
             return 0
-        entries = b"".join(struct.pack("<QQQ", nid, self.block(data) if data else 0, self.subnodes(below)) for nid, (data, below) in sorted(subs.items()))
+        entries = b"".join(struct.pack("<QQQ", nid, self.data(blocks), self.subnodes(below)) for nid, (blocks, below) in sorted(subs.items()))
         return self.block(struct.pack("<BBHI", 2, 0, len(subs), 0) + entries, internal=True)
 
-    def node(self, nid, data, parent=0, subs=None):
-        self.nodes[nid] = self.block(data) if data else 0, self.subnodes(subs or {}), parent
+    def node(self, nid, blocks, parent=0, subs=None):
+        self.nodes[nid] = self.data(blocks), self.subnodes(subs or {}), parent
 
     def bytes(self, counters):
         file = bytearray(0x4C00)
         entries = []
         for bid, data in self.blocks:
-            place = len(file)
             size = (len(data) + 16 + 63) // 64 * 64
+            room(file, size)
+            place = len(file)
             trailer = struct.pack("<HHIQ", len(data), sig(place, bid), crc(data), bid)
             file += data.ljust(size - 16, b"\0") + trailer
             entries.append((bid, struct.pack("<QQHHI", bid, place, len(data), 2, 0)))
@@ -174,6 +217,7 @@ class Store:
             for at in range(0, max(len(entries), 1), fits):
                 part = entries[at : at + fits]
                 body = b"".join(it for _, it in part).ljust(488, b"\0") + struct.pack("<BBBBI", len(part), fits, size, level, 0)
+                room(file, 512)
                 place, bid = len(file), self.page_bid
                 self.page_bid += 1
                 file += body + struct.pack("<BBHIQ", kind, kind, sig(place, bid), crc(body), bid)
@@ -215,14 +259,14 @@ def store(names, messages):
     s.node(0x61, properties({(0x0001, 3): u32(251), **names}))
     s.node(0x122, properties(folder("", 0, 0, True)), parent=0x122)
     values = {nid: folder(name, len(messages) if nid == 0x8022 else 0, len(messages) if nid == 0x8022 else 0, False) for nid, name in FOLDERS.items()}
-    s.node(0x12D, table(FOLDER_COLUMNS, values))
-    s.node(0x12E, table(MESSAGE_COLUMNS, {}))
-    s.node(0x12F, table(MESSAGE_COLUMNS, {}))
+    s.node(0x12D, table(FOLDER_COLUMNS, values)[0])
+    s.node(0x12E, table(MESSAGE_COLUMNS, {})[0])
+    s.node(0x12F, table(MESSAGE_COLUMNS, {})[0])
     for nid in FOLDERS:
         s.node(nid, properties(values[nid]), parent=0x122)
-        s.node(nid + 11, table(FOLDER_COLUMNS, {}))
-        s.node(nid + 12, table(MESSAGE_COLUMNS, {m: it[0] for m, it in messages.items()} if nid == 0x8022 else {}))
-        s.node(nid + 13, table(MESSAGE_COLUMNS, {}))
+        s.node(nid + 11, table(FOLDER_COLUMNS, {})[0])
+        s.node(nid + 12, table(MESSAGE_COLUMNS, {m: it[0] for m, it in messages.items()} if nid == 0x8022 else {})[0])
+        s.node(nid + 13, table(MESSAGE_COLUMNS, {})[0])
     for nid, (props, subs) in messages.items():
         s.node(nid, properties(props), parent=0x8022, subs=subs)
     return s.bytes({2: 0x403, 3: 0x4000, 4: 0x10000 + len(messages), 8: 0x8000})
@@ -241,14 +285,20 @@ def few_columns():
     parts = {0x8025: ("old.bin", b"\1\2"), 0x8065: ("two.bin", b"")}
     values = {nid: {(0x3704, 0x1F): text(name), (0x3701, 0x102): data, (0x7FFF, 3): u32(9)} for nid, (name, data) in parts.items()}
     attachments = table(Columns([(0x3704, 0x1F)]), {0x8025: {}, 0x8065: {(0x3704, 0x1F): text("stale")}})
-    subs = {0x671: (attachments, {}), 0x692: (recipients, {}), 0x80A5: (b"kept", {}), 0x9F: (b"unknown", {0x3F: (b"below", {})})}
+    subs = {0x671: attachments, 0x692: recipients, 0x80A5: ([b"kept"], {}), 0x9F: ([b"unknown"], {0x3F: ([b"below"], {})})}
     for nid in parts:
         subs[nid] = properties(values[nid]), {}
     return store({}, {0x200024: (props, subs)})
 
 
+def many_recipients():
+    """A message with one recipient fewer than a command may bring it to, in a table without columns for them."""
+    props = {(0x001A, 0x1F): text("IPM.Note"), (0x0E07, 3): u32(0), (0x0E08, 3): u32(0)}
+    return store({}, {0x200024: (props, {0x692: table(Columns([]), {row: {} for row in range(99_999)})})})
+
+
 if __name__ == "__main__":
-    for name, made in ("full_names.pst", full_names()), ("few_columns.pst", few_columns()):
+    for name, made in ("full_names.pst", full_names()), ("few_columns.pst", few_columns()), ("many_recipients.pst", many_recipients()):
         with open(f"{sys.argv[1]}/{name}", "wb") as file:
             file.write(made)
         print(name, len(made))
