@@ -213,6 +213,7 @@ module _ (T : Tree) where
   fetches_data m n = then_any (message_in T m) _ (λ M. then_any (found Object (part_in n M)) _ (λ part. then_any (found Property (value_of data_tag part.props)) _ (λ v none. (refl, refl))))
 
   finds_or_adds : (c : Ctx) (n : Held) (guid : List ℕ) (number : ℕ) (found_id : Option ℕ) → IfOk (found_or_added T c n guid number found_id) Right
+  unfolding found_or_added
   finds_or_adds c n guid number (Some property) = λ none. (refl, refl)
   finds_or_adds c n guid number None = then_any (refused_if (adding.is_full n guid number) (Limit Names)) _ (λ u.
       then_any (within_limits (with_context NAMES c (written (adding.added n guid number)) nothing)) _ (λ v none. (refl, refl)))
