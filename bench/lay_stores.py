@@ -90,11 +90,13 @@ IN_CELL = {0x0002: 2, 0x0003: 4, 0x000B: 1, 0x0014: 8, 0x0040: 8}
 
 
 def properties(values):
-    """The blocks of a property context with values by (id, kind) (2.3.3)."""
+    """The blocks of a property context with values by (id, kind), of which a number is the subnode that has the bytes (2.3.3)."""
     heap, records = Heap(), []
     header = heap.add(bytes(8))
     for (ident, kind), value in sorted(values.items()):
-        if kind in IN_FIELD:
+        if isinstance(value, int):
+            field = u32(value)
+        elif kind in IN_FIELD:
             field = value.ljust(4, b"\0")
         else:
             field = u32(heap.add(value) if value else 0)
@@ -175,7 +177,9 @@ class Store:
         return bid
 
     def data(self, blocks):
-        """What names the data blocks: nothing, the one, or an XBLOCK."""
+        """What names the data blocks, if that isn't there already: nothing, the one, or an XBLOCK."""
+        if isinstance(blocks, int):
+            return blocks
         bids = [self.block(it) for it in blocks]
         if len(bids) < 2:
             return bids[0] if bids else 0
@@ -188,10 +192,20 @@ class Store:
         entries = b"".join(struct.pack("<QQQ", nid, self.data(blocks), self.subnodes(below)) for nid, (blocks, below) in sorted(subs.items()))
         return self.block(struct.pack("<BBHI", 2, 0, len(subs), 0) + entries, internal=True)
 
+    def repeated(self, length):
+        """What names data of so many zeros, more than 8,347,696: an XXBLOCK, whose XBLOCKs name one full block again and again, and a last one (2.2.2.8.3.2)."""
+        full, rest = divmod(length, 8176)
+        zeros, last = self.block(bytes(8176)), self.block(bytes(rest))
+        names = lambda bids: self.block(struct.pack("<BBHI", 1, 1, len(bids), 8176 * bids.count(zeros) + rest * bids.count(last)) + b"".join(map(u64, bids)), internal=True)
+        whole = names([zeros] * 1021)
+        lists = [whole] * (full // 1021) + [names([zeros] * (full % 1021) + [last])]
+        return self.block(struct.pack("<BBHI", 1, 2, len(lists), length) + b"".join(map(u64, lists)), internal=True)
+
     def node(self, nid, blocks, parent=0, subs=None):
         self.nodes[nid] = self.data(blocks), self.subnodes(subs or {}), parent
 
-    def bytes(self, counters):
+    def bytes(self, counters, eof=None):
+        """The file's bytes, of which zeros behind are left out where its end is told."""
         file = bytearray(0x4C00)
         entries = []
         for bid, data in self.blocks:
@@ -205,7 +219,7 @@ class Store:
         self.page_bid = 1
         block_root = self.tree(file, 0x80, 24, sorted(entries))
         node_root = self.tree(file, 0x81, 32, sorted((nid, struct.pack("<QQQII", nid, *it, 0)) for nid, it in self.nodes.items()))
-        file[:564] = self.header(len(file), block_root, node_root, counters)
+        file[:564] = self.header(eof or len(file), block_root, node_root, counters)
         return bytes(file)
 
     def tree(self, file, kind, size, entries):
@@ -251,7 +265,10 @@ def folder(name, count, unread, has_folders):
     return {(0x3001, 0x1F): text(name), (0x3602, 3): u32(count), (0x3603, 3): u32(unread), (0x360A, 0xB): bytes([has_folders])}
 
 
-def store(names, messages):
+COUNTERS = {2: 0x403, 3: 0x4000, 4: 0x10000, 8: 0x8000}
+
+
+def begun(names, messages):
     """A store with these values at the node of names, and these messages in 0x8022: their values and subnodes by their ids."""
     s = Store()
     entry_id = lambda nid: u32(0) + KEY + u32(nid)
@@ -269,7 +286,12 @@ def store(names, messages):
         s.node(nid + 13, table(MESSAGE_COLUMNS, {})[0])
     for nid, (props, subs) in messages.items():
         s.node(nid, properties(props), parent=0x8022, subs=subs)
-    return s.bytes({2: 0x403, 3: 0x4000, 4: 0x10000 + len(messages), 8: 0x8000})
+    return s
+
+
+def store(names, messages):
+    """The bytes of such a store."""
+    return begun(names, messages).bytes({**COUNTERS, 4: 0x10000 + len(messages)})
 
 
 def full_names():
@@ -297,8 +319,33 @@ def many_recipients():
     return store({}, {0x200024: (props, {0x692: table(Columns([]), {row: {} for row in range(99_999)})})})
 
 
+def other_program():
+    """A store as another program may keep it: a search folder of its own criteria, two tables of messages that are one block, a size of its own count,
+    and an attachment of 20,000,000 bytes in a file of 90 regions, of which those behind the pages are zeros and left out here."""
+    props = {(0x001A, 0x1F): text("IPM.Note"), (0x0037, 0x1F): text("Large"), (0x0E07, 3): u32(17), (0x0E08, 3): u32(12345)}
+    s = begun({}, {0x200024: (props, {})})
+    large = {(0x0E20, 3): u32(20_000_000), (0x3701, 0x102): 0x5F, (0x3704, 0x1F): text("large.bin"), (0x3705, 3): u32(1)}
+    shown = {tag: value for tag, value in large.items() if tag[0] != 0x3701}
+    attachments = table(Columns([(0x0E20, 3), (0x3704, 0x1F), (0x3705, 3), (0x370B, 3)]), {0x8025: shown})
+    s.node(0x200024, properties(props), parent=0x8022, subs={0x671: attachments, 0x8025: (properties(large), {0x5F: (s.repeated(20_000_000), {})})})
+    s.nodes[0x806E] = s.nodes[0x804E]
+    search = folder("Unread Mail", 0, 0, False)
+    s.node(0x804D, table(FOLDER_COLUMNS, {0x80023: search})[0])
+    s.node(0x8042, properties({**folder("Search Root", 0, 0, True)}), parent=0x122)
+    s.node(0x80023, properties(search), parent=0x8042)
+    s.node(0x80026, [])
+    s.node(0x80027, properties({(0x660B, 0x102): b"criteria of another program"}))
+    s.node(0x80030, table(MESSAGE_COLUMNS, {0x200024: props})[0])
+    return s.bytes({**COUNTERS, 3: 0x4001, 4: 0x10001}, eof=0x4400 + 90 * REGION)
+
+
 if __name__ == "__main__":
-    for name, made in ("full_names.pst", full_names()), ("few_columns.pst", few_columns()), ("many_recipients.pst", many_recipients()):
+    for name, made in (
+        ("full_names.pst", full_names()),
+        ("few_columns.pst", few_columns()),
+        ("many_recipients.pst", many_recipients()),
+        ("other_program.pst", other_program()),
+    ):
         with open(f"{sys.argv[1]}/{name}", "wb") as file:
             file.write(made)
         print(name, len(made))
