@@ -300,6 +300,13 @@ def full_names():
     return store({(0x0002, 0x102): b"", (0x0003, 0x102): entry, (0x0004, 0x102): b"", (0x1000 + (0x8501 ^ 2) % 251, 0x102): entry}, {})
 
 
+def crowded_names():
+    """The same, in a node of names with 1,000 values that lacks the stream of GUIDs."""
+    entry = u32(0x8501) + struct.pack("<HH", 1 << 1, 32766)
+    names = {(0x0003, 0x102): entry, (0x0004, 0x102): b"", (0x1000 + (0x8501 ^ 2) % 251, 0x102): entry}
+    return store({**names, **{(ident, 3): u32(ident) for ident in range(0x2000, 0x2000 + 996)}}, {})
+
+
 def few_columns():
     """A message whose tables of recipients and of attachments lack columns, with a subnode like an attachment that no row names, and one of a kind of its own."""
     props = {(0x001A, 0x1F): text("IPM.Note"), (0x0037, 0x1F): text("Strange"), (0x0E07, 3): u32(16), (0x0E08, 3): u32(5)}
@@ -342,6 +349,7 @@ def other_program():
 if __name__ == "__main__":
     for name, made in (
         ("full_names.pst", full_names()),
+        ("crowded_names.pst", crowded_names()),
         ("few_columns.pst", few_columns()),
         ("many_recipients.pst", many_recipients()),
         ("other_program.pst", other_program()),

@@ -21,7 +21,7 @@ mod values;
 
 pub use beside::{associated, contents, hierarchy};
 pub use draft::Draft;
-pub use ending::finish;
+pub use ending::{finish, within_limits};
 pub use ids::{new_id, next_index};
 pub use outcome::Outcome;
 pub use outcomes::{changing, making, moving, replying};

@@ -21,12 +21,10 @@ use Rattle.mail_tree.specs.Places.{children, is_child, is_deep, is_plain, is_wit
 use Rattle.mail_tree.specs.Tree.{Tree}
 use Rattle.mail_tree.specs.Values.{bytes_of, crowds, finished, folder_props, is_set_protected, is_unset_protected, message_props, name_of, text, with_props}
 use Rattle.mail_tree.specs.Changing.{Answer, Changed, ◌>>=◌, add_shown, contents, context_at, drop_shown, found, hierarchy, nothing, put_shown, refused_if, table_at, with_object, within_limits, known}
-use Rattle.named_props.specs.Adding as adding
 use Rattle.named_props.specs.Finding.{name_at}
 use Rattle.named_props.specs.Holding.{names_of, written}
 use Rattle.named_props.specs.declared.names.Names.{Names}
-use Rattle.command_text.specs.declared.reply.Limit.TheVariants as limits
-use Rattle.mail_tree.specs.Names.{NAMES, found_or_added, is_name, named_property, unless_nameless}
+use Rattle.mail_tree.specs.Names.{NAMES, found_or_added, is_name, named_property, no_room, unless_nameless, with_another}
 use Rattle.mail_objects.specs.Forms.{Ctx}
 use Rattle.mail_tree.specs.Settling.{message_ids, mirrored, settled, with_context}
 use Rattle.mail_tree.specs.Ids.{LAST_INDEX, folder_kinds, greatest, is_spent, is_used, message_kinds, new_id, next_index}
@@ -225,7 +223,7 @@ module _ (T : Tree) where
     where
       by_name : (c : Ctx) (n : Names) (o : Option ℕ) → IfOk (found_or_added T c n guid number o) Right
       by_name c n (Some property) = refl
-      by_name c n None = then_any (refused_if (adding.is_full n guid number) (Limit limits.Names)) _ (λ u. then_any (within_limits (with_context NAMES c (written (adding.added n guid number)) nothing)) _ (λ v. refl))
+      by_name c n None = then_any (within_limits (with_context NAMES c (written (with_another n guid number)) nothing)) _ (λ u. then_any (unless (no_room n guid number)) _ (λ v. refl))
 
   pub gives_new : (c : Command) → IfOk (outcome T c) (λ o. Counted T.last o.last o.reply.last)
   unfolding outcome

@@ -15,7 +15,7 @@ use Rattle.command_text.specs.declared.command.Command.{Command}
 use Rattle.command_text.specs.declared.command.Command.TheVariants.{MakeFolder, RenameFolder, MoveFolder, RemoveFolder, ListFolder, NewMessage, SetProperty, UnsetProperty, GetProperty, ListProperties, MoveMessage, CopyMessage, RemoveMessage, AddRecipient, RemoveRecipient, AddAttachment, AppendData, RemoveAttachment, FetchData, NameProperty, Save, Quit}
 use Rattle.command_text.specs.declared.reply.CommandRefusal.{CommandRefusal}
 use Rattle.command_text.specs.declared.reply.CommandRefusal.TheVariants.{Property, NotEmpty, Cycle, Protected, Limit, Line, Ids, Object}
-use Rattle.command_text.specs.declared.reply.Limit.TheVariants.{Depth, Names, Rows}
+use Rattle.command_text.specs.declared.reply.Limit.TheVariants.{Depth, Rows}
 use Rattle.command_text.specs.declared.reply.LastLine.{LastLine}
 use Rattle.command_text.specs.declared.reply.LastLine.TheVariants.{Attached, Done, Named, Row}
 use Rattle.mail_objects.specs.declared.object.Object.{Object as Obj}
@@ -29,8 +29,7 @@ use Rattle.mail_tree.specs.Settling.{counted, message_ids, mirrored, settled, un
 use Rattle.mail_tree.specs.Ids.{folder_kinds, is_spent, message_kinds, new_id, next_index}
 use Rattle.mail_tree.specs.Folders.{Outcome, associated_in, changing, folder_in, folder_lines, has_associated, has_rows, listing, made_folder, making, making_folder, message_lines, moved_between, moved_folder, moving, place, removed_folder, renamed_folder, replied, replying, siblings, unless, unless_full, unless_named, unless_plain, unless_protected, with_folder, without_folder}
 use Rattle.mail_tree.specs.Messages.{added_attachment, added_message, added_recipient, adding_attachment, adding_recipient, appended_data, appending, fetched_data, removed_attachment, spent_index, too_long, changed_message, copied_message, copy_of, copying, details, in_folder, is_crowded_message, is_overfull, making_message, message_in, moved_message, new_message, plain_message, remaking, removed_message, removed_recipient, set_value, spent_row, unset_value, value_in, value_of}
-use Rattle.mail_tree.specs.Names.{NAMES, found_or_added, is_name, named_property, unless_nameless}
-use Rattle.named_props.specs.Adding as adding
+use Rattle.mail_tree.specs.Names.{NAMES, found_or_added, is_name, named_property, no_room, unless_nameless, with_another}
 use Rattle.named_props.specs.Finding.{name_at}
 use Rattle.named_props.specs.Holding.{names_of, written}
 use Rattle.named_props.specs.declared.names.Names.{Names as Held}
@@ -215,8 +214,8 @@ module _ (T : Tree) where
   finds_or_adds : (c : Ctx) (n : Held) (guid : List ℕ) (number : ℕ) (found_id : Option ℕ) → IfOk (found_or_added T c n guid number found_id) Right
   unfolding found_or_added
   finds_or_adds c n guid number (Some property) = λ none. (refl, refl)
-  finds_or_adds c n guid number None = then_any (refused_if (adding.is_full n guid number) (Limit Names)) _ (λ u.
-      then_any (within_limits (with_context NAMES c (written (adding.added n guid number)) nothing)) _ (λ v none. (refl, refl)))
+  finds_or_adds c n guid number None = then_any (within_limits (with_context NAMES c (written (with_another n guid number)) nothing)) _ (λ u.
+      then_any (unless (no_room n guid number)) _ (λ v none. (refl, refl)))
 
   names_property : (guid : List ℕ) (number : ℕ) → IfOk (named_property T guid number) Right
   unfolding named_property
