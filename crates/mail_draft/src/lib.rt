@@ -8,6 +8,7 @@
 mod beside;
 mod draft;
 mod ending;
+mod flags;
 mod ids;
 mod kept;
 mod outcome;
@@ -17,11 +18,13 @@ mod rows;
 mod settle;
 mod space;
 mod stop;
+mod unread;
 mod values;
 
 pub use beside::{associated, contents, hierarchy};
 pub use draft::Draft;
 pub use ending::{finish, within_limits};
+pub use flags::flag_changes;
 pub use ids::{new_id, next_index};
 pub use outcome::Outcome;
 pub use outcomes::{changing, making, moving, replying};

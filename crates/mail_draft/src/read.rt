@@ -77,7 +77,7 @@ pub fn table_at<W: Outside, K: NodeReader<W>>(
 }
 
 /// The object as a message, if it is there and is one.
-fn as_message(object: &Option<Object>) -> Option<&Mail>
+pub fn as_message(object: &Option<Object>) -> Option<&Mail>
     ensures { option_copied result ≡ as_message object.now }
 {
     match object {

@@ -19,7 +19,7 @@ use Rattle.mail_draft.specs.Answers.{Looks, IsCaused as IsCausedStop}
 use Rattle.mail_draft.specs.declared.stop.Stop.{Stop}
 use Rattle.mail_draft.specs.declared.stop.Stop.TheVariants as stops
 use Rattle.mail_draft.proofs.FitLaws.{no-entries}
-use Rattle.mail_store.specs.Planning.{Plans}
+use Rattle.mail_store.specs.Planning.{Plans, SameKnown}
 use Rattle.mail_store.specs.Space.{HasRoom}
 use Rattle.mail_store.proofs.StoreLaws.{stores_still}
 use Rattle.mail_laws.proofs.Strays.{whole_after}
@@ -28,7 +28,7 @@ use Rattle.mail_tree.specs.Folders.{Outcome, replied, unchanged}
 use Rattle.mail_tree.specs.Step.{after, outcome, stepped, with_changes, without_changed}
 use Rattle.mail_tree.specs.Tree.{Tree}
 use Rattle.mail_tree.specs.Whole.{Fine, IsWhole}
-use Rattle.mail_tree.specs.declared.places.FolderPlace.{FolderPlace}
+use Rattle.mail_tree.specs.declared.known.Known.{Known}
 use Rattle.store_session.specs.Carrying.{CarriesOut, ComesTo, Has, IsCaused, Leaves}
 use Rattle.store_session.specs.Run.{CommandAnswers, Suffices, refused}
 use Rattle.store_session.specs.declared.carrying.StoreStop.{StoreStop}
@@ -40,10 +40,10 @@ unfolding text last_text
 memory_text = refl
 
 -- a call that only looks leaves what a store has
-pub stays_has : {holds holds' : Nodes → Type 0} {last last' : List ℕ} {room room' : Room} {v w : World} (rests : Image → Type 0) (places places' : List FolderPlace) (T : Tree) → Looks holds holds' last last' room room' v w → places' ≡ places
-    → Has holds last places rests v T → Has holds' last' places' rests w T
-stays_has rests places places' T looks same h = record {
-  stores = stores_still places places' T looks same h.stores;
+pub stays_has : {holds holds' : Nodes → Type 0} {last last' : List ℕ} {room room' : Room} {v w : World} (rests : Image → Type 0) (known known' : Known) (T : Tree) → Looks holds holds' last last' room room' v w → SameKnown known known'
+    → Has holds last known rests v T → Has holds' last' known' rests w T
+stays_has rests known known' T looks same h = record {
+  stores = stores_still known known' T looks same h.stores;
   whole = h.whole;
   settled = stays_settled h.settled looks.world;
   at_rest = λ told. subst rests (sym (looks.world.stays.here told)) (h.at_rest (looks.world.stays.told told));

@@ -16,7 +16,7 @@ use Rattle.store_session.specs.declared.carrying.StoreStop.{StoreStop}
 module _ {K W : Type 0} (view : W → World) (holds : K → World → Nodes → Type 0) (last : K → List ℕ) (room : K → Room) (disk : Bool) (stands : List ℕ → Image → Nodes → List ℕ → Type 0) (rests : Image → Type 0) where
   -- the store has the tree, and its keeper was opened on this header
   abbrev pub has_tree : List ℕ → StoreAnswerer K → W → Tree → Type 0
-  has_tree found a v T = Has (holds a.store.keeper (view v)) (last a.store.keeper) a.store.places rests (view v) T × ((room a.store.keeper).found ≡ found)
+  has_tree found a v T = Has (holds a.store.keeper (view v)) (last a.store.keeper) a.store.known rests (view v) T × ((room a.store.keeper).found ≡ found)
 
   abbrev pub stands_for : List ℕ → Image → Tree → Type 0
   stands_for found c T = StandsFor (stands found c) T
@@ -24,13 +24,13 @@ module _ {K W : Type 0} (view : W → World) (holds : K → World → Nodes → 
   -- what the answerer of a store answers
   abbrev pub line_answers : Answering (StoreAnswerer K) W
   line_answers a v bytes said b w =
-      AnswersLine (Has (holds a.store.keeper (view v)) (last a.store.keeper) a.store.places rests (view v)) (Has (holds b.store.keeper (view w)) (last b.store.keeper) b.store.places rests (view w))
+      AnswersLine (Has (holds a.store.keeper (view v)) (last a.store.keeper) a.store.known rests (view v)) (Has (holds b.store.keeper (view w)) (last b.store.keeper) b.store.known rests (view w))
       (λ c U. StandsFor (stands (room a.store.keeper).found c) U) (room a.store.keeper) (room a.store.keeper).found (room b.store.keeper).found disk (view v) (view w) bytes said
 
   -- and at which lines it stops
   abbrev pub line_stops : Stopping (StoreAnswerer K) W StoreStop
   line_stops a v bytes stop b w =
-      StopsLine (Has (holds a.store.keeper (view v)) (last a.store.keeper) a.store.places rests (view v))
+      StopsLine (Has (holds a.store.keeper (view v)) (last a.store.keeper) a.store.known rests (view v))
       (λ c U. StandsFor (stands (room a.store.keeper).found c) U) (room a.store.keeper) disk (view v) (view w) bytes stop
 
   -- the disk stands for the tree
@@ -55,7 +55,7 @@ module _ {K W : Type 0} (view : W → World) (holds : K → World → Nodes → 
           record {
             stores = record {
               shown = record { nodes = s.nodes; held = holds_on a.store.keeper v w (λ d. (tells d, (same (tells d)).1)) s.nodes s.held; at = s.at; counters = s.counters };
-              where_is = h.0.stores.where_is;
+              knows = h.0.stores.knows;
             };
             whole = h.0.whole;
             settled = settled;

@@ -11,14 +11,14 @@ use Rattle.mail_draft.specs.declared.stop.Stop.TheVariants as stops
 use Rattle.mail_store.specs.Planning.{Stores}
 use Rattle.mail_tree.specs.Tree.{Tree}
 use Rattle.mail_tree.specs.Whole.{IsWhole}
-use Rattle.mail_tree.specs.declared.places.FolderPlace.{FolderPlace}
+use Rattle.mail_tree.specs.declared.known.Known.{Known}
 use Rattle.store_session.specs.Run.{refused}
 use Rattle.store_session.specs.declared.carrying.StoreStop.{StoreStop}
 use Rattle.store_session.specs.declared.carrying.StoreStop.TheVariants.{Disk, Changed}
 
 -- A store over a keeper has the tree, which is whole; nothing is pending, and the disk is as a commit needs it.
-pub record Has (holds : Nodes → Type 0) (last : List ℕ) (places : List FolderPlace) (rests : Image → Type 0) (world : World) (T : Tree) : Type 0 where
-  pub stores : Stores holds last places T
+pub record Has (holds : Nodes → Type 0) (last : List ℕ) (known : Known) (rests : Image → Type 0) (world : World) (T : Tree) : Type 0 where
+  pub stores : Stores holds last known T
   pub whole : IsWhole T
   pub settled : Settled world
   pub at_rest : world.tells → rests world.here

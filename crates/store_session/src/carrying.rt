@@ -66,8 +66,8 @@ fn carry_out<W: Outside, K: Keeper<W>>(
     world: &mut W,
     command: &Command,
 ) -> Result<Spoken, StoreStop>
-    ensures carries { (T : Tree) → Has (K.holds store.old.keeper (W.view world.old)) (K.last store.old.keeper) store.old.places K.rests (W.view world.old) T → (K.has_disk ≡ true → (W.view world.new).tells)
-        → CarriesOut (Has (K.holds store.new.keeper (W.view world.new)) (K.last store.new.keeper) store.new.places K.rests (W.view world.new)) (λ c U. StandsFor (K.stands (K.room store.old.keeper).found c) U) (CommandAnswers (K.room store.old.keeper) T command.now) (W.view world.old) (W.view world.new) T result }
+    ensures carries { (T : Tree) → Has (K.holds store.old.keeper (W.view world.old)) (K.last store.old.keeper) store.old.known K.rests (W.view world.old) T → (K.has_disk ≡ true → (W.view world.new).tells)
+        → CarriesOut (Has (K.holds store.new.keeper (W.view world.new)) (K.last store.new.keeper) store.new.known K.rests (W.view world.new)) (λ c U. StandsFor (K.stands (K.room store.old.keeper).found c) U) (CommandAnswers (K.room store.old.keeper) T command.now) (W.view world.old) (W.view world.new) T result }
     ensures found { (K.room store.new.keeper).found ≡ (K.room store.old.keeper).found }
     ensures cause { IfErr result (IsCaused K.has_disk (W.view world.old) (W.view world.new)) }
     ensures quiet { Quiet (W.view world.old) (W.view world.new) }
@@ -91,8 +91,8 @@ fn carry_save<W: Outside, K: Saver<W>>(
     store: &mut Store<K>,
     world: &mut W,
 ) -> Result<Spoken, StoreStop>
-    ensures carries { (T : Tree) → Has (K.holds store.old.keeper (W.view world.old)) (K.last store.old.keeper) store.old.places K.rests (W.view world.old) T → (K.has_disk ≡ true → (W.view world.new).tells)
-        → CarriesOut (Has (K.holds store.new.keeper (W.view world.new)) (K.last store.new.keeper) store.new.places K.rests (W.view world.new)) (λ c U. StandsFor (K.stands (K.room store.old.keeper).found c) U) (CommandAnswers (K.room store.old.keeper) T Save) (W.view world.old) (W.view world.new) T result }
+    ensures carries { (T : Tree) → Has (K.holds store.old.keeper (W.view world.old)) (K.last store.old.keeper) store.old.known K.rests (W.view world.old) T → (K.has_disk ≡ true → (W.view world.new).tells)
+        → CarriesOut (Has (K.holds store.new.keeper (W.view world.new)) (K.last store.new.keeper) store.new.known K.rests (W.view world.new)) (λ c U. StandsFor (K.stands (K.room store.old.keeper).found c) U) (CommandAnswers (K.room store.old.keeper) T Save) (W.view world.old) (W.view world.new) T result }
     ensures found { (K.room store.new.keeper).found ≡ (K.room store.old.keeper).found }
     ensures cause { IfErr result (IsCaused K.has_disk (W.view world.old) (W.view world.new)) }
     ensures quiet { Quiet (W.view world.old) (W.view world.new) }
@@ -115,8 +115,8 @@ pub fn answer_line<W: Outside, K: Saver<W>>(
     world: &mut W,
     bytes: &[u8],
 ) -> Result<Spoken, StoreStop>
-    ensures carries { (T : Tree) → Has (K.holds store.old.keeper (W.view world.old)) (K.last store.old.keeper) store.old.places K.rests (W.view world.old) T → (K.has_disk ≡ true → (W.view world.new).tells)
-        → CarriesOut (Has (K.holds store.new.keeper (W.view world.new)) (K.last store.new.keeper) store.new.places K.rests (W.view world.new)) (λ c U. StandsFor (K.stands (K.room store.old.keeper).found c) U) (Answers (K.room store.old.keeper) T (line bytes.now)) (W.view world.old) (W.view world.new) T result }
+    ensures carries { (T : Tree) → Has (K.holds store.old.keeper (W.view world.old)) (K.last store.old.keeper) store.old.known K.rests (W.view world.old) T → (K.has_disk ≡ true → (W.view world.new).tells)
+        → CarriesOut (Has (K.holds store.new.keeper (W.view world.new)) (K.last store.new.keeper) store.new.known K.rests (W.view world.new)) (λ c U. StandsFor (K.stands (K.room store.old.keeper).found c) U) (Answers (K.room store.old.keeper) T (line bytes.now)) (W.view world.old) (W.view world.new) T result }
     ensures found { (K.room store.new.keeper).found ≡ (K.room store.old.keeper).found }
     ensures cause { IfErr result (IsCaused K.has_disk (W.view world.old) (W.view world.new)) }
     ensures quiet { Quiet (W.view world.old) (W.view world.new) }

@@ -64,7 +64,7 @@ pub fn run_session<W: Outside, K: Saver<W> + Drop>(
     world: &mut W,
 ) -> SessionEnd
     // From a store that has a tree, where the world tells what a disk holds: the replies are those of a run, and a stop at any moment leaves the tree after some of its turns.
-    ensures ends { (T : Tree) → Has (K.holds store.keeper (W.view world.old)) (K.last store.keeper) store.places K.rests (W.view world.old) T → (K.has_disk ≡ true → (W.view world.new).tells)
+    ensures ends { (T : Tree) → Has (K.holds store.keeper (W.view world.old)) (K.last store.keeper) store.known K.rests (W.view world.old) T → (K.has_disk ≡ true → (W.view world.new).tells)
         → StoreSessionEnds (λ c U. StandsFor (K.stands (K.room store.keeper).found c) U) K.rests (W.view world.old) (W.view world.new) T result }
     ensures cause { HasCause K.has_disk (W.view world.old) (W.view world.new) result }
     ensures no_memory { result ≡ SessionEnd.Memory → world.new ≡ world.old }

@@ -13,13 +13,13 @@ pub returns-in_err-context-clause-answer : goal.returns-in_err-context-clause-an
 unfolding counted
 returns-in_err-context-clause-answer g c =
     let p = err_from_is_err_and c.from_residual.result c.from_residual.ensures.1 in
-    rw (p.1, p.2) (λ T s. stop_says _ _ _ _ _ (c.in_err-context.ensures.answer T s))
+    rw (p.1, p.2) (λ T s flags. stop_says _ _ _ _ _ (c.in_err-context.ensures.answer T s))
 
 pub returns-in_err-node-clause-answer : goal.returns-in_err-node-clause-answer
 unfolding counted
 returns-in_err-node-clause-answer g c =
     let p = err_from_is_err_and c.from_residual-in_err-node.result c.from_residual-in_err-node.ensures.1 in
-    rw (p.1, p.2) (λ T s.
+    rw (p.1, p.2) (λ T s flags.
     then_says _ _ _ _ _ _ (c.in_ok-context.ensures.answer T s)
     (stop_says _ _ _ _ _ (says_at (λ t. t) (table_at T (changed_of c.args.draft)) _ _ _ c.contents.ensures
     (c.in_err-node.ensures.answer T (shown_still T c.in_ok-context.ensures.looks s)))))
@@ -29,12 +29,12 @@ unfolding counted
 returns-in_err-unread-clause-answer g c =
     let p = err_from_is_err_and c.from_residual-in_err-unread.result c.from_residual-in_err-unread.ensures.1 in
     let ids_of = λ (t : Tab). message_ids t in
-    rw (p.1, p.2) (λ T s.
+    rw (p.1, p.2) (λ T s flags.
     let after_context = shown_still T c.in_ok-context.ensures.looks s in
     then_says _ _ _ _ _ _ (c.in_ok-context.ensures.answer T s)
     (then_says _ _ _ _ _ _ (says_at (λ t. t) (table_at T (changed_of c.args.draft)) _ _ _ c.contents.ensures (c.in_ok-node.ensures.answer T after_context))
     (stop_says _ _ _ _ _ (says_at (λ n. n) (unread_among T (changed_of c.args.draft)) _ _ _ (c.as_slice.ensures.value ∙ c.in_ok-ids.ensures ∙ ap ids_of c.table.ensures.table)
-    (c.in_err-unread.ensures.answer T (shown_still T c.in_ok-node.ensures.looks after_context))))))
+    (c.in_err-unread.ensures.answer T (shown_still T c.in_ok-node.ensures.looks after_context) flags)))))
 
 pub returns-in_err-props-clause-looks : goal.returns-in_err-props-clause-looks
 returns-in_err-props-clause-looks g c = looks_then (looks_then c.in_ok-context.ensures.looks c.in_ok-node.ensures.looks) c.in_ok-unread.ensures.looks
@@ -46,12 +46,12 @@ pub returns-clause-answer : goal.returns-clause-answer
 unfolding counted
 returns-clause-answer g c =
     let ids_of = λ (t : Tab). message_ids t in
-    λ T s.
+    λ T s flags.
     let after_context = shown_still T c.in_ok-context.ensures.looks s in
     then_says _ _ _ _ _ _ (c.in_ok-context.ensures.answer T s)
     (then_says _ _ _ _ _ _ (says_at (λ t. t) (table_at T (changed_of c.args.draft)) _ _ _ c.contents.ensures (c.in_ok-node.ensures.answer T after_context))
     (then_says _ _ _ _ _ _ (says_at (λ n. n) (unread_among T (changed_of c.args.draft)) _ _ _ (c.as_slice.ensures.value ∙ c.in_ok-ids.ensures ∙ ap ids_of c.table.ensures.table)
-    (c.in_ok-unread.ensures.answer T (shown_still T c.in_ok-node.ensures.looks after_context)))
+    (c.in_ok-unread.ensures.answer T (shown_still T c.in_ok-node.ensures.looks after_context) flags))
     (counted_put c.args.folder.bits c.in_ok-context.context c.in_ok-node.node.table c.args.places.now c.len.result _ _ c.in_ok-ids.ids.items c.in_ok-old_props.old_props _ _ _
     (c.in_ok-ids.ensures ∙ ap ids_of c.table.ensures.table) (omega (arith, c.len.ensures, c.as_slice.ensures.len, ap length c.as_slice.ensures.value)) c.has_folders-has_folders.ensures (c.in_ok-old_props.ensures ∙ c.props.ensures) c.in_ok-props.ensures c.in_ok-with_context.ensures)))
 

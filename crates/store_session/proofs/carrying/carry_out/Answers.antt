@@ -17,7 +17,7 @@ returns-in-Err-clause-carries g c = λ T h tells.
     let s = h.stores.shown in
     let here : S v.here T = shown_stands (g.K.Keeper.stands found v.here) (g.K.NodeReader.last k) T s (g.met.K.Keeper.held_stands k c.args.world.now s.nodes s.held) in
     stop_carries (g.K.NodeReader.room k) T c.args.command.now h.whole _ _ S v (g.W.Outside.view c.plan.new.w) c.in-Err.stop c.stopped.result c.stopped.ensures (c.in-Err.ensures.answer T h.stores)
-    (stays_has g.K.Keeper.rests _ _ T c.plan.ensures.looks c.plan.ensures.places h) (quiet_leaves S T T h.settled c.plan.ensures.looks.world here)
+    (stays_has g.K.Keeper.rests _ _ T c.plan.ensures.looks c.plan.ensures.known h) (quiet_leaves S T T h.settled c.plan.ensures.looks.world here)
 
 pub returns-in_default-clause-carries : goal.returns-in_default-clause-carries
 returns-in_default-clause-carries g c = λ T h tells.
@@ -27,7 +27,7 @@ returns-in_default-clause-carries g c = λ T h tells.
     let S : Image → Tree → Type 0 = λ i U. StandsFor (g.K.Keeper.stands found i) U in
     let s = h.stores.shown in
     let here : S v.here T = shown_stands (g.K.Keeper.stands found v.here) (g.K.NodeReader.last k) T s (g.met.K.Keeper.held_stands k c.args.world.now s.nodes s.held) in
-    (T, inr (memory_text, refl), stays_has g.K.Keeper.rests _ _ T c.plan.ensures.looks c.plan.ensures.places h, quiet_leaves S T T h.settled c.plan.ensures.looks.world here)
+    (T, inr (memory_text, refl), stays_has g.K.Keeper.rests _ _ T c.plan.ensures.looks c.plan.ensures.known h, quiet_leaves S T T h.settled c.plan.ensures.looks.world here)
 
 pub returns-in-Ok-commit-clause-carries : goal.returns-in-Ok-commit-clause-carries
 returns-in-Ok-commit-clause-carries g c = λ T h tells.
@@ -39,7 +39,7 @@ returns-in-Ok-commit-clause-carries g c = λ T h tells.
     let S : Image → Tree → Type 0 = λ i U. StandsFor (g.K.Keeper.stands room.found i) U in
     let s = h.stores.shown in
     let here : S v.here T = shown_stands (g.K.Keeper.stands room.found v.here) (g.K.NodeReader.last k) T s (g.met.K.Keeper.held_stands k c.args.world.now s.nodes s.held) in
-    let held = stays_has g.K.Keeper.rests _ _ T c.plan.ensures.looks c.plan.ensures.places h in
+    let held = stays_has g.K.Keeper.rests _ _ T c.plan.ensures.looks c.plan.ensures.known h in
     let p = plan_made room T c.args.command.now h.whole _ c.in-Ok.planned (c.in-Ok.ensures.answer T h.stores) in
     let U : Tree = after T p.0 in
     let moments = subst (λ r. LeavesOnly mid new (λ i. (i.said ≡ mid.here.said) × (StandsFor (g.K.Keeper.stands r.found i) T ⊎ StandsFor (g.K.Keeper.stands r.found i) U))) c.plan.ensures.looks.space
@@ -61,7 +61,7 @@ returns-in-Err-commit-clause-carries g c = λ T h tells.
     let S : Image → Tree → Type 0 = λ i U. StandsFor (g.K.Keeper.stands room.found i) U in
     let s = h.stores.shown in
     let here : S v.here T = shown_stands (g.K.Keeper.stands room.found v.here) (g.K.NodeReader.last k) T s (g.met.K.Keeper.held_stands k c.args.world.now s.nodes s.held) in
-    let held = stays_has g.K.Keeper.rests _ _ T c.plan.ensures.looks c.plan.ensures.places h in
+    let held = stays_has g.K.Keeper.rests _ _ T c.plan.ensures.looks c.plan.ensures.known h in
     let p = plan_made room T c.args.command.now h.whole _ c.in-Ok.planned (c.in-Ok.ensures.answer T h.stores) in
     let U : Tree = after T p.0 in
     let moments = subst (λ r. LeavesOnly mid new (λ i. (i.said ≡ mid.here.said) × (StandsFor (g.K.Keeper.stands r.found i) T ⊎ StandsFor (g.K.Keeper.stands r.found i) U))) c.plan.ensures.looks.space
