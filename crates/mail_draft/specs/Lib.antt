@@ -8,3 +8,4 @@ pub mod Standing
 pub mod Walks
 pub mod Space
 pub mod Unread
+pub mod Listed

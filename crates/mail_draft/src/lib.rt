@@ -11,6 +11,7 @@ mod ending;
 mod flags;
 mod ids;
 mod kept;
+mod listed;
 mod outcome;
 mod outcomes;
 mod read;

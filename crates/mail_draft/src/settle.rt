@@ -6,42 +6,23 @@ ghost use Rattle.mail_tree.specs.Places.{is_child};
 ghost use Rattle.mail_tree.specs.Tree.{Shown, Tree, object_at};
 ghost use Rattle.mail_draft.specs.Answers.{IsCaused, Looks, Says};
 ghost use Rattle.mail_draft.specs.Drafts.{changed_of};
-ghost use Rattle.mail_tree.specs.Settling.{counted, is_message_row, message_ids, mirrored, settled, with_context};
+ghost use Rattle.mail_tree.specs.Settling.{counted, mirrored, settled, with_context};
 
 use crate::beside::{contents, hierarchy};
 use crate::draft::Draft;
-use crate::read::{context_at, table_at};
+use crate::listed::message_ids_at;
+use crate::read::context_at;
 use crate::rows::put_shown;
 use crate::stop::Stop;
 use crate::unread::unread_among;
 use crate::values::{crowds, with_counts};
 use mail_objects::{Context, Object};
 use mail_tree::{Flags, FolderPlace, Places, ROOT_FOLDER};
-use mapi_values::{Props, Table};
+use mapi_values::Props;
 use node_port::NodeReader;
 use pst_base::Nid;
 use pst_outside::Outside;
 use std::alloc::{AllocError, Global};
-
-/// Whether a row is that of a message.
-fn is_message_row(row: &(u32, Props)) -> bool
-    ensures { result ≡ is_message_row row.now }
-{
-    row.0 % 32 == 4
-}
-
-/// The ids of the messages that a folder's table lists.
-fn message_ids(alloc: Global, table: &Table) -> Result<Vec<u32>, AllocError>
-    ensures { IfOk result (λ ids. ids.items ≡ message_ids table.now) }
-{
-    let mut ids = Vec::new(alloc);
-    for row in table.rows() {
-        if is_message_row(row) {
-            ids.push(row.0)?;
-        }
-    }
-    Ok(ids)
-}
 
 /// Whether a folder stands directly in that one.
 fn is_child(parent: Nid, place: &FolderPlace) -> bool
@@ -89,8 +70,7 @@ pub fn counted<W: Outside, K: NodeReader<W>>(
     ensures cause { IfErr result (IsCaused K.has_disk (W.view w.old).disk_faults (W.view w.new).disk_faults) }
 {
     let context = context_at(alloc, keeper, w, &draft, folder)?;
-    let node = table_at(alloc, keeper, w, &draft, contents(folder))?;
-    let ids = message_ids(alloc, node.table())?;
+    let ids = message_ids_at(alloc, keeper, w, &draft, contents(folder))?;
     let unread = unread_among(alloc, keeper, w, &draft, flags, ids.as_slice())?;
     let old_props = context.props().copy(alloc)?;
     let has_folders = has_folders(places, folder);
