@@ -1,0 +1,10 @@
+pub mod RowLaws
+pub mod ListLaws
+pub mod FollowLaws
+pub mod ScopeLaws
+pub mod BelowLaws
+pub mod TouchLaws
+pub mod SettleLaws
+pub mod FreshLaws
+pub mod LeaveLaws
+pub mod CommandLaws
