@@ -8,3 +8,6 @@ pub mod SettleLaws
 pub mod FreshLaws
 pub mod LeaveLaws
 pub mod CommandLaws
+pub mod PathWalks
+pub mod SearchOrder
+pub mod AskLaws

@@ -5,8 +5,11 @@
 //! Leaves to others: the criteria of a search and where they stand (`search_obj`), whether a restriction holds (`restr_eval`), and the step of a command without searches (`mail_tree`). No command uses this crate yet.
 #![tactic(auto)]
 
+mod following;
 mod law;
+mod scoping;
 
+pub use following::{OwnSearch, Searches};
 pub use law::{
     fresh_after, halted_stays, leaves_all, lists_after, lists_all, relists, settles_all,
     shows_touched, stays_fresh, touches_all,
