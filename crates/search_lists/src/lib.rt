@@ -7,6 +7,7 @@
 
 mod following;
 mod law;
+mod relisting;
 mod scoping;
 
 pub use following::{OwnSearch, Searches};
@@ -14,3 +15,4 @@ pub use law::{
     fresh_after, halted_stays, leaves_all, lists_after, lists_all, relists, settles_all,
     shows_touched, stays_fresh, touches_all,
 };
+pub use relisting::relist;
