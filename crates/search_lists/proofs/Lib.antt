@@ -11,3 +11,4 @@ pub mod CommandLaws
 pub mod PathWalks
 pub mod SearchOrder
 pub mod AskLaws
+pub mod ThereLaws

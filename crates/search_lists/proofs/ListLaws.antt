@@ -189,4 +189,4 @@ module _ (T : Tree) (s : Search) where
   )
 
 pub lists_all : ListsAll
-lists_all = record { rows = λ T s rows a fresh. rows-are T s rows a fresh; fresh = λ T s rows e. are-rows T s rows e }
+lists_all = record { ascend = λ T s. lists-ascend T s; members = λ T s m. members T s m; rows = λ T s rows a fresh. rows-are T s rows a fresh; fresh = λ T s rows e. are-rows T s rows e }

@@ -2,7 +2,7 @@
 use Rattle.std.proofs.Common.{◌≡◌, ◌∙◌, ℕ, zero, suc, ◌==◌, ◌||◌, ◌&&◌, Bool, true, false, List, [], ◌∷◌, Option, None, Some, ap, sym, refl, inl, inr, if◌then◌else◌}
 use Rattle.std.specs.List.{list_any}
 use Rattle.std.specs.Option.{option_map}
-use Rattle.std.proofs.lemmas.Bool.{eq-eqb, cases_Bool, false≢true, ne_eqb, or_parts}
+use Rattle.std.proofs.lemmas.Bool.{eq-eqb, cases_Bool, false≢true, ne_eqb, or_parts, eqb-true}
 use Rattle.std.proofs.lemmas.Option.{none-some}
 use Rattle.mapi_values.specs.Messages.{Mes}
 use Rattle.restr_eval.specs.Eval.{eval, holds_of, subject}
@@ -10,6 +10,7 @@ use Rattle.search_obj.specs.Scope.{is_among}
 use Rattle.mail_tree.specs.declared.places.FolderPlace.{FolderPlace}
 use Rattle.mail_tree.specs.Places.{ROOT, find_place, is_plain, is_within, onward, path, path_from}
 use Rattle.search_lists.specs.Searches.{Search, in_scope, is_listed, is_plain_at, looked_from}
+use Rattle.search_lists.specs.Laws.{ScopesAreWithin}
 
 -- places that differ at these folders alone
 module _ (bad : ℕ → Bool) (places places' : List FolderPlace) (others : (g : ℕ) → bad g ≡ false → find_place g places' ≡ find_place g places) where
@@ -93,3 +94,56 @@ module _ (places : List FolderPlace) (parents : (g : ℕ) (p : FolderPlace) → 
 
   pub placed-out : (g : ℕ) (p : FolderPlace) → find_place g places ≡ Some p → is_within places f g ≡ false
   placed-out g p is = path-out 64 g p is
+
+-- given folders that are met on the way up
+module _ (plain : ℕ → Bool) where
+  none-given : (ids : List ℕ) → list_any (λ h. is_among [] h && plain h) ids ≡ false
+  none-given [] = refl
+  none-given (h ∷ ids) = none-given ids
+
+  split : (g : ℕ) (gs ids : List ℕ) → list_any (λ h. is_among (g ∷ gs) h && plain h) ids ≡ (list_any (λ h. (g == h) && plain h) ids || list_any (λ h. is_among gs h && plain h) ids)
+  split g gs [] = refl
+  split g gs (h ∷ ids) = ap (λ b. (((g == h) || is_among gs h) && plain h) || b) (split g gs ids) ∙ mixed (g == h) (is_among gs h) (plain h) (list_any (λ h. (g == h) && plain h) ids) (list_any (λ h. is_among gs h && plain h) ids)
+    where
+      mixed : (a b p x y : Bool) → (((a || b) && p) || (x || y)) ≡ (((a && p) || x) || ((b && p) || y))
+      mixed true true true x y = refl
+      mixed true false true x y = refl
+      mixed true true false x y = refl
+      mixed true false false x y = refl
+      mixed false true true true y = refl
+      mixed false true true false y = refl
+      mixed false false true x y = refl
+      mixed false true false x y = refl
+      mixed false false false x y = refl
+
+  one-given : (g : ℕ) (ids : List ℕ) → list_any (λ h. (g == h) && plain h) ids ≡ (plain g && list_any (λ h. h == g) ids)
+  one-given g [] = never (plain g)
+    where
+      never : (b : Bool) → false ≡ (b && false)
+      never true = refl
+      never false = refl
+  one-given g (h ∷ ids) = elim (cases_Bool (g == h)) [
+    | inl t ↦ let e : g ≡ h = eqb-true g h t in rw (t, eq-eqb h g (sym e)) (here (plain h) (plain g) (list_any (λ h. (g == h) && plain h) ids) (ap plain (sym e)) (one-given g ids))
+    | inr f ↦ rw (f, ne_eqb h g (λ e. false≢true (sym f ∙ eq-eqb g h (sym e)))) (one-given g ids)
+  ]
+    where
+      here : (p q x : Bool) → p ≡ q → x ≡ (q && list_any (λ h. h == g) ids) → (p || x) ≡ (q && true)
+      here true true x e y = refl
+      here false false x e y = y
+      here true false x e y = cc
+      here false true x e y = cc
+
+  pub given-within : (scope ids : List ℕ) → list_any (λ h. is_among scope h && plain h) ids ≡ list_any (λ g. plain g && list_any (λ h. h == g) ids) scope
+  given-within [] ids = none-given ids
+  given-within (g ∷ gs) ids = split g gs ids ∙ ap (λ b. b || list_any (λ h. is_among gs h && plain h) ids) (one-given g ids) ∙ ap (λ b. (plain g && list_any (λ h. h == g) ids) || b) (given-within gs ids)
+
+pub scopes_are_within : ScopesAreWithin
+scopes_are_within = record {
+  shallow = λ places s f r. rw r (once (is_plain_at places f) (is_among s.scope f));
+  deep = λ places s f r. rw r (ap (λ b. is_plain_at places f && b) (given-within (is_plain_at places) s.scope (path places f)));
+}
+  where
+    once : (p a : Bool) → (p && ((a && p) || false)) ≡ (p && a)
+    once true true = refl
+    once true false = refl
+    once false a = refl

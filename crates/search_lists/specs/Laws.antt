@@ -1,5 +1,5 @@
 -- What the tables of searches show after a command.
-use Rattle.std.specs.Prelude.{◌≡◌, ℕ, ◌%◌, ◌||◌, ◌==◌, Bool, true, false, not, IfOk, List, [], ◌∷◌, filter, Option, None, Some, if◌then◌else◌}
+use Rattle.std.specs.Prelude.{◌≡◌, ℕ, ◌%◌, ◌||◌, ◌&&◌, ◌==◌, Bool, true, false, not, IfOk, List, [], ◌∷◌, filter, Option, None, Some, if◌then◌else◌}
 use Rattle.std.specs.List.{list_any}
 use Rattle.std.specs.Option.{is_some}
 use Rattle.mapi_values.specs.Keyed.{keys_ascend}
@@ -7,15 +7,18 @@ use Rattle.mapi_values.specs.Values.{Val}
 use Rattle.mapi_values.specs.declared.column.Column.{Column}
 use Rattle.mapi_values.specs.Tables.{find_row, mirror}
 use Rattle.command_text.specs.declared.command.Command.{Command}
-use Rattle.mail_objects.specs.Forms.{Tbl}
-use Rattle.mail_objects.specs.declared.object.Object.TheVariants.{Table}
-use Rattle.mail_tree.specs.Changing.{Changed, as_message, now_at, with_rows}
+use Rattle.mail_objects.specs.Forms.{Ctx, Tbl}
+use Rattle.mail_objects.specs.declared.object.Object.TheVariants.{Context, Table}
+use Rattle.mail_tree.specs.Changing.{Changed, as_message, hierarchy, now_at, with_rows}
 use Rattle.mail_tree.specs.Folders.{Outcome}
+use Rattle.mail_tree.specs.Places.{is_within}
+use Rattle.mail_tree.specs.declared.places.FolderPlace.{FolderPlace}
+use Rattle.search_obj.specs.Scope.{is_among}
 use Rattle.mail_tree.specs.Step.{after, outcome}
 use Rattle.mail_tree.specs.Tree.{Tree, object_at}
 use Rattle.mail_tree.specs.Whole.{Fine, IsWhole}
 use Rattle.mail_laws.specs.Laws.{message_with}
-use Rattle.search_lists.specs.Searches.{AreFresh, IsFresh, Search, is_listed, lists, results, row_ids, runs}
+use Rattle.search_lists.specs.Searches.{AreFresh, IsFresh, Search, in_scope, is_listed, is_plain_at, lists, results, row_ids, runs}
 use Rattle.search_lists.specs.Relisting.{Around, Touch, around, is, is_gone, props_of, relisted, relisted_row, settled_searches, was, with_searches}
 use Rattle.search_lists.specs.Touching.{followed, touched}
 
@@ -48,8 +51,15 @@ abbrev pub ListsAfter : Type 0
 ListsAfter = (T : Tree) (c : Command) (s : Search) (columns : List Column) (rows : List (ℕ × List Val)) → IsWhole T → runs s ≡ true → row_ids rows ≡ lists T s
     → IfOk (outcome T c) (λ o. Fine (touched T c o) (λ ts. row_ids (relisted (around T o) s columns ts rows) ≡ lists (after T o) s))
 
--- rows that ascend are those of the messages that a search is to list exactly where they are in the order of the list
+-- a search looks in the plain folders that it is given, and in those within them where it is recursive
+pub record ScopesAreWithin : Type 0 where
+  pub shallow : (places : List FolderPlace) (s : Search) (f : ℕ) → s.recursive ≡ false → in_scope places s f ≡ (is_plain_at places f && is_among s.scope f)
+  pub deep : (places : List FolderPlace) (s : Search) (f : ℕ) → s.recursive ≡ true → in_scope places s f ≡ (is_plain_at places f && list_any (λ g. is_plain_at places g && is_within places g f) s.scope)
+
+-- the list of a search ascends and has just the messages that the search is to list; rows that ascend are those of these messages exactly where they are in the order of the list
 pub record ListsAll : Type 0 where
+  pub ascend : (T : Tree) (s : Search) → keys_ascend (λ m. m) 0 (lists T s) ≡ true
+  pub members : (T : Tree) (s : Search) (m : ℕ) → is_among (lists T s) m ≡ is_listed T.places s (message_with T m)
   pub rows : (T : Tree) (s : Search) (rows : List (ℕ × List Val)) → keys_ascend (λ r. r.0) 0 rows ≡ true → AreFresh T.places (message_with T) s rows → row_ids rows ≡ lists T s
   pub fresh : (T : Tree) (s : Search) (rows : List (ℕ × List Val)) → row_ids rows ≡ lists T s → (keys_ascend (λ r. r.0) 0 rows ≡ true) × AreFresh T.places (message_with T) s rows
 
@@ -83,6 +93,14 @@ pub record Settles (T : Tree) (d : Around) (ts : List Touch) (ss : List Search) 
 -- that is so of all searches together
 abbrev pub SettlesAll : Type 0
 SettlesAll = (T : Tree) (d : Around) (ts : List Touch) (ss : List Search) (D : Changed) → AreApart ss → IfOk (settled_searches T d ts ss D) (Settles T d ts ss D)
+
+-- the nodes of a search are there: its table, its values, and its parent's table of folders
+abbrev pub HasNodes : Tree → Changed → Search → Type 0
+HasNodes T D s = ((t : Tbl) × (now_at T D (results s.nid) ≡ Some (Table t))) × ((c : Ctx) × (now_at T D s.nid ≡ Some (Context c)) × ((u : Tbl) × (now_at T D (hierarchy c.parent) ≡ Some (Table u))))
+
+-- searches whose nodes are there are settled, and their nodes are there still
+abbrev pub SettlesThere : Type 0
+SettlesThere = (T : Tree) (d : Around) (ts : List Touch) (ss : List Search) (D : Changed) → Each (HasNodes T D) ss → Fine (settled_searches T d ts ss D) (λ D'. Each (HasNodes T D') ss)
 
 -- the command left the tables of searches as they were
 abbrev pub LeavesResults : Tree → Outcome → Type 0

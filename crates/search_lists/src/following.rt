@@ -2,7 +2,7 @@
 ghost use Rattle.std.specs.Prelude.{◌≡◌, ◌≤◌, ◌+◌, [], IfOk, OnErr, OnOk, option_copied};
 ghost use Rattle.mapi_values.specs.Keyed.{drop_key, find_key, put_key};
 ghost use Rattle.search_lists.specs.Asking.{delta_in, deltas, looked_at, places_around, steps_among, steps_in, work_among, work_in};
-ghost use Rattle.search_lists.specs.Searches.{in_scope, runs};
+ghost use Rattle.search_lists.specs.Searches.{in_scope, runs, search_of};
 
 use crate::scoping::is_reached;
 use live_search::{Delta, touch};
@@ -10,7 +10,7 @@ use mail_tree::Places;
 use mapi_values::{Keyed, Message, drop_keyed, find_keyed, put_keyed};
 use pst_base::{Ledger, Nid, Steps};
 use restr_codec::Restriction;
-use search_obj::SearchState;
+use search_obj::{CriteriaSet, SearchState};
 use std::alloc::{AllocError, Global};
 use std::marker::Model;
 
@@ -47,6 +47,19 @@ impl Keyed for OwnSearch {
 }
 
 impl OwnSearch {
+    /// The search whose folder is this one, with these criteria. Takes no memory.
+    pub fn new(nid: Nid, criteria: CriteriaSet) -> OwnSearch
+        ensures { result ≡ search_of nid.bits criteria }
+    {
+        OwnSearch {
+            nid,
+            state: criteria.flags.state(),
+            recursive: criteria.flags.recursive,
+            scope: criteria.scope,
+            restriction: criteria.restriction,
+        }
+    }
+
     /// Whether its list follows messages.
     pub fn runs(&self) -> bool
         ensures { result ≡ runs self.now }

@@ -1,7 +1,12 @@
 //! What follows of the definitions on searches.
-ghost use Rattle.search_lists.specs.Laws.{FreshAfter, HaltedStays, LeavesAll, ListsAfter, ListsAll, Relists, SettlesAll, ShowsTouched, StaysFresh, TouchesAll};
+ghost use Rattle.search_lists.specs.Laws.{FreshAfter, HaltedStays, LeavesAll, ListsAfter, ListsAll, Relists, ScopesAreWithin, SettlesAll, SettlesThere, ShowsTouched, StaysFresh, TouchesAll};
 
-/// Rows that ascend are in the order of what a search is to list exactly where each message has one that is to.
+/// A search looks in the plain folders that it is given, and in those within them where it is recursive.
+pub fn scopes_are_within()
+    ensures { ScopesAreWithin }
+{}
+
+/// The list of a search ascends and has just the messages that the search is to list. Rows that ascend are in the order of what a search is to list exactly where each message has one that is to.
 pub fn lists_all()
     ensures { ListsAll }
 {}
@@ -34,6 +39,11 @@ pub fn halted_stays()
 /// After searches were settled each table of theirs has the rows that the touched messages leave it, and messages and other tables are as they were.
 pub fn settles_all()
     ensures { SettlesAll }
+{}
+
+/// Searches are settled where their nodes are there, and these are there still.
+pub fn settles_there()
+    ensures { SettlesThere }
 {}
 
 /// No command by itself changes a table of a search.
