@@ -12,3 +12,4 @@ pub mod PathWalks
 pub mod SearchOrder
 pub mod AskLaws
 pub mod ThereLaws
+pub mod CountLaws

@@ -29,14 +29,14 @@ found-table (Some (Table t)) = refl
 found-table (Some (Context c)) = tt
 found-table (Some (Message m)) = tt
 
-found-context : (o : Option Object) → IfOk (known (as_context o)) (λ c. o ≡ Some (Context c))
+pub found-context : (o : Option Object) → IfOk (known (as_context o)) (λ c. o ≡ Some (Context c))
 found-context None = tt
 found-context (Some (Table t)) = tt
 found-context (Some (Context c)) = refl
 found-context (Some (Message m)) = tt
 
 -- what is no message is put where none stood
-put-apart : (T : Tree) (D D' : Changed) (q : ℕ) (o : Option Object) → Puts (now_at T D) (now_at T D') q o → as_message (now_at T D q) ≡ None → as_message o ≡ None → SameMessages T D D'
+pub put-apart : (T : Tree) (D D' : Changed) (q : ℕ) (o : Option Object) → Puts (now_at T D) (now_at T D') q o → as_message (now_at T D q) ≡ None → as_message o ≡ None → SameMessages T D D'
 put-apart T D D' q o puts old new m = elim (cases_eq m q) [
   | inl e ↦ ap (λ x. as_message (now_at T D' x)) e ∙ ap as_message puts.here ∙ new ∙ sym old ∙ ap (λ x. as_message (now_at T D x)) (sym e)
   | inr n ↦ ap as_message (puts.others m n)
@@ -51,7 +51,7 @@ module _ (T : Tree) where
   shown-apart q id props D = if_then (λ t. now_at T D q ≡ Some (Table t)) (SameMessages T D) (table_at T D q) _ (found-table (now_at T D q)) (λ t there.
       put-apart T D (with_object q (Some (with_rows (shown_row id props t.table) t)) D) q (Some (with_rows (shown_row id props t.table) t)) (puts_object T D q (Some (with_rows (shown_row id props t.table) t))) (ap as_message there) refl)
 
-  mirrored-apart : (f : ℕ) (D : Changed) → IfOk (mirrored T f D) (SameMessages T D)
+  pub mirrored-apart : (f : ℕ) (D : Changed) → IfOk (mirrored T f D) (SameMessages T D)
   unfolding mirrored
   mirrored-apart f D = elim (cases_Bool (f == ROOT)) [
     | inl b ↦ rw b (λ m. refl)

@@ -1,8 +1,10 @@
 -- What the tables of searches show after a command.
-use Rattle.std.specs.Prelude.{◌≡◌, ℕ, ◌%◌, ◌||◌, ◌&&◌, ◌==◌, Bool, true, false, not, IfOk, List, [], ◌∷◌, filter, Option, None, Some, if◌then◌else◌}
+use Rattle.std.specs.Prelude.{◌≡◌, ℕ, ◌%◌, ◌||◌, ◌&&◌, ◌==◌, Bool, true, false, not, IfOk, List, [], ◌∷◌, filter, length, Option, None, Some, if◌then◌else◌}
 use Rattle.std.specs.List.{list_any}
 use Rattle.std.specs.Option.{is_some}
 use Rattle.mapi_values.specs.Keyed.{keys_ascend}
+use Rattle.mapi_values.specs.Messages.{Mes}
+use Rattle.mapi_values.specs.Properties.{find}
 use Rattle.mapi_values.specs.Values.{Val}
 use Rattle.mapi_values.specs.declared.column.Column.{Column}
 use Rattle.mapi_values.specs.Tables.{find_row, mirror}
@@ -16,10 +18,11 @@ use Rattle.mail_tree.specs.declared.places.FolderPlace.{FolderPlace}
 use Rattle.search_obj.specs.Scope.{is_among}
 use Rattle.mail_tree.specs.Step.{after, outcome}
 use Rattle.mail_tree.specs.Tree.{Tree, object_at}
+use Rattle.mail_tree.specs.Values.{number, truth}
 use Rattle.mail_tree.specs.Whole.{Fine, IsWhole}
 use Rattle.mail_laws.specs.Laws.{message_with}
 use Rattle.search_lists.specs.Searches.{AreFresh, IsFresh, Search, in_scope, is_listed, is_plain_at, lists, results, row_ids, runs}
-use Rattle.search_lists.specs.Relisting.{Around, Touch, around, is, is_gone, props_of, relisted, relisted_row, settled_searches, was, with_searches}
+use Rattle.search_lists.specs.Relisting.{Around, Touch, around, concerns, is, is_gone, named, props_of, relisted, relisted_row, settled_search, settled_searches, takes_row, unread, was, with_searches}
 use Rattle.search_lists.specs.Touching.{followed, touched}
 
 -- each element of a list is so
@@ -93,6 +96,21 @@ pub record Settles (T : Tree) (d : Around) (ts : List Touch) (ss : List Search) 
 -- that is so of all searches together
 abbrev pub SettlesAll : Type 0
 SettlesAll = (T : Tree) (d : Around) (ts : List Touch) (ss : List Search) (D : Changed) → AreApart ss → IfOk (settled_searches T d ts ss D) (Settles T d ts ss D)
+
+-- The values of a search tell how many messages these are, how many of them weren't read, and that no folder stands in it.
+pub record TellsCounts (ms : List Mes) (props : List Val) : Type 0 where
+  pub messages : find 0x3602 props ≡ Some (number 0x3602 (length ms))
+  pub unread : find 0x3603 props ≡ Some (number 0x3603 (length (unread ms)))
+  pub folders : find 0x360A props ≡ Some (truth 0x360A false)
+
+-- one of the touched messages changes a row of the search
+abbrev pub changes_rows : Around → Search → List Touch → List (ℕ × List Val) → Bool
+changes_rows d s ts rows = concerns d s ts && (runs s || takes_row rows ts)
+
+-- a search of which a row changed tells the counts of the messages that its rows name
+abbrev pub CountsAnew : Type 0
+CountsAnew = (T : Tree) (d : Around) (ts : List Touch) (s : Search) (D : Changed) (t : Tbl) → s.nid % 32 ≡ 3 → now_at T D (results s.nid) ≡ Some (Table t) → changes_rows d s ts t.table.rows ≡ true
+    → IfOk (settled_search T d ts s D) (λ D'. (c : Ctx) (u : Tbl) → now_at T D' s.nid ≡ Some (Context c) → now_at T D' (results s.nid) ≡ Some (Table u) → TellsCounts (named T D' u.table.rows) c.props)
 
 -- the nodes of a search are there: its table, its values, and its parent's table of folders
 abbrev pub HasNodes : Tree → Changed → Search → Type 0

@@ -1,5 +1,5 @@
 //! What follows of the definitions on searches.
-ghost use Rattle.search_lists.specs.Laws.{FreshAfter, HaltedStays, LeavesAll, ListsAfter, ListsAll, Relists, ScopesAreWithin, SettlesAll, SettlesThere, ShowsTouched, StaysFresh, TouchesAll};
+ghost use Rattle.search_lists.specs.Laws.{CountsAnew, FreshAfter, HaltedStays, LeavesAll, ListsAfter, ListsAll, Relists, ScopesAreWithin, SettlesAll, SettlesThere, ShowsTouched, StaysFresh, TouchesAll};
 
 /// A search looks in the plain folders that it is given, and in those within them where it is recursive.
 pub fn scopes_are_within()
@@ -39,6 +39,11 @@ pub fn halted_stays()
 /// After searches were settled each table of theirs has the rows that the touched messages leave it, and messages and other tables are as they were.
 pub fn settles_all()
     ensures { SettlesAll }
+{}
+
+/// A search of which a row came, went or shows its message anew tells how many messages its rows name and how many of them weren't read.
+pub fn counts_anew()
+    ensures { CountsAnew }
 {}
 
 /// Searches are settled where their nodes are there, and these are there still.

@@ -12,7 +12,7 @@ mod scoping;
 
 pub use following::{OwnSearch, Searches};
 pub use law::{
-    fresh_after, halted_stays, leaves_all, lists_after, lists_all, relists, scopes_are_within,
-    settles_all, settles_there, shows_touched, stays_fresh, touches_all,
+    counts_anew, fresh_after, halted_stays, leaves_all, lists_after, lists_all, relists,
+    scopes_are_within, settles_all, settles_there, shows_touched, stays_fresh, touches_all,
 };
 pub use relisting::relist;
