@@ -12,6 +12,7 @@ use crate::draft::Draft;
 use crate::read::{context_at, message_at, table_at};
 use crate::rows::put_shown;
 use crate::stop::Stop;
+use crate::touch::table_as_is;
 use crate::values::{crowds, is_read, with_counts};
 use mail_objects::{Context, Object};
 use mail_tree::{FolderPlace, Places, ROOT_FOLDER};
@@ -123,7 +124,7 @@ pub fn counted<W: Outside, K: NodeReader<W>>(
     Ok(with_context(draft, folder, context, props)?)
 }
 
-/// Makes the row of a folder in its parent's table show it. The root has none.
+/// Makes the row of a folder in its parent's table show it. The root has none, and its own table of folders is put as it is.
 pub fn mirrored<W: Outside, K: NodeReader<W>>(
     alloc: Global,
     keeper: &mut K,
@@ -136,7 +137,8 @@ pub fn mirrored<W: Outside, K: NodeReader<W>>(
     ensures cause { IfErr result (IsCaused K.has_disk (W.view w.old).disk_faults (W.view w.new).disk_faults) }
 {
     if folder.bits == ROOT_FOLDER {
-        return Ok(draft);
+        let table = hierarchy(folder);
+        return table_as_is(alloc, keeper, w, draft, table);
     }
     let context = context_at(alloc, keeper, w, &draft, folder)?;
     let table = hierarchy(context.parent());
