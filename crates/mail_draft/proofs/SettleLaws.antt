@@ -1,5 +1,5 @@
 -- What a folder's counts and rows come from.
-use Rattle.std.proofs.Common.{◌≡◌, ◌≢◌, ℕ, Bool, List, length, Option, Result, Ok, Err, ap, ◌∙◌, refl, subst}
+use Rattle.std.proofs.Common.{◌≡◌, ◌≢◌, ℕ, Bool, List, length, Option, Result, Ok, Err, ap, ◌∙◌, subst}
 use Rattle.std.proofs.lemmas.Bool.{eq-eqb, ne_eqb}
 use Rattle.std.specs.List.{list_any}
 use Rattle.mapi_values.specs.Values.{Val}
@@ -10,7 +10,7 @@ use Rattle.mail_tree.specs.Places.{ROOT, is_child}
 use Rattle.mail_tree.specs.Tree.{Tree}
 use Rattle.mail_tree.specs.Values.{with_counts}
 use Rattle.mail_tree.specs.Changing.{Answer, Changed, ◌>>=◌, as_table, context_at, hierarchy, known, put_shown}
-use Rattle.mail_tree.specs.Settling.{message_ids, mirrored, unread_among, with_context}
+use Rattle.mail_tree.specs.Settling.{message_ids, mirrored, above_as_is, table_as_is, unread_among, with_context}
 use Rattle.mail_draft.specs.declared.draft.Draft.{Draft}
 use Rattle.mail_draft.specs.declared.stop.Stop.{Stop}
 use Rattle.mail_draft.specs.Answers.{Says}
@@ -44,10 +44,25 @@ counted_put q c places n unread has ids old props D D' len child same counts put
     ∙ ap (λ b. with_counts (length ids) unread b old) child
     ∙ ap (with_counts (length ids) unread (list_any (is_child q) places)) same)
 
+-- the table of folders that lists the root is its own
+root_table : (f q : ℕ) → f ≡ ROOT → q ≡ hierarchy f → q ≡ hierarchy ROOT
+root_table f q e table = table ∙ ap hierarchy e
+
 -- the root has no row
-pub mirrors_root : (T : Tree) (f : ℕ) (d : Draft) → f ≡ ROOT → Says changed_of (mirrored T f (changed_of d)) (Ok d)
+pub mirrors_root : (T : Tree) (f q : ℕ) (D : Changed) (r : Result Draft Stop) → f ≡ ROOT → q ≡ hierarchy f → Says changed_of (table_as_is T q D) r → Says changed_of (mirrored T f D) r
 unfolding mirrored
-mirrors_root T f d e = rw (eq-eqb f ROOT e) refl
+mirrors_root T f q D r e table h = rw (eq-eqb f ROOT e) (says_at changed_of (λ x. table_as_is T x D) q (hierarchy ROOT) r (root_table f q e table) h)
+
+-- the root is listed by none, and stands for its own parent
+pub above_root : (T : Tree) (f q : ℕ) (D : Changed) (r : Result Draft Stop) → f ≡ ROOT → q ≡ hierarchy f → Says changed_of (table_as_is T q D) r → Says changed_of (above_as_is T f D) r
+unfolding above_as_is
+above_root T f q D r e table h = rw (eq-eqb f ROOT e) (says_at changed_of (λ x. table_as_is T x D) q (hierarchy ROOT) r (root_table f q e table) h)
+
+-- another folder is listed by its parent
+pub above_other : (T : Tree) (f : ℕ) (D : Changed) (r : Result Draft Stop) → f ≢ ROOT
+    → Says changed_of (context_at T D f >>= λ c. table_as_is T (hierarchy c.parent) D) r → Says changed_of (above_as_is T f D) r
+unfolding above_as_is
+above_other T f D r n h = rw (ne_eqb f ROOT n) h
 
 -- another folder has one
 pub mirrors_other : (T : Tree) (f : ℕ) (D : Changed) (r : Result Draft Stop) → f ≢ ROOT

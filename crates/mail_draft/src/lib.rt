@@ -19,6 +19,7 @@ mod rows;
 mod settle;
 mod space;
 mod stop;
+mod touch;
 mod unread;
 mod values;
 
@@ -34,6 +35,7 @@ pub use rows::{add_shown, drop_shown, put_shown};
 pub use settle::{counted, mirrored, settled, with_context};
 pub use space::space_needed;
 pub use stop::Stop;
+pub use touch::touched;
 pub use values::{
     bytes_of, crowds, is_read, name_of, number_of, put_number, put_text, put_time, put_truth,
     text_of, with_counts,

@@ -14,6 +14,7 @@ use crate::listed::message_ids_at;
 use crate::read::context_at;
 use crate::rows::put_shown;
 use crate::stop::Stop;
+use crate::touch::table_as_is;
 use crate::unread::unread_among;
 use crate::values::{crowds, with_counts};
 use mail_objects::{Context, Object};
@@ -78,7 +79,7 @@ pub fn counted<W: Outside, K: NodeReader<W>>(
     Ok(with_context(draft, folder, context, props)?)
 }
 
-/// Makes the row of a folder in its parent's table show it. The root has none.
+/// Makes the row of a folder in its parent's table show it. The root has none, and its own table of folders is put as it is.
 pub fn mirrored<W: Outside, K: NodeReader<W>>(
     alloc: Global,
     keeper: &mut K,
@@ -91,7 +92,8 @@ pub fn mirrored<W: Outside, K: NodeReader<W>>(
     ensures cause { IfErr result (IsCaused K.has_disk (W.view w.old).disk_faults (W.view w.new).disk_faults) }
 {
     if folder.bits == ROOT_FOLDER {
-        return Ok(draft);
+        let table = hierarchy(folder);
+        return table_as_is(alloc, keeper, w, draft, table);
     }
     let context = context_at(alloc, keeper, w, &draft, folder)?;
     let table = hierarchy(context.parent());

@@ -2,7 +2,7 @@
 use Rattle.command_text.specs.declared.reply.LastLine.{LastLine}
 use Rattle.command_text.specs.declared.reply.Limit.TheVariants.{Rows}
 use Rattle.command_text.specs.declared.reply.CommandRefusal.{CommandRefusal}
-use Rattle.std.proofs.Common.{◌≡◌, ℕ, ◌%◌, ◌<◌, ◌==◌, ◌||◌, Bool, true, false, not, nat_le, filter, List, [], Option, None, Some, IfOk, IsSome, is_some, arith, refl, sym, subst, ap, ◌∙◌, ◌⊎◌, inl, inr}
+use Rattle.std.proofs.Common.{◌≡◌, ℕ, ◌%◌, ◌<◌, ◌==◌, ◌||◌, Bool, true, false, not, filter, List, [], Option, None, Some, IfOk, IsSome, is_some, arith, refl, sym, subst, ap, ◌∙◌, ◌⊎◌, inl, inr, Ok, Err}
 use Rattle.std.proofs.lemmas.Bool.{and_left, cases_Bool, cases_eq, ne_eqb}
 use Rattle.std.proofs.lemmas.Option.{none-some, same_Some}
 use Rattle.mapi_values.specs.Characters.{folded}
@@ -28,7 +28,7 @@ use Rattle.mail_tree.specs.Names.{NAMES, named_property, unless_nameless}
 use Rattle.mail_laws.proofs.NameSteps.{PutsNames, puts_names_after}
 use Rattle.mail_tree.specs.Changing.{Answer, Changed, ◌>>=◌, add_shown, associated, beside, contents, context_at, drop_shown, hierarchy, nothing, now_at, put_shown, table_at, with_object, within_limits}
 use Rattle.mail_tree.specs.Columns.{contents_table, hierarchy_table}
-use Rattle.mail_tree.specs.Settling.{message_ids, mirrored, settled, with_context}
+use Rattle.mail_tree.specs.Settling.{message_ids, mirrored, settled, with_context, touched}
 use Rattle.mail_tree.specs.Ids.{folder_kinds, is_spent, is_taken, message_kinds, new_id, next_index}
 use Rattle.mail_tree.specs.Folders.{Outcome, associated_in, changing, folder_lines, has_associated, has_rows, listing, made_folder, making, making_folder, moved_between, moved_folder, place, removed_folder, without_folder, without_node, message_lines, moving, renamed_folder, replied, siblings, unless_full, unless_named, unless_protected, with_folder}
 use Rattle.mail_tree.specs.Messages.{added_attachment, added_message, added_recipient, adding_attachment, adding_recipient, appended_data, appending, fetched_data, removed_attachment, spent_index, too_long, changed_message, copied_message, copy_of, copying, details, in_folder, is_crowded_message, is_overfull, making_message, message_in, moved_message, new_message, plain_message, remaking, removed_message, removed_recipient, set_value, spent_row, unset_value, value_in, value_of, with_message}
@@ -44,8 +44,8 @@ use Rattle.mail_laws.proofs.NewIds.{new_folder_id}
 use Rattle.mail_tree.specs.Step.{outcome}
 use Rattle.mail_laws.proofs.Keeping.{from_fine, if_any, if_found, if_test, if_then, if_weaker, never_made, if_replying}
 use Rattle.mail_tree.proofs.KindsOfPuts.{beside_kind, same_table}
-use Rattle.mail_laws.proofs.MessageSteps.{Before, fine_message_in, finished_folder, finished_id, home_of, new_message_id}
-use Rattle.mail_laws.proofs.MirrorSteps.{if_context}
+use Rattle.mail_laws.proofs.MessageSteps.{Before, fine_message_in, finished_folder, finished_id, home_of, new_message_id, fine_home}
+use Rattle.mail_laws.proofs.Touches.{if_context}
 use Rattle.mail_laws.proofs.CountSteps.{PlainIds, add_counts, any_drop, any_put, counted_fewer, counted_places, counted_put, counted_too, drop_counts, mirrored_counts, no_contents, none_passes, own_contents, put_counts, then_counts, values_put}
 use Rattle.mail_tree.proofs.Nearly.{Puts, nearly, plain_id}
 use Rattle.mail_tree.proofs.Settles.{store_of}
@@ -192,18 +192,19 @@ module _ (T : Tree) (w : Before T) (E : ℕ → Type 0) (s : AreCountedBut E T.p
     ])
   ])
 
-  adds : (M : Mes) (crowded : Bool) (p : FolderPlace) (index : ℕ) → M.nid % 32 ≡ 4 → now_at T nothing M.nid ≡ None → find_place M.folder T.places ≡ Some p → is_plain p ≡ true
-      → IfOk (added_message T M (record nothing { crowded = crowded }) >>= making T T.places 4 index) (Ends M.folder)
-  adds M crowded p index four none found plain =
-      let D0 = record nothing { crowded = crowded } in let F = M.folder in
+  adds : (a : Answer Changed) → IfOk a (λ D. now_at T D ≡ now_at T nothing) → (M : Mes) (p : FolderPlace) (index : ℕ) → M.nid % 32 ≡ 4 → now_at T nothing M.nid ≡ None → find_place M.folder T.places ≡ Some p → is_plain p ≡ true
+      → IfOk (a >>= added_message T M >>= making T T.places 4 index) (Ends M.folder)
+  adds (Err e) same M p index four none found plain = tt
+  adds (Ok D0) same M p index four none found plain =
+      let F = M.folder in
       let D = with_object M.nid (Some (Message M)) D0 in
       let two = ids F p found plain in
       let E1 : ℕ → Type 0 = λ x. E x ⊎ (x ≡ F) in
       let a = add_shown T (contents F) M.nid M.props D in
       making_ends F (a >>= settled T T.places F) 4 index (then_counts T T.places ids E1 a F two
       (add_counts T T.places ids E1 D (contents F) M.nid M.props (contents_high F) (own_contents T T.places ids E1 F two (inr refl))
-      (message_put D0 D M.nid F (Some (Message M)) four s (puts_object T D0 M.nid (Some (Message M))) (λ c e. cc)
-      (λ f q u e plain at_u row. let v = w.listed f q u M.nid e plain at_u row four in absurd (none-some (Message v.0) (sym none ∙ v.1))))))
+      (message_put D0 D M.nid F (Some (Message M)) four (subst (AreCountedBut E T.places) (sym same) s) (puts_object T D0 M.nid (Some (Message M))) (λ c e. cc)
+      (λ f q u e plain at_u row. let v = w.listed f q u M.nid e plain (ap (λ at. at (contents f)) (sym same) ∙ at_u) row four in absurd (none-some (Message v.0) (sym none ∙ v.1))))))
 
   pub copies : (m folder : ℕ) → IfOk (copied_message T m folder) (Ends folder)
   unfolding copied_message copying
@@ -214,8 +215,11 @@ module _ (T : Tree) (w : Before T) (E : ℕ → Type 0) (s : AreCountedBut E T.p
       | inl plain ↦ rw plain (elim (cases_Bool (is_overfull M.recipients || is_overfull M.attachments)) [
         | inl b ↦ rw b tt
         | inr b ↦ rw b (if_then (λ u. Unit {0}) (Ends folder) (unless_full T (contents folder)) _ (if_any (unless_full T (contents folder))) (λ u v. elim (cases_Bool (is_spent (next_index T 4 message_kinds))) [
-          | inl t ↦ never_made T T.places 4 (next_index T 4 message_kinds) (Ends folder) (added_message T (copy_of (new_id 4 (next_index T 4 message_kinds)) folder M) (record nothing { crowded = is_crowded_message M })) t
-          | inr t ↦ let id = new_message_id T t in (adds (copy_of (new_id 4 (next_index T 4 message_kinds)) folder M) (is_crowded_message M) p.0 (next_index T 4 message_kinds) id.0 id.1 p.1 plain)
+          | inl t ↦ never_made T T.places 4 (next_index T 4 message_kinds) (Ends folder) (touched T M.folder (record nothing { crowded = is_crowded_message M }) >>= added_message T (copy_of (new_id 4 (next_index T 4 message_kinds)) folder M)) t
+          | inr t ↦
+              let id = new_message_id T t in
+              let touches = touched T M.folder (record nothing { crowded = is_crowded_message M }) in
+              (adds touches (from_fine (λ D. now_at T D ≡ now_at T nothing) touches (fine_home T w m M h.0 (is_crowded_message M))) (copy_of (new_id 4 (next_index T 4 message_kinds)) folder M) p.0 (next_index T 4 message_kinds) id.0 id.1 p.1 plain)
         ]))
       ])
     ])
@@ -239,7 +243,7 @@ module _ (T : Tree) (w : Before T) (E : ℕ → Type 0) (s : AreCountedBut E T.p
                 let N = plain_message (new_id 4 index) folder (message_props (new_id 4 index) class time store.0.props) in
                 let a = added_message T (finished N) nothing >>= making T T.places 4 index in
                 (subst (λ x. IfOk a (Ends x)) (finished_folder N)
-                (adds (finished N) false p.0 index (ap (λ x. x % 32) (finished_id N) ∙ id.0) (ap (now_at T nothing) (finished_id N) ∙ id.1) (ap (λ x. find_place x T.places) (finished_folder N) ∙ p.1) plain))
+                (adds (Ok nothing) refl (finished N) p.0 index (ap (λ x. x % 32) (finished_id N) ∙ id.0) (ap (now_at T nothing) (finished_id N) ∙ id.1) (ap (λ x. find_place x T.places) (finished_folder N) ∙ p.1) plain))
           ]))
     ])
   ]

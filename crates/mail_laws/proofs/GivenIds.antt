@@ -1,7 +1,7 @@
 -- Each id that a command gives lies behind the counter of its kind, which has its index then.
 use Rattle.command_text.specs.declared.reply.LastLine.{LastLine}
 use Rattle.command_text.specs.declared.reply.CommandRefusal.{CommandRefusal}
-use Rattle.std.proofs.Common.{◌≡◌, ℕ, suc, ◌%◌, ◌/◌, ◌<◌, ◌==◌, ◌||◌, false, max, nat_le, not, filter, set, get_or, List, None, Some, is_some, IfOk, arith, refl, sym, subst, ap, ◌∙◌, inl, inr, Bool, Option}
+use Rattle.std.proofs.Common.{◌≡◌, ℕ, suc, ◌%◌, ◌/◌, ◌<◌, ◌==◌, ◌||◌, false, max, not, filter, set, get_or, List, None, Some, is_some, IfOk, arith, refl, sym, subst, ap, ◌∙◌, inl, inr, Bool, Option}
 use Rattle.std.proofs.lemmas.Bool.{cases_Bool}
 use Rattle.pst_base.specs.Ids.{index_of, nid_of}
 use Rattle.mapi_values.specs.Characters.{folded}
@@ -26,7 +26,7 @@ use Rattle.named_props.specs.Holding.{names_of, written}
 use Rattle.named_props.specs.declared.names.Names.{Names}
 use Rattle.mail_tree.specs.Names.{NAMES, found_or_added, is_name, named_property, no_room, unless_nameless, with_another}
 use Rattle.mail_objects.specs.Forms.{Ctx}
-use Rattle.mail_tree.specs.Settling.{message_ids, mirrored, settled, with_context}
+use Rattle.mail_tree.specs.Settling.{message_ids, mirrored, settled, with_context, touched}
 use Rattle.mail_tree.specs.Ids.{LAST_INDEX, folder_kinds, greatest, is_spent, is_used, message_kinds, new_id, next_index}
 use Rattle.mail_tree.specs.Folders.{Outcome, associated_in, changing, folder_in, folder_lines, has_associated, has_rows, listing, made_folder, making, making_folder, message_lines, moved_between, moved_folder, moving, place, removed_folder, renamed_folder, replied, siblings, unless_full, unless_named, unless_plain, unless_protected, with_folder, without_folder, replying, unless}
 use Rattle.mail_tree.specs.Messages.{added_attachment, added_message, added_recipient, adding_attachment, adding_recipient, appended_data, appending, fetched_data, removed_attachment, spent_index, too_long, changed_message, copied_message, copy_of, copying, details, in_folder, is_crowded_message, is_overfull, making_message, message_in, moved_message, new_message, plain_message, remaking, removed_message, removed_recipient, set_value, spent_row, unset_value, value_in, value_of, with_message}
@@ -142,10 +142,10 @@ module _ (T : Tree) where
       then_any (unless_full T (contents folder)) _ (λ w. elim (cases_Bool (is_spent (next_index T 4 message_kinds))) [
         | inl t ↦
             let n = new_id 4 (next_index T 4 message_kinds) in
-            never_made T T.places 4 (next_index T 4 message_kinds) Right (added_message T (copy_of n folder M) (record nothing { crowded = is_crowded_message M })) t
+            never_made T T.places 4 (next_index T 4 message_kinds) Right (touched T M.folder (record nothing { crowded = is_crowded_message M }) >>= added_message T (copy_of n folder M)) t
         | inr t ↦
             let n = new_id 4 (next_index T 4 message_kinds) in
-            (then_making T.places 4 message_kinds (added_message T (copy_of n folder M) (record nothing { crowded = is_crowded_message M })) (omega arith) t)
+            (then_making T.places 4 message_kinds (touched T M.folder (record nothing { crowded = is_crowded_message M }) >>= added_message T (copy_of n folder M)) (omega arith) t)
       ])))))
 
   remakes : (M new : Mes) (crowded : Bool) (reason : Option CommandRefusal) (last : LastLine) → Counted T.last T.last last → IfOk (remaking T M new crowded reason last) Right

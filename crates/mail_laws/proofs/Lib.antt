@@ -13,6 +13,7 @@ pub mod PlaceEffects
 pub mod LawSteps
 pub mod Strays
 pub mod MirrorPuts
+pub mod Touches
 pub mod MirrorSteps
 pub mod MirrorCommands
 pub mod CountSteps

@@ -25,7 +25,7 @@ use Rattle.mail_tree.specs.Places.{ROOT, children, is_child, is_deep, is_plain, 
 use Rattle.mail_tree.specs.Tree.{Tree}
 use Rattle.mail_tree.specs.Values.{bytes_of, crowds, finished, folder_props, is_set_protected, is_unset_protected, message_props, name_of, with_props}
 use Rattle.mail_tree.specs.Changing.{Answer, Changed, ◌>>=◌, add_shown, contents, context_at, drop_shown, found, hierarchy, nothing, put_shown, refused_if, table_at, with_object, within_limits, known}
-use Rattle.mail_tree.specs.Settling.{counted, message_ids, mirrored, settled, unread_among, with_context}
+use Rattle.mail_tree.specs.Settling.{counted, message_ids, mirrored, settled, table_as_is, touched, unread_among, with_context}
 use Rattle.mail_tree.specs.Ids.{folder_kinds, is_spent, message_kinds, new_id, next_index}
 use Rattle.mail_tree.specs.Folders.{Outcome, associated_in, changing, folder_in, folder_lines, has_associated, has_rows, listing, made_folder, making, making_folder, message_lines, moved_between, moved_folder, moving, place, removed_folder, renamed_folder, replied, replying, siblings, unless, unless_full, unless_named, unless_plain, unless_protected, with_folder, without_folder}
 use Rattle.mail_tree.specs.Messages.{added_attachment, added_message, added_recipient, adding_attachment, adding_recipient, appended_data, appending, fetched_data, removed_attachment, spent_index, too_long, changed_message, copied_message, copy_of, copying, details, in_folder, is_crowded_message, is_overfull, making_message, message_in, moved_message, new_message, plain_message, remaking, removed_message, removed_recipient, set_value, spent_row, unset_value, value_in, value_of}
@@ -72,10 +72,15 @@ module _ (T : Tree) where
   unfolding counted
   counts places f D = if_any WritesNodes (context_at T D f) _ (λ c. if_any WritesNodes (table_at T D (contents f)) _ (λ t. if_any WritesNodes (unread_among T D (message_ids t.table)) _ (λ unread. some_put D.objects f _)))
 
+  -- what is put as it is is written too
+  same_writes : (q : ℕ) (D : Changed) → IfOk (table_as_is T q D) WritesNodes
+  unfolding table_as_is
+  same_writes q D = if_any WritesNodes (table_at T D q) _ (λ t. some_put D.objects q _)
+
   mirrors : (f : ℕ) (D : Changed) → WritesNodes D → IfOk (mirrored T f D) WritesNodes
   unfolding mirrored
   mirrors f D some = elim (cases_Bool (f == ROOT)) [
-    | inl t ↦ rw t some
+    | inl t ↦ rw t (same_writes (hierarchy ROOT) D)
     | inr t ↦ rw t (if_any WritesNodes (context_at T D f) _ (λ c. shows_row (hierarchy c.parent) f c.props D))
   ]
 
@@ -171,7 +176,7 @@ module _ (T : Tree) where
       let index = next_index T 4 message_kinds in
       let copy = copy_of (new_id 4 index) folder M in
       let D : Changed = record nothing { crowded = is_crowded_message M } in
-      then_making T.places 4 index (added_message T copy D) (adds copy D))))))
+      then_making T.places 4 index (touched T M.folder D >>= added_message T copy) (if_any WritesNodes (touched T M.folder D) _ (λ D'. adds copy D')))))))
 
   remakes : (M new : Mes) (crowded : Bool) (reason : Option CommandRefusal) (last : LastLine) → IfOk (remaking T M new crowded reason last) Right
   unfolding remaking
