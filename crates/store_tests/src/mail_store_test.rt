@@ -3,7 +3,7 @@ use command_text::{LastLine, Reply, read_line, reply_text};
 use mail_draft::{Stop, put_text};
 use mail_objects::{Context, Object, TableNode, object_fits, read_table, write_object};
 use mail_store::{Store, do_command, open};
-use mail_tree::{FolderPlace, Sort};
+use mail_tree::{Flags, FolderPlace, Known, Sort};
 use mapi_values::{Column, Props, Table, Tag, Units, Value, fits, is_layout};
 use new_store::new_store;
 use node_port::{Changes, Counts, Keeper, MapKeeper, NodeReader, NodeRec};
@@ -89,7 +89,10 @@ fn new_lab(alloc: Global) -> Result<Lab, Fail> {
     Ok(Lab {
         store: Store {
             keeper,
-            places: new.places,
+            known: Known {
+                places: new.places,
+                flags: Flags::new(alloc),
+            },
         },
         world,
     })
@@ -337,7 +340,7 @@ fn add_search(alloc: Global, lab: &mut Lab) -> Result<(), Fail> {
         SEARCH,
         written(alloc, &Object::Context(search))?,
     )?;
-    lab.store.places.put(FolderPlace {
+    lab.store.known.places.put(FolderPlace {
         nid: nid(SEARCH),
         parent: nid(0x8042),
         sort: Sort::Foreign,
@@ -475,7 +478,7 @@ fn assert_opens(rt: &(impl Abort + AllocGlobal), lab: Lab) -> Result<(), Fail> {
         (0x8062, 0x122, Sort::Plain),
         (0x8082, 0x8042, Sort::Plain),
     ];
-    let found = store.places.as_slice().iter();
+    let found = store.known.places.as_slice().iter();
     assert!(rt;
         found
             .map(|place| (place.nid.bits, place.parent.bits, place.sort))
