@@ -1,5 +1,5 @@
 -- From what a record tells to what is told of a whole property context.
-use Rattle.std.proofs.Common.{◌≡◌, ◌==◌, ◌%◌, ◌-◌, ◌||◌, ℕ, true, false, List, length, take, drop, Option, Some, None, is_some, refl, sym, ap, ◌∙◌, inl, inr, arith}
+use Rattle.std.proofs.Common.{◌≡◌, ◌==◌, ◌%◌, ◌-◌, ◌||◌, if◌then◌else◌, ℕ, Bool, true, false, List, length, take, drop, Option, Some, None, is_some, refl, sym, ap, ◌∙◌, inl, inr, arith}
 use Rattle.std.proofs.lemmas.Bool.{cases_Bool, eq-eqb}
 use Rattle.std.proofs.lemmas.List.{take_rest}
 use Rattle.pst_base.specs.Flat.{Flat}
@@ -16,7 +16,7 @@ use Rattle.content_glance.specs.declared.content.Glance.{Glance}
 use Rattle.content_glance.specs.declared.content.Glance.TheVariants.{Held, Absent, Below}
 use Rattle.content_glance.specs.Glances.{IsTold, NamesSubnode, RecordTells, Tells, names_below}
 use Rattle.content_glance.proofs.EntryLaws.{any-bth, bth-long, entry-long}
-use Rattle.content_glance.proofs.FindLaws.{find-is, find-none, find-some}
+use Rattle.content_glance.proofs.FindLaws.{IsFound, find-is, find-none, find-some}
 
 below-test : (width : Option ℕ) (field : List ℕ) → names_below width field ≡ true → (is_some width || (number_at 4 0 field % 32 == 0)) ≡ false
 below-test None field h = elim (cases_Bool (number_at 4 0 field % 32 == 0)) [
@@ -39,12 +39,21 @@ same-records blocks root o subs values rest heap looked c =
     let same : c.root ≡ root = sym c.heap.root_is ∙ heap.root_is in
     sym looked ∙ ap (any_bth (item blocks)) (sym same) ∙ any-bth (item blocks) c.root 2 6 c.records (omega arith) (omega arith) c.tree
 
+-- a record that names a subnode is of a kind that doesn't stand in the field
+not-wide : (width : Option ℕ) (heap named : Bool) → (if is_some width || heap then false else named) ≡ true → width ≡ None
+not-wide None heap named h = refl
+not-wide (Some width) heap named h = cc
+
+names-wide : (nid : ℕ) (r : ℕ × List ℕ) → names nid r ≡ true → in_field (number_at 2 0 r.1) ≡ None
+unfolding names
+names-wide nid r h = not-wide (in_field (number_at 2 0 r.1)) (number_at 4 0 (drop 2 r.1) % 32 == 0) (number_at 4 0 (drop 2 r.1) == nid) h
+
 told-so : (get : ℕ → Option (List ℕ)) (sub : ℕ → Option (List (List ℕ))) (id : ℕ) (entry : List ℕ) (values : List Val) (told : Option Glance) → RecordTells get (id, entry) told
-    → find id values ≡ value_of get sub (id, entry) → (v : Val) × (find id values ≡ Some v) → IsTold id values told
-told-so get sub id entry values None tells found some = absurd (none-some some.0 (sym (found ∙ tells sub) ∙ some.1))
+    → find id values ≡ value_of get sub (id, entry) → IsFound id entry values → IsTold id values told
+told-so get sub id entry values None tells found some = absurd (none-some some.value (sym (found ∙ tells sub) ∙ some.found))
 told-so get sub id entry values (Some (Held v)) tells found some = found ∙ tells sub
 told-so get sub id entry values (Some Absent) tells found some = absurd tells
-told-so get sub id entry values (Some Below) tells found some = ap is_some some.1
+told-so get sub id entry values (Some Below) tells found some = (some.value, some.found, ap in_field some.kind ∙ names-wide tells.0 (id, entry) tells.1)
 
 pub tells-found : (blocks : List (List ℕ)) (root id : ℕ) (rs : List (ℕ × List ℕ)) (entry : List ℕ) (told : Option Glance) → IsHeap blocks 0xBC root → any_bth (item blocks) root ≡ Some rs → entry_of id rs ≡ Some entry
     → RecordTells (item blocks) (id, entry) told → Tells blocks id told

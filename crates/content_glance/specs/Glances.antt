@@ -1,9 +1,9 @@
 -- What the data of a node tells of a value of its property context, without its subnodes.
-use Rattle.std.specs.Prelude.{ℕ, ◌≡◌, ◌%◌, ◌==◌, Bool, true, false, not, List, Option, Some, None, Result, Ok, Err, IsSome}
+use Rattle.std.specs.Prelude.{ℕ, ◌≡◌, ◌%◌, ◌==◌, Bool, true, false, not, List, Option, Some, None, Result, Ok, Err}
 use denote.Bor.{Bor}
 use Rattle.pst_base.specs.Flat.{Flat}
 use Rattle.pst_base.specs.Fields.{number_at}
-use Rattle.mapi_values.specs.Values.{Val}
+use Rattle.mapi_values.specs.Values.{Val, in_field}
 use Rattle.mapi_values.specs.Properties.{find}
 use Rattle.bth_tree.specs.Records.{entry_of}
 use Rattle.property_context.specs.Context.{IsPropertyContext, names, value_of}
@@ -12,12 +12,12 @@ use Rattle.content_glance.specs.declared.content.Glance.TheVariants.{Held, Absen
 use Rattle.content_glance.specs.declared.held.Away.{Away}
 use Rattle.content_glance.specs.declared.held.Away.TheVariants as away
 
--- what is told of the value with an id is so of these values
+-- what is told of the value with an id is so of these values; one that stands below is of a kind that doesn't stand in the field itself
 abbrev pub IsTold : ℕ → List Val → Option Glance → Type 0
 IsTold id values None = ⊥
 IsTold id values (Some (Held v)) = find id values ≡ Some v
 IsTold id values (Some Absent) = find id values ≡ None
-IsTold id values (Some Below) = IsSome (find id values)
+IsTold id values (Some Below) = (v : Val) × (find id values ≡ Some v) × (in_field v.kind ≡ None)
 
 -- whatever the subnodes are with which the blocks are a property context, what is told is so of its values; nothing is told only where there are none
 abbrev pub Tells : List (List ℕ) → ℕ → Option Glance → Type 0
