@@ -7,3 +7,4 @@ pub mod Written
 pub mod Standing
 pub mod Walks
 pub mod Space
+pub mod Glancing

@@ -8,6 +8,7 @@
 mod beside;
 mod draft;
 mod ending;
+mod glance;
 mod ids;
 mod kept;
 mod outcome;
@@ -22,6 +23,7 @@ mod values;
 pub use beside::{associated, contents, hierarchy};
 pub use draft::Draft;
 pub use ending::finish;
+pub use glance::{glance_of, message_content, number_told, text_told, unread_at};
 pub use ids::{new_id, next_index};
 pub use outcome::Outcome;
 pub use outcomes::{changing, making, moving, replying};
