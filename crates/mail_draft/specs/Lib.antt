@@ -9,3 +9,4 @@ pub mod Walks
 pub mod Space
 pub mod Unread
 pub mod Listed
+pub mod Glancing
