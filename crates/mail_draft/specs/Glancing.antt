@@ -1,5 +1,5 @@
 -- What is read of a message's node without its subnodes.
-use Rattle.std.specs.Prelude.{◌≡◌, ℕ, Bool, not, List, Option, None, Some, Result, Ok, Err}
+use Rattle.std.specs.Prelude.{◌≡◌, ℕ, List, Option, None, Some, Result, Ok, Err}
 use Rattle.mapi_values.specs.Messages.{Mes}
 use Rattle.mapi_values.specs.Values.{Val}
 use Rattle.node_port.specs.Nodes.{content_of, node_at}
@@ -8,9 +8,9 @@ use Rattle.content_glance.specs.declared.content.Glance.{Glance}
 use Rattle.content_glance.specs.declared.content.Glance.TheVariants.{Held, Absent, Below}
 use Rattle.content_glance.specs.Glances.{IsTold}
 use Rattle.mail_objects.specs.Objects.{ShowsMail}
-use Rattle.mail_tree.specs.Changing.{Answer, ◌>>=◌, as_message, known}
+use Rattle.mail_tree.specs.Changing.{as_message}
 use Rattle.mail_tree.specs.Tree.{StandsAt, Tree, object_at}
-use Rattle.mail_tree.specs.Values.{is_read, of_kind}
+use Rattle.mail_tree.specs.Values.{of_kind}
 use Rattle.mail_draft.specs.declared.stop.Stop.{Stop}
 use Rattle.mail_draft.specs.Answers.{IsNoMatter}
 
@@ -46,7 +46,3 @@ told_bytes kind Below = None
 abbrev pub TellsText : Glance → List ℕ → Option (List ℕ) → Type 0
 TellsText glance text None = glance ≡ Below
 TellsText glance text (Some told) = told ≡ text
-
--- whether the message at an id is unread
-abbrev pub unread_in : Tree → ℕ → Answer Bool
-unread_in T q = known (as_message (object_at T q)) >>= λ m. Ok (not (is_read m.props))

@@ -5,10 +5,11 @@ ghost use Rattle.value_text.specs.UnitBytes.{units_in};
 ghost use Rattle.mapi_values.specs.Messages.{Mes};
 ghost use Rattle.mapi_values.specs.Values.{Val, fits};
 ghost use Rattle.content_glance.specs.Glances.{IsTold};
-ghost use Rattle.mail_tree.specs.Tree.{Shown, Tree};
+ghost use Rattle.mail_tree.specs.Tree.{Shown, Tree, object_at};
 ghost use Rattle.mail_tree.specs.Values.{number_of, text_of};
 ghost use Rattle.mail_draft.specs.Answers.{IsCaused, Looks, Says};
-ghost use Rattle.mail_draft.specs.Glancing.{HasContent, HoldsMessage, IsContent, TellsText, TellsValue, told_bytes, unread_in};
+ghost use Rattle.mail_draft.specs.Glancing.{HasContent, HoldsMessage, IsContent, TellsText, TellsValue, told_bytes};
+ghost use Rattle.mail_draft.specs.Unread.{unread_of};
 
 use crate::stop::Stop;
 use content_glance::{Glance, glance_at};
@@ -114,7 +115,7 @@ pub fn unread_at<W: Outside, K: NodeReader<W>>(
     w: &mut W,
     nid: Nid,
 ) -> Result<bool, Stop>
-    ensures answer { (T : Tree) → Shown (K.holds keeper.old (W.view w.old)) (K.last keeper.old) T → Says (λ b. b) (unread_in T nid.bits) result }
+    ensures answer { (T : Tree) → Shown (K.holds keeper.old (W.view w.old)) (K.last keeper.old) T → Says (λ b. b) (unread_of (object_at T nid.bits)) result }
     ensures looks { Looks (K.holds keeper.old (W.view w.old)) (K.holds keeper.new (W.view w.new)) (K.last keeper.old) (K.last keeper.new) (K.room keeper.old) (K.room keeper.new) (W.view w.old) (W.view w.new) }
     ensures cause { IfErr result (IsCaused K.has_disk (W.view w.old).disk_faults (W.view w.new).disk_faults) }
 {

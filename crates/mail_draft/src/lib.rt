@@ -28,7 +28,7 @@ pub use beside::{associated, contents, hierarchy};
 pub use draft::Draft;
 pub use ending::{finish, within_limits};
 pub use flags::flag_changes;
-pub use glance::{glance_of, message_content, number_told, text_told, unread_at};
+pub use glance::{glance_of, message_content, number_told, text_told};
 pub use ids::{new_id, next_index};
 pub use outcome::Outcome;
 pub use outcomes::{changing, making, moving, replying};

@@ -9,7 +9,7 @@ ghost use Rattle.mail_draft.specs.Drafts.{changed_of};
 ghost use Rattle.mail_draft.specs.Unread.{unread_of};
 
 use crate::draft::Draft;
-use crate::kept::kept_message;
+use crate::glance::unread_at;
 use crate::read::as_message;
 use crate::stop::Stop;
 use crate::values::is_read;
@@ -19,7 +19,7 @@ use pst_base::Nid;
 use pst_outside::Outside;
 use std::alloc::Global;
 
-/// Whether the message that stands at an id in the nodes is unread. It is read only where nothing is known of it.
+/// Whether the message that stands at an id in the nodes is unread. Its node is read only where nothing is known of it, and without its subnodes.
 fn kept_unread<W: Outside, K: NodeReader<W>>(
     alloc: Global,
     keeper: &mut K,
@@ -34,8 +34,7 @@ fn kept_unread<W: Outside, K: NodeReader<W>>(
     if let Some(unread) = flags.get(nid.bits) {
         return Ok(unread);
     }
-    let mail = kept_message(alloc, keeper, w, nid)?;
-    Ok(!is_read(&mail.message().props))
+    unread_at(alloc, keeper, w, nid)
 }
 
 /// Whether the message at an id is unread.
