@@ -89,18 +89,27 @@ IN_FIELD = {0x0002: 2, 0x0003: 4, 0x000B: 1}
 IN_CELL = {0x0002: 2, 0x0003: 4, 0x000B: 1, 0x0014: 8, 0x0040: 8}
 
 
-def properties(values):
-    """The blocks of a property context with values by (id, kind) (2.3.3)."""
-    heap, records = Heap(), []
+def context(values):
+    """The blocks of a property context with values by (id, kind), and its subnodes: the values that are too long for the heap (2.3.3)."""
+    heap, records, subs = Heap(), [], {}
     header = heap.add(bytes(8))
     for (ident, kind), value in sorted(values.items()):
         if kind in IN_FIELD:
             field = value.ljust(4, b"\0")
+        elif len(value) > 3580:
+            nid = 0x3F + 0x20 * len(subs)
+            subs[nid] = [value], {}
+            field = u32(nid)
         else:
             field = u32(heap.add(value) if value else 0)
         records.append(struct.pack("<HH", ident, kind) + field)
     bth(heap, header, 2, 6, records)
-    return heap.made(0xBC, header)
+    return heap.made(0xBC, header), subs
+
+
+def properties(values):
+    """The blocks of a property context of short values."""
+    return context(values)[0]
 
 
 class Columns:
@@ -244,32 +253,50 @@ class Store:
 FOLDER_COLUMNS = Columns([(0x3001, 0x1F), (0x3602, 3), (0x3603, 3), (0x360A, 0xB)])
 MESSAGE_COLUMNS = Columns([(0x001A, 0x1F), (0x0037, 0x1F), (0x0039, 0x40), (0x0E06, 0x40), (0x0E07, 3), (0x0E08, 3), (0x3007, 0x40), (0x3008, 0x40)])
 KEY = u32(crc(b"Strange")) + u32(7) + b"PSTORE01"
-FOLDERS = {0x8022: "Top of Personal Folders", 0x8042: "Search Root", 0x8062: "Deleted Items"}
+FOLDERS = {0x8022: ("Top of Personal Folders", 0x122), 0x8042: ("Search Root", 0x122), 0x8062: ("Deleted Items", 0x122)}
 
 
-def folder(name, count, unread, has_folders):
-    return {(0x3001, 0x1F): text(name), (0x3602, 3): u32(count), (0x3603, 3): u32(unread), (0x360A, 0xB): bytes([has_folders])}
+def folder(name, count, has_folders):
+    return {(0x3001, 0x1F): text(name), (0x3602, 3): u32(count), (0x3603, 3): u32(count), (0x360A, 0xB): bytes([has_folders])}
 
 
-def store(names, messages):
-    """A store with these values at the node of names, and these messages in 0x8022: their values and subnodes by their ids."""
+def folders_of(folders, messages, home):
+    """The values of folders by their ids: of each its name and its parent; the messages lie in one of them."""
+    parents = {parent for _, parent in folders.values()}
+    return {nid: folder(name, len(messages) if nid == home else 0, nid in parents) for nid, (name, _) in folders.items()}
+
+
+def laid(names, messages, folders=FOLDERS, home=0x8022, rows={}, subs={}):
+    """A store with these values at the node of names, these folders, and these messages in one of them: their values and subnodes by their ids. Tables get rows that name nothing, and nodes get subnodes that are nothing."""
     s = Store()
     entry_id = lambda nid: u32(0) + KEY + u32(nid)
-    s.node(0x21, properties({(0x0FF9, 0x102): KEY, (0x3001, 0x1F): text("Strange"), (0x35E0, 0x102): entry_id(0x8022), (0x35E3, 0x102): entry_id(0x8062), (0x35E7, 0x102): entry_id(0x8042)}))
-    s.node(0x61, properties({(0x0001, 3): u32(251), **names}))
-    s.node(0x122, properties(folder("", 0, 0, True)), parent=0x122)
-    values = {nid: folder(name, len(messages) if nid == 0x8022 else 0, len(messages) if nid == 0x8022 else 0, False) for nid, name in FOLDERS.items()}
-    s.node(0x12D, table(FOLDER_COLUMNS, values)[0])
-    s.node(0x12E, table(MESSAGE_COLUMNS, {})[0])
-    s.node(0x12F, table(MESSAGE_COLUMNS, {})[0])
-    for nid in FOLDERS:
-        s.node(nid, properties(values[nid]), parent=0x122)
-        s.node(nid + 11, table(FOLDER_COLUMNS, {})[0])
-        s.node(nid + 12, table(MESSAGE_COLUMNS, {m: it[0] for m, it in messages.items()} if nid == 0x8022 else {})[0])
-        s.node(nid + 13, table(MESSAGE_COLUMNS, {})[0])
-    for nid, (props, subs) in messages.items():
-        s.node(nid, properties(props), parent=0x8022, subs=subs)
-    return s.bytes({2: 0x403, 3: 0x4000, 4: 0x10000 + len(messages), 8: 0x8000})
+    put = lambda nid, made, parent=0: s.node(nid, made[0], parent, {**made[1], **subs.get(nid, {})})
+    noise = {(0x3001, 0x1F): b"AAAAAA", (0x001A, 0x1F): b"AAAA"}
+    own = lambda nid, columns, values: put(nid, table(columns, {**values, **{row: noise for row in rows.get(nid, [])}}))
+    put(0x21, context({(0x0FF9, 0x102): KEY, (0x3001, 0x1F): text("Strange"), (0x35E0, 0x102): entry_id(0x8022), (0x35E3, 0x102): entry_id(0x8062), (0x35E7, 0x102): entry_id(0x8042)}))
+    put(0x61, context({(0x0001, 3): u32(251), **names}))
+    put(0x122, context(folder("", 0, True)), 0x122)
+    values = folders_of(folders, messages, home)
+    children = lambda parent: {nid: values[nid] for nid in folders if folders[nid][1] == parent}
+    own(0x12D, FOLDER_COLUMNS, children(0x122))
+    own(0x12E, MESSAGE_COLUMNS, {})
+    own(0x12F, MESSAGE_COLUMNS, {})
+    for nid, (_, parent) in folders.items():
+        put(nid, context(values[nid]), parent)
+        if nid & 31 == 2:
+            own(nid + 11, FOLDER_COLUMNS, children(nid))
+            own(nid + 12, MESSAGE_COLUMNS, {m: it[0] for m, it in messages.items()} if nid == home else {})
+            own(nid + 13, MESSAGE_COLUMNS, {})
+    for nid, (props, below) in messages.items():
+        made = context(props)
+        s.node(nid, made[0], home, {**made[1], **below})
+    return s
+
+
+def store(*of, **more):
+    """The bytes of such a store, with numbers for new nodes behind those of its own."""
+    s = laid(*of, **more)
+    return s.bytes({2: 0x403, 3: 0x4000, 4: 0x10000 + len(of[1]), 8: 0x8000})
 
 
 def full_names():
@@ -287,7 +314,7 @@ def few_columns():
     attachments = table(Columns([(0x3704, 0x1F)]), {0x8025: {}, 0x8065: {(0x3704, 0x1F): text("stale")}})
     subs = {0x671: attachments, 0x692: recipients, 0x80A5: ([b"kept"], {}), 0x9F: ([b"unknown"], {0x3F: ([b"below"], {})})}
     for nid in parts:
-        subs[nid] = properties(values[nid]), {}
+        subs[nid] = context(values[nid])
     return store({}, {0x200024: (props, subs)})
 
 
@@ -297,8 +324,38 @@ def many_recipients():
     return store({}, {0x200024: (props, {0x692: table(Columns([]), {row: {} for row in range(99_999)})})})
 
 
+def unknown(inner):
+    """A node that is nothing known, with another one below it."""
+    return [bytes([9] * 5)], {inner: ([bytes([8] * 3)], {})}
+
+
+def attachment(data):
+    blocks, subs = context({(0x3701, 0x102): data, (0x3704, 0x1F): b"AA"})
+    return blocks, {**subs, 0x5001: unknown(0x41)}
+
+
+def other_programs():
+    """A search folder of another program; a node that is nothing known; rows that name nothing, and subnodes that are nothing, in a folder, its tables and its message, which has recipients and attachments."""
+    props = {(0x001A, 0x1F): text("IPM.Note"), (0x0037, 0x1F): text("Hello"), (0x0E07, 3): u32(0), (0x0E08, 3): u32(0), (0x3007, 0x40): bytes(8), (0x3008, 0x40): bytes(8), (0x300B, 0x102): bytes(16)}
+    columns, named = Columns([(0x3001, 0x1F)]), {(0x3001, 0x1F): b"AAAAAA"}
+    subs = {0x671: table(columns, {0x8025: named, 0x8045: named}), 0x692: table(columns, {0: named, 1: named}), 0x8025: attachment(b"AAA"), 0x8045: attachment(b"A" * 3581)}
+    subs |= {0x21: unknown(0x692), 0x700: unknown(0x671), 0x9001: unknown(0x8025)}
+    folders = {**FOLDERS, 0x8082: ("Inbox", 0x8022), 0x8003: ("Found", 0x8042)}
+    rows = {0x808D: [0x8084], 0x808E: [0x8088], 0x804D: [0x8023]}
+    below = {nid: {0x21: unknown(0x41)} for nid in (0x8082, 0x808D, 0x808E)}
+    s = laid({}, {0x200024: (props, subs)}, folders=folders, home=0x8082, rows=rows, subs=below)
+    s.node(0x8085, *unknown(0x61)[:1], subs=unknown(0x61)[1])
+    return s.bytes({2: 0x404, 3: 0x4000, 4: 0x10001, 8: 0x8000})
+
+
+def many_values():
+    """A message with more values than a command may give one."""
+    props = {(0x001A, 0x1F): text("A"), (0x0E07, 3): u32(0), (0x0E08, 3): u32(0), **{(0x4000 + at, 3): u32(0) for at in range(1_005)}}
+    return store({}, {0x200024: (props, {})})
+
+
 if __name__ == "__main__":
-    for name, made in ("full_names.pst", full_names()), ("few_columns.pst", few_columns()), ("many_recipients.pst", many_recipients()):
+    for name, made in ("full_names.pst", full_names()), ("few_columns.pst", few_columns()), ("many_recipients.pst", many_recipients()), ("other_programs.pst", other_programs()), ("many_values.pst", many_values()):
         with open(f"{sys.argv[1]}/{name}", "wb") as file:
             file.write(made)
         print(name, len(made))
