@@ -89,20 +89,29 @@ IN_FIELD = {0x0002: 2, 0x0003: 4, 0x000B: 1}
 IN_CELL = {0x0002: 2, 0x0003: 4, 0x000B: 1, 0x0014: 8, 0x0040: 8}
 
 
-def properties(values):
-    """The blocks of a property context with values by (id, kind), of which a number is the subnode that has the bytes (2.3.3)."""
-    heap, records = Heap(), []
+def context(values):
+    """The blocks of a property context with values by (id, kind), of which a number is the subnode that has the bytes, and its subnodes: the values that are too long for the heap (2.3.3)."""
+    heap, records, subs = Heap(), [], {}
     header = heap.add(bytes(8))
     for (ident, kind), value in sorted(values.items()):
         if isinstance(value, int):
             field = u32(value)
         elif kind in IN_FIELD:
             field = value.ljust(4, b"\0")
+        elif len(value) > 3580:
+            nid = 0x3F + 0x20 * len(subs)
+            subs[nid] = [value], {}
+            field = u32(nid)
         else:
             field = u32(heap.add(value) if value else 0)
         records.append(struct.pack("<HH", ident, kind) + field)
     bth(heap, header, 2, 6, records)
-    return heap.made(0xBC, header)
+    return heap.made(0xBC, header), subs
+
+
+def properties(values):
+    """The blocks of a property context of short values."""
+    return context(values)[0]
 
 
 class Columns:
@@ -258,40 +267,50 @@ class Store:
 FOLDER_COLUMNS = Columns([(0x3001, 0x1F), (0x3602, 3), (0x3603, 3), (0x360A, 0xB)])
 MESSAGE_COLUMNS = Columns([(0x001A, 0x1F), (0x0037, 0x1F), (0x0039, 0x40), (0x0E06, 0x40), (0x0E07, 3), (0x0E08, 3), (0x3007, 0x40), (0x3008, 0x40)])
 KEY = u32(crc(b"Strange")) + u32(7) + b"PSTORE01"
-FOLDERS = {0x8022: "Top of Personal Folders", 0x8042: "Search Root", 0x8062: "Deleted Items"}
+FOLDERS = {0x8022: ("Top of Personal Folders", 0x122), 0x8042: ("Search Root", 0x122), 0x8062: ("Deleted Items", 0x122)}
 
 
-def folder(name, count, unread, has_folders):
-    return {(0x3001, 0x1F): text(name), (0x3602, 3): u32(count), (0x3603, 3): u32(unread), (0x360A, 0xB): bytes([has_folders])}
+def folder(name, count, has_folders):
+    return {(0x3001, 0x1F): text(name), (0x3602, 3): u32(count), (0x3603, 3): u32(count), (0x360A, 0xB): bytes([has_folders])}
 
 
-COUNTERS = {2: 0x403, 3: 0x4000, 4: 0x10000, 8: 0x8000}
+def folders_of(folders, messages, home):
+    """The values of folders by their ids: of each its name and its parent; the messages lie in one of them."""
+    parents = {parent for _, parent in folders.values()}
+    return {nid: folder(name, len(messages) if nid == home else 0, nid in parents) for nid, (name, _) in folders.items()}
 
 
-def begun(names, messages):
-    """A store with these values at the node of names, and these messages in 0x8022: their values and subnodes by their ids."""
+def laid(names, messages, folders=FOLDERS, home=0x8022, rows={}, subs={}):
+    """A store with these values at the node of names, these folders, and these messages in one of them: their values and subnodes by their ids. Tables get rows that name nothing, and nodes get subnodes that are nothing."""
     s = Store()
     entry_id = lambda nid: u32(0) + KEY + u32(nid)
-    s.node(0x21, properties({(0x0FF9, 0x102): KEY, (0x3001, 0x1F): text("Strange"), (0x35E0, 0x102): entry_id(0x8022), (0x35E3, 0x102): entry_id(0x8062), (0x35E7, 0x102): entry_id(0x8042)}))
-    s.node(0x61, properties({(0x0001, 3): u32(251), **names}))
-    s.node(0x122, properties(folder("", 0, 0, True)), parent=0x122)
-    values = {nid: folder(name, len(messages) if nid == 0x8022 else 0, len(messages) if nid == 0x8022 else 0, False) for nid, name in FOLDERS.items()}
-    s.node(0x12D, table(FOLDER_COLUMNS, values)[0])
-    s.node(0x12E, table(MESSAGE_COLUMNS, {})[0])
-    s.node(0x12F, table(MESSAGE_COLUMNS, {})[0])
-    for nid in FOLDERS:
-        s.node(nid, properties(values[nid]), parent=0x122)
-        s.node(nid + 11, table(FOLDER_COLUMNS, {})[0])
-        s.node(nid + 12, table(MESSAGE_COLUMNS, {m: it[0] for m, it in messages.items()} if nid == 0x8022 else {})[0])
-        s.node(nid + 13, table(MESSAGE_COLUMNS, {})[0])
-    for nid, (props, subs) in messages.items():
-        s.node(nid, properties(props), parent=0x8022, subs=subs)
+    put = lambda nid, made, parent=0: s.node(nid, made[0], parent, {**made[1], **subs.get(nid, {})})
+    noise = {(0x3001, 0x1F): b"AAAAAA", (0x001A, 0x1F): b"AAAA"}
+    own = lambda nid, columns, values: put(nid, table(columns, {**values, **{row: noise for row in rows.get(nid, [])}}))
+    put(0x21, context({(0x0FF9, 0x102): KEY, (0x3001, 0x1F): text("Strange"), (0x35E0, 0x102): entry_id(0x8022), (0x35E3, 0x102): entry_id(0x8062), (0x35E7, 0x102): entry_id(0x8042)}))
+    put(0x61, context({(0x0001, 3): u32(251), **names}))
+    put(0x122, context(folder("", 0, True)), 0x122)
+    values = folders_of(folders, messages, home)
+    children = lambda parent: {nid: values[nid] for nid in folders if folders[nid][1] == parent}
+    own(0x12D, FOLDER_COLUMNS, children(0x122))
+    own(0x12E, MESSAGE_COLUMNS, {})
+    own(0x12F, MESSAGE_COLUMNS, {})
+    for nid, (_, parent) in folders.items():
+        put(nid, context(values[nid]), parent)
+        if nid & 31 == 2:
+            own(nid + 11, FOLDER_COLUMNS, children(nid))
+            own(nid + 12, MESSAGE_COLUMNS, {m: it[0] for m, it in messages.items()} if nid == home else {})
+            own(nid + 13, MESSAGE_COLUMNS, {})
+    for nid, (props, below) in messages.items():
+        made = context(props)
+        s.node(nid, made[0], home, {**made[1], **below})
     return s
 
 
-def store(names, messages):
-    """The bytes of such a store."""
-    return begun(names, messages).bytes({**COUNTERS, 4: 0x10000 + len(messages)})
+def store(*of, **more):
+    """The bytes of such a store, with numbers for new nodes behind those of its own."""
+    s = laid(*of, **more)
+    return s.bytes({2: 0x403, 3: 0x4000, 4: 0x10000 + len(of[1]), 8: 0x8000})
 
 
 def full_names():
@@ -316,7 +335,7 @@ def few_columns():
     attachments = table(Columns([(0x3704, 0x1F)]), {0x8025: {}, 0x8065: {(0x3704, 0x1F): text("stale")}})
     subs = {0x671: attachments, 0x692: recipients, 0x80A5: ([b"kept"], {}), 0x9F: ([b"unknown"], {0x3F: ([b"below"], {})})}
     for nid in parts:
-        subs[nid] = properties(values[nid]), {}
+        subs[nid] = context(values[nid])
     return store({}, {0x200024: (props, subs)})
 
 
@@ -326,24 +345,50 @@ def many_recipients():
     return store({}, {0x200024: (props, {0x692: table(Columns([]), {row: {} for row in range(99_999)})})})
 
 
-def other_program():
-    """A store as another program may keep it: a search folder of its own criteria, two tables of messages that are one block, a size of its own count,
-    and an attachment of 20,000,000 bytes in a file of 90 regions, of which those behind the pages are zeros and left out here."""
+def unknown(inner):
+    """A node that is nothing known, with another one below it."""
+    return [bytes([9] * 5)], {inner: ([bytes([8] * 3)], {})}
+
+
+def attachment(data):
+    blocks, subs = context({(0x3701, 0x102): data, (0x3704, 0x1F): b"AA"})
+    return blocks, {**subs, 0x5001: unknown(0x41)}
+
+
+def other_programs():
+    """A search folder of another program; a node that is nothing known; rows that name nothing, and subnodes that are nothing, in a folder, its tables and its message, which has recipients and attachments."""
+    props = {(0x001A, 0x1F): text("IPM.Note"), (0x0037, 0x1F): text("Hello"), (0x0E07, 3): u32(0), (0x0E08, 3): u32(0), (0x3007, 0x40): bytes(8), (0x3008, 0x40): bytes(8), (0x300B, 0x102): bytes(16)}
+    columns, named = Columns([(0x3001, 0x1F)]), {(0x3001, 0x1F): b"AAAAAA"}
+    subs = {0x671: table(columns, {0x8025: named, 0x8045: named}), 0x692: table(columns, {0: named, 1: named}), 0x8025: attachment(b"AAA"), 0x8045: attachment(b"A" * 3581)}
+    subs |= {0x21: unknown(0x692), 0x700: unknown(0x671), 0x9001: unknown(0x8025)}
+    folders = {**FOLDERS, 0x8082: ("Inbox", 0x8022), 0x8003: ("Found", 0x8042)}
+    rows = {0x808D: [0x8084], 0x808E: [0x8088], 0x804D: [0x8023]}
+    below = {nid: {0x21: unknown(0x41)} for nid in (0x8082, 0x808D, 0x808E)}
+    s = laid({}, {0x200024: (props, subs)}, folders=folders, home=0x8082, rows=rows, subs=below)
+    s.node(0x8085, *unknown(0x61)[:1], subs=unknown(0x61)[1])
+    return s.bytes({2: 0x404, 3: 0x4000, 4: 0x10001, 8: 0x8000})
+
+
+def many_values():
+    """A message with more values than a command may give one."""
+    props = {(0x001A, 0x1F): text("A"), (0x0E07, 3): u32(0), (0x0E08, 3): u32(0), **{(0x4000 + at, 3): u32(0) for at in range(1_005)}}
+    return store({}, {0x200024: (props, {})})
+
+
+def large_attachment():
+    """A search folder with criteria of another program, two tables of messages that are one block, a size of another count, and an attachment of 20,000,000 bytes
+    in a file of 90 regions, of which those behind the pages are zeros and left out here."""
     props = {(0x001A, 0x1F): text("IPM.Note"), (0x0037, 0x1F): text("Large"), (0x0E07, 3): u32(17), (0x0E08, 3): u32(12345)}
-    s = begun({}, {0x200024: (props, {})})
+    s = laid({}, {0x200024: (props, {})}, folders={**FOLDERS, 0x80023: ("Unread Mail", 0x8042)})
     large = {(0x0E20, 3): u32(20_000_000), (0x3701, 0x102): 0x5F, (0x3704, 0x1F): text("large.bin"), (0x3705, 3): u32(1)}
     shown = {tag: value for tag, value in large.items() if tag[0] != 0x3701}
     attachments = table(Columns([(0x0E20, 3), (0x3704, 0x1F), (0x3705, 3), (0x370B, 3)]), {0x8025: shown})
-    s.node(0x200024, properties(props), parent=0x8022, subs={0x671: attachments, 0x8025: (properties(large), {0x5F: (s.repeated(20_000_000), {})})})
+    s.node(0x200024, context(props)[0], parent=0x8022, subs={0x671: attachments, 0x8025: (context(large)[0], {0x5F: (s.repeated(20_000_000), {})})})
     s.nodes[0x806E] = s.nodes[0x804E]
-    search = folder("Unread Mail", 0, 0, False)
-    s.node(0x804D, table(FOLDER_COLUMNS, {0x80023: search})[0])
-    s.node(0x8042, properties({**folder("Search Root", 0, 0, True)}), parent=0x122)
-    s.node(0x80023, properties(search), parent=0x8042)
     s.node(0x80026, [])
-    s.node(0x80027, properties({(0x660B, 0x102): b"criteria of another program"}))
+    s.node(0x80027, context({(0x660B, 0x102): b"criteria of another program"})[0])
     s.node(0x80030, table(MESSAGE_COLUMNS, {0x200024: props})[0])
-    return s.bytes({**COUNTERS, 3: 0x4001, 4: 0x10001}, eof=0x4400 + 90 * REGION)
+    return s.bytes({2: 0x403, 3: 0x4001, 4: 0x10001, 8: 0x8000}, eof=0x4400 + 90 * REGION)
 
 
 if __name__ == "__main__":
@@ -352,7 +397,9 @@ if __name__ == "__main__":
         ("crowded_names.pst", crowded_names()),
         ("few_columns.pst", few_columns()),
         ("many_recipients.pst", many_recipients()),
-        ("other_program.pst", other_program()),
+        ("other_programs.pst", other_programs()),
+        ("many_values.pst", many_values()),
+        ("large_attachment.pst", large_attachment()),
     ):
         with open(f"{sys.argv[1]}/{name}", "wb") as file:
             file.write(made)
