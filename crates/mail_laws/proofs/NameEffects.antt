@@ -1,19 +1,18 @@
 -- What `name` finds, and what it leaves of other names.
-use Rattle.std.proofs.Common.{◌≡◌, ◌∙◌, ℕ, ◌^◌, ◌==◌, ◌+◌, true, false, not, nat_lt, length, List, Option, None, Some, Ok, IfOk, refl, sym, ap, inl, inr}
+use Rattle.std.proofs.Common.{◌≡◌, ◌∙◌, ℕ, ◌^◌, ◌==◌, ◌+◌, true, false, nat_lt, length, List, Option, None, Some, Ok, IfOk, refl, sym, ap, inl, inr}
 use Rattle.std.specs.List.{list_all}
 use Rattle.std.proofs.lemmas.Bool.{and_parts, cases_Bool, eqb-true, ltb-true}
 use Rattle.named_props.specs.Adding as adding
 use Rattle.named_props.specs.Entries.{fits_id}
-use Rattle.named_props.specs.Finding.{guids_known, name_at}
+use Rattle.named_props.specs.Finding.{name_at}
 use Rattle.named_props.specs.Holding.{IsWritable, names_of, written}
 use Rattle.named_props.specs.declared.names.Names.{Names}
 use Rattle.named_props.proofs.AddedLaws.{writes-added}
 use Rattle.named_props.proofs.FoundLaws.{name_at-added, name_at-kept}
-use Rattle.command_text.specs.declared.reply.CommandRefusal.TheVariants.{Line}
 use Rattle.command_text.specs.declared.reply.LastLine.TheVariants.{Named}
 use Rattle.mail_objects.specs.Forms.{Ctx}
 use Rattle.mail_objects.specs.declared.object.Object.TheVariants.{Context}
-use Rattle.mail_tree.specs.Tree.{Tree, object_at}
+use Rattle.mail_tree.specs.Tree.{Tree}
 use Rattle.mail_tree.specs.Changing.{nothing, now_at}
 use Rattle.mail_tree.specs.Folders.{Outcome, replied, unchanged}
 use Rattle.mail_tree.specs.Names.{NAMES, found_or_added, is_name, named_property, names_in, with_another}

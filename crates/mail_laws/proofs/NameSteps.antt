@@ -1,5 +1,5 @@
 -- What `name` leaves: it puts names at the node of names or changes nothing.
-use Rattle.std.proofs.Common.{◌≡◌, ℕ, ◌^◌, ◌==◌, true, false, not, nat_lt, length, List, Option, None, Some, Ok, IfOk, refl, sym, subst, ◌∙◌, ◌⊎◌, inl, inr}
+use Rattle.std.proofs.Common.{◌≡◌, ℕ, ◌^◌, ◌==◌, true, false, nat_lt, length, List, Option, None, Some, IfOk, refl, sym, subst, ◌⊎◌, inl, inr}
 use Rattle.std.specs.FinMap as map
 use Rattle.std.specs.List.{list_all}
 use Rattle.std.proofs.lemmas.Bool.{and_parts, cases_Bool, eqb-true, ltb-true, ne_eqb}
@@ -10,7 +10,6 @@ use Rattle.named_props.specs.Finding.{name_at}
 use Rattle.named_props.specs.Holding.{IsWritable, names_of, written}
 use Rattle.named_props.specs.declared.names.Names.{Names}
 use Rattle.named_props.proofs.AddedLaws.{writes-added}
-use Rattle.command_text.specs.declared.reply.CommandRefusal.TheVariants.{Line}
 use Rattle.command_text.specs.declared.reply.LastLine.TheVariants.{Named}
 use Rattle.mail_objects.specs.Forms.{Ctx}
 use Rattle.mail_objects.specs.declared.object.Object.TheVariants.{Context}
@@ -21,7 +20,7 @@ use Rattle.mail_tree.specs.Names.{AreNames, NAMES, found_or_added, is_name, name
 use Rattle.mail_tree.specs.Settling.{with_context}
 use Rattle.mail_tree.specs.Whole.{AreWhole, Fine}
 use Rattle.mail_tree.proofs.AfterTree.{puts_values, tied}
-use Rattle.mail_tree.proofs.FineLaws.{after_context, after_limits, fine_weaker}
+use Rattle.mail_tree.proofs.FineLaws.{after_limits, fine_weaker}
 use Rattle.mail_tree.proofs.KindsOfPuts.{puts_names}
 use Rattle.mail_tree.proofs.Nearly.{Puts, nearly, whole}
 use Rattle.mail_laws.proofs.Keeping.{from_fine}
