@@ -28,3 +28,7 @@ pub mod Depths
 pub mod FoundSteps
 pub mod FoundCommands
 pub mod FoundStart
+pub mod FoundMessages
+pub mod Finishing
+pub mod Telling
+pub mod Newness

@@ -1,3 +1,4 @@
 pub mod Laws
 pub mod Stays
 pub mod ComesAndGoes
+pub mod MessageLaws
