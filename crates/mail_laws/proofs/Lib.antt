@@ -32,3 +32,4 @@ pub mod FoundMessages
 pub mod Finishing
 pub mod Telling
 pub mod Newness
+pub mod Listings

@@ -2,3 +2,4 @@ pub mod Laws
 pub mod Stays
 pub mod ComesAndGoes
 pub mod MessageLaws
+pub mod FolderLaws

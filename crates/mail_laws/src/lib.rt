@@ -5,9 +5,11 @@
 //! Leaves to others: the tree and the steps themselves (`mail_tree`), and the code that carries them out.
 #![tactic(auto)]
 
+mod folder;
 mod law;
 mod message;
 
+pub use folder::{lists_folders, makes_bare_folder};
 pub use law::{
     adds_attachment, adds_recipient, appends_data, comes_and_goes, copies, counts_anew,
     counts_stay, gets_what_was_set, gives_new_ids, keeps_nodes, keeps_tables, keeps_values,
