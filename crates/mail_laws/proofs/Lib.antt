@@ -33,3 +33,5 @@ pub mod Finishing
 pub mod Telling
 pub mod Newness
 pub mod Listings
+pub mod PartRows
+pub mod PartCommands

@@ -3,3 +3,4 @@ pub mod Stays
 pub mod ComesAndGoes
 pub mod MessageLaws
 pub mod FolderLaws
+pub mod AttachmentLaws

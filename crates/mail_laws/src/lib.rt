@@ -5,10 +5,12 @@
 //! Leaves to others: the tree and the steps themselves (`mail_tree`), and the code that carries them out.
 #![tactic(auto)]
 
+mod attachment;
 mod folder;
 mod law;
 mod message;
 
+pub use attachment::attachments_stay;
 pub use folder::{lists_folders, makes_bare_folder};
 pub use law::{
     adds_attachment, adds_recipient, appends_data, comes_and_goes, copies, counts_anew,
