@@ -24,8 +24,8 @@ use Rattle.mail_tree.specs.Whole.{IsWhole}
 use Rattle.mail_laws.specs.Laws.{message_with}
 
 -- the ids of a new folder's values
-abbrev pub is_new_value : ℕ → Bool
-is_new_value id = list_any (λ own. own == id) (0x3001 ∷ 0x3602 ∷ 0x3603 ∷ 0x360A ∷ [])
+abbrev pub is_new_folder_value : ℕ → Bool
+is_new_folder_value id = list_any (λ own. own == id) (0x3001 ∷ 0x3602 ∷ 0x3603 ∷ 0x360A ∷ [])
 
 -- A new folder of this name in that parent: what each id of a property finds, and nothing else.
 pub record IsNewFolder (parent : ℕ) (name : List ℕ) (c : Ctx) : Type 0 where
@@ -34,7 +34,7 @@ pub record IsNewFolder (parent : ℕ) (name : List ℕ) (c : Ctx) : Type 0 where
   pub no_messages : find 0x3602 c.props ≡ Some (number 0x3602 0)
   pub none_unread : find 0x3603 c.props ≡ Some (number 0x3603 0)
   pub no_folders : find 0x360A c.props ≡ Some (truth 0x360A false)
-  pub no_other : (id : ℕ) → is_new_value id ≡ false → find id c.props ≡ None
+  pub no_other : (id : ℕ) → is_new_folder_value id ≡ false → find id c.props ≡ None
   pub none_kept : c.kept ≡ []
 
 -- `mkdir` makes a folder with just these values

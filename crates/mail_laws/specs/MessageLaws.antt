@@ -50,8 +50,8 @@ pub record TellRightly : Type 0 where
   pub changed : (T : Tree) (c : Command) (m : ℕ) → IsWhole T → changes c ≡ Some m → IfOk (outcome T c) (λ o. (M : Mes) × (message_with (after T o) m ≡ Some M) × TellsOfItself M)
 
 -- the ids of a new message's values
-abbrev pub is_new_value : ℕ → Bool
-is_new_value id = list_any (λ own. own == id) (0x001A ∷ 0x0E07 ∷ 0x0E08 ∷ 0x3007 ∷ 0x3008 ∷ 0x300B ∷ [])
+abbrev pub is_new_message_value : ℕ → Bool
+is_new_message_value id = list_any (λ own. own == id) (0x001A ∷ 0x0E07 ∷ 0x0E08 ∷ 0x3007 ∷ 0x3008 ∷ 0x300B ∷ [])
 
 -- A new message of this id, in that folder of a store of these values: what each id of a property finds, and nothing else.
 pub record IsNewMessage (m folder : ℕ) (class : List ℕ) (time : ℕ) (store : List Val) (M : Mes) : Type 0 where
@@ -62,7 +62,7 @@ pub record IsNewMessage (m folder : ℕ) (class : List ℕ) (time : ℕ) (store 
   pub made_at : find 0x3007 M.props ≡ Some (time_value 0x3007 time)
   pub changed_at : find 0x3008 M.props ≡ Some (time_value 0x3008 time)
   pub key_is : find 0x300B M.props ≡ Some (value 0x300B 0x0102 (search_key m store))
-  pub no_other : (id : ℕ) → is_new_value id ≡ false → find id M.props ≡ None
+  pub no_other : (id : ℕ) → is_new_message_value id ≡ false → find id M.props ≡ None
   pub no_recipients : M.recipients ≡ None
   pub no_attachments : (M.attachments ≡ None) × (M.parts ≡ [])
   pub none_kept : M.kept ≡ []
