@@ -6,6 +6,7 @@ use Rattle.mapi_values.specs.declared.part.Part.{Part}
 use Rattle.command_text.specs.declared.command.Command.{Command}
 use Rattle.mail_tree.specs.Tree.{Tree}
 use Rattle.mail_tree.specs.Parts.{part_row}
+use Rattle.mail_tree.specs.Start.{IsStart}
 use Rattle.mail_tree.specs.Step.{after, outcome}
 use Rattle.mail_tree.specs.Whole.{IsWhole}
 use Rattle.mail_laws.specs.Laws.{message_with}
@@ -19,9 +20,13 @@ MirrorParts (Some t) parts = t.rows ≡ map (part_row t.columns) parts
 abbrev pub MirrorsAttachments : Mes → Type 0
 MirrorsAttachments M = MirrorParts M.attachments M.parts
 
--- the rows of attachments go on mirroring them: in each message by itself, and in all where they do in all
+-- in each message of the tree they do
+abbrev pub AllMirrorAttachments : Tree → Type 0
+AllMirrorAttachments T = (m : ℕ) (M : Mes) → message_with T m ≡ Some M → MirrorsAttachments M
+
+-- the rows of attachments go on mirroring them: in each message by itself, and in all where they do in all, as in a new store
 pub record AttachmentsStay : Type 0 where
   pub each : (T : Tree) (c : Command) (m : ℕ) (old : Mes) → IsWhole T → message_with T m ≡ Some old → MirrorsAttachments old
       → IfOk (outcome T c) (λ o. (new : Mes) → message_with (after T o) m ≡ Some new → MirrorsAttachments new)
-  pub all : (T : Tree) (c : Command) → IsWhole T → ((m : ℕ) (M : Mes) → message_with T m ≡ Some M → MirrorsAttachments M)
-      → IfOk (outcome T c) (λ o. (m : ℕ) (M : Mes) → message_with (after T o) m ≡ Some M → MirrorsAttachments M)
+  pub all : (T : Tree) (c : Command) → IsWhole T → AllMirrorAttachments T → IfOk (outcome T c) (λ o. AllMirrorAttachments (after T o))
+  pub starts : (name : List ℕ) (T : Tree) → IsStart name T → AllMirrorAttachments T

@@ -7,7 +7,9 @@ use Rattle.mail_tree.specs.Tree.{object_at}
 use Rattle.mail_laws.specs.AttachmentLaws.{MirrorsAttachments}
 use Rattle.mail_laws.specs.Laws.{message_with}
 use Rattle.mail_laws.proofs.Keeping.{if_weaker}
+use Rattle.mail_laws.proofs.LawSteps.{is_message}
 use Rattle.mail_laws.proofs.PartCommands.{Mirror, mirror_after}
+use Rattle.mail_laws.proofs.Starting.{starts_empty}
 use Rattle.mail_laws.proofs.attachment.attachments_stay.Goals as goal
 
 pub returns : goal.returns
@@ -20,4 +22,5 @@ returns c = record {
   all = λ T c w s.
       let any : ℕ → Type 0 = λ x. Unit {0} in
       if_weaker (Mirror T w any (λ k M d is. s k M is) (λ q d none x. tt)) _ (outcome T c) (mirror_after T w any (λ k M d is. s k M is) (λ q d none x. tt) c) (λ o k m M is. k m M tt is);
+  starts = λ name T s m M is. absurd (starts_empty name T s m M (is_message (object_at T m) M is));
 }
