@@ -11,6 +11,7 @@ use Rattle.mapi_values.specs.Properties.{find, put, remove_id}
 use Rattle.mapi_values.specs.Values.{Val}
 use Rattle.mapi_values.specs.declared.value.Tag.{Tag}
 use Rattle.command_text.specs.declared.reply.LastLine.TheVariants.{Attached, Done, Made, Row}
+use Rattle.mail_objects.specs.Forms.{Ctx}
 use Rattle.mail_objects.specs.declared.object.Object.{Object}
 use Rattle.mail_objects.specs.declared.object.Object.TheVariants.{Context, Table, Message}
 use Rattle.mail_tree.specs.declared.places.FolderPlace.{FolderPlace}
@@ -178,6 +179,7 @@ new_is m folder class time store = record {
 
 abbrev pub MadeNew : Tree → ℕ → List ℕ → ℕ → Outcome → Type 0
 MadeNew T folder class time o = (index : ℕ) × (M : Mes) × (M.nid ≡ new_id 4 index) × (now_at T nothing (new_id 4 index) ≡ None) × IsNew folder class time M × Adds T M index o
+    × ((store : Ctx) × (now_at T nothing 0x21 ≡ Some (Context store)) × (M ≡ finished (plain_message (new_id 4 index) folder (message_props (new_id 4 index) class time store.props))))
 
 pub makes : (T : Tree) (folder : ℕ) (class : List ℕ) (time : ℕ) → Before T → IfOk (new_message T folder class time) (MadeNew T folder class time)
 unfolding new_message making_message
@@ -197,7 +199,7 @@ makes T folder class time w = elim (cases_Option (find_place folder T.places)) [
               let N = plain_message (new_id 4 index) folder (message_props (new_id 4 index) class time store.0.props) in
               (if_weaker (Adds T (finished N) index) (MadeNew T folder class time) (added_message T (finished N) nothing >>= making T T.places 4 index)
               (adds T (Ok nothing) refl (finished N) p.0 index w (ap (λ x. x % 32) (finished_id N) ∙ id.0) (ap (λ x. find_place x T.places) (finished_folder N) ∙ p.1))
-              (λ o a. (index, finished N, finished_id N, id.1, new_is (new_id 4 index) folder class time store.0.props, a)))
+              (λ o a. (index, finished N, finished_id N, id.1, new_is (new_id 4 index) folder class time store.0.props, a, (store.0, store.1, refl))))
         ]))
   ])
 ]

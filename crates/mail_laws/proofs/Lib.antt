@@ -29,3 +29,10 @@ pub mod Depths
 pub mod FoundSteps
 pub mod FoundCommands
 pub mod FoundStart
+pub mod FoundMessages
+pub mod Finishing
+pub mod Telling
+pub mod Newness
+pub mod Listings
+pub mod PartRows
+pub mod PartCommands
