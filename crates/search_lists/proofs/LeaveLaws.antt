@@ -1,5 +1,5 @@
 -- No command by itself changes a table of what a search lists.
-use Rattle.std.proofs.Common.{◌≡◌, ◌∙◌, ℕ, ◌%◌, ◌==◌, ◌||◌, Bool, true, false, not, List, [], Option, None, Some, IfOk, ap, refl, inl, inr, arith, is_some}
+use Rattle.std.proofs.Common.{◌≡◌, ◌∙◌, ℕ, ◌%◌, ◌==◌, ◌||◌, Bool, true, false, not, List, [], Option, None, Some, IfOk, Ok, Err, ap, refl, inl, inr, arith, is_some}
 use Rattle.std.proofs.lemmas.Bool.{cases_Bool}
 use Rattle.mapi_values.specs.Characters.{folded}
 use Rattle.mapi_values.specs.Keyed.{drop_key, put_key}
@@ -25,7 +25,7 @@ use Rattle.mail_tree.specs.Messages.{added_attachment, added_message, added_reci
 use Rattle.mail_tree.specs.Names.{unless_nameless}
 use Rattle.mail_tree.specs.Parts.{attachment_props, attachment_tags, has_recipient, is_full, is_wide, lengthened, new_row, next_part, next_row, part_in, part_nid, part_with, plain_part, recipient_props, recipient_tags, room_for, rows_of, with_attachment, with_bytes, with_part, with_recipient, without_attachment, without_recipient}
 use Rattle.mail_tree.specs.Places.{ROOT, children, find_place, is_deep, is_plain, is_within, moves_deep, place_id}
-use Rattle.mail_tree.specs.Settling.{mirrored, settled, with_context}
+use Rattle.mail_tree.specs.Settling.{mirrored, settled, touched, with_context}
 use Rattle.mail_tree.specs.Step.{outcome}
 use Rattle.mail_tree.specs.Tree.{Tree}
 use Rattle.mail_tree.specs.Values.{bytes_of, crowds, finished, folder_props, is_set_protected, is_unset_protected, message_props, name_of, text, with_props}
@@ -36,7 +36,7 @@ use Rattle.mail_laws.specs.Laws.{FindsName}
 use Rattle.mail_laws.proofs.FolderSteps.{fine_protected}
 use Rattle.mail_laws.proofs.Keeping.{Comes, KeepsAt, add_keeps, drop_keeps, from_fine, if_any, if_found, if_replying, if_test, if_then, if_weaker, kept_put, mirrored_keeps, put_keeps, then_changing, then_making, then_moving, then_settled}
 use Rattle.mail_laws.proofs.LawSteps.{before, reads_only}
-use Rattle.mail_laws.proofs.MessageSteps.{Before, fine_message_in, finished_folder, finished_id, home_of}
+use Rattle.mail_laws.proofs.MessageSteps.{Before, fine_home, fine_message_in, finished_folder, finished_id, home_of}
 use Rattle.mail_laws.proofs.NameEffects.{finds_name}
 use Rattle.mail_laws.proofs.Spent.{new_id_kind}
 use Rattle.search_lists.specs.Laws.{LeavesAll, LeavesResults}
@@ -152,23 +152,24 @@ module _ (T : Tree) (w : Before T) where
         (λ o c q q-is. c.keeps q q-is ∙ k q q-is ∙ (puts_object T nothing m (Some (Message N))).others q (λ e. omega (arith, e, q-is, four)))))
   ])))
 
-  -- a message that is made
-  adds : (M : Mes) (crowded : Bool) (p : FolderPlace) (index : ℕ) → M.nid % 32 ≡ 4 → find_place M.folder T.places ≡ Some p → IfOk (added_message T M (record nothing { crowded = crowded }) >>= making T T.places 4 index) L
-  adds M crowded p index four found =
-      let D0 = record nothing { crowded = crowded } in
+  -- a message that is made where all stands as it stood
+  adds : (before : Answer Changed) → IfOk before (λ D. now_at T D ≡ now_at T nothing) → (M : Mes) (p : FolderPlace) (index : ℕ) → M.nid % 32 ≡ 4 → find_place M.folder T.places ≡ Some p → IfOk (before >>= added_message T M >>= making T T.places 4 index) L
+  adds (Err e) same M p index four found = tt
+  adds (Ok D0) same M p index four found =
       let D = with_object M.nid (Some (Message M)) D0 in
       let a = add_shown T (contents M.folder) M.nid M.props D in
       if_weaker (Comes Sixteen no_hierarchy T D T.places (replied (Made (nid (new_id 4 index))))) L (a >>= settled T T.places M.folder >>= making T T.places 4 index)
       (then_making Sixteen no_hierarchy T D (a >>= settled T T.places M.folder) T.places 4 index
       (then_settled Sixteen no_hierarchy T T.places M.folder D a (no_folder T w M.folder p found) (add_keeps Sixteen no_hierarchy T (contents M.folder) M.nid M.props D (no_contents M.folder))))
-      (λ o c q q-is. c.keeps q q-is ∙ (puts_object T D0 M.nid (Some (Message M))).others q (λ e. omega (arith, e, q-is, four)))
+      (λ o c q q-is. c.keeps q q-is ∙ (puts_object T D0 M.nid (Some (Message M))).others q (λ e. omega (arith, e, q-is, four)) ∙ ap (λ at. at q) same)
 
   copies : (m folder : ℕ) → IfOk (copied_message T m folder) L
   unfolding copied_message copying
   copies m folder = with-message m _ (λ M is four. if_found L NoObject (find_place folder T.places) _ (λ p there. if_test L (not (is_plain p)) Reserved _ (if_test L (is_overfull M.recipients || is_overfull M.attachments) (Limit Rows) _
       (if_then (λ u. Unit {0}) L (unless_full T (contents folder)) _ (if_any (unless_full T (contents folder))) (λ u v.
       let index = next_index T 4 message_kinds in
-      adds (copy_of (new_id 4 index) folder M) (is_crowded_message M) p index (new_id_kind 4 index (omega arith)) there)))))
+      let touches = touched T M.folder (record nothing { crowded = is_crowded_message M }) in
+      adds touches (from_fine (λ D. now_at T D ≡ now_at T nothing) touches (fine_home T w m M is (is_crowded_message M))) (copy_of (new_id 4 index) folder M) p index (new_id_kind 4 index (omega arith)) there)))))
 
   makes : (folder : ℕ) (class : List ℕ) (time : ℕ) → IfOk (new_message T folder class time) L
   unfolding new_message making_message
@@ -176,7 +177,7 @@ module _ (T : Tree) (w : Before T) where
       if_then (λ u. Unit {0}) L (unless_full T (contents folder)) _ (if_any (unless_full T (contents folder))) (λ u v.
       let index = next_index T 4 message_kinds in
       let N = plain_message (new_id 4 index) folder (message_props (new_id 4 index) class time store.props) in
-      adds (finished N) false p index (ap (λ x. x % 32) (finished_id N) ∙ new_id_kind 4 index (omega arith)) (ap (λ x. find_place x T.places) (finished_folder N) ∙ there)))))
+      adds (Ok nothing) refl (finished N) p index (ap (λ x. x % 32) (finished_id N) ∙ new_id_kind 4 index (omega arith)) (ap (λ x. find_place x T.places) (finished_folder N) ∙ there)))))
 
   -- the nodes of a new folder
   with-folder : (f parent : ℕ) (name : List ℕ) → f % 32 ≡ 2 → KeepsAt Sixteen T nothing (with_folder f parent name nothing)

@@ -7,13 +7,14 @@ use Rattle.mail_objects.specs.declared.object.Object.{Object}
 use Rattle.mail_objects.specs.declared.object.Object.TheVariants.{Context, Message, Table}
 use Rattle.mail_tree.specs.Changing.{Changed, ◌>>=◌, as_context, as_message, as_table, context_at, hierarchy, known, now_at, put_shown, shown_row, table_at, with_object, with_rows}
 use Rattle.mail_tree.specs.Places.{ROOT}
-use Rattle.mail_tree.specs.Settling.{mirrored, with_context}
+use Rattle.mail_tree.specs.Settling.{mirrored, table_as_is, with_context}
 use Rattle.mail_tree.specs.Tree.{Tree}
 use Rattle.mail_tree.specs.Values.{with_counts}
 use Rattle.mail_tree.proofs.AfterTree.{puts_object, puts_values}
 use Rattle.mail_tree.proofs.KindsOfPuts.{beside_kind}
 use Rattle.mail_tree.proofs.Nearly.{Puts}
 use Rattle.mail_laws.proofs.Keeping.{KeepsAt, both, if_any, if_then, if_weaker, kept_put, mirrored_keeps}
+use Rattle.mail_laws.proofs.Touches.{table_same}
 use Rattle.search_lists.specs.Searches.{Search, results, runs}
 use Rattle.search_lists.specs.Relisting.{Around, Touch, concerns, counted_search, relisted, settled_search, settled_searches, named, takes_row, unread, with_results}
 use Rattle.search_lists.specs.Laws.{AreApart, Each, Settles, SettlesAll}
@@ -54,7 +55,7 @@ module _ (T : Tree) where
   pub mirrored-apart : (f : ℕ) (D : Changed) → IfOk (mirrored T f D) (SameMessages T D)
   unfolding mirrored
   mirrored-apart f D = elim (cases_Bool (f == ROOT)) [
-    | inl b ↦ rw b (λ m. refl)
+    | inl b ↦ rw b (if_weaker (λ D'. now_at T D' ≡ now_at T D) (SameMessages T D) (table_as_is T (hierarchy ROOT) D) (table_same T (hierarchy ROOT) D) (λ D' same m. ap (λ at. as_message (at m)) same))
     | inr b ↦ rw b (if_then (λ c. Unit {0}) (SameMessages T D) (context_at T D f) _ (if_any (context_at T D f)) (λ c u. shown-apart (hierarchy c.parent) f c.props D))
   ]
 

@@ -1,6 +1,6 @@
 -- Searches whose nodes are there are settled.
-use Rattle.std.proofs.Common.{◌≡◌, ◌∙◌, ℕ, ◌==◌, ◌||◌, false, List, [], ◌∷◌, length, Option, Some, Ok, ap, sym, refl, inl, inr}
-use Rattle.std.proofs.lemmas.Bool.{cases_eq}
+use Rattle.std.proofs.Common.{◌≡◌, ◌∙◌, ℕ, ◌%◌, ◌||◌, false, List, [], ◌∷◌, length, Option, Some, Ok, ap, sym, refl, inl, inr, arith}
+use Rattle.std.proofs.lemmas.Bool.{cases_eq, ne_eqb}
 use Rattle.mapi_values.specs.Values.{Val}
 use Rattle.mail_objects.specs.Forms.{Ctx, Tbl}
 use Rattle.mail_objects.specs.declared.object.Object.{Object}
@@ -16,7 +16,7 @@ use Rattle.mail_tree.proofs.FineLaws.{after_context, after_table, fine_either, f
 use Rattle.mail_tree.proofs.Nearly.{Puts}
 use Rattle.search_lists.specs.Searches.{Search, results, runs}
 use Rattle.search_lists.specs.Relisting.{Around, Touch, concerns, counted_search, named, relisted, settled_search, settled_searches, takes_row, unread, with_results}
-use Rattle.search_lists.specs.Laws.{Each, HasNodes, SettlesThere}
+use Rattle.search_lists.specs.Laws.{Each, HasNodes, IsSearch, SettlesThere}
 use Rattle.search_lists.proofs.SettleLaws.{each}
 
 -- tables stay tables, and values stay values with their parents
@@ -63,6 +63,10 @@ forms-then at at' at'' a b = record {
   contexts = λ q c is. let k = a.contexts q c is in let l = b.contexts q k.0 k.1 in (l.0, l.1, l.2 ∙ k.2);
 }
 
+-- the root is no search
+no-root : (f : ℕ) → f % 32 ≡ 3 → f ≡ ROOT → ⊥
+no-root f search e = omega (arith, e, search)
+
 module _ (T : Tree) where
   abbrev Forms : Changed → Changed → Type 0
   Forms D D' = SameForms (now_at T D) (now_at T D')
@@ -73,9 +77,9 @@ module _ (T : Tree) where
       let u : Tbl = record { parent = t.parent; table = record t.table { rows = shown_row id props t.table } } in
       after_table (Forms D) T D q t _ there (put-table (now_at T D) _ q t u (puts_object T D q (Some (with_rows (shown_row id props t.table) t))) there)
 
-  mirrored-there : (f : ℕ) (D : Changed) (c : Ctx) (t : Tbl) → now_at T D f ≡ Some (Context c) → now_at T D (hierarchy c.parent) ≡ Some (Table t) → Fine (mirrored T f D) (Forms D)
+  mirrored-there : (f : ℕ) (D : Changed) (c : Ctx) (t : Tbl) → f % 32 ≡ 3 → now_at T D f ≡ Some (Context c) → now_at T D (hierarchy c.parent) ≡ Some (Table t) → Fine (mirrored T f D) (Forms D)
   unfolding mirrored
-  mirrored-there f D c t is there = fine_either (Forms D) (f == ROOT) (Ok D) _ (λ b. forms-stay (now_at T D)) (λ b. after_context (Forms D) T D f c _ is (shown-there (hierarchy c.parent) f c.props D t there))
+  mirrored-there f D c t search is there = rw (ne_eqb f ROOT (no-root f search)) (after_context (Forms D) T D f c _ is (shown-there (hierarchy c.parent) f c.props D t there))
 
   counted-there : (s : ℕ) (rows : List (ℕ × List Val)) (D : Changed) (c : Ctx) → now_at T D s ≡ Some (Context c) → Fine (counted_search T s rows D) (Forms D)
   unfolding counted_search
@@ -92,9 +96,9 @@ module _ (T : Tree) where
       let up = same.tables (hierarchy has.1.0.parent) has.1.2.0 has.1.2.1 in
       ((table.0, table.1), (c.0, c.1, (up.0, ap (λ f. now_at T D' (hierarchy f)) c.2 ∙ up.1)))
 
-  results-there : (s : Search) (rows : List (ℕ × List Val)) (D : Changed) (has : HasNodes T D s) → Fine (with_results T s.nid rows has.0.0 D) (Forms D)
+  results-there : (s : Search) (rows : List (ℕ × List Val)) (D : Changed) → s.nid % 32 ≡ 3 → (has : HasNodes T D s) → Fine (with_results T s.nid rows has.0.0 D) (Forms D)
   unfolding with_results
-  results-there s rows D has =
+  results-there s rows D search has =
       let t = has.0.0 in
       let u : Tbl = record { parent = t.parent; table = record t.table { rows = rows } } in
       let D1 = with_object (results s.nid) (Some (with_rows rows t)) D in
@@ -102,24 +106,24 @@ module _ (T : Tree) where
       let has1 = nodes-stay D D1 first s has in
       fine_then (Forms D1) (Forms D) (counted_search T s.nid rows D1) (mirrored T s.nid) (counted-there s.nid rows D1 has1.1.0 has1.1.1) (λ D2 second.
       let has2 = nodes-stay D1 D2 second s has1 in
-      fine_weaker (Forms D2) (Forms D) (mirrored T s.nid D2) (mirrored-there s.nid D2 has2.1.0 has2.1.2.0 has2.1.1 has2.1.2.1)
+      fine_weaker (Forms D2) (Forms D) (mirrored T s.nid D2) (mirrored-there s.nid D2 has2.1.0 has2.1.2.0 search has2.1.1 has2.1.2.1)
       (λ D3 third. forms-then (now_at T D) (now_at T D1) (now_at T D3) first (forms-then (now_at T D1) (now_at T D2) (now_at T D3) second third)))
 
   module _ (d : Around) (ts : List Touch) where
-    search-there : (s : Search) (D : Changed) → HasNodes T D s → Fine (settled_search T d ts s D) (Forms D)
+    search-there : (s : Search) (D : Changed) → s.nid % 32 ≡ 3 → HasNodes T D s → Fine (settled_search T d ts s D) (Forms D)
     unfolding settled_search
-    search-there s D has =
+    search-there s D search has =
         let t = has.0.0 in
         fine_either (Forms D) (concerns d s ts) _ (Ok D)
-        (λ b. after_table (Forms D) T D (results s.nid) t _ has.0.1 (fine_either (Forms D) (runs s || takes_row t.table.rows ts) _ (Ok D) (λ c. results-there s (relisted d s t.table.columns ts t.table.rows) D has) (λ c. forms-stay (now_at T D))))
+        (λ b. after_table (Forms D) T D (results s.nid) t _ has.0.1 (fine_either (Forms D) (runs s || takes_row t.table.rows ts) _ (Ok D) (λ c. results-there s (relisted d s t.table.columns ts t.table.rows) D search has) (λ c. forms-stay (now_at T D))))
         (λ b. forms-stay (now_at T D))
 
-    searches-there : (ss : List Search) (D : Changed) → Each (HasNodes T D) ss → Fine (settled_searches T d ts ss D) (Forms D)
-    searches-there [] D has = forms-stay (now_at T D)
-    searches-there (s ∷ ss) D has =
-        fine_then (Forms D) (Forms D) (settled_search T d ts s D) (settled_searches T d ts ss) (search-there s D has.0) (λ D1 one.
-        fine_weaker (Forms D1) (Forms D) (settled_searches T d ts ss D1) (searches-there ss D1 (each (HasNodes T D) (HasNodes T D1) ss has.1 (λ x h. nodes-stay D D1 one x h)))
+    searches-there : (ss : List Search) (D : Changed) → Each IsSearch ss → Each (HasNodes T D) ss → Fine (settled_searches T d ts ss D) (Forms D)
+    searches-there [] D are has = forms-stay (now_at T D)
+    searches-there (s ∷ ss) D are has =
+        fine_then (Forms D) (Forms D) (settled_search T d ts s D) (settled_searches T d ts ss) (search-there s D are.0 has.0) (λ D1 one.
+        fine_weaker (Forms D1) (Forms D) (settled_searches T d ts ss D1) (searches-there ss D1 are.1 (each (HasNodes T D) (HasNodes T D1) ss has.1 (λ x h. nodes-stay D D1 one x h)))
         (λ D2 rest. forms-then (now_at T D) (now_at T D1) (now_at T D2) one rest))
 
 pub settles_there : SettlesThere
-settles_there T d ts ss D has = fine_weaker (Forms T D) (λ D'. Each (HasNodes T D') ss) (settled_searches T d ts ss D) (searches-there T d ts ss D has) (λ D' same. each (HasNodes T D) (HasNodes T D') ss has (λ s h. nodes-stay T D D' same s h))
+settles_there T d ts ss D are has = fine_weaker (Forms T D) (λ D'. Each (HasNodes T D') ss) (settled_searches T d ts ss D) (searches-there T d ts ss D are has) (λ D' same. each (HasNodes T D) (HasNodes T D') ss has (λ s h. nodes-stay T D D' same s h))

@@ -82,10 +82,14 @@ abbrev pub HaltedStays : Type 0
 HaltedStays = (d : Around) (s : Search) (columns : List Column) (ts : List Touch) (rows : List (ℕ × List Val)) (m : ℕ) → runs s ≡ false → keys_ascend (λ r. r.0) 0 rows ≡ true
     → find_row m (relisted d s columns ts rows) ≡ (if is_touched (filter is_gone ts) m then None else find_row m rows)
 
+-- the id is that of a search
+abbrev pub IsSearch : Search → Type 0
+IsSearch s = s.nid % 32 ≡ 3
+
 -- no two searches have one id, and each id is that of a search
 abbrev pub AreApart : List Search → Type 0
 AreApart [] = Unit {0}
-AreApart (s ∷ ss) = (s.nid % 32 ≡ 3) × Each (λ t. t.nid ≡ s.nid → ⊥) ss × AreApart ss
+AreApart (s ∷ ss) = IsSearch s × Each (λ t. t.nid ≡ s.nid → ⊥) ss × AreApart ss
 
 -- After searches were settled messages are as they were, each of their tables has the rows that the touched messages leave it, and each other table of a search is as it was.
 pub record Settles (T : Tree) (d : Around) (ts : List Touch) (ss : List Search) (D D' : Changed) : Type 0 where
@@ -109,7 +113,7 @@ changes_rows d s ts rows = concerns d s ts && (runs s || takes_row rows ts)
 
 -- a search of which a row changed tells the counts of the messages that its rows name
 abbrev pub CountsAnew : Type 0
-CountsAnew = (T : Tree) (d : Around) (ts : List Touch) (s : Search) (D : Changed) (t : Tbl) → s.nid % 32 ≡ 3 → now_at T D (results s.nid) ≡ Some (Table t) → changes_rows d s ts t.table.rows ≡ true
+CountsAnew = (T : Tree) (d : Around) (ts : List Touch) (s : Search) (D : Changed) (t : Tbl) → IsSearch s → now_at T D (results s.nid) ≡ Some (Table t) → changes_rows d s ts t.table.rows ≡ true
     → IfOk (settled_search T d ts s D) (λ D'. (c : Ctx) (u : Tbl) → now_at T D' s.nid ≡ Some (Context c) → now_at T D' (results s.nid) ≡ Some (Table u) → TellsCounts (named T D' u.table.rows) c.props)
 
 -- the nodes of a search are there: its table, its values, and its parent's table of folders
@@ -118,7 +122,7 @@ HasNodes T D s = ((t : Tbl) × (now_at T D (results s.nid) ≡ Some (Table t))) 
 
 -- searches whose nodes are there are settled, and their nodes are there still
 abbrev pub SettlesThere : Type 0
-SettlesThere = (T : Tree) (d : Around) (ts : List Touch) (ss : List Search) (D : Changed) → Each (HasNodes T D) ss → Fine (settled_searches T d ts ss D) (λ D'. Each (HasNodes T D') ss)
+SettlesThere = (T : Tree) (d : Around) (ts : List Touch) (ss : List Search) (D : Changed) → Each IsSearch ss → Each (HasNodes T D) ss → Fine (settled_searches T d ts ss D) (λ D'. Each (HasNodes T D') ss)
 
 -- the command left the tables of searches as they were
 abbrev pub LeavesResults : Tree → Outcome → Type 0
