@@ -11,7 +11,6 @@ ghost use Rattle.file_session.specs.FileRun.{FileRunEnds};
 
 use file_open::{FileRefusal, FileStop, FoundStore, open_file};
 use mail_store::Store;
-use mail_tree::{Flags, Known};
 use pst_outside::Outside;
 use std::alloc::Global;
 use store_session::{SessionEnd, run_session};
@@ -57,13 +56,9 @@ pub fn run_file<W: Outside, S: FoundStore<W> + Drop>(alloc: Global, world: &mut 
 {
     match open_file::<W, S>(alloc, world) {
         Ok(opened) => {
-            let flags = Flags::new(alloc);
             let store = Store {
                 keeper: opened.keeper,
-                known: Known {
-                    places: opened.places,
-                    flags,
-                },
+                known: opened.known,
             };
             FileRun::Ended(run_session(alloc, store, world))
         }

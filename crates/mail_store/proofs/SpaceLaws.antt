@@ -25,16 +25,16 @@ pub has_cells : {R : Type 0} (room : Room) (D : Changes) (cs : List (Nid × Opti
 has_cells room D cs asked ready written same decides = record { numbers = decides.0; free = omega (arith, is_need room D cs asked written same, decides.1) }
 
 -- why a keeper plans no nodes is no matter of the tree
-pub hindered : {R : Type 0} (room : Room) (D : Changes) (cs : List (Nid × Option NodeRec)) (asked before after : ℕ) (disk : Bool) (held : Nodes → Type 0) (N : Nodes) (stop : PrepareStop) → AllZip Writes (map.entries D.objects) cs
+pub hindered : (R : Type 0) (room : Room) (D : Changes) (cs : List (Nid × Option NodeRec)) (asked before after : ℕ) (disk : Bool) (held : Nodes → Type 0) (N : Nodes) (stop : PrepareStop) → AllZip Writes (map.entries D.objects) cs
     → asked ≡ space_needed D → WritesNodes D → held N → RoomDecides {R = R} room asked cs (Err stop) → PrepareStops disk before after held stop → IsHindered room D (plan_stop_of stop)
-hindered room D cs asked before after disk held N prepare.Fault written same writes holds decides stops = tt
-hindered room D cs asked before after disk held N (prepare.Changed ib stored computed) written same writes holds decides stops = absurd (stops N holds)
-hindered room D cs asked before after disk held N prepare.Memory written same writes holds decides stops = tt
-hindered room D cs asked before after disk held N (prepare.Full free cells) written same writes holds decides stops = record {
+hindered R room D cs asked before after disk held N prepare.Fault written same writes holds decides stops = tt
+hindered R room D cs asked before after disk held N (prepare.Changed ib stored computed) written same writes holds decides stops = absurd (stops N holds)
+hindered R room D cs asked before after disk held N prepare.Memory written same writes holds decides stops = tt
+hindered R room D cs asked before after disk held N (prepare.Full free cells) written same writes holds decides stops = record {
   writes = writes;
   numbers = decides.0;
   free_is = decides.2;
   needed = decides.3 ∙ is_need room D cs asked written same;
   few = omega (arith, decides.1, decides.2, decides.3);
 }
-hindered room D cs asked before after disk held N prepare.IdsSpent written same writes holds decides stops = (writes, decides)
+hindered R room D cs asked before after disk held N prepare.IdsSpent written same writes holds decides stops = (writes, decides)

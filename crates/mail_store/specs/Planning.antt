@@ -54,6 +54,11 @@ abbrev pub Alters : {R : Type 0} → (Image → Image → Type 0) → Option R �
 Alters applied None old new = new ≡ old
 Alters applied (Some ready) old new = applied old new
 
+-- nodes are changed just where the command puts or removes an object
+abbrev pub ChangesNodes : {R : Type 0} → Changes → Option R → Type 0
+ChangesNodes D None = D.objects ≡ map.empty
+ChangesNodes D (Some ready) = WritesNodes D
+
 -- how many bytes carrying out a plan writes at most
 abbrev pub cost_of : {R : Type 0} → (R → ℕ) → Option R → ℕ
 cost_of cost None = 0
@@ -65,6 +70,7 @@ pub record PlansTo {R : Type 0} (fits : R → List ℕ → List (Nid × Option N
   pub places_are : o.places ≡ places_after T.places places
   pub flags_are : flags ≡ flag_changes o.changed
   pub carries : Carries fits T o change
+  pub changes : ChangesNodes o.changed change
 
 -- A stop that is no matter of the tree: the disk failed, memory ran out, or the changes are to be written and the file has no room or no numbers left for them.
 abbrev pub IsHindered : Room → Changes → Stop → Type 0

@@ -10,7 +10,7 @@ ghost use Rattle.mail_tree.specs.Folders.{Outcome as Coming};
 ghost use Rattle.mail_draft.specs.Answers.{IsCaused, Looks};
 ghost use Rattle.mail_draft.specs.Drafts.{all_fit, changed_of};
 ghost use Rattle.mail_draft.specs.Outcomes.{last_after, outcome_of};
-ghost use Rattle.mail_store.specs.Planning.{Alters, Carries, cost_of, Does, IsHindered, Plans, PlansTo, SameKnown, StandsFor, StaysUnwritten, Stores, UnlessFault};
+ghost use Rattle.mail_store.specs.Planning.{Alters, Carries, ChangesNodes, cost_of, Does, IsHindered, Plans, PlansTo, SameKnown, StandsFor, StaysUnwritten, Stores, UnlessFault};
 ghost use Rattle.mail_store.specs.Space.{HasCells, HasRoom, WritesNodes};
 
 use crate::commands::outcome;
@@ -77,6 +77,7 @@ fn plan_outcome<W: Outside, K: Keeper<W>>(
 ) -> Result<Option<K::Ready>, Stop>
     ensures carries { IfOk result (λ change. (T : Tree) → Shown (K.holds keeper.old (W.view w.old)) (K.last keeper.old) T → StaysUnwritten T (outcome_of T outcome.now) → Carries (K.fits keeper.new (W.view w.new)) T (outcome_of T outcome.now) change) }
     ensures fits { IfOk result (λ change. ForSome change (λ ready. (after : List ℕ) × (cs : List (Id × Option Rec)) × K.fits keeper.new (W.view w.new) ready after cs)) }
+    ensures changes { IfOk result (ChangesNodes (changed_of outcome.now.draft)) }
     ensures room { OnOk result ((T : Tree) → Shown (K.holds keeper.old (W.view w.old)) (K.last keeper.old) T → HasRoom (K.room keeper.old) (changed_of outcome.now.draft)) }
     ensures hindered { IfErr result (λ stop. (T : Tree) → Shown (K.holds keeper.old (W.view w.old)) (K.last keeper.old) T → IsHindered (K.room keeper.old) (changed_of outcome.now.draft) stop) }
     ensures looks { Looks (K.holds keeper.old (W.view w.old)) (K.holds keeper.new (W.view w.new)) (K.last keeper.old) (K.last keeper.new) (K.room keeper.old) (K.room keeper.new) (W.view w.old) (W.view w.new) }

@@ -1,5 +1,5 @@
 -- What is known of the messages of nodes is so of the tree that they show.
-use Rattle.std.proofs.Common.{◌≡◌, inr, ◌∙◌, ℕ, ◌%◌, Bool, true, not, Option, None, Some, IsSome, is_some, arith, refl, sym, subst, ap}
+use Rattle.std.proofs.Common.{◌≡◌, inr, ◌∙◌, ℕ, ◌%◌, Option, None, Some, IsSome, is_some, arith, refl, sym, ap}
 use Rattle.std.proofs.lemmas.Bool.{false≢true}
 use Rattle.mapi_values.specs.Messages.{Mes}
 use Rattle.mail_objects.specs.declared.object.Object.{Object}
@@ -7,8 +7,6 @@ use Rattle.mail_objects.specs.declared.object.Object.TheVariants.{Context, Table
 use Rattle.mail_tree.specs.Flags.{AreFlags, FlagList}
 use Rattle.mail_tree.specs.Standing.{HasMail}
 use Rattle.mail_tree.specs.Tree.{Tree, object_at}
-use Rattle.mail_tree.specs.Values.{is_read}
-use Rattle.mail_tree.specs.Whole.{fits_id}
 use Rattle.node_port.specs.Nodes.{Nodes}
 use Rattle.tree_look.specs.Seeing.{AreListed}
 use Rattle.tree_shown.specs.Shows.{Shows}

@@ -17,7 +17,7 @@ returns-in-Ok-clause-answer g c = λ T s.
     let answer = outcome T c.args.command.now in
     plans_made (outcome_of T) (g.K.NodeReader.room c.args.store.now.keeper) (λ o planned. PlansTo (g.K.Keeper.fits c.plan_outcome.new.keeper (g.W.Outside.view c.plan_outcome.new.w)) T o planned.change planned.places planned.flags.items planned.reply) answer
     oc _ (c.in_ok-outcome.ensures.answer T s.shown s.knows)
-    (λ is. record { reply_is = refl; places_are = refl; flags_are = c.in_ok-flags.ensures.changes; carries = c.in-Ok.ensures.carries T still (of_answer (StaysUnwritten T) answer (outcome_of T oc) (stays_unwritten T c.args.command.now) is) })
+    (λ is. record { reply_is = refl; places_are = refl; flags_are = c.in_ok-flags.ensures.changes; carries = c.in-Ok.ensures.carries T still (of_answer (StaysUnwritten T) answer (outcome_of T oc) (stays_unwritten T c.args.command.now) is); changes = c.in-Ok.ensures.changes })
     (subst (λ room. HasRoom room (changed_of oc.draft)) c.in_ok-outcome.ensures.looks.space (c.in-Ok.ensures.room T still))
 
 pub returns-in-Err-clause-answer : goal.returns-in-Err-clause-answer
