@@ -90,11 +90,13 @@ IN_CELL = {0x0002: 2, 0x0003: 4, 0x000B: 1, 0x0014: 8, 0x0040: 8}
 
 
 def context(values):
-    """The blocks of a property context with values by (id, kind), and its subnodes: the values that are too long for the heap (2.3.3)."""
+    """The blocks of a property context with values by (id, kind), of which a number is the subnode that has the bytes, and its subnodes: the values that are too long for the heap (2.3.3)."""
     heap, records, subs = Heap(), [], {}
     header = heap.add(bytes(8))
     for (ident, kind), value in sorted(values.items()):
-        if kind in IN_FIELD:
+        if isinstance(value, int):
+            field = u32(value)
+        elif kind in IN_FIELD:
             field = value.ljust(4, b"\0")
         elif len(value) > 3580:
             nid = 0x3F + 0x20 * len(subs)
@@ -184,7 +186,9 @@ class Store:
         return bid
 
     def data(self, blocks):
-        """What names the data blocks: nothing, the one, or an XBLOCK."""
+        """What names the data blocks, if that isn't there already: nothing, the one, or an XBLOCK."""
+        if isinstance(blocks, int):
+            return blocks
         bids = [self.block(it) for it in blocks]
         if len(bids) < 2:
             return bids[0] if bids else 0
@@ -197,10 +201,20 @@ class Store:
         entries = b"".join(struct.pack("<QQQ", nid, self.data(blocks), self.subnodes(below)) for nid, (blocks, below) in sorted(subs.items()))
         return self.block(struct.pack("<BBHI", 2, 0, len(subs), 0) + entries, internal=True)
 
+    def repeated(self, length):
+        """What names data of so many zeros, more than 8,347,696: an XXBLOCK, whose XBLOCKs name one full block again and again, and a last one (2.2.2.8.3.2)."""
+        full, rest = divmod(length, 8176)
+        zeros, last = self.block(bytes(8176)), self.block(bytes(rest))
+        names = lambda bids: self.block(struct.pack("<BBHI", 1, 1, len(bids), 8176 * bids.count(zeros) + rest * bids.count(last)) + b"".join(map(u64, bids)), internal=True)
+        whole = names([zeros] * 1021)
+        lists = [whole] * (full // 1021) + [names([zeros] * (full % 1021) + [last])]
+        return self.block(struct.pack("<BBHI", 1, 2, len(lists), length) + b"".join(map(u64, lists)), internal=True)
+
     def node(self, nid, blocks, parent=0, subs=None):
         self.nodes[nid] = self.data(blocks), self.subnodes(subs or {}), parent
 
-    def bytes(self, counters):
+    def bytes(self, counters, eof=None):
+        """The file's bytes, of which zeros behind are left out where its end is told."""
         file = bytearray(0x4C00)
         entries = []
         for bid, data in self.blocks:
@@ -214,7 +228,7 @@ class Store:
         self.page_bid = 1
         block_root = self.tree(file, 0x80, 24, sorted(entries))
         node_root = self.tree(file, 0x81, 32, sorted((nid, struct.pack("<QQQII", nid, *it, 0)) for nid, it in self.nodes.items()))
-        file[:564] = self.header(len(file), block_root, node_root, counters)
+        file[:564] = self.header(eof or len(file), block_root, node_root, counters)
         return bytes(file)
 
     def tree(self, file, kind, size, entries):
@@ -305,6 +319,13 @@ def full_names():
     return store({(0x0002, 0x102): b"", (0x0003, 0x102): entry, (0x0004, 0x102): b"", (0x1000 + (0x8501 ^ 2) % 251, 0x102): entry}, {})
 
 
+def crowded_names():
+    """The same, in a node of names with 1,000 values that lacks the stream of GUIDs."""
+    entry = u32(0x8501) + struct.pack("<HH", 1 << 1, 32766)
+    names = {(0x0003, 0x102): entry, (0x0004, 0x102): b"", (0x1000 + (0x8501 ^ 2) % 251, 0x102): entry}
+    return store({**names, **{(ident, 3): u32(ident) for ident in range(0x2000, 0x2000 + 996)}}, {})
+
+
 def few_columns():
     """A message whose tables of recipients and of attachments lack columns, with a subnode like an attachment that no row names, and one of a kind of its own."""
     props = {(0x001A, 0x1F): text("IPM.Note"), (0x0037, 0x1F): text("Strange"), (0x0E07, 3): u32(16), (0x0E08, 3): u32(5)}
@@ -354,8 +375,32 @@ def many_values():
     return store({}, {0x200024: (props, {})})
 
 
+def large_attachment():
+    """A search folder with criteria of another program, two tables of messages that are one block, a size of another count, and an attachment of 20,000,000 bytes
+    in a file of 90 regions, of which those behind the pages are zeros and left out here."""
+    props = {(0x001A, 0x1F): text("IPM.Note"), (0x0037, 0x1F): text("Large"), (0x0E07, 3): u32(17), (0x0E08, 3): u32(12345)}
+    s = laid({}, {0x200024: (props, {})}, folders={**FOLDERS, 0x80023: ("Unread Mail", 0x8042)})
+    large = {(0x0E20, 3): u32(20_000_000), (0x3701, 0x102): 0x5F, (0x3704, 0x1F): text("large.bin"), (0x3705, 3): u32(1)}
+    shown = {tag: value for tag, value in large.items() if tag[0] != 0x3701}
+    attachments = table(Columns([(0x0E20, 3), (0x3704, 0x1F), (0x3705, 3), (0x370B, 3)]), {0x8025: shown})
+    s.node(0x200024, context(props)[0], parent=0x8022, subs={0x671: attachments, 0x8025: (context(large)[0], {0x5F: (s.repeated(20_000_000), {})})})
+    s.nodes[0x806E] = s.nodes[0x804E]
+    s.node(0x80026, [])
+    s.node(0x80027, context({(0x660B, 0x102): b"criteria of another program"})[0])
+    s.node(0x80030, table(MESSAGE_COLUMNS, {0x200024: props})[0])
+    return s.bytes({2: 0x403, 3: 0x4001, 4: 0x10001, 8: 0x8000}, eof=0x4400 + 90 * REGION)
+
+
 if __name__ == "__main__":
-    for name, made in ("full_names.pst", full_names()), ("few_columns.pst", few_columns()), ("many_recipients.pst", many_recipients()), ("other_programs.pst", other_programs()), ("many_values.pst", many_values()):
+    for name, made in (
+        ("full_names.pst", full_names()),
+        ("crowded_names.pst", crowded_names()),
+        ("few_columns.pst", few_columns()),
+        ("many_recipients.pst", many_recipients()),
+        ("other_programs.pst", other_programs()),
+        ("many_values.pst", many_values()),
+        ("large_attachment.pst", large_attachment()),
+    ):
         with open(f"{sys.argv[1]}/{name}", "wb") as file:
             file.write(made)
         print(name, len(made))

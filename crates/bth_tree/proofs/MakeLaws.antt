@@ -443,11 +443,11 @@ spent-first s0 s1 len q m a b = omega arith
 pub spent-next : (s1 s2 m n bound len : ℕ) → s1 + 44 * m ≤ bound → s2 ≤ s1 + (2 * len + 4 * n) → len ≤ 8 * m → 2 * n ≤ m → s2 + 44 * n ≤ bound
 spent-next s1 s2 m n bound len a b c d = omega arith
 
-pub spent-last : (s m s0 len q : ℕ) → m ≡ 1 → s + 44 * m ≤ s0 + (2 * len + 48 * q) → s + 18 ≤ s0 + (2 * len + 48 * q + 18)
+pub spent-last : (s m s0 len q : ℕ) → m ≡ 1 → s + 44 * m ≤ s0 + (2 * len + 48 * q) → s + 16 ≤ s0 + (2 * len + 48 * q + 16)
 spent-last s m s0 len q a b = omega arith
 
--- a header counts for 18
-pub header-spend : (k e level hid : ℕ) → spend (header_of k e level hid) ≡ 18
+-- a header counts for 16
+pub header-spend : (k e level hid : ℕ) → spend (header_of k e level hid) ≡ 16
 header-spend k e level hid = omega (arith, length-bytes_low_first 0 4 hid)
 
 -- one more record with the next key

@@ -53,7 +53,7 @@ pub record MakesLevel (old new : List (List (List ℕ))) (k : ℕ) (recs ps : Li
 
 -- what a tree of these records counts for at most: their bytes twice, 48 for each leaf, and the header
 abbrev pub tree_spend : ℕ → ℕ → List (ℕ × List ℕ) → ℕ
-tree_spend k e recs = 2 * length (spelled k recs) + 48 * chunks (per_item (k + e)) (length recs) + 18
+tree_spend k e recs = 2 * length (spelled k recs) + 48 * chunks (per_item (k + e)) (length recs) + 16
 
 -- a tree of these records was made under a heap id, all other items stay, and the items take at most half a block each
 pub record Makes (old new : List (List (List ℕ))) (hid k e : ℕ) (recs : List (ℕ × List ℕ)) : Type 0 where
@@ -80,7 +80,7 @@ pub record MakesLevels (old new : List (List (List ℕ))) (k e : ℕ) (recs : Li
   pub some : hid ≡ 0 → ⊥
   pub blocks : length new + 1 ≤ length old + items_made k e (length recs)
   pub half : halves new + 1 ≤ halves old + items_made k e (length recs)
-  pub spent : spread new + 18 ≤ spread old + tree_spend k e recs
+  pub spent : spread new + 16 ≤ spread old + tree_spend k e recs
 
 -- the header of a tree
 abbrev pub header_of : ℕ → ℕ → ℕ → ℕ → List ℕ

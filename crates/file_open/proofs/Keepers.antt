@@ -19,9 +19,10 @@ use Rattle.lays_kept.proofs.Opened.{front_is, opens_parts, stands_opens}
 use Rattle.pst_commit.specs.Keeping.{Holds}
 use Rattle.pst_commit.proofs.Holding.{same_header}
 use Rattle.pst_commit.proofs.Outcomes.{stands_over}
-use Rattle.mail_tree.specs.declared.places.FolderPlace.{FolderPlace}
+use Rattle.mail_tree.specs.declared.known.Known.{Known}
 use Rattle.tree_look.specs.Faults.{Stops}
 use Rattle.mail_tree.specs.Standing.{HasTree}
+use Rattle.tree_look.specs.Seeing.{AreListed}
 use Rattle.tree_look.specs.Walk.{Looks}
 use Rattle.tree_look.specs.declared.stops.LookStop.{LookStop}
 use Rattle.file_open.specs.Opening.{IsKept, IsOpened, LaysNodes, ReadsFresh, StopsOpening, spent_in}
@@ -105,10 +106,10 @@ module _ {knows : Header → List ℕ → Type 0} {bytes : List ℕ} {header : H
   refused_tree stop stops = look_stops mid.here those.0 found.header.indexes laid stop (stops those.0 (made.holds is those.0 those.1))
 
   -- the tree was found
-  pub opened : {knows' : Header → List ℕ → Type 0} {bytes' : List ℕ} {header' : Header} {room room' : Room} {now : World} (places : List FolderPlace)
+  pub opened : {knows' : Header → List ℕ → Type 0} {bytes' : List ℕ} {header' : Header} {room room' : Room} {now : World} (known : Known)
       → Looks (Holds knows bytes header mid) (Holds knows' bytes' header' now) header.indexes header'.indexes room room' mid now → room.found ≡ bytes → room'.found ≡ bytes'
-      → ((N : Nodes) → Holds knows bytes header mid N → HasTree N places) → IsOpened knows' bytes' header' mid.here now places
-  opened {knows'} {bytes'} {header'} {now = now} places looks was has trees =
+      → ((N : Nodes) → Holds knows bytes header mid N → HasTree N known.places) → ((N : Nodes) → Holds knows bytes header mid N → AreListed N known.places known.flags) → IsOpened knows' bytes' header' mid.here now known
+  opened {knows'} {bytes'} {header'} {now = now} known looks was has trees flags =
       let before = made.holds is those.0 those.1 in
       let held : Holds knows' bytes' header' now those.0 = looks.stays those.0 before in
       record {
@@ -128,24 +129,25 @@ module _ {knows : Header → List ℕ → Type 0} {bytes : List ℕ} {header : H
         front = sym has ∙ ap (λ (r : Room). r.found) looks.space ∙ was ∙ made.front;
         held = held;
         tree = trees those.0 before;
+        flags = flags those.0 before;
       }
 
   -- numbers are left
-  pub fresh : {knows' : Header → List ℕ → Type 0} {bytes' : List ℕ} {header' : Header} {now : World} {places : List FolderPlace} → IsOpened knows' bytes' header' mid.here now places → has_spent ≡ false → ReadsFresh mid.here places
+  pub fresh : {knows' : Header → List ℕ → Type 0} {bytes' : List ℕ} {header' : Header} {now : World} {known : Known} → IsOpened knows' bytes' header' mid.here now known → has_spent ≡ false → ReadsFresh mid.here known.places
   fresh {header' = header'} o left = record {
     reads = record { nodes = o.nodes; last = header'.indexes; laid = o.laid; tree = o.tree };
     left = same_spent mid.here o.nodes those.0 header'.indexes found.header.indexes o.laid laid ∙ sym spent_is ∙ left;
   }
 
   -- or none
-  pub spent_stops : {knows' : Header → List ℕ → Type 0} {bytes' : List ℕ} {header' : Header} {now : World} (places : List FolderPlace) → IsOpened knows' bytes' header' mid.here now places → has_spent ≡ true → StopsOpening mid.here (Refused Ids)
-  spent_stops {header' = header'} places o spent = (
-    (places, (record { nodes = o.nodes; last = header'.indexes; laid = o.laid; tree = o.tree }, same_spent mid.here o.nodes those.0 header'.indexes found.header.indexes o.laid laid ∙ sym spent_is ∙ spent)),
+  pub spent_stops : {knows' : Header → List ℕ → Type 0} {bytes' : List ℕ} {header' : Header} {now : World} (known : Known) → IsOpened knows' bytes' header' mid.here now known → has_spent ≡ true → StopsOpening mid.here (Refused Ids)
+  spent_stops {header' = header'} known o spent = (
+    (known.places, (record { nodes = o.nodes; last = header'.indexes; laid = o.laid; tree = o.tree }, same_spent mid.here o.nodes those.0 header'.indexes found.header.indexes o.laid laid ∙ sym spent_is ∙ spent)),
     spent_excludes mid.here those.0 found.header.indexes laid (sym spent_is ∙ spent),
   )
 
 -- what is held of a store is held where its gate is closed
-pub still_opened : {knows : Header → List ℕ → Type 0} {bytes : List ℕ} {header : Header} {old : Image} {mid now : World} {places : List FolderPlace} → IsOpened knows bytes header old mid places → SameStore mid.here now.here → now.tells → IsOpened knows bytes header old now places
+pub still_opened : {knows : Header → List ℕ → Type 0} {bytes : List ℕ} {header : Header} {old : Image} {mid now : World} {known : Known} → IsOpened knows bytes header old mid known → SameStore mid.here now.here → now.tells → IsOpened knows bytes header old now known
 still_opened {knows} {bytes} {header} {old} {mid} {now} o same told =
     let held = o.held.1 in
     let stands : Stands bytes now.here o.nodes header.indexes = stands_over held.stands same in
@@ -165,4 +167,5 @@ still_opened {knows} {bytes} {header} {old} {mid} {now} o same told =
         },
       );
       tree = o.tree;
+      flags = o.flags;
     }

@@ -12,8 +12,10 @@ use Rattle.pst_commit.specs.Keeping.{Holds}
 use Rattle.file_scan.specs.Found.{IsFound}
 use Rattle.file_scan.specs.Scan.{IsRefused}
 use Rattle.file_scan.specs.declared.scan.FoundFile.{FoundFile}
+use Rattle.mail_tree.specs.declared.known.Known.{Known}
 use Rattle.mail_tree.specs.declared.places.FolderPlace.{FolderPlace}
 use Rattle.tree_look.specs.Faults.{HasFault}
+use Rattle.tree_look.specs.Seeing.{AreListed}
 use Rattle.mail_tree.specs.Standing.{HasTree}
 use Rattle.file_open.specs.declared.stops.FileRefusal.{FileRefusal}
 use Rattle.file_open.specs.declared.stops.FileRefusal.TheVariants as refusals
@@ -77,11 +79,12 @@ pub record IsKept (knows : Header → List ℕ → Type 0) (bytes : List ℕ) (h
   pub front : bytes ≡ take 564 (file_of world.here)
   pub holds : (is : IsFound world.here found) (N : Nodes) → AreThose is.nodes N → Holds knows bytes header world N
 
--- The keeper of an opened file holds the nodes that the files laid at the start, with the header that they opened with and its bytes; the nodes have a tree whose folders stand at these places.
-pub record IsOpened (knows : Header → List ℕ → Type 0) (bytes : List ℕ) (header : Header) (old : Image) (now : World) (places : List FolderPlace) : Type 0 where
+-- The keeper of an opened file holds the nodes that the files laid at the start, with the header that they opened with and its bytes; the nodes have a tree, of which this is known: where its folders stand, and which of its messages are unread.
+pub record IsOpened (knows : Header → List ℕ → Type 0) (bytes : List ℕ) (header : Header) (old : Image) (now : World) (known : Known) : Type 0 where
   pub nodes : Nodes
   pub laid : LaysNodes old nodes header.indexes
   pub own : laid.header ≡ header
   pub front : bytes ≡ take 564 (file_of old)
   pub held : Holds knows bytes header now nodes
-  pub tree : HasTree nodes places
+  pub tree : HasTree nodes known.places
+  pub flags : AreListed nodes known.places known.flags

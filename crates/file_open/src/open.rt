@@ -12,17 +12,17 @@ use crate::stops::{FileRefusal, FileStop};
 use crate::store::FoundStore;
 use file_scan::scan_file;
 use gate_file::SIDE_LEN;
-use mail_tree::Places;
+use mail_tree::Known;
 use pst_commit::{FileKeeper, close_gate};
 use pst_outside::{Outside, Part};
 use std::alloc::Global;
 use tree_look::look_folders;
 
-/// An opened file: the keeper of its nodes, and the places of the folders of their tree.
+/// An opened file: the keeper of its nodes, and what is known of their tree.
 #[derive(Drop)]
 pub struct OpenedFile<S> {
     pub keeper: FileKeeper<S>,
-    pub places: Places,
+    pub known: Known,
 }
 
 /// Opens a file without writing: the gate may be left open, so the keeper is to be read from alone. The stops are those of `open_file`.
@@ -30,8 +30,8 @@ pub fn look_file<W: Outside, S: FoundStore<W> + Drop>(
     alloc: Global,
     w: &mut W,
 ) -> Result<OpenedFile<S>, FileStop>
-    ensures reads { IfOk result (λ o. (W.view w.new).tells → ReadsFresh (W.view w.old).here o.places) }
-    ensures opened { IfOk result (λ o. (W.view w.new).tells → IsOpened (S.knows o.keeper.store) o.keeper.found o.keeper.header (W.view w.old).here (W.view w.new) o.places) }
+    ensures reads { IfOk result (λ o. (W.view w.new).tells → ReadsFresh (W.view w.old).here o.known.places) }
+    ensures opened { IfOk result (λ o. (W.view w.new).tells → IsOpened (S.knows o.keeper.store) o.keeper.found o.keeper.header (W.view w.old).here (W.view w.new) o.known) }
     ensures refused { IfErr result (λ stop. (W.view w.new).tells → StopsOpening (W.view w.old).here stop) }
     ensures fault { result ≡ Err FileStop.Fault → Rose (W.view w.old).disk_faults (W.view w.new).disk_faults }
     ensures same { Untouched (W.view w.old) (W.view w.new) }
@@ -39,11 +39,12 @@ pub fn look_file<W: Outside, S: FoundStore<W> + Drop>(
     let found = scan_file(alloc, w)?;
     let spent = is_spent(&found);
     let mut keeper = keep(alloc, w, found)?;
-    let places = look_folders(alloc, &mut keeper, w)?;
+    let (places, flags) = look_folders(alloc, &mut keeper, w)?;
     if spent {
         return Err(FileStop::Refused(FileRefusal::Ids));
     }
-    Ok(OpenedFile { keeper, places })
+    let known = Known { places, flags };
+    Ok(OpenedFile { keeper, known })
 }
 
 /// The length of the gate's file, of a file that opens.
@@ -73,8 +74,8 @@ pub fn open_file<W: Outside, S: FoundStore<W> + Drop>(
     alloc: Global,
     w: &mut W,
 ) -> Result<OpenedFile<S>, FileStop>
-    ensures reads { IfOk result (λ o. (W.view w.new).tells → ReadsFresh (W.view w.old).here o.places) }
-    ensures opened { IfOk result (λ o. (W.view w.new).tells → IsOpened (S.knows o.keeper.store) o.keeper.found o.keeper.header (W.view w.old).here (W.view w.new) o.places) }
+    ensures reads { IfOk result (λ o. (W.view w.new).tells → ReadsFresh (W.view w.old).here o.known.places) }
+    ensures opened { IfOk result (λ o. (W.view w.new).tells → IsOpened (S.knows o.keeper.store) o.keeper.found o.keeper.header (W.view w.old).here (W.view w.new) o.known) }
     ensures refused { IfErr result (λ stop. (W.view w.new).tells → StopsOpening (W.view w.old).here stop) }
     ensures fault { result ≡ Err FileStop.Fault → Rose (W.view w.old).disk_faults (W.view w.new).disk_faults }
     // The files stand for the same afterwards, and nothing is pending if nothing was.

@@ -12,13 +12,17 @@ use Rattle.node_port.specs.Nodes.{Nodes}
 use Rattle.pst_commit.specs.Commit.{LeavesNodes}
 use Rattle.pst_commit.specs.Keeping.{Holds}
 use Rattle.mail_store.specs.Planning.{StandsFor, Stores}
-use Rattle.mail_tree.specs.Tree.{Shown, Tree}
+use Rattle.mail_tree.specs.Tree.{Shown, Tree, object_at}
+use Rattle.mail_tree.specs.Flags.{AreFlags}
+use Rattle.mail_tree.specs.declared.known.Known.{Known}
 use Rattle.mail_tree.specs.declared.places.FolderPlace.{FolderPlace}
 use Rattle.file_open.proofs.Keepers.{laid_stands}
 use Rattle.file_open.specs.Opening.{IsFileRefused, IsOpened, ReadsFresh, StopsOpening}
 use Rattle.file_open.specs.declared.stops.FileRefusal.{FileRefusal}
 use Rattle.file_open.specs.declared.stops.FileStop.{FileStop}
 use Rattle.file_open.specs.declared.stops.FileStop.TheVariants as stops
+use Rattle.tree_look.specs.Seeing.{AreListed}
+use Rattle.tree_shown.proofs.Known.{shows_flags}
 use Rattle.tree_shown.proofs.Made.{shows_tree}
 use Rattle.store_session.specs.Carrying.{Has}
 use Rattle.store_session.specs.Session.{StoreSessionEnds}
@@ -109,25 +113,26 @@ Leaving first mid = (found : List ℕ) (N : Nodes) (last : List ℕ) → (first.
 
 -- ---- an opening that gave a keeper
 
-pub ends_opened : (knows : Header → List ℕ → Type 0) (bytes : List ℕ) (header : Header) (places : List FolderPlace) (first mid now : World) (end : SessionEnd)
-    → IsOpened knows bytes header first.here mid places
+pub ends_opened : (knows : Header → List ℕ → Type 0) (bytes : List ℕ) (header : Header) (known : Known) (first mid now : World) (end : SessionEnd)
+    → IsOpened knows bytes header first.here mid known
     → now.tells → (now.tells → mid.tells)
     → (mid.tells → mid.input ≡ first.input)
     → Settled mid → (mid.tells → IsShut mid.here.side)
     → Leaving first mid
-    → ((T : Tree) → Has (Holds knows bytes header mid) header.indexes places (λ image. IsShut image.side) mid T → (true ≡ true → now.tells)
+    → ((T : Tree) → Has (Holds knows bytes header mid) header.indexes known (λ image. IsShut image.side) mid T → (true ≡ true → now.tells)
     → StoreSessionEnds (λ c U. StandsFor (Stands bytes c) U) (λ image. IsShut image.side) mid now T end)
     → EndsOpened first now end
-ends_opened knows bytes header places first mid now end o tells told input settled shut leaving session =
-    let got = shows_tree o.nodes places header.indexes o.tree in
+ends_opened knows bytes header known first mid now end o tells told input settled shut leaving session =
+    let got = shows_tree o.nodes known.places header.indexes o.tree in
     let T : Tree = got.0 in
     let same_last : T.last ≡ header.indexes = got.2 in
     let good : IsGood T = record { whole = got.4; is_found = got.5 } in
+    let flags : AreFlags (object_at T) known.flags = shows_flags o.nodes T known.flags got.3 (subst (λ p. AreListed o.nodes p known.flags) (sym got.1) o.flags) in
     let shows : (c : Image) → Stands bytes c o.nodes T.last → StandsFor (Stands bytes c) T = λ c is. record { nodes = o.nodes; held = is; at = got.3.at; counters = refl } in
     let stands : Stands bytes first.here o.nodes T.last = subst (λ l. Stands bytes first.here o.nodes l) (sym same_last) (laid_stands bytes o.laid o.front) in
     let opening : LeavesOnly first mid (λ c. (c.said ≡ first.here.said) × ReadsAs bytes c T) = leaves_tree bytes first mid o.nodes T shows good (leaving bytes o.nodes T.last (λ t. stands)) in
-    let has : Has (Holds knows bytes header mid) header.indexes places (λ image. IsShut image.side) mid T = record {
-      stores = record { shown = record { nodes = o.nodes; held = o.held; at = got.3.at; counters = same_last }; where_is = got.1 };
+    let has : Has (Holds knows bytes header mid) header.indexes known (λ image. IsShut image.side) mid T = record {
+      stores = record { shown = record { nodes = o.nodes; held = o.held; at = got.3.at; counters = same_last }; knows = record { places = got.1; flags = flags } };
       whole = got.4;
       settled = settled;
       at_rest = shut;

@@ -58,7 +58,7 @@ pub fn run_file<W: Outside, S: FoundStore<W> + Drop>(alloc: Global, world: &mut 
         Ok(opened) => {
             let store = Store {
                 keeper: opened.keeper,
-                places: opened.places,
+                known: opened.known,
             };
             FileRun::Ended(run_session(alloc, store, world))
         }

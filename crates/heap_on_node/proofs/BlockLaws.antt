@@ -1,12 +1,12 @@
 -- How many blocks the items of a packed heap take.
-use Rattle.std.proofs.Common.{◌≡◌, ◌≤◌, ◌<◌, ◌==◌, ◌&&◌, ◌+◌, ◌-◌, ◌*◌, ◌/◌, ◌%◌, inl, inr, nat_le, ℕ, zero, suc, true, false, List, [], ◌∷◌, ◌++◌, length, get_or, refl, sym, ap, ◌∙◌, length-append, arith}
+use Rattle.std.proofs.Common.{◌≡◌, ◌≤◌, ◌<◌, ◌==◌, ◌+◌, ◌-◌, ◌*◌, ◌/◌, ◌%◌, inl, inr, ℕ, zero, suc, true, false, List, [], ◌∷◌, ◌++◌, length, get_or, sym, ap, ◌∙◌, length-append, arith}
 use Rattle.std.proofs.lemmas.Bool.{cases_Bool, cases_lt, eqb-true}
 use Rattle.std.specs.List.{concat}
 use Rattle.heap_on_node.specs.Packing.{IsPacked, fit_block, halves, has_half, has_room, head_size, spread, spread_of}
 use Rattle.heap_on_node.proofs.PackingLaws.{fit_block-push, head-bounds, room-from}
 
--- items count for their bytes twice, and for 4 each
-spread-bytes : (xs : List (List ℕ)) → 2 * length (concat xs) + 2 * length xs ≤ spread_of xs
+-- items count for their bytes and 2 each, and for 4 each
+spread-bytes : (xs : List (List ℕ)) → length (concat xs) + 2 * length xs ≤ spread_of xs
 spread-bytes [] = omega arith
 spread-bytes (x ∷ xs) = omega (arith, spread-bytes xs, length-append x (concat xs))
 
@@ -14,8 +14,8 @@ spread-count : (xs : List (List ℕ)) → 4 * length xs ≤ spread_of xs
 spread-count [] = omega arith
 spread-count (x ∷ xs) = omega (arith, spread-count xs)
 
--- the first of them left out but for its own bytes, for their bytes and 2 each
-first-bytes : (xs : List (List ℕ)) → length (concat xs) + 2 * length xs + length (get_or xs 0 []) ≤ spread_of xs
+-- and for the bytes of the first once more, but for 2
+first-bytes : (xs : List (List ℕ)) → length (concat xs) + 2 * length xs + length (get_or xs 0 []) ≤ spread_of xs + 2
 first-bytes [] = omega arith
 first-bytes (x ∷ xs) = omega (arith, spread-bytes xs, length-append x (concat xs))
 
@@ -23,11 +23,15 @@ first-count : (xs : List (List ℕ)) → 4 * length xs + length (get_or xs 0 [])
 first-count [] = omega arith
 first-count (x ∷ xs) = omega (arith, spread-count xs)
 
+first-alone : (xs : List (List ℕ)) → length (get_or xs 0 []) ≤ spread_of xs
+first-alone [] = omega arith
+first-alone (x ∷ xs) = omega arith
+
 true-false : true ≡ false → ⊥
 true-false e = cc
 
 -- a block that has no room for one more item is paid for
-pays : (k : ℕ) (g : List (List ℕ)) (x : List ℕ) → fit_block k (g ++ x ∷ []) ≡ false → 8169 + length (get_or g 0 []) ≤ spread_of g + length x + head_size k
+pays : (k : ℕ) (g : List (List ℕ)) (x : List ℕ) → fit_block k (g ++ x ∷ []) ≡ false → 8167 + length (get_or g 0 []) ≤ spread_of g + length x + head_size k
 pays k g x full =
     let none : has_room k (length g + 1) (length (concat g) + length x) ≡ false = sym (fit_block-push k g x) ∙ full in
     let head = head-bounds k in
@@ -58,7 +62,7 @@ heads-from k (suc n) some =
       ]
     ]
 
-heads-few : (n : ℕ) → heads 0 n ≤ 9 * n + 11
+heads-few : (n : ℕ) → heads 0 n ≤ 7 * n + 29
 unfolding heads
 heads-few zero = omega arith
 heads-few (suc n) = omega (arith, heads-from 1 n (omega arith))
@@ -67,9 +71,9 @@ heads-few (suc n) = omega (arith, heads-from 1 n (omega arith))
 abbrev Tight : ℕ → List (List (List ℕ)) → Type 0
 Tight k gs = (i : ℕ) → i + 1 < length gs → fit_block (k + i) (get_or gs i [] ++ get_or (get_or gs (i + 1) []) 0 [] ∷ []) ≡ false
 
-pays-all : (k : ℕ) (g : List (List ℕ)) (gs : List (List (List ℕ))) → Tight k (g ∷ gs) → 8169 * length gs + length (get_or g 0 []) ≤ spread (g ∷ gs) + heads k (length gs)
+pays-all : (k : ℕ) (g : List (List ℕ)) (gs : List (List (List ℕ))) → Tight k (g ∷ gs) → 8167 * length gs + length (get_or g 0 []) ≤ spread (g ∷ gs) + heads k (length gs)
 unfolding heads
-pays-all k g [] tight = omega (arith, first-bytes g)
+pays-all k g [] tight = omega (arith, first-alone g)
 pays-all k g (f ∷ fs) tight =
     let e : k + 0 ≡ k = omega arith in
     let here = pays k g (get_or f 0 []) (ap (λ (n : ℕ). fit_block n (g ++ get_or f 0 [] ∷ [])) (sym e) ∙ tight 0 (omega arith)) in
@@ -81,7 +85,7 @@ pays-all k g (f ∷ fs) tight =
     omega (arith, here, next)
 
 -- a packed heap has at most a block for each 8160 of what its items count for, and one more
-pub blocks-spread : (gs : List (List (List ℕ))) → IsPacked gs → 8160 * length gs ≤ spread gs + 8171
+pub blocks-spread : (gs : List (List (List ℕ))) → IsPacked gs → 8160 * length gs ≤ spread gs + 8189
 blocks-spread [] h = omega arith
 blocks-spread (g ∷ gs) h = omega (
   arith,

@@ -40,9 +40,9 @@ has_half k items = has_room k (length items + 1) (length (concat items) + 3580)
 unfoldable pub halves : List (List (List ℕ)) → ℕ
 halves groups = 2 * length groups - (if has_half (length groups - 1) (get_or groups (length groups - 1) []) then 1 else 0)
 
--- what an item counts for: twice its bytes, and 2; but 4 at least
+-- what an item counts for: twice its bytes, but 4 at least
 abbrev pub spend : List ℕ → ℕ
-spend x = 4 + 2 * (length x - 1)
+spend x = 4 + 2 * (length x - 2)
 
 -- what the items of a group count for
 abbrev pub spread_of : List (List ℕ) → ℕ

@@ -6,7 +6,7 @@ use Rattle.std.specs.Ordering.{nat_cmp, eq_by_cmp, match_ordering}
 use Rattle.std.specs.Cmp.{nat_cmp_total, eq_by_cmp_equiv}
 use Rattle.std.specs.FinMap as map
 use Rattle.std.specs.Bool.{OnFalse}
-use Rattle.std.specs.Map.{lookup}
+use Rattle.std.specs.Map.{lookup, remove_entry}
 use Rattle.std.specs.BTreeMap.{insert_entry, is_at}
 use Rattle.mail_objects.specs.declared.object.Object.{Object}
 use Rattle.mail_draft.specs.Placed.{is_placed, are_placed}
@@ -29,6 +29,36 @@ entry_put k x old new updates =
     ∙ ap (λ b. cond b (Some x) (lookup (is_at (nat_cmp q)) old)) ((eq_by_cmp_equiv nat_cmp_total).symm k q)
     ∙ ap (cond (eq_by_cmp nat_cmp q k) (Some x)) (sym (entry_is q old))
     ∙ sym (map.get-insert nat_cmp_total (map.from_entries old) k x q))
+
+-- of two choices by the same test the second counts for nothing
+twice : {X : Type 0} (b : Bool) (x y z : X) → cond b x (cond b y z) ≡ cond b x z
+twice true x y z = refl
+twice false x y z = refl
+
+-- what is put where an entry was taken out, is put where it was
+pub put_again : {X : Type 0} (k : ℕ) (x : X) (old new : List (ℕ × X))
+    → ((q : ℕ) → lookup (is_at (nat_cmp q)) new ≡ cond (is_at (nat_cmp k) q) None (lookup (is_at (nat_cmp q)) old))
+    → map.insert (map.from_entries {R = nat_cmp} new) k x ≡ map.insert (map.from_entries old) k x
+put_again k x old new updates =
+    map.same_map nat_cmp_total map.nat_cmp-IsAntisymmetric (map.insert (map.from_entries new) k x) (map.insert (map.from_entries old) k x)
+    (λ q. map.get-insert nat_cmp_total (map.from_entries new) k x q
+    ∙ ap (cond (eq_by_cmp nat_cmp q k) (Some x)) (entry_is q new ∙ updates q
+    ∙ ap (λ b. cond b None (lookup (is_at (nat_cmp q)) old)) ((eq_by_cmp_equiv nat_cmp_total).symm k q))
+    ∙ twice (eq_by_cmp nat_cmp q k) (Some x) None (lookup (is_at (nat_cmp q)) old)
+    ∙ ap (cond (eq_by_cmp nat_cmp q k) (Some x)) (sym (entry_is q old))
+    ∙ sym (map.get-insert nat_cmp_total (map.from_entries old) k x q))
+
+-- entries stay at their own ids where one is taken out
+pub rest_placed : (k : ℕ) (es : List (ℕ × Option Object)) → are_placed es ≡ true → are_placed (remove_entry (is_at (nat_cmp k)) es) ≡ true
+rest_placed k [] all = refl
+rest_placed k (e ∷ es) all =
+    let p = and_parts (is_placed e) (are_placed es) all in
+    pick (is_at (nat_cmp k) e.0) p.0 p.1 (rest_placed k es p.1)
+  where
+    pick : (b : Bool) → is_placed e ≡ true → are_placed es ≡ true → are_placed (remove_entry (is_at (nat_cmp k)) es) ≡ true
+        → are_placed (cond b es (e ∷ remove_entry (is_at (nat_cmp k)) es)) ≡ true
+    pick true own all rest = all
+    pick false own all rest = and_from (is_placed e) (are_placed (remove_entry (is_at (nat_cmp k)) es)) own rest
 
 -- entries that make no changes are none
 no_changes : {X : Type 0} (es : List (ℕ × X)) → map.from_entries {R = nat_cmp} es ≡ map.empty → es ≡ []

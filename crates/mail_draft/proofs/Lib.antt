@@ -10,3 +10,4 @@ pub mod WrittenLaws
 pub mod UnreadLaws
 pub mod SettleLaws
 pub mod WalkLaws
+pub mod GlanceLaws

@@ -6,6 +6,7 @@ use Rattle.std.specs.FinMap as map
 use Rattle.std.specs.List.{AllZip, list_all}
 use Rattle.pst_base.specs.declared.ids.Nid.{Nid}
 use Rattle.node_port.specs.Nodes.{Nodes, ascend, changed, node_at, set_at, get-set_at}
+use Rattle.node_port.specs.Stops.{size}
 use Rattle.node_port.specs.declared.node.NodeRec.{NodeRec}
 use Rattle.mail_objects.specs.Objects.{stands_at}
 use Rattle.mail_objects.specs.declared.object.Object.{Object}
@@ -18,6 +19,7 @@ use Rattle.mail_draft.proofs.SortedLaws.{StartsAt, entries-kept, first-once, sam
 use Rattle.mail_draft.specs.declared.draft.Draft.{Draft}
 use Rattle.mail_draft.specs.Drafts.{changed_of}
 use Rattle.mail_draft.specs.Placed.{are_placed, is_placed}
+use Rattle.mail_draft.specs.Space.{entries_space, space_of}
 use Rattle.mail_draft.specs.Written.{IsWritten, Writes}
 
 -- ---- in order
@@ -33,6 +35,23 @@ written-ascend low (e ∷ es) (c ∷ cs) sorted starts writes =
     and_from (nat_le low (c.0).bits) (ascend ((c.0).bits + 1) cs)
     (le-leb low (c.0).bits (omega arith))
     (written-ascend ((c.0).bits + 1) es cs (sorted-rest e es sorted) (subst (λ (k : ℕ). StartsAt (k + 1) es) (sym same) (starts-after e es sorted)) writes.1)
+
+-- ---- in size
+
+-- a node of an object takes no more than is asked for it
+written-one : (object : Option Object) (nid : Nid) (node : Option NodeRec) (cs : List (Nid × Option NodeRec)) → IsWritten object node → size ((nid, node) ∷ cs) ≤ space_of object + size cs
+unfolding space_of
+written-one None nid None cs writes = omega arith
+written-one None nid (Some node) cs writes = absurd (cc writes)
+written-one (Some object) nid None cs writes = absurd writes
+written-one (Some object) nid (Some node) cs writes = omega (arith, writes.1)
+
+-- nor do all of them
+pub written-size : (es : List (ℕ × Option Object)) (cs : List (Nid × Option NodeRec)) → AllZip Writes es cs → size cs ≤ entries_space es
+written-size [] [] writes = omega arith
+written-size [] (c ∷ cs) writes = absurd writes
+written-size (e ∷ es) [] writes = absurd writes
+written-size (e ∷ es) (c ∷ cs) writes = omega (arith, written-one e.1 c.0 c.1 cs writes.0.1, written-size es cs writes.1)
 
 -- ---- at an id
 
@@ -82,7 +101,7 @@ stands-still : (q : ℕ) (found : Option (Option Object)) (before after : Option
 stands-still q None before after old other becomes may stands = subst (λ (node : Option NodeRec). StandsAt q node old other) (sym becomes) stands
 stands-still q (Some None) before after old other becomes may stands = becomes
 stands-still q (Some (Some object)) before None old other becomes may stands = absurd becomes
-stands-still q (Some (Some object)) before (Some node) old other becomes may stands = (refl, (node, refl, becomes q may))
+stands-still q (Some (Some object)) before (Some node) old other becomes may stands = (refl, (node, refl, becomes.0 q may))
 
 -- where nodes show a tree, they show the tree after the changes once these nodes are changed
 pub stands-after : (es : List (ℕ × Option Object)) (cs : List (Nid × Option NodeRec)) (N others : Nodes) (objects : Objects) (q : ℕ)

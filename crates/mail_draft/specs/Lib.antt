@@ -7,3 +7,6 @@ pub mod Written
 pub mod Standing
 pub mod Walks
 pub mod Space
+pub mod Unread
+pub mod Listed
+pub mod Glancing

@@ -1,17 +1,14 @@
 -- The room for which a command asks: the blocks of all that it puts, and some for what it removes.
 use Rattle.std.specs.Prelude.{ℕ, ◌+◌, ◌*◌, ◌/◌, ◌^◌, min, List, [], ◌∷◌, Option, None, Some}
 use Rattle.std.specs.FinMap as map
-use Rattle.space_bound.specs.Space.{kept_space, message_space, props_space, table_space}
+use Rattle.mail_objects.specs.Objects.{object_space}
 use Rattle.mail_objects.specs.declared.object.Object.{Object}
-use Rattle.mail_objects.specs.declared.object.Object.TheVariants.{Context, Table, Message}
 use Rattle.mail_tree.specs.Changing.{Changed}
 
 -- the blocks of an object that is put; 3 for one that is removed
 unfoldable pub space_of : Option Object → ℕ
 space_of None = 3
-space_of (Some (Context c)) = props_space c.props + kept_space c.kept
-space_of (Some (Table t)) = table_space t.table
-space_of (Some (Message m)) = message_space m
+space_of (Some object) = object_space object
 
 -- those of all of them
 abbrev pub entries_space : List (ℕ × Option Object) → ℕ

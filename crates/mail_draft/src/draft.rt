@@ -63,6 +63,19 @@ impl Draft {
         Ok(Draft { objects, crowded })
     }
 
+    /// The draft without what was put at an id or removed from it, and what that was, if anything. Takes no memory.
+    pub(crate) fn take(self, nid: Nid) -> (Draft, Option<Option<Object>>)
+        ensures rest { (object : Option Object) → with_object nid.bits object (changed_of result.0) ≡ with_object nid.bits object (changed_of self) }
+        ensures taken { result.1 ≡ map.get (changed_of self).objects nid.bits }
+    {
+        let Draft {
+            mut objects,
+            crowded,
+        } = self;
+        let taken = objects.remove(&nid.bits);
+        (Draft { objects, crowded }, taken)
+    }
+
     /// The draft in which some object got too many values, if so.
     pub fn crowded(self, crowds: bool) -> Draft
         ensures objects { (changed_of result).objects ≡ (changed_of self).objects }

@@ -8,8 +8,11 @@
 mod beside;
 mod draft;
 mod ending;
+mod flags;
+mod glance;
 mod ids;
 mod kept;
+mod listed;
 mod outcome;
 mod outcomes;
 mod read;
@@ -17,11 +20,15 @@ mod rows;
 mod settle;
 mod space;
 mod stop;
+mod touch;
+mod unread;
 mod values;
 
 pub use beside::{associated, contents, hierarchy};
 pub use draft::Draft;
-pub use ending::finish;
+pub use ending::{finish, within_limits};
+pub use flags::flag_changes;
+pub use glance::{glance_of, message_content, number_told, text_told};
 pub use ids::{new_id, next_index};
 pub use outcome::Outcome;
 pub use outcomes::{changing, making, moving, replying};
@@ -30,6 +37,7 @@ pub use rows::{add_shown, drop_shown, put_shown};
 pub use settle::{counted, mirrored, settled, with_context};
 pub use space::space_needed;
 pub use stop::Stop;
+pub use touch::touched;
 pub use values::{
     bytes_of, crowds, is_read, name_of, number_of, put_number, put_text, put_time, put_truth,
     text_of, with_counts,

@@ -46,7 +46,7 @@ pub fn context_at<W: Outside, K: NodeReader<W>>(
 }
 
 /// The object as a table, if it is there and is one.
-fn as_table(object: &Option<Object>) -> Option<&TableNode>
+pub fn as_table(object: &Option<Object>) -> Option<&TableNode>
     ensures { option_copied result ≡ as_table object.now }
 {
     match object {
@@ -77,7 +77,7 @@ pub fn table_at<W: Outside, K: NodeReader<W>>(
 }
 
 /// The object as a message, if it is there and is one.
-fn as_message(object: &Option<Object>) -> Option<&Mail>
+pub fn as_message(object: &Option<Object>) -> Option<&Mail>
     ensures { option_copied result ≡ as_message object.now }
 {
     match object {

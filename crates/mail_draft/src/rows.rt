@@ -1,16 +1,17 @@
 //! Rows that show objects.
-ghost use Rattle.std.specs.Prelude.{◌≡◌, ℕ, List, length, IfErr};
+ghost use Rattle.std.specs.Prelude.{◌≡◌, ℕ, List, Option, length, IfErr, IfOk};
 ghost use Rattle.mapi_values.specs.Values.{Val};
 ghost use Rattle.mail_tree.specs.Tree.{Shown, Tree};
 ghost use Rattle.mail_draft.specs.Answers.{IsCaused, Looks, Says};
 ghost use Rattle.mail_draft.specs.Drafts.{changed_of};
-ghost use Rattle.mail_tree.specs.Changing.{add_shown, drop_shown, overfills, put_shown};
+ghost use Rattle.mail_objects.specs.declared.object.Object.{Object};
+ghost use Rattle.mail_tree.specs.Changing.{add_shown, as_table, drop_shown, overfills, put_shown, table_at, with_object};
 
 use crate::draft::Draft;
-use crate::read::table_at;
+use crate::kept::kept_table;
 use crate::stop::Stop;
 use command_text::{CommandRefusal, Limit};
-use mail_objects::Object;
+use mail_objects::{Object, TableNode};
 use mapi_values::{Props, Table};
 use node_port::NodeReader;
 use pst_base::Nid;
@@ -23,6 +24,40 @@ fn overfills(old_len: usize, table: &Table) -> bool
 {
     let len = table.rows().len();
     len > 100_000 && len > old_len
+}
+
+/// The object as a table, if it is there and is one.
+fn into_table(object: Option<Object>) -> Option<TableNode>
+    ensures { result ≡ as_table object }
+{
+    match object {
+        Some(Object::Table(node)) => Some(node),
+        _ => None,
+    }
+}
+
+/// The table at an id, and the draft in which it can be put again. A table of the draft isn't copied. The draft is lost with an `Err`.
+fn table_out<W: Outside, K: NodeReader<W>>(
+    alloc: Global,
+    keeper: &mut K,
+    w: &mut W,
+    draft: Draft,
+    nid: Nid,
+) -> Result<(Draft, TableNode), Stop>
+    ensures answer { (T : Tree) → Shown (K.holds keeper.old (W.view w.old)) (K.last keeper.old) T → Says (λ p. p.1) (table_at T (changed_of draft) nid.bits) result }
+    ensures rest { IfOk result (λ p. (object : Option Object) → with_object nid.bits object (changed_of p.0) ≡ with_object nid.bits object (changed_of draft)) }
+    ensures looks { Looks (K.holds keeper.old (W.view w.old)) (K.holds keeper.new (W.view w.new)) (K.last keeper.old) (K.last keeper.new) (K.room keeper.old) (K.room keeper.new) (W.view w.old) (W.view w.new) }
+    ensures cause { IfErr result (IsCaused K.has_disk (W.view w.old).disk_faults (W.view w.new).disk_faults) }
+{
+    let (rest, taken) = draft.take(nid);
+    let Some(object) = taken else {
+        let node = kept_table(alloc, keeper, w, nid)?;
+        return Ok((rest, node));
+    };
+    match into_table(object) {
+        Some(node) => Ok((rest, node)),
+        None => Err(Stop::formless()),
+    }
 }
 
 /// Makes the row of an object in a table show it. The draft is lost with an `Err`.
@@ -39,9 +74,9 @@ pub fn put_shown<W: Outside, K: NodeReader<W>>(
     ensures looks { Looks (K.holds keeper.old (W.view w.old)) (K.holds keeper.new (W.view w.new)) (K.last keeper.old) (K.last keeper.new) (K.room keeper.old) (K.room keeper.new) (W.view w.old) (W.view w.new) }
     ensures cause { IfErr result (IsCaused K.has_disk (W.view w.old).disk_faults (W.view w.new).disk_faults) }
 {
-    let node = table_at(alloc, keeper, w, &draft, table)?;
+    let (rest, node) = table_out(alloc, keeper, w, draft, table)?;
     let shown = node.with_row(alloc, id.bits, props)?;
-    Ok(draft.with(table, Some(Object::Table(shown)))?)
+    Ok(rest.with(table, Some(Object::Table(shown)))?)
 }
 
 /// Adds a row that shows an object to a table. Refused where the table would then have more than 100,000 rows, and more than before.
@@ -58,13 +93,13 @@ pub fn add_shown<W: Outside, K: NodeReader<W>>(
     ensures looks { Looks (K.holds keeper.old (W.view w.old)) (K.holds keeper.new (W.view w.new)) (K.last keeper.old) (K.last keeper.new) (K.room keeper.old) (K.room keeper.new) (W.view w.old) (W.view w.new) }
     ensures cause { IfErr result (IsCaused K.has_disk (W.view w.old).disk_faults (W.view w.new).disk_faults) }
 {
-    let node = table_at(alloc, keeper, w, &draft, table)?;
+    let (rest, node) = table_out(alloc, keeper, w, draft, table)?;
     let old_len = node.table().rows().len();
     let shown = node.with_row(alloc, id.bits, props)?;
     if overfills(old_len, shown.table()) {
         return Err(Stop::Refused(CommandRefusal::Limit(Limit::Rows)));
     }
-    Ok(draft.with(table, Some(Object::Table(shown)))?)
+    Ok(rest.with(table, Some(Object::Table(shown)))?)
 }
 
 /// Takes a row out of a table.
@@ -80,7 +115,7 @@ pub fn drop_shown<W: Outside, K: NodeReader<W>>(
     ensures looks { Looks (K.holds keeper.old (W.view w.old)) (K.holds keeper.new (W.view w.new)) (K.last keeper.old) (K.last keeper.new) (K.room keeper.old) (K.room keeper.new) (W.view w.old) (W.view w.new) }
     ensures cause { IfErr result (IsCaused K.has_disk (W.view w.old).disk_faults (W.view w.new).disk_faults) }
 {
-    let node = table_at(alloc, keeper, w, &draft, table)?;
+    let (rest, node) = table_out(alloc, keeper, w, draft, table)?;
     let shown = node.without_row(id.bits);
-    Ok(draft.with(table, Some(Object::Table(shown)))?)
+    Ok(rest.with(table, Some(Object::Table(shown)))?)
 }

@@ -4,13 +4,16 @@ use Rattle.std.proofs.Common.{◌≡◌, ℕ, ◌+◌, ◌<◌, suc, List, [], �
 use Rattle.std.proofs.lemmas.Bool.{eq-eqb, eqb-true}
 use Rattle.std.specs.Result.{IsErrAnd}
 use Rattle.mail_tree.specs.declared.places.FolderPlace.{FolderPlace}
-use Rattle.mail_tree.specs.Changing.{Answer, Changed, ◌>>=◌, associated, contents, context_at, message_at, nothing, table_at}
+use Rattle.mail_tree.specs.Changing.{Answer, Changed, ◌>>=◌, associated, contents, context_at, message_at, newest, nothing, now_at, table_at}
 use Rattle.mail_tree.specs.Settling.{message_ids}
 use Rattle.mail_tree.specs.Places.{is_child, is_plain}
 use Rattle.mail_tree.specs.declared.places.Sort.TheVariants.{Plain}
 use Rattle.command_text.specs.declared.reply.Reply.{Reply}
 use Rattle.command_text.specs.declared.reply.LastLine.{LastLine}
 use Rattle.mail_objects.specs.Forms.{Ctx, Tbl}
+use Rattle.mail_objects.specs.declared.object.Object.{Object}
+use Rattle.std.specs.Ordering.{nat_cmp}
+use Rattle.std.specs.FinMap as map
 use Rattle.mapi_values.specs.Messages.{Mes}
 use Rattle.command_text.specs.declared.reply.DataLine.{DataLine}
 use Rattle.command_text.specs.declared.reply.DataLine.TheVariants as lines
@@ -19,7 +22,7 @@ use Rattle.mail_draft.specs.declared.draft.Draft.{Draft}
 use Rattle.mail_draft.specs.Drafts.{changed_of}
 use Rattle.mail_draft.specs.declared.stop.Stop.{Stop}
 use Rattle.mail_draft.specs.Answers.{Says}
-use Rattle.mail_tree.specs.Tree.{Tree}
+use Rattle.mail_tree.specs.Tree.{Tree, object_at}
 use Rattle.mail_tree.specs.Ids.{is_taken}
 use Rattle.mail_tree.specs.Folders.{Outcome, associated_in, folder_in, folder_line, folder_lines, listed, message_lines, nid, replied, unchanged, unless_named, unless_plain}
 use Rattle.mail_folders.specs.Pieces.{both_plain_in, each, line_of_folder, line_of_message, lines_in, plain_in, plain_listing, unless_has_name}
@@ -195,3 +198,7 @@ lists_at view T f p other result plain said = rw plain (subst (λ a. Says view a
 -- a reply without lines, by its parts
 pub reply_is : (r : Reply) (last : LastLine) → r.lines ≡ [] → r.last ≡ last → r ≡ replied last
 reply_is r last e e' = ap (λ (lines : List DataLine). record r { lines = lines }) e ∙ ap (λ (end : LastLine). record (replied last) { last = end }) e'
+
+-- what stands there before anything is changed
+pub now_nothing : (T : Tree) (q : ℕ) → now_at T nothing q ≡ object_at T q
+now_nothing T q = ap (λ (r : Option (Option Object)). newest r (object_at T q)) (map.get-empty nat_cmp q)

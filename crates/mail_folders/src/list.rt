@@ -1,10 +1,14 @@
 //! `ls`
-ghost use Rattle.std.specs.Prelude.{◌≡◌, filter, IfErr, IfOk};
+ghost use Rattle.std.specs.Prelude.{◌≡◌, filter, IfErr, IfOk, Ok, Some};
+ghost use Rattle.mapi_values.specs.Messages.{Mes};
+ghost use Rattle.content_glance.specs.Glances.{IsTold};
 ghost use Rattle.mail_tree.specs.Tree.{Shown, Tree};
 ghost use Rattle.mail_tree.specs.Folders.{listed, listing};
 ghost use Rattle.mail_folders.specs.Pieces.{each, line_of_folder, line_of_message, lines_in, plain_listing};
 ghost use Rattle.mail_tree.specs.Places.{is_child};
 ghost use Rattle.mail_tree.specs.Settling.{message_ids};
+ghost use Rattle.mail_tree.specs.Changing.{message_at, nothing};
+ghost use Rattle.mail_tree.specs.Values.{text_of};
 ghost use Rattle.mail_draft.specs.Answers.{IsCaused, Looks, Says};
 ghost use Rattle.mail_draft.specs.Outcomes.{outcome_of};
 
@@ -12,10 +16,13 @@ use crate::finding::folder_in;
 use crate::names::is_child;
 use crate::reading::{context_in, message_in, table_in};
 use command_text::{DataLine, DataLines, LastLine, Reply};
-use mail_draft::{Outcome, Stop, contents, name_of, number_of, text_of};
+use content_glance::Glance;
+use mail_draft::{
+    Outcome, Stop, contents, glance_of, message_content, name_of, number_told, text_of, text_told,
+};
 use mail_tree::{FolderPlace, Places, Sort};
-use mapi_values::Table;
 use mapi_values::tags::{PID_TAG_MESSAGE_SIZE, PID_TAG_SUBJECT};
+use mapi_values::{Table, Units};
 use node_port::NodeReader;
 use pst_base::Nid;
 use pst_outside::Outside;
@@ -137,6 +144,25 @@ fn line_of_folder<W: Outside, K: NodeReader<W>>(
     })
 }
 
+/// The subject of a message whose node tells this of it. The whole message is read only where its subject stands in a subnode.
+fn subject_of<W: Outside, K: NodeReader<W>>(
+    alloc: Global,
+    keeper: &mut K,
+    w: &mut W,
+    id: Nid,
+    subject: &Glance,
+) -> Result<Units, Stop>
+    ensures answer { (T : Tree) → Shown (K.holds keeper.old (W.view w.old)) (K.last keeper.old) T → (M : Mes) → message_at T nothing id.bits ≡ Ok M → IsTold 0x0037 M.props (Some subject.now) → Says (λ units. units) (Ok (text_of 0x0037 M.props)) result }
+    ensures looks { Looks (K.holds keeper.old (W.view w.old)) (K.holds keeper.new (W.view w.new)) (K.last keeper.old) (K.last keeper.new) (K.room keeper.old) (K.room keeper.new) (W.view w.old) (W.view w.new) }
+    ensures cause { IfErr result (IsCaused K.has_disk (W.view w.old).disk_faults (W.view w.new).disk_faults) }
+{
+    if let Some(told) = text_told(alloc, subject)? {
+        return Ok(told);
+    }
+    let mail = message_in(alloc, keeper, w, id)?;
+    Ok(text_of(alloc, &mail.message().props, PID_TAG_SUBJECT.id)?)
+}
+
 /// The line of a message: what it tells of its size, and its subject.
 #[tactic(auto, unfolding(crate::specs::Pieces::line_of_message))]
 fn line_of_message<W: Outside, K: NodeReader<W>>(
@@ -150,10 +176,10 @@ fn line_of_message<W: Outside, K: NodeReader<W>>(
     ensures cause { IfErr result (IsCaused K.has_disk (W.view w.old).disk_faults (W.view w.new).disk_faults) }
 {
     let id = Nid { bits: message };
-    let mail = message_in(alloc, keeper, w, id)?;
-    let props = &mail.message().props;
-    let subject = text_of(alloc, props, PID_TAG_SUBJECT.id)?;
-    let size = number_of(props, PID_TAG_MESSAGE_SIZE.id);
+    let node = message_content(alloc, keeper, w, id)?;
+    let size = number_told(&glance_of(alloc, &node, PID_TAG_MESSAGE_SIZE.id)?);
+    let told = glance_of(alloc, &node, PID_TAG_SUBJECT.id)?;
+    let subject = subject_of(alloc, keeper, w, id, &told)?;
     Ok(DataLine::Message { id, size, subject })
 }
 

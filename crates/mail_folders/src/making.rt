@@ -1,5 +1,6 @@
 //! `mkdir`
 ghost use Rattle.std.specs.Prelude.{◌≡◌, ◌≤◌, IfErr, IfOk, OnOk, Some};
+ghost use Rattle.mail_tree.specs.Knowing.{Knows};
 ghost use Rattle.mail_tree.specs.Tree.{Shown, Tree};
 ghost use Rattle.mail_tree.specs.Folders.{made_folder, making_folder, unless_full, with_folder};
 ghost use Rattle.mail_tree.specs.Changing.{add_shown, associated, contents, hierarchy, nothing, refused_if, with_object};
@@ -22,7 +23,7 @@ use mail_draft::{
     put_text, settled, with_counts,
 };
 use mail_objects::{Context, Object};
-use mail_tree::{Places, contents_table, hierarchy_table};
+use mail_tree::{Known, contents_table, hierarchy_table};
 use mapi_values::tags::PID_TAG_DISPLAY_NAME;
 use mapi_values::{Props, Units};
 use node_port::{Keeper, NodeReader};
@@ -41,20 +42,20 @@ pub fn make_folder<W: Outside, K: Keeper<W>>(
     alloc: Global,
     keeper: &mut K,
     w: &mut W,
-    places: &Places,
+    known: &Known,
     parent: Nid,
     name: &Units,
 ) -> Result<Outcome, Stop>
-    ensures answer { (T : Tree) → Shown (K.holds keeper.old (W.view w.old)) (K.last keeper.old) T → T.places ≡ places.now → Says (outcome_of T) (made_folder T parent.bits name.now) result }
+    ensures answer { (T : Tree) → Shown (K.holds keeper.old (W.view w.old)) (K.last keeper.old) T → Knows T known.now → Says (outcome_of T) (made_folder T parent.bits name.now) result }
     ensures looks { Looks (K.holds keeper.old (W.view w.old)) (K.holds keeper.new (W.view w.new)) (K.last keeper.old) (K.last keeper.new) (K.room keeper.old) (K.room keeper.new) (W.view w.old) (W.view w.new) }
     ensures cause { IfErr result (IsCaused K.has_disk (W.view w.old).disk_faults (W.view w.new).disk_faults) }
 {
-    let _place = plain_in(places, parent)?;
-    unless_child_named(alloc, keeper, w, places, parent, name)?;
-    unless_deep(alloc, places, parent)?;
+    let _place = plain_in(&known.places, parent)?;
+    unless_child_named(alloc, keeper, w, &known.places, parent, name)?;
+    unless_deep(alloc, &known.places, parent)?;
     unless_full(alloc, keeper, w, hierarchy(parent))?;
     let index = next_index(alloc, keeper, w, 2, &FOLDER_KINDS)?;
-    making_folder(alloc, keeper, w, places, parent, name, index)
+    making_folder(alloc, keeper, w, known, parent, name, index)
 }
 
 /// Refused where a table has 100,000 rows or more.
@@ -132,18 +133,18 @@ fn making_folder<W: Outside, K: Keeper<W>>(
     alloc: Global,
     keeper: &mut K,
     w: &mut W,
-    places: &Places,
+    known: &Known,
     parent: Nid,
     name: &Units,
     index: u64,
 ) -> Result<Outcome, Stop>
-    ensures answer { (T : Tree) → Shown (K.holds keeper.old (W.view w.old)) (K.last keeper.old) T → T.places ≡ places.now → Says (outcome_of T) (making_folder T parent.bits name.now index) result }
+    ensures answer { (T : Tree) → Shown (K.holds keeper.old (W.view w.old)) (K.last keeper.old) T → Knows T known.now → Says (outcome_of T) (making_folder T parent.bits name.now index) result }
     ensures looks { Looks (K.holds keeper.old (W.view w.old)) (K.holds keeper.new (W.view w.new)) (K.last keeper.old) (K.last keeper.new) (K.room keeper.old) (K.room keeper.new) (W.view w.old) (W.view w.new) }
     ensures cause { IfErr result (IsCaused K.has_disk (W.view w.old).disk_faults (W.view w.new).disk_faults) }
 {
     let folder = new_id(2, index);
-    let after = with_place(alloc, places, folder, parent)?;
+    let after = with_place(alloc, &known.places, folder, parent)?;
     let with_row = added(alloc, keeper, w, folder, parent, name)?;
-    let draft = settled(alloc, keeper, w, with_row, &after, parent)?;
+    let draft = settled(alloc, keeper, w, with_row, &known.flags, &after, parent)?;
     making(alloc, keeper.counts(), draft, Some(after), 2, index)
 }

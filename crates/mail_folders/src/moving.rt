@@ -1,6 +1,8 @@
 //! `mvdir`
 ghost use Rattle.std.specs.Prelude.{◌≡◌, IfErr, IfOk, Some};
-ghost use Rattle.mail_tree.specs.Tree.{Shown, Tree};
+ghost use Rattle.mail_tree.specs.Flags.{AreFlags};
+ghost use Rattle.mail_tree.specs.Knowing.{Knows};
+ghost use Rattle.mail_tree.specs.Tree.{Shown, Tree, object_at};
 ghost use Rattle.mail_tree.specs.Folders.{moved_between, moved_folder};
 ghost use Rattle.mail_folders.specs.Pieces.{added_between, moving_folder, placing_folder, unless_crowds_name};
 ghost use Rattle.mail_tree.specs.Changing.{nothing, with_object};
@@ -19,7 +21,7 @@ use mail_draft::{
     Draft, Outcome, Stop, add_shown, drop_shown, hierarchy, moving, name_of, settled,
 };
 use mail_objects::{Context, Object};
-use mail_tree::Places;
+use mail_tree::{Flags, Known, Places};
 use mapi_values::Props;
 use node_port::NodeReader;
 use pst_base::Nid;
@@ -32,22 +34,22 @@ pub fn move_folder<W: Outside, K: NodeReader<W>>(
     alloc: Global,
     keeper: &mut K,
     w: &mut W,
-    places: &Places,
+    known: &Known,
     folder: Nid,
     parent: Nid,
 ) -> Result<Outcome, Stop>
-    ensures answer { (T : Tree) → Shown (K.holds keeper.old (W.view w.old)) (K.last keeper.old) T → T.places ≡ places.now → Says (outcome_of T) (moved_folder T folder.bits parent.bits) result }
+    ensures answer { (T : Tree) → Shown (K.holds keeper.old (W.view w.old)) (K.last keeper.old) T → Knows T known.now → Says (outcome_of T) (moved_folder T folder.bits parent.bits) result }
     ensures looks { Looks (K.holds keeper.old (W.view w.old)) (K.holds keeper.new (W.view w.new)) (K.last keeper.old) (K.last keeper.new) (K.room keeper.old) (K.room keeper.new) (W.view w.old) (W.view w.new) }
     ensures cause { IfErr result (IsCaused K.has_disk (W.view w.old).disk_faults (W.view w.new).disk_faults) }
 {
-    let place = both_plain_in(places, folder, parent)?;
+    let place = both_plain_in(&known.places, folder, parent)?;
     unless_protected(alloc, keeper, w, folder)?;
-    unless_within(alloc, places, folder, parent)?;
+    unless_within(alloc, &known.places, folder, parent)?;
     if place.parent.bits == parent.bits {
         let reply = Reply::without_data(alloc, LastLine::Done);
         return Ok(Outcome::unchanged(alloc, reply));
     }
-    moving_folder(alloc, keeper, w, places, folder, place.parent, parent)
+    moving_folder(alloc, keeper, w, known, folder, place.parent, parent)
 }
 
 /// Refused where a folder in a parent has the name that this one has.
@@ -75,18 +77,18 @@ fn moving_folder<W: Outside, K: NodeReader<W>>(
     alloc: Global,
     keeper: &mut K,
     w: &mut W,
-    places: &Places,
+    known: &Known,
     folder: Nid,
     from: Nid,
     to: Nid,
 ) -> Result<Outcome, Stop>
-    ensures answer { (T : Tree) → Shown (K.holds keeper.old (W.view w.old)) (K.last keeper.old) T → T.places ≡ places.now → Says (outcome_of T) (moving_folder T folder.bits from.bits to.bits) result }
+    ensures answer { (T : Tree) → Shown (K.holds keeper.old (W.view w.old)) (K.last keeper.old) T → Knows T known.now → Says (outcome_of T) (moving_folder T folder.bits from.bits to.bits) result }
     ensures looks { Looks (K.holds keeper.old (W.view w.old)) (K.holds keeper.new (W.view w.new)) (K.last keeper.old) (K.last keeper.new) (K.room keeper.old) (K.room keeper.new) (W.view w.old) (W.view w.new) }
     ensures cause { IfErr result (IsCaused K.has_disk (W.view w.old).disk_faults (W.view w.new).disk_faults) }
 {
-    unless_crowds_name(alloc, keeper, w, places, folder, to)?;
-    unless_moves_deep(alloc, places, folder, to)?;
-    placing_folder(alloc, keeper, w, places, folder, from, to)
+    unless_crowds_name(alloc, keeper, w, &known.places, folder, to)?;
+    unless_moves_deep(alloc, &known.places, folder, to)?;
+    placing_folder(alloc, keeper, w, known, folder, from, to)
 }
 
 /// Moves a folder from one parent to another, where it then stands.
@@ -95,17 +97,17 @@ fn placing_folder<W: Outside, K: NodeReader<W>>(
     alloc: Global,
     keeper: &mut K,
     w: &mut W,
-    places: &Places,
+    known: &Known,
     folder: Nid,
     from: Nid,
     to: Nid,
 ) -> Result<Outcome, Stop>
-    ensures answer { (T : Tree) → Shown (K.holds keeper.old (W.view w.old)) (K.last keeper.old) T → T.places ≡ places.now → Says (outcome_of T) (placing_folder T folder.bits from.bits to.bits) result }
+    ensures answer { (T : Tree) → Shown (K.holds keeper.old (W.view w.old)) (K.last keeper.old) T → Knows T known.now → Says (outcome_of T) (placing_folder T folder.bits from.bits to.bits) result }
     ensures looks { Looks (K.holds keeper.old (W.view w.old)) (K.holds keeper.new (W.view w.new)) (K.last keeper.old) (K.last keeper.new) (K.room keeper.old) (K.room keeper.new) (W.view w.old) (W.view w.new) }
     ensures cause { IfErr result (IsCaused K.has_disk (W.view w.old).disk_faults (W.view w.new).disk_faults) }
 {
-    let after = with_place(alloc, places, folder, to)?;
-    let draft = moved_between(alloc, keeper, w, &after, folder, from, to)?;
+    let after = with_place(alloc, &known.places, folder, to)?;
+    let draft = moved_between(alloc, keeper, w, &known.flags, &after, folder, from, to)?;
     moving(alloc, draft, after)
 }
 
@@ -127,12 +129,13 @@ fn moved_between<W: Outside, K: NodeReader<W>>(
     alloc: Global,
     keeper: &mut K,
     w: &mut W,
+    flags: &Flags,
     places: &Places,
     folder: Nid,
     from: Nid,
     to: Nid,
 ) -> Result<Draft, Stop>
-    ensures answer { (T : Tree) → Shown (K.holds keeper.old (W.view w.old)) (K.last keeper.old) T → Says changed_of (moved_between T folder.bits from.bits to.bits places.now) result }
+    ensures answer { (T : Tree) → Shown (K.holds keeper.old (W.view w.old)) (K.last keeper.old) T → AreFlags (object_at T) flags.now → Says changed_of (moved_between T folder.bits from.bits to.bits places.now) result }
     ensures looks { Looks (K.holds keeper.old (W.view w.old)) (K.holds keeper.new (W.view w.new)) (K.last keeper.old) (K.last keeper.new) (K.room keeper.old) (K.room keeper.new) (W.view w.old) (W.view w.new) }
     ensures cause { IfErr result (IsCaused K.has_disk (W.view w.old).disk_faults (W.view w.new).disk_faults) }
 {
@@ -140,7 +143,9 @@ fn moved_between<W: Outside, K: NodeReader<W>>(
     let props = context.props().copy(alloc)?;
     let moved = with_parent(alloc, folder, context, to)?;
     let unlisted = drop_shown(alloc, keeper, w, moved, hierarchy(from), folder)?;
-    added_between(alloc, keeper, w, unlisted, places, folder, from, to, &props)
+    added_between(
+        alloc, keeper, w, unlisted, flags, places, folder, from, to, &props,
+    )
 }
 
 /// Adds a folder's row to its new parent's table, and counts both parents anew.
@@ -150,17 +155,18 @@ fn added_between<W: Outside, K: NodeReader<W>>(
     keeper: &mut K,
     w: &mut W,
     draft: Draft,
+    flags: &Flags,
     places: &Places,
     folder: Nid,
     from: Nid,
     to: Nid,
     props: &Props,
 ) -> Result<Draft, Stop>
-    ensures answer { (T : Tree) → Shown (K.holds keeper.old (W.view w.old)) (K.last keeper.old) T → Says changed_of (added_between T folder.bits from.bits to.bits places.now props.now (changed_of draft)) result }
+    ensures answer { (T : Tree) → Shown (K.holds keeper.old (W.view w.old)) (K.last keeper.old) T → AreFlags (object_at T) flags.now → Says changed_of (added_between T folder.bits from.bits to.bits places.now props.now (changed_of draft)) result }
     ensures looks { Looks (K.holds keeper.old (W.view w.old)) (K.holds keeper.new (W.view w.new)) (K.last keeper.old) (K.last keeper.new) (K.room keeper.old) (K.room keeper.new) (W.view w.old) (W.view w.new) }
     ensures cause { IfErr result (IsCaused K.has_disk (W.view w.old).disk_faults (W.view w.new).disk_faults) }
 {
     let listed = add_shown(alloc, keeper, w, draft, hierarchy(to), folder, props)?;
-    let half = settled(alloc, keeper, w, listed, places, from)?;
-    settled(alloc, keeper, w, half, places, to)
+    let half = settled(alloc, keeper, w, listed, flags, places, from)?;
+    settled(alloc, keeper, w, half, flags, places, to)
 }

@@ -1,5 +1,6 @@
 //! `rmdir`
 ghost use Rattle.std.specs.Prelude.{◌≡◌, ◌||◌, IfErr, IfOk, None, Ok};
+ghost use Rattle.mail_tree.specs.Knowing.{Knows};
 ghost use Rattle.mail_tree.specs.Tree.{Shown, Tree};
 ghost use Rattle.mail_tree.specs.Folders.{associated_in, has_associated, has_rows, removed_folder, without_folder};
 ghost use Rattle.mail_folders.specs.Pieces.{removing_folder, unless_filled};
@@ -18,7 +19,7 @@ use mail_draft::{
     Draft, Outcome, Stop, associated, contents, drop_shown, hierarchy, moving, settled,
 };
 use mail_objects::TableNode;
-use mail_tree::Places;
+use mail_tree::Known;
 use node_port::NodeReader;
 use pst_base::Nid;
 use pst_outside::Outside;
@@ -30,17 +31,17 @@ pub fn remove_folder<W: Outside, K: NodeReader<W>>(
     alloc: Global,
     keeper: &mut K,
     w: &mut W,
-    places: &Places,
+    known: &Known,
     folder: Nid,
 ) -> Result<Outcome, Stop>
-    ensures answer { (T : Tree) → Shown (K.holds keeper.old (W.view w.old)) (K.last keeper.old) T → T.places ≡ places.now → Says (outcome_of T) (removed_folder T folder.bits) result }
+    ensures answer { (T : Tree) → Shown (K.holds keeper.old (W.view w.old)) (K.last keeper.old) T → Knows T known.now → Says (outcome_of T) (removed_folder T folder.bits) result }
     ensures looks { Looks (K.holds keeper.old (W.view w.old)) (K.holds keeper.new (W.view w.new)) (K.last keeper.old) (K.last keeper.new) (K.room keeper.old) (K.room keeper.new) (W.view w.old) (W.view w.new) }
     ensures cause { IfErr result (IsCaused K.has_disk (W.view w.old).disk_faults (W.view w.new).disk_faults) }
 {
-    let place = plain_in(places, folder)?;
+    let place = plain_in(&known.places, folder)?;
     unless_protected(alloc, keeper, w, folder)?;
     unless_filled(alloc, keeper, w, folder)?;
-    removing_folder(alloc, keeper, w, places, folder, place.parent)
+    removing_folder(alloc, keeper, w, known, folder, place.parent)
 }
 
 /// Whether a table has rows.
@@ -146,17 +147,17 @@ fn removing_folder<W: Outside, K: NodeReader<W>>(
     alloc: Global,
     keeper: &mut K,
     w: &mut W,
-    places: &Places,
+    known: &Known,
     folder: Nid,
     parent: Nid,
 ) -> Result<Outcome, Stop>
-    ensures answer { (T : Tree) → Shown (K.holds keeper.old (W.view w.old)) (K.last keeper.old) T → T.places ≡ places.now → Says (outcome_of T) (removing_folder T folder.bits parent.bits) result }
+    ensures answer { (T : Tree) → Shown (K.holds keeper.old (W.view w.old)) (K.last keeper.old) T → Knows T known.now → Says (outcome_of T) (removing_folder T folder.bits parent.bits) result }
     ensures looks { Looks (K.holds keeper.old (W.view w.old)) (K.holds keeper.new (W.view w.new)) (K.last keeper.old) (K.last keeper.new) (K.room keeper.old) (K.room keeper.new) (W.view w.old) (W.view w.new) }
     ensures cause { IfErr result (IsCaused K.has_disk (W.view w.old).disk_faults (W.view w.new).disk_faults) }
 {
-    let after = without_place(alloc, places, folder)?;
+    let after = without_place(alloc, &known.places, folder)?;
     let without = without_folder(alloc, keeper, w, folder)?;
     let unlisted = drop_shown(alloc, keeper, w, without, hierarchy(parent), folder)?;
-    let draft = settled(alloc, keeper, w, unlisted, &after, parent)?;
+    let draft = settled(alloc, keeper, w, unlisted, &known.flags, &after, parent)?;
     moving(alloc, draft, after)
 }

@@ -2,8 +2,8 @@
 use Rattle.command_text.specs.declared.reply.LastLine.{LastLine}
 use Rattle.command_text.specs.declared.reply.Limit.TheVariants.{Rows}
 use Rattle.command_text.specs.declared.reply.CommandRefusal.{CommandRefusal}
-use Rattle.std.proofs.Common.{◌≡◌, ℕ, ◌%◌, ◌<◌, ◌==◌, ◌||◌, Bool, true, false, not, nat_le, filter, List, [], Option, None, Some, IfOk, IsSome, is_some, arith, refl, sym, subst, ap, ◌∙◌, ◌⊎◌, inl, inr}
-use Rattle.std.proofs.lemmas.Bool.{and_left, cases_Bool, cases_eq, ne_eqb}
+use Rattle.std.proofs.Common.{◌≡◌, ℕ, ◌%◌, ◌<◌, ◌==◌, ◌||◌, Bool, true, false, not, filter, List, [], Option, None, Some, IfOk, IsSome, is_some, arith, refl, sym, subst, ap, ◌∙◌, ◌⊎◌, inl, inr, Ok, Err}
+use Rattle.std.proofs.lemmas.Bool.{and_left, cases_Bool, cases_eq, ne_eqb, eqb-true}
 use Rattle.std.proofs.lemmas.Option.{none-some, same_Some}
 use Rattle.mapi_values.specs.Characters.{folded}
 use Rattle.mapi_values.specs.Keyed.{drop_key, put_key}
@@ -14,7 +14,7 @@ use Rattle.mapi_values.specs.Values.{Val}
 use Rattle.mapi_values.specs.declared.value.Tag.{Tag}
 use Rattle.command_text.specs.declared.command.Command.{Command}
 use Rattle.command_text.specs.declared.command.Command.TheVariants.{MakeFolder, RenameFolder, MoveFolder, RemoveFolder, ListFolder, NewMessage, SetProperty, UnsetProperty, GetProperty, ListProperties, MoveMessage, CopyMessage, RemoveMessage, AddRecipient, RemoveRecipient, AddAttachment, AppendData, RemoveAttachment, FetchData, Save, Quit, NameProperty}
-use Rattle.command_text.specs.declared.reply.LastLine.TheVariants.{Attached, Done, Row}
+use Rattle.command_text.specs.declared.reply.LastLine.TheVariants.{Attached, Done, Made, Row}
 use Rattle.command_text.specs.declared.reply.Reply.{Reply}
 use Rattle.mail_objects.specs.Forms.{Ctx, Tbl}
 use Rattle.mail_objects.specs.declared.object.Object.{Object}
@@ -28,9 +28,9 @@ use Rattle.mail_tree.specs.Names.{NAMES, named_property, unless_nameless}
 use Rattle.mail_laws.proofs.NameSteps.{PutsNames, puts_names_after}
 use Rattle.mail_tree.specs.Changing.{Answer, Changed, ◌>>=◌, add_shown, associated, beside, contents, context_at, drop_shown, hierarchy, nothing, now_at, put_shown, table_at, with_object, within_limits}
 use Rattle.mail_tree.specs.Columns.{contents_table, hierarchy_table}
-use Rattle.mail_tree.specs.Settling.{message_ids, mirrored, settled, with_context}
+use Rattle.mail_tree.specs.Settling.{message_ids, mirrored, settled, with_context, touched}
 use Rattle.mail_tree.specs.Ids.{folder_kinds, is_spent, is_taken, message_kinds, new_id, next_index}
-use Rattle.mail_tree.specs.Folders.{Outcome, associated_in, changing, folder_lines, has_associated, has_rows, listing, made_folder, making, making_folder, moved_between, moved_folder, place, removed_folder, without_folder, without_node, message_lines, moving, renamed_folder, replied, siblings, unless_full, unless_named, unless_protected, with_folder}
+use Rattle.mail_tree.specs.Folders.{Outcome, associated_in, changing, folder_lines, has_associated, has_rows, listing, made_folder, making, making_folder, moved_between, moved_folder, nid, place, removed_folder, without_folder, without_node, message_lines, moving, renamed_folder, replied, siblings, unless_full, unless_named, unless_protected, with_folder}
 use Rattle.mail_tree.specs.Messages.{added_attachment, added_message, added_recipient, adding_attachment, adding_recipient, appended_data, appending, fetched_data, removed_attachment, spent_index, too_long, changed_message, copied_message, copy_of, copying, details, in_folder, is_crowded_message, is_overfull, making_message, message_in, moved_message, new_message, plain_message, remaking, removed_message, removed_recipient, set_value, spent_row, unset_value, value_in, value_of, with_message}
 use Rattle.mail_tree.specs.Parts.{attachment_props, attachment_tags, data_tag, has_recipient, is_full, is_wide, lengthened, new_row, next_part, next_row, part_in, part_nid, part_with, plain_part, recipient_props, recipient_tags, room_for, rows_of, with_attachment, with_bytes, with_part, with_recipient, without_attachment, without_recipient}
 use Rattle.mail_laws.specs.Laws.{AreCountedBut, IsCounted}
@@ -44,8 +44,8 @@ use Rattle.mail_laws.proofs.NewIds.{new_folder_id}
 use Rattle.mail_tree.specs.Step.{outcome}
 use Rattle.mail_laws.proofs.Keeping.{from_fine, if_any, if_found, if_test, if_then, if_weaker, never_made, if_replying}
 use Rattle.mail_tree.proofs.KindsOfPuts.{beside_kind, same_table}
-use Rattle.mail_laws.proofs.MessageSteps.{Before, fine_message_in, finished_folder, finished_id, home_of, new_message_id}
-use Rattle.mail_laws.proofs.MirrorSteps.{if_context}
+use Rattle.mail_laws.proofs.MessageSteps.{Before, fine_message_in, finished_folder, finished_id, home_of, new_message_id, fine_home}
+use Rattle.mail_laws.proofs.Touches.{if_context}
 use Rattle.mail_laws.proofs.CountSteps.{PlainIds, add_counts, any_drop, any_put, counted_fewer, counted_places, counted_put, counted_too, drop_counts, mirrored_counts, no_contents, none_passes, own_contents, put_counts, then_counts, values_put}
 use Rattle.mail_tree.proofs.Nearly.{Puts, nearly, plain_id}
 use Rattle.mail_tree.proofs.Settles.{store_of}
@@ -55,8 +55,17 @@ module _ (T : Tree) (w : Before T) (E : ℕ → Type 0) (s : AreCountedBut E T.p
   unfoldable pub Ends : ℕ → Outcome → Type 0
   Ends F o = AreCountedBut (λ x. E x × (x ≡ F → ⊥)) o.places (now_at T o.changed)
 
-  Keeps : Outcome → Type 0
+  -- counts that were right are so still
+  unfoldable pub Keeps : Outcome → Type 0
   Keeps o = AreCountedBut E o.places (now_at T o.changed)
+
+  -- the counts of these two folders are right too
+  unfoldable pub EndsBoth : ℕ → ℕ → Outcome → Type 0
+  EndsBoth F G o = AreCountedBut (λ x. (E x × (x ≡ F → ⊥)) × (x ≡ G → ⊥)) o.places (now_at T o.changed)
+
+  both_fewer : (F G : ℕ) (o : Outcome) → EndsBoth F G o → Keeps o
+  unfolding EndsBoth Keeps
+  both_fewer F G o k = counted_fewer (λ x. (E x × (x ≡ F → ⊥)) × (x ≡ G → ⊥)) E o.places (now_at T o.changed) (λ x h. h.0.0) k
 
   ids : PlainIds T.places
   ids f p e plain = plain_id (nearly (λ x. ⊥) T.places (now_at T nothing) w) f p e plain
@@ -192,18 +201,19 @@ module _ (T : Tree) (w : Before T) (E : ℕ → Type 0) (s : AreCountedBut E T.p
     ])
   ])
 
-  adds : (M : Mes) (crowded : Bool) (p : FolderPlace) (index : ℕ) → M.nid % 32 ≡ 4 → now_at T nothing M.nid ≡ None → find_place M.folder T.places ≡ Some p → is_plain p ≡ true
-      → IfOk (added_message T M (record nothing { crowded = crowded }) >>= making T T.places 4 index) (Ends M.folder)
-  adds M crowded p index four none found plain =
-      let D0 = record nothing { crowded = crowded } in let F = M.folder in
+  adds : (a : Answer Changed) → IfOk a (λ D. now_at T D ≡ now_at T nothing) → (M : Mes) (p : FolderPlace) (index : ℕ) → M.nid % 32 ≡ 4 → now_at T nothing M.nid ≡ None → find_place M.folder T.places ≡ Some p → is_plain p ≡ true
+      → IfOk (a >>= added_message T M >>= making T T.places 4 index) (Ends M.folder)
+  adds (Err e) same M p index four none found plain = tt
+  adds (Ok D0) same M p index four none found plain =
+      let F = M.folder in
       let D = with_object M.nid (Some (Message M)) D0 in
       let two = ids F p found plain in
       let E1 : ℕ → Type 0 = λ x. E x ⊎ (x ≡ F) in
       let a = add_shown T (contents F) M.nid M.props D in
       making_ends F (a >>= settled T T.places F) 4 index (then_counts T T.places ids E1 a F two
       (add_counts T T.places ids E1 D (contents F) M.nid M.props (contents_high F) (own_contents T T.places ids E1 F two (inr refl))
-      (message_put D0 D M.nid F (Some (Message M)) four s (puts_object T D0 M.nid (Some (Message M))) (λ c e. cc)
-      (λ f q u e plain at_u row. let v = w.listed f q u M.nid e plain at_u row four in absurd (none-some (Message v.0) (sym none ∙ v.1))))))
+      (message_put D0 D M.nid F (Some (Message M)) four (subst (AreCountedBut E T.places) (sym same) s) (puts_object T D0 M.nid (Some (Message M))) (λ c e. cc)
+      (λ f q u e plain at_u row. let v = w.listed f q u M.nid e plain (ap (λ at. at (contents f)) (sym same) ∙ at_u) row four in absurd (none-some (Message v.0) (sym none ∙ v.1))))))
 
   pub copies : (m folder : ℕ) → IfOk (copied_message T m folder) (Ends folder)
   unfolding copied_message copying
@@ -214,8 +224,11 @@ module _ (T : Tree) (w : Before T) (E : ℕ → Type 0) (s : AreCountedBut E T.p
       | inl plain ↦ rw plain (elim (cases_Bool (is_overfull M.recipients || is_overfull M.attachments)) [
         | inl b ↦ rw b tt
         | inr b ↦ rw b (if_then (λ u. Unit {0}) (Ends folder) (unless_full T (contents folder)) _ (if_any (unless_full T (contents folder))) (λ u v. elim (cases_Bool (is_spent (next_index T 4 message_kinds))) [
-          | inl t ↦ never_made T T.places 4 (next_index T 4 message_kinds) (Ends folder) (added_message T (copy_of (new_id 4 (next_index T 4 message_kinds)) folder M) (record nothing { crowded = is_crowded_message M })) t
-          | inr t ↦ let id = new_message_id T t in (adds (copy_of (new_id 4 (next_index T 4 message_kinds)) folder M) (is_crowded_message M) p.0 (next_index T 4 message_kinds) id.0 id.1 p.1 plain)
+          | inl t ↦ never_made T T.places 4 (next_index T 4 message_kinds) (Ends folder) (touched T M.folder (record nothing { crowded = is_crowded_message M }) >>= added_message T (copy_of (new_id 4 (next_index T 4 message_kinds)) folder M)) t
+          | inr t ↦
+              let id = new_message_id T t in
+              let touches = touched T M.folder (record nothing { crowded = is_crowded_message M }) in
+              (adds touches (from_fine (λ D. now_at T D ≡ now_at T nothing) touches (fine_home T w m M h.0 (is_crowded_message M))) (copy_of (new_id 4 (next_index T 4 message_kinds)) folder M) p.0 (next_index T 4 message_kinds) id.0 id.1 p.1 plain)
         ]))
       ])
     ])
@@ -239,36 +252,40 @@ module _ (T : Tree) (w : Before T) (E : ℕ → Type 0) (s : AreCountedBut E T.p
                 let N = plain_message (new_id 4 index) folder (message_props (new_id 4 index) class time store.0.props) in
                 let a = added_message T (finished N) nothing >>= making T T.places 4 index in
                 (subst (λ x. IfOk a (Ends x)) (finished_folder N)
-                (adds (finished N) false p.0 index (ap (λ x. x % 32) (finished_id N) ∙ id.0) (ap (now_at T nothing) (finished_id N) ∙ id.1) (ap (λ x. find_place x T.places) (finished_folder N) ∙ p.1) plain))
+                (adds (Ok nothing) refl (finished N) p.0 index (ap (λ x. x % 32) (finished_id N) ∙ id.0) (ap (now_at T nothing) (finished_id N) ∙ id.1) (ap (λ x. find_place x T.places) (finished_folder N) ∙ p.1) plain))
           ]))
     ])
   ]
 
   -- two folders that were counted anew
-  both_ended : (from to : ℕ) (places : List FolderPlace) (D : Changed) → In places (λ x. (((E x ⊎ (x ≡ from)) ⊎ (x ≡ to)) × (x ≡ from → ⊥)) × (x ≡ to → ⊥)) D → In places E D
-  both_ended from to places D k = counted_fewer (λ x. (((E x ⊎ (x ≡ from)) ⊎ (x ≡ to)) × (x ≡ from → ⊥)) × (x ≡ to → ⊥)) E places (now_at T D)
-      (λ x h. elim h.0.0 [ inl y ↦ elim y [ inl e ↦ e | inr e ↦ absurd (h.0.1 e) ] | inr e ↦ absurd (h.1 e) ]) k
+  both_ended : (from to : ℕ) (places : List FolderPlace) (D : Changed) → In places (λ x. (((E x ⊎ (x ≡ from)) ⊎ (x ≡ to)) × (x ≡ from → ⊥)) × (x ≡ to → ⊥)) D → In places (λ x. (E x × (x ≡ from → ⊥)) × (x ≡ to → ⊥)) D
+  both_ended from to places D k = counted_fewer (λ x. (((E x ⊎ (x ≡ from)) ⊎ (x ≡ to)) × (x ≡ from → ⊥)) × (x ≡ to → ⊥)) (λ x. (E x × (x ≡ from → ⊥)) × (x ≡ to → ⊥)) places (now_at T D)
+      (λ x h. ((elim h.0.0 [ inl y ↦ elim y [ inl e ↦ e | inr e ↦ absurd (h.0.1 e) ] | inr e ↦ absurd (h.1 e) ], h.0.1), h.1)) k
 
-  moves : (m folder : ℕ) → IfOk (moved_message T m folder) Keeps
-  unfolding moved_message Keeps
-  moves m folder = if_then _ Keeps (message_in T m) _ (from_fine _ (message_in T m) (fine_message_in T m w)) (λ M h. elim (cases_Option (find_place folder T.places)) [
+  -- the counts of the folder that a message left, and of that to which it moved
+  abbrev pub Moved : ℕ → ℕ → Outcome → Type 0
+  Moved m folder o = (M : Mes) × (now_at T nothing m ≡ Some (Message M)) × Keeps o × ((M.folder ≡ folder → ⊥) → EndsBoth M.folder folder o)
+
+  pub moves : (m folder : ℕ) → IfOk (moved_message T m folder) (Moved m folder)
+  unfolding moved_message Keeps EndsBoth
+  moves m folder = if_then _ (Moved m folder) (message_in T m) _ (from_fine _ (message_in T m) (fine_message_in T m w)) (λ M h. elim (cases_Option (find_place folder T.places)) [
     | inl e ↦ rw e tt
     | inr p ↦ rw p.1 (elim (cases_Bool (is_plain p.0)) [
       | inr plain ↦ rw plain tt
       | inl plain ↦ rw plain (elim (cases_Bool (M.folder == folder)) [
-        | inl b ↦ rw b s
+        | inl b ↦ rw b (M, h.0, s, λ other. absurd (other (eqb-true M.folder folder b)))
         | inr b ↦
             let N = in_folder folder M in let D = with_object m (Some (Message N)) nothing in let v = home_of T w m M h.0 in
             let from = M.folder in
             let two = ids from v.1 v.2 v.3 in let two' = ids folder p.0 p.1 plain in
             let E1 : ℕ → Type 0 = λ x. E x ⊎ (x ≡ from) in let E2 : ℕ → Type 0 = λ x. E1 x ⊎ (x ≡ folder) in let E3 : ℕ → Type 0 = λ x. E2 x × (x ≡ from → ⊥) in
             let k = message_put nothing D m from (Some (Message N)) h.1 s (puts_object T nothing m (Some (Message N))) (λ c e. cc) (only_home m M h.0 h.1) in
-            rw b (if_then (In T.places E1) Keeps (drop_shown T (contents from) m D) _ (drop_counts T T.places ids E1 D (contents from) m (contents_high from) (own_contents T T.places ids E1 from two (inr refl)) k) (λ D1 k1.
+            rw b (if_then (In T.places E1) (Moved m folder) (drop_shown T (contents from) m D) _ (drop_counts T T.places ids E1 D (contents from) m (contents_high from) (own_contents T T.places ids E1 from two (inr refl)) k) (λ D1 k1.
             let a = add_shown T (contents folder) m M.props D1 in
-            if_then (In T.places (λ x. E3 x × (x ≡ folder → ⊥))) Keeps (a >>= settled T T.places from >>= settled T T.places folder) (changing T (replied Done))
+            if_then (In T.places (λ x. E3 x × (x ≡ folder → ⊥))) (Moved m folder) (a >>= settled T T.places from >>= settled T T.places folder) (changing T (replied Done))
             (then_counts T T.places ids E3 (a >>= settled T T.places from) folder two' (then_counts T T.places ids E2 a from two
             (add_counts T T.places ids E2 D1 (contents folder) m M.props (contents_high folder) (own_contents T T.places ids E2 folder two' (inr refl)) (counted_fewer E1 E2 T.places (now_at T D1) (λ x e. inl e) k1))))
-            (λ D2 k2. limited Keeps D2 _ (both_ended from folder T.places D2 k2))))
+            (λ D2 k2. limited (Moved m folder) D2 _ (let k3 = both_ended from folder T.places D2 k2 in (M, h.0, counted_fewer (λ x. (E x × (x ≡ from → ⊥)) × (x ≡ folder → ⊥)) E T.places (now_at T D2) (λ x h. h.0.0) k3, λ other. k3)))))
       ])
     ])
   ])
@@ -317,14 +334,13 @@ module _ (T : Tree) (w : Before T) (E : ℕ → Type 0) (s : AreCountedBut E T.p
     ])
   ]
 
-  moving_keeps : (places : List FolderPlace) (a : Answer Changed) (reply : Reply) → IfOk a (In places E) → IfOk (a >>= moving T places reply) Keeps
-  unfolding Keeps
-  moving_keeps places a reply h = if_then (In places E) Keeps a (moving T places reply) h (λ D k. limited Keeps D _ k)
+  moving_ends : (F : ℕ) (places : List FolderPlace) (a : Answer Changed) (reply : Reply) → IfOk a (In places (λ x. (E x ⊎ (x ≡ F)) × (x ≡ F → ⊥))) → IfOk (a >>= moving T places reply) (Ends F)
+  unfolding Ends
+  moving_ends F places a reply h = if_then (In places (λ x. (E x ⊎ (x ≡ F)) × (x ≡ F → ⊥))) (Ends F) a (moving T places reply) h (λ D k. limited (Ends F) D _ (ended E F places D k))
 
-  -- one folder that was counted anew
-  one_ended : (F : ℕ) (places : List FolderPlace) (a : Answer Changed) → IfOk a (In places (λ x. (E x ⊎ (x ≡ F)) × (x ≡ F → ⊥))) → IfOk a (In places E)
-  one_ended F places a h = if_weaker (In places (λ x. (E x ⊎ (x ≡ F)) × (x ≡ F → ⊥))) (In places E) a h
-      (λ D k. counted_fewer (λ x. (E x ⊎ (x ≡ F)) × (x ≡ F → ⊥)) E places (now_at T D) (λ x h. elim h.0 [ inl e ↦ e | inr e ↦ absurd (h.1 e) ]) k)
+  moving_both : (F G : ℕ) (places : List FolderPlace) (a : Answer Changed) (reply : Reply) → IfOk a (In places (λ x. (E x × (x ≡ F → ⊥)) × (x ≡ G → ⊥))) → IfOk (a >>= moving T places reply) (EndsBoth F G)
+  unfolding EndsBoth
+  moving_both F G places a reply h = if_then (In places (λ x. (E x × (x ≡ F → ⊥)) × (x ≡ G → ⊥))) (EndsBoth F G) a (moving T places reply) h (λ D k. limited (EndsBoth F G) D _ k)
 
   put_ids : (f parent : ℕ) → f % 32 ≡ 2 → PlainIds (put_key place_id (place f parent) T.places)
   put_ids f parent two g p e plain = elim (cases_eq g f) [
@@ -346,8 +362,12 @@ module _ (T : Tree) (w : Before T) (E : ℕ → Type 0) (s : AreCountedBut E T.p
         | inr other ↦ (p, sym (find-put_other place_id g (place f parent) T.places other) ∙ e, plain, same)
       ])
 
-  moves_folder : (f parent : ℕ) → IfOk (moved_folder T f parent) Keeps
-  unfolding moved_folder moved_between Keeps
+  -- the counts of the parent that a folder left, and of that to which it moved
+  abbrev pub MovedFolder : ℕ → ℕ → Outcome → Type 0
+  MovedFolder f parent o = (p : FolderPlace) × (find_place f T.places ≡ Some p) × Keeps o × ((p.parent.bits ≡ parent → ⊥) → EndsBoth p.parent.bits parent o)
+
+  pub moves_folder : (f parent : ℕ) → IfOk (moved_folder T f parent) (MovedFolder f parent)
+  unfolding moved_folder moved_between Keeps EndsBoth
   moves_folder f parent = elim (cases_Option (find_place f T.places)) [
     | inl e ↦ rw e tt
     | inr p ↦ rw p.1 (elim (cases_Option (find_place parent T.places)) [
@@ -356,10 +376,10 @@ module _ (T : Tree) (w : Before T) (E : ℕ → Type 0) (s : AreCountedBut E T.p
         | inr plain ↦ rw plain tt
         | inl plain_p ↦ rw plain_p (elim (cases_Bool (is_plain q.0)) [
           | inr plain ↦ rw plain tt
-          | inl plain_q ↦ rw plain_q (if_then (λ u. f ≡ ROOT → ⊥) Keeps (unless_protected T f) _ (from_fine (λ u. f ≡ ROOT → ⊥) (unless_protected T f) (fine_protected T f w)) (λ u no_root. elim (cases_Bool (is_within T.places f parent)) [
+          | inl plain_q ↦ rw plain_q (if_then (λ u. f ≡ ROOT → ⊥) (MovedFolder f parent) (unless_protected T f) _ (from_fine (λ u. f ≡ ROOT → ⊥) (unless_protected T f) (fine_protected T f w)) (λ u no_root. elim (cases_Bool (is_within T.places f parent)) [
             | inl b ↦ rw b tt
             | inr b ↦ rw b (elim (cases_Bool (p.0.parent.bits == parent)) [
-              | inl b ↦ rw b s
+              | inl b ↦ rw b (p.0, p.1, s, λ other. absurd (other (eqb-true p.0.parent.bits parent b)))
               | inr b ↦
                   let c = w.contexts f p.0 p.1 in
                   let from = p.0.parent.bits in let v = w.parents f p.0 p.1 no_root in
@@ -376,16 +396,19 @@ module _ (T : Tree) (w : Before T) (E : ℕ → Type 0) (s : AreCountedBut E T.p
                   (counted_fewer E E2 T.places (now_at T nothing) (λ x e. inl (inl e)) s) in
                   let k1 = values_put T places places_ids E2 nothing D f c' two k0 puts (λ free. (c.0, c.1, record { messages = refl; unread = refl; folders = refl })) in
                   let a = drop_shown T (hierarchy from) f D in
-                  rw (b, c.1) (if_then (λ u. Unit {0}) Keeps (unless_named T (folded false (name_of c.0.props)) (children parent T.places)) _ (if_any (unless_named T (folded false (name_of c.0.props)) (children parent T.places))) (λ u u'.
+                  rw (b, c.1) (if_then (λ u. Unit {0}) (MovedFolder f parent) (unless_named T (folded false (name_of c.0.props)) (children parent T.places)) _ (if_any (unless_named T (folded false (name_of c.0.props)) (children parent T.places))) (λ u u'.
                   elim (cases_Bool (moves_deep T.places f parent)) [
                     | inl b ↦ rw b tt
-                    | inr b ↦ rw b (moving_keeps places _ (replied Done)
-                        (if_then (In places E2) (In places E) a _ (drop_counts T places places_ids E2 D (hierarchy from) f (hierarchy_high from) (no_contents T places places_ids E2 from) k1) (λ D1 k2.
+                    | inr b ↦
+                        let all = drop_shown T (hierarchy from) f D >>= λ D1. add_shown T (hierarchy parent) f c.0.props D1 >>= settled T places from >>= settled T places parent in
+                        rw b (if_weaker (EndsBoth from parent) (MovedFolder f parent) (all >>= moving T places (replied Done)) (moving_both from parent places all (replied Done)
+                        (if_then (In places E2) (In places (λ x. (E x × (x ≡ from → ⊥)) × (x ≡ parent → ⊥))) a _ (drop_counts T places places_ids E2 D (hierarchy from) f (hierarchy_high from) (no_contents T places places_ids E2 from) k1) (λ D1 k2.
                         let a' = add_shown T (hierarchy parent) f c.0.props D1 in
-                        if_weaker (In places (λ x. E3 x × (x ≡ parent → ⊥))) (In places E) (a' >>= settled T places from >>= settled T places parent)
+                        if_weaker (In places (λ x. E3 x × (x ≡ parent → ⊥))) (In places (λ x. (E x × (x ≡ from → ⊥)) × (x ≡ parent → ⊥))) (a' >>= settled T places from >>= settled T places parent)
                         (then_counts T places places_ids E3 (a' >>= settled T places from) parent (ids parent q.0 q.1 plain_q)
                         (then_counts T places places_ids E2 a' from (ids from v.0 v.1 v.2) (add_counts T places places_ids E2 D1 (hierarchy parent) f c.0.props (hierarchy_high parent) (no_contents T places places_ids E2 parent) k2)))
                         (λ D2 k3. both_ended from parent places D2 k3))))
+                        (λ o k. (p.0, p.1, both_fewer from parent o k, λ other. k)))
                   ]))
             ])
           ]))
@@ -422,19 +445,23 @@ module _ (T : Tree) (w : Before T) (E : ℕ → Type 0) (s : AreCountedBut E T.p
       ]) in
       record { messages = refl; unread = refl; folders = ap (λ b. Some (truth 0x360A b)) (sym none) }
 
-  makes_folder : (parent : ℕ) (name : List ℕ) → IfOk (made_folder T parent name) Keeps
-  unfolding made_folder making_folder Keeps
+  -- the counts of a new folder and of its parent
+  abbrev pub MadeFolder : ℕ → Outcome → Type 0
+  MadeFolder parent o = (f : ℕ) × (o.reply ≡ replied (Made (nid f))) × EndsBoth f parent o
+
+  pub makes_folder : (parent : ℕ) (name : List ℕ) → IfOk (made_folder T parent name) (MadeFolder parent)
+  unfolding made_folder making_folder EndsBoth
   makes_folder parent name = elim (cases_Option (find_place parent T.places)) [
     | inl e ↦ rw e tt
     | inr p ↦ rw p.1 (elim (cases_Bool (is_plain p.0)) [
       | inr plain ↦ rw plain tt
-      | inl plain ↦ rw plain (if_then (λ u. Unit {0}) Keeps (unless_named T (folded false name) (children parent T.places)) _ (if_any (unless_named T (folded false name) (children parent T.places))) (λ u u'.
+      | inl plain ↦ rw plain (if_then (λ u. Unit {0}) (MadeFolder parent) (unless_named T (folded false name) (children parent T.places)) _ (if_any (unless_named T (folded false name) (children parent T.places))) (λ u u'.
           elim (cases_Bool (is_deep T.places parent)) [
             | inl b ↦ rw b tt
-            | inr b ↦ rw b (if_then (λ v. Unit {0}) Keeps (unless_full T (hierarchy parent)) _ (if_any (unless_full T (hierarchy parent))) (λ v v'. elim (cases_Bool (is_spent (next_index T 2 folder_kinds))) [
+            | inr b ↦ rw b (if_then (λ v. Unit {0}) (MadeFolder parent) (unless_full T (hierarchy parent)) _ (if_any (unless_full T (hierarchy parent))) (λ v v'. elim (cases_Bool (is_spent (next_index T 2 folder_kinds))) [
               | inl t ↦
                   let index = next_index T 2 folder_kinds in let f = new_id 2 index in let places = put_key place_id (place f parent) T.places in
-                  never_made T places 2 index Keeps (add_shown T (hierarchy parent) f (folder_props name) (with_folder f parent name nothing) >>= settled T places parent) t
+                  never_made T places 2 index (MadeFolder parent) (add_shown T (hierarchy parent) f (folder_props name) (with_folder f parent name nothing) >>= settled T places parent) t
               | inr t ↦
                   let index = next_index T 2 folder_kinds in
                   let f = new_id 2 index in
@@ -460,15 +487,18 @@ module _ (T : Tree) (w : Before T) (E : ℕ → Type 0) (s : AreCountedBut E T.p
                   let k4 = free_put E2 places places_ids D3 f 15 (Some (Table contents_table)) two (omega arith) (omega arith) apart (λ c e. cc) k3 in
                   let is_c : now_at T D4 f ≡ Some (Context c) = p4.others f (own_id f 15 two (omega arith) (omega arith)) ∙ p3.others f (own_id f 14 two (omega arith) (omega arith)) ∙ p2.others f (own_id f 13 two (omega arith) (omega arith)) ∙ p1.here in
                   let is_t : now_at T D4 (contents f) ≡ Some (Table contents_table) = p4.others (contents f) (beside_apart f 14 15 (omega arith) (omega arith) (λ e. omega arith)) ∙ p3.here in
-                  let k5 = counted_fewer (λ x. E1 x × (x ≡ f → ⊥)) E1 places (now_at T D4) (λ x e. e.0) (counted_too E1 places (now_at T D4) f k4 (λ c' t' is_c' is_t'.
+                  let E3 : ℕ → Type 0 = λ x. E1 x × (x ≡ f → ⊥) in
+                  let k5 = counted_too E1 places (now_at T D4) f k4 (λ c' t' is_c' is_t'.
                   let same_c : c ≡ c' = cc (sym is_c ∙ is_c') in
                   let same_t = same_table contents_table t' (sym is_t ∙ is_t') in
-                  subst (λ (x : Ctx). IsCounted places (now_at T D4) f x t') same_c (subst (λ (x : Tbl). IsCounted places (now_at T D4) f c x) same_t (new_counts f parent name unplaced other (now_at T D4))))) in
+                  subst (λ (x : Ctx). IsCounted places (now_at T D4) f x t') same_c (subst (λ (x : Tbl). IsCounted places (now_at T D4) f c x) same_t (new_counts f parent name unplaced other (now_at T D4)))) in
                   let a = add_shown T (hierarchy parent) f (folder_props name) D4 in
-                  (if_then (In places E) Keeps (a >>= settled T places parent) (making T places 2 index)
-                  (one_ended parent places (a >>= settled T places parent) (then_counts T places places_ids E1 a parent (ids parent p.0 p.1 plain)
-                  (add_counts T places places_ids E1 D4 (hierarchy parent) f (folder_props name) (hierarchy_high parent) (no_contents T places places_ids E1 parent) k5)))
-                  (λ D k. limited Keeps D _ (if_test Keeps (is_spent index) Ids _ k)))
+                  let Q : ℕ → Type 0 = λ x. (E x × (x ≡ f → ⊥)) × (x ≡ parent → ⊥) in
+                  (if_then (In places (λ x. E3 x × (x ≡ parent → ⊥))) (MadeFolder parent) (a >>= settled T places parent) (making T places 2 index)
+                  (then_counts T places places_ids E3 a parent (ids parent p.0 p.1 plain)
+                  (add_counts T places places_ids E3 D4 (hierarchy parent) f (folder_props name) (hierarchy_high parent) (no_contents T places places_ids E3 parent) k5))
+                  (λ D k. limited (MadeFolder parent) D _ (if_test (MadeFolder parent) (is_spent index) Ids _
+                  (f, refl, counted_fewer (λ x. E3 x × (x ≡ parent → ⊥)) Q places (now_at T D) (λ x h. ((elim h.0.0 [ inl e ↦ e | inr e ↦ absurd (h.1 e) ], h.0.1), h.1)) k))))
             ]))
           ]))
     ])
@@ -481,17 +511,21 @@ module _ (T : Tree) (w : Before T) (E : ℕ → Type 0) (s : AreCountedBut E T.p
   node_goes E' places places_ids D f false two apart k = k
   node_goes E' places places_ids D f true two apart k = free_put E' places places_ids D f 15 None two (omega arith) (omega arith) apart (λ c e. none-some (Context c) e) k
 
-  removes_folder : (f : ℕ) → IfOk (removed_folder T f) Keeps
+  -- the counts of the parent that a folder had
+  abbrev pub RemovedFolder : ℕ → Outcome → Type 0
+  RemovedFolder f o = (p : FolderPlace) × (find_place f T.places ≡ Some p) × Ends p.parent.bits o
+
+  pub removes_folder : (f : ℕ) → IfOk (removed_folder T f) (RemovedFolder f)
   unfolding removed_folder
   removes_folder f = elim (cases_Option (find_place f T.places)) [
     | inl e ↦ rw e tt
     | inr p ↦ rw p.1 (elim (cases_Bool (is_plain p.0)) [
       | inr plain ↦ rw plain tt
       | inl plain ↦ rw plain (
-          if_then (λ u. f ≡ ROOT → ⊥) Keeps (unless_protected T f) _ (from_fine (λ u. f ≡ ROOT → ⊥) (unless_protected T f) (fine_protected T f w)) (λ u no_root.
-          if_then (λ a. Unit {0}) Keeps (table_at T nothing (hierarchy f)) _ (if_any (table_at T nothing (hierarchy f))) (λ a u.
-          if_then (λ b. Unit {0}) Keeps (table_at T nothing (contents f)) _ (if_any (table_at T nothing (contents f))) (λ b u.
-          if_then (λ c. Unit {0}) Keeps (associated_in T f) _ (if_any (associated_in T f)) (λ c u.
+          if_then (λ u. f ≡ ROOT → ⊥) (RemovedFolder f) (unless_protected T f) _ (from_fine (λ u. f ≡ ROOT → ⊥) (unless_protected T f) (fine_protected T f w)) (λ u no_root.
+          if_then (λ a. Unit {0}) (RemovedFolder f) (table_at T nothing (hierarchy f)) _ (if_any (table_at T nothing (hierarchy f))) (λ a u.
+          if_then (λ b. Unit {0}) (RemovedFolder f) (table_at T nothing (contents f)) _ (if_any (table_at T nothing (contents f))) (λ b u.
+          if_then (λ c. Unit {0}) (RemovedFolder f) (associated_in T f) _ (if_any (associated_in T f)) (λ c u.
           elim (cases_Bool (has_rows a || (has_rows b || has_associated c))) [
             | inl some ↦ rw some tt
             | inr none ↦
@@ -518,8 +552,9 @@ module _ (T : Tree) (w : Before T) (E : ℕ → Type 0) (s : AreCountedBut E T.p
                 let k3 = free_put E1 places places_ids D2 f 14 None two (omega arith) (omega arith) apart (λ c e. none-some (Context c) e) k2 in
                 let k4 = node_goes E1 places places_ids D3 f (is_taken T (associated f)) two apart k3 in
                 let a' = drop_shown T (hierarchy from) f D in
-                rw none (moving_keeps places (a' >>= settled T places from) (replied Done) (one_ended from places (a' >>= settled T places from)
-                (then_counts T places places_ids E1 a' from (ids from v.0 v.1 v.2) (drop_counts T places places_ids E1 D (hierarchy from) f (hierarchy_high from) (no_contents T places places_ids E1 from) k4))))
+                rw none (if_weaker (Ends from) (RemovedFolder f) (a' >>= settled T places from >>= moving T places (replied Done)) (moving_ends from places (a' >>= settled T places from) (replied Done)
+                (then_counts T places places_ids E1 a' from (ids from v.0 v.1 v.2) (drop_counts T places places_ids E1 D (hierarchy from) f (hierarchy_high from) (no_contents T places places_ids E1 from) k4)))
+                (λ o k. (p.0, p.1, k)))
           ])))))
     ])
   ]
@@ -535,17 +570,17 @@ module _ (T : Tree) (w : Before T) (E : ℕ → Type 0) (s : AreCountedBut E T.p
 
   pub counted_after : (c : Command) → IfOk (outcome T c) (λ o. AreCountedBut E o.places (now_at T o.changed))
   unfolding outcome Keeps
-  counted_after (MakeFolder parent name) = makes_folder parent.bits name
+  counted_after (MakeFolder parent name) = if_weaker (MadeFolder parent.bits) Keeps (made_folder T parent.bits name) (makes_folder parent.bits name) (λ o k. both_fewer k.0 parent.bits o k.2)
   counted_after (RenameFolder folder name) = renames folder.bits name
-  counted_after (MoveFolder folder parent) = moves_folder folder.bits parent.bits
-  counted_after (RemoveFolder folder) = removes_folder folder.bits
+  counted_after (MoveFolder folder parent) = if_weaker (MovedFolder folder.bits parent.bits) Keeps (moved_folder T folder.bits parent.bits) (moves_folder folder.bits parent.bits) (λ o k. k.2)
+  counted_after (RemoveFolder folder) = if_weaker (RemovedFolder folder.bits) Keeps (removed_folder T folder.bits) (removes_folder folder.bits) (λ o k. fewer k.0.parent.bits o k.2)
   counted_after (ListFolder folder) = lists_folder folder.bits
   counted_after (NewMessage folder class time) = if_weaker (Ends folder.bits) Keeps (new_message T folder.bits class time) (makes folder.bits class time) (λ o k. fewer folder.bits o k)
   counted_after (SetProperty message value) = if_weaker (Home message.bits) Keeps (set_value T message.bits value) (sets message.bits value) (λ o k. home_fewer message.bits o k)
   counted_after (UnsetProperty message tag) = if_weaker (Home message.bits) Keeps (unset_value T message.bits tag) (unsets message.bits tag) (λ o k. home_fewer message.bits o k)
   counted_after (GetProperty message tag) = gets message.bits tag
   counted_after (ListProperties message) = lists message.bits
-  counted_after (MoveMessage message folder) = moves message.bits folder.bits
+  counted_after (MoveMessage message folder) = if_weaker (Moved message.bits folder.bits) Keeps (moved_message T message.bits folder.bits) (moves message.bits folder.bits) (λ o k. k.2)
   counted_after (CopyMessage message folder) = if_weaker (Ends folder.bits) Keeps (copied_message T message.bits folder.bits) (copies message.bits folder.bits) (λ o k. fewer folder.bits o k)
   counted_after (RemoveMessage message) = if_weaker (Home message.bits) Keeps (removed_message T message.bits) (removes message.bits) (λ o k. home_fewer message.bits o k)
   counted_after (AddRecipient message kind address name) = if_weaker (Home message.bits) Keeps (added_recipient T message.bits kind address name) (adds_recipient message.bits kind address name) (λ o k. home_fewer message.bits o k)

@@ -16,13 +16,13 @@ use Rattle.mail_tree.specs.Places.{ROOT, find_place, is_child, is_plain}
 use Rattle.mail_tree.specs.Tree.{Tree}
 use Rattle.mail_tree.specs.Values.{is_read, number, truth}
 use Rattle.mail_tree.specs.Changing.{Answer, Changed, ◌>>=◌, add_shown, as_message, contents, context_at, drop_shown, hierarchy, known, message_at, now_at, overfills, put_shown, shown_row, table_at, with_object}
-use Rattle.mail_tree.specs.Settling.{counted, is_message_row, message_ids, mirrored, settled, unread_among, with_context}
+use Rattle.mail_tree.specs.Settling.{counted, is_message_row, message_ids, mirrored, table_as_is, settled, unread_among, with_context}
 use Rattle.mail_laws.specs.Laws.{AreCountedBut, IsCounted, is_unread}
 use Rattle.mail_tree.proofs.AfterTree.{puts_object, puts_values}
 use Rattle.mail_tree.proofs.KeyedFinds.{below, find-put_other, find-put_same}
-use Rattle.mail_laws.proofs.Keeping.{if_any, if_then}
+use Rattle.mail_laws.proofs.Keeping.{if_any, if_then, if_weaker}
 use Rattle.mail_tree.proofs.KindsOfPuts.{beside_kind, same_folder}
-use Rattle.mail_laws.proofs.MirrorSteps.{if_context, if_table}
+use Rattle.mail_laws.proofs.Touches.{if_context, if_table, table_same}
 use Rattle.mail_tree.proofs.Nearly.{Puts}
 
 -- the counts that values tell are the same
@@ -208,7 +208,7 @@ module _ (T : Tree) (places : List FolderPlace) (ids : PlainIds places) where
   pub mirrored_counts : (E : ℕ → Type 0) (D : Changed) (f : ℕ) → CountedBut E D → IfOk (mirrored T f D) (CountedBut E)
   unfolding mirrored
   mirrored_counts E D f s = elim (cases_Bool (f == ROOT)) [
-    | inl b ↦ rw b s
+    | inl b ↦ rw b (if_weaker (λ D'. now_at T D' ≡ now_at T D) (CountedBut E) (table_as_is T (hierarchy ROOT) D) (table_same T (hierarchy ROOT) D) (λ D' same. subst (AreCountedBut E places) (sym same) s))
     | inr b ↦ rw b (if_then (λ c. Unit {0}) (CountedBut E) (context_at T D f) _ (if_any (context_at T D f)) (λ c u. put_counts E D (hierarchy c.parent) f c.props (omega (arith, beside_kind c.parent 13 (omega arith))) (no_contents E c.parent) s))
   ]
 

@@ -4,13 +4,14 @@ use Rattle.command_text.specs.declared.reply.LastLine.{LastLine}
 use Rattle.command_text.specs.declared.reply.Limit.TheVariants.{Rows, Value as LongValue}
 use Rattle.command_text.specs.declared.reply.CommandRefusal.TheVariants.{Ids, Limit, Object as NoObject, Property as NoProperty}
 use Rattle.command_text.specs.declared.reply.CommandRefusal.{CommandRefusal}
-use Rattle.std.proofs.Common.{◌≡◌, ℕ, ◌%◌, ◌==◌, ◌||◌, Bool, true, false, nat_le, List, Option, None, Some, IfOk, is_some, Ok, arith, refl, sym, subst, ap, ◌∙◌, inl, inr, not, [], ◌∷◌, ◌++◌, ◌≤◌, max, suc, if◌then◌else◌}
+use Rattle.std.proofs.Common.{◌≡◌, ℕ, ◌%◌, ◌==◌, ◌||◌, Bool, true, false, List, Option, None, Some, IfOk, is_some, Ok, arith, refl, sym, subst, ap, ◌∙◌, inl, inr, not, [], ◌∷◌, ◌++◌, ◌≤◌, max, suc, if◌then◌else◌, Err}
 use Rattle.std.proofs.lemmas.Bool.{cases_Bool, cases_eq, eq-eqb, eqb-true, eqb-false, or_parts, ne_eqb, ltb-false}
 use Rattle.mapi_values.specs.Messages.{Mes, size}
 use Rattle.mapi_values.specs.Properties.{find, put, remove_id}
 use Rattle.mapi_values.specs.Values.{Val}
 use Rattle.mapi_values.specs.declared.value.Tag.{Tag}
 use Rattle.command_text.specs.declared.reply.LastLine.TheVariants.{Attached, Done, Made, Row}
+use Rattle.mail_objects.specs.Forms.{Ctx}
 use Rattle.mail_objects.specs.declared.object.Object.{Object}
 use Rattle.mail_objects.specs.declared.object.Object.TheVariants.{Context, Table, Message}
 use Rattle.mail_tree.specs.declared.places.FolderPlace.{FolderPlace}
@@ -18,8 +19,8 @@ use Rattle.mail_tree.specs.Places.{find_place, is_plain}
 use Rattle.mail_tree.specs.Tree.{Tree, object_at}
 use Rattle.mail_tree.specs.Values.{bytes_of, crowds, finished, has_object, has_parts, is_own_id, is_set_protected, is_unset_protected, message_props, number, number_of, text, time_value, with_attachment_flag, with_flag, with_props}
 use Rattle.mail_tree.specs.Names.{unless_nameless}
-use Rattle.mail_tree.specs.Changing.{◌>>=◌, add_shown, as_message, contents, drop_shown, nothing, now_at, put_shown, with_object, within_limits}
-use Rattle.mail_tree.specs.Settling.{settled}
+use Rattle.mail_tree.specs.Changing.{◌>>=◌, add_shown, as_message, contents, drop_shown, nothing, now_at, put_shown, with_object, within_limits, Answer, Changed}
+use Rattle.mail_tree.specs.Settling.{settled, touched}
 use Rattle.mail_tree.specs.Ids.{is_spent, message_kinds, new_id, next_index}
 use Rattle.mail_tree.specs.Folders.{Outcome, changing, making, nid, replied, unless_full}
 use Rattle.mail_tree.specs.Messages.{added_attachment, added_message, added_recipient, adding_attachment, adding_recipient, appended_data, appending, removed_attachment, spent_index, too_long, changed_message, copied_message, copy_of, copying, in_folder, is_crowded_message, is_overfull, making_message, message_in, moved_message, new_message, plain_message, remaking, removed_message, removed_recipient, set_value, spent_row, unset_value, with_message}
@@ -30,13 +31,13 @@ use Rattle.mail_laws.specs.Laws.{OnlyMessage}
 use Rattle.mail_tree.proofs.KeyedFinds.{find-put_other}
 use Rattle.mail_tree.proofs.AfterTree.{after_now, now_nothing, puts_object, puts_values}
 use Rattle.mail_tree.proofs.FineLaws.{cases_Option}
-use Rattle.mail_tree.proofs.Nearly.{folder_kind, message_id}
+use Rattle.mail_tree.proofs.Nearly.{folder_kind, message_id, Puts}
 use Rattle.mail_tree.proofs.KindsOfPuts.{low}
 use Rattle.mail_tree.proofs.PartLaws.{past_parts}
 use Rattle.mail_laws.proofs.NewIds.{new_id_is}
 use Rattle.mapi_values.specs.declared.part.Part.{Part}
 use Rattle.pst_base.specs.declared.ids.Nid.{Nid}
-use Rattle.mail_laws.proofs.MessageSteps.{Before, Keeps, fine_message_in, finished_folder, finished_id, home_of, new_message_id}
+use Rattle.mail_laws.proofs.MessageSteps.{Before, Keeps, fine_message_in, finished_folder, finished_id, home_of, new_message_id, fine_home}
 use Rattle.mail_laws.proofs.Keeping.{Comes, Four, no_table, KeepsAt, PutsMessage, add_keeps, drop_keeps, from_fine, if_any, if_then, if_weaker, kept_after, never_made, put_keeps, table_apart, then_changing, then_making, then_settled, if_found, if_replying, if_test}
 use Rattle.mail_tree.proofs.Settles.{store_of}
 
@@ -111,15 +112,16 @@ pub record Adds (T : Tree) (M : Mes) (index : ℕ) (o : Outcome) : Type 0 where
   pub changes_it : Changes T M.nid (Some M) o
   pub reply_is : o.reply ≡ replied (Made (nid (new_id 4 index)))
 
-adds : (T : Tree) (M : Mes) (crowded : Bool) (p : FolderPlace) (index : ℕ) → Before T → M.nid % 32 ≡ 4 → find_place M.folder T.places ≡ Some p → IfOk (added_message T M (record nothing { crowded = crowded }) >>= making T T.places 4 index) (Adds T M index)
-adds T M crowded p index w four found =
-    let D0 = record nothing { crowded = crowded } in
+adds : (T : Tree) (a : Answer Changed) → IfOk a (λ D. now_at T D ≡ now_at T nothing) → (M : Mes) (p : FolderPlace) (index : ℕ) → Before T → M.nid % 32 ≡ 4 → find_place M.folder T.places ≡ Some p → IfOk (a >>= added_message T M >>= making T T.places 4 index) (Adds T M index)
+adds T (Err e) same M p index w four found = tt
+adds T (Ok D0) same M p index w four found =
     let D = with_object M.nid (Some (Message M)) D0 in
     let a = add_shown T (contents M.folder) M.nid M.props D in
+    let puts = subst (λ at. Puts at (now_at T D) M.nid (Some (Message M))) same (puts_object T D0 M.nid (Some (Message M))) in
     if_weaker (Comes Four no_table T D T.places (replied (Made (nid (new_id 4 index))))) (Adds T M index) (a >>= settled T T.places M.folder >>= making T T.places 4 index)
     (then_making Four no_table T D (a >>= settled T T.places M.folder) T.places 4 index
     (then_settled Four no_table T T.places M.folder D a (place_apart T w M.folder p found) (add_keeps Four no_table T (contents M.folder) M.nid M.props D (table_apart M.folder 14 (omega arith) (omega arith)))))
-    (λ o c. record { changes_it = changes T M.nid (Some (Message M)) o (kept_after _ _ _ M.nid (Some (Message M)) four (puts_object T D0 M.nid (Some (Message M))) c.keeps) c.places_are; reply_is = c.reply_is })
+    (λ o c. record { changes_it = changes T M.nid (Some (Message M)) o (kept_after _ _ _ M.nid (Some (Message M)) four puts c.keeps) c.places_are; reply_is = c.reply_is })
 
 -- `cp`
 abbrev pub Copied : Tree → ℕ → ℕ → Outcome → Type 0
@@ -134,12 +136,13 @@ copies T m folder w = if_then _ (Copied T m folder) (message_in T m) _ (from_fin
     | inl plain ↦ rw plain (elim (cases_Bool (is_overfull M.recipients || is_overfull M.attachments)) [
       | inl b ↦ rw b tt
       | inr b ↦ rw b (if_then (λ u. Unit {0}) (Copied T m folder) (unless_full T (contents folder)) _ (if_any (unless_full T (contents folder))) (λ u v. elim (cases_Bool (is_spent (next_index T 4 message_kinds))) [
-        | inl t ↦ never_made T T.places 4 (next_index T 4 message_kinds) (Copied T m folder) (added_message T (copy_of (new_id 4 (next_index T 4 message_kinds)) folder M) (record nothing { crowded = is_crowded_message M })) t
+        | inl t ↦ never_made T T.places 4 (next_index T 4 message_kinds) (Copied T m folder) (touched T M.folder (record nothing { crowded = is_crowded_message M }) >>= added_message T (copy_of (new_id 4 (next_index T 4 message_kinds)) folder M)) t
         | inr t ↦
             let index = next_index T 4 message_kinds in let id = new_message_id T t in
             let N = copy_of (new_id 4 index) folder M in
-            (if_weaker (Adds T N index) (Copied T m folder) (added_message T N (record nothing { crowded = is_crowded_message M }) >>= making T T.places 4 index)
-            (adds T N (is_crowded_message M) p.0 index w id.0 p.1) (λ o a. (M, index, h.0, id.1, a)))
+            let touches = touched T M.folder (record nothing { crowded = is_crowded_message M }) in
+            (if_weaker (Adds T N index) (Copied T m folder) (touches >>= added_message T N >>= making T T.places 4 index)
+            (adds T touches (from_fine (λ D. now_at T D ≡ now_at T nothing) touches (fine_home T w m M h.0 (is_crowded_message M))) N p.0 index w id.0 p.1) (λ o a. (M, index, h.0, id.1, a)))
       ]))
     ])
   ])
@@ -176,6 +179,7 @@ new_is m folder class time store = record {
 
 abbrev pub MadeNew : Tree → ℕ → List ℕ → ℕ → Outcome → Type 0
 MadeNew T folder class time o = (index : ℕ) × (M : Mes) × (M.nid ≡ new_id 4 index) × (now_at T nothing (new_id 4 index) ≡ None) × IsNew folder class time M × Adds T M index o
+    × ((store : Ctx) × (now_at T nothing 0x21 ≡ Some (Context store)) × (M ≡ finished (plain_message (new_id 4 index) folder (message_props (new_id 4 index) class time store.props))))
 
 pub makes : (T : Tree) (folder : ℕ) (class : List ℕ) (time : ℕ) → Before T → IfOk (new_message T folder class time) (MadeNew T folder class time)
 unfolding new_message making_message
@@ -194,8 +198,8 @@ makes T folder class time w = elim (cases_Option (find_place folder T.places)) [
               let index = next_index T 4 message_kinds in let id = new_message_id T t in
               let N = plain_message (new_id 4 index) folder (message_props (new_id 4 index) class time store.0.props) in
               (if_weaker (Adds T (finished N) index) (MadeNew T folder class time) (added_message T (finished N) nothing >>= making T T.places 4 index)
-              (adds T (finished N) false p.0 index w (ap (λ x. x % 32) (finished_id N) ∙ id.0) (ap (λ x. find_place x T.places) (finished_folder N) ∙ p.1))
-              (λ o a. (index, finished N, finished_id N, id.1, new_is (new_id 4 index) folder class time store.0.props, a)))
+              (adds T (Ok nothing) refl (finished N) p.0 index w (ap (λ x. x % 32) (finished_id N) ∙ id.0) (ap (λ x. find_place x T.places) (finished_folder N) ∙ p.1))
+              (λ o a. (index, finished N, finished_id N, id.1, new_is (new_id 4 index) folder class time store.0.props, a, (store.0, store.1, refl))))
         ]))
   ])
 ]

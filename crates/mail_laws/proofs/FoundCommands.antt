@@ -2,7 +2,7 @@
 use Rattle.command_text.specs.declared.reply.LastLine.{LastLine}
 use Rattle.command_text.specs.declared.reply.Limit.TheVariants.{Rows}
 use Rattle.command_text.specs.declared.reply.CommandRefusal.{CommandRefusal}
-use Rattle.std.proofs.Common.{◌≡◌, ℕ, ◌%◌, ◌==◌, ◌||◌, Bool, true, false, nat_le, List, [], Option, None, Some, IsSome, IfOk, is_some, arith, refl, sym, subst, ap, ◌∙◌, inl, inr, not}
+use Rattle.std.proofs.Common.{◌≡◌, ℕ, ◌%◌, ◌==◌, ◌||◌, Bool, true, false, List, [], Option, None, Some, IsSome, IfOk, is_some, arith, refl, sym, subst, ap, ◌∙◌, inl, inr, not, Ok}
 use Rattle.std.specs.FinMap as map
 use Rattle.std.specs.Ordering.{nat_cmp}
 use Rattle.std.proofs.lemmas.Bool.{cases_Bool, cases_eq, false≢true, or_parts}
@@ -31,7 +31,7 @@ use Rattle.mail_tree.specs.Names.{NAMES, named_property, unless_nameless}
 use Rattle.mail_laws.proofs.NameSteps.{PutsNames, puts_names_after}
 use Rattle.mail_tree.specs.Changing.{Answer, Changed, ◌>>=◌, add_shown, associated, contents, context_at, drop_shown, hierarchy, newest, nothing, now_at, put_shown, table_at, with_object, with_rows, within_limits}
 use Rattle.mail_tree.specs.Columns.{contents_table, hierarchy_table}
-use Rattle.mail_tree.specs.Settling.{mirrored, settled, with_context}
+use Rattle.mail_tree.specs.Settling.{mirrored, settled, with_context, touched}
 use Rattle.mail_tree.specs.Ids.{folder_kinds, is_spent, is_taken, message_kinds, new_id, next_index}
 use Rattle.mail_tree.specs.Folders.{Outcome, associated_in, changing, has_associated, has_rows, made_folder, making, making_folder, moved_between, moved_folder, moving, nid, place, removed_folder, renamed_folder, replied, siblings, unchanged, unless_full, unless_named, unless_protected, with_folder, without_folder, without_node}
 use Rattle.mail_tree.specs.Messages.{added_attachment, added_message, added_recipient, adding_attachment, adding_recipient, appended_data, appending, removed_attachment, spent_index, too_long, changed_message, copied_message, copy_of, copying, in_folder, is_crowded_message, is_overfull, making_message, message_in, moved_message, new_message, plain_message, remaking, removed_message, removed_recipient, set_value, spent_row, unset_value, with_message}
@@ -44,13 +44,13 @@ use Rattle.mail_laws.proofs.Closing.{plain_still}
 use Rattle.mail_laws.proofs.Depths.{AreReached, SameBut, made_reached, moved_reached, removed_reached}
 use Rattle.mail_tree.proofs.FineLaws.{cases_Option}
 use Rattle.mail_laws.proofs.FolderSteps.{fine_protected, no_rows, not_placed, with_new_folder}
-use Rattle.mail_laws.proofs.FoundSteps.{Finds, PlainIds, finds_add, finds_add_message, finds_drop_message, finds_elsewhere, finds_mirrored, finds_put_message, finds_values, found_after, get_other, kind_apart, named_place, owned_put, some_belongs, then_finds}
+use Rattle.mail_laws.proofs.FoundSteps.{Finds, PlainIds, finds_add, finds_add_message, finds_drop_message, finds_elsewhere, finds_mirrored, finds_put_message, finds_values, found_after, get_other, kind_apart, named_place, owned_put, some_belongs, then_finds, finds_same}
 use Rattle.mail_laws.proofs.Keeping.{from_fine, if_any, if_found, if_test, if_then, if_weaker, never_made, if_replying}
 use Rattle.mail_tree.proofs.KeyedFinds.{find-drop_other, find-drop_same, find-put_other, find-put_same, kept-put}
 use Rattle.mail_tree.proofs.KindsOfPuts.{beside_kind, same_folder, same_table}
 use Rattle.mail_laws.proofs.LawSteps.{before, reads_only}
-use Rattle.mail_laws.proofs.MessageSteps.{Before, fine_message_in, finished_folder, finished_id, home_of, new_message_id}
-use Rattle.mail_laws.proofs.MirrorSteps.{if_context, if_table}
+use Rattle.mail_laws.proofs.MessageSteps.{Before, fine_message_in, finished_folder, finished_id, home_kind, home_of, new_message_id}
+use Rattle.mail_laws.proofs.Touches.{if_context, if_table, touched_stays}
 use Rattle.mail_tree.proofs.Nearly.{Puts, nearly, plain_id}
 use Rattle.mail_laws.proofs.NewIds.{new_folder_id}
 use Rattle.mail_tree.proofs.Settles.{store_of}
@@ -172,15 +172,16 @@ module _ (T : Tree) (w : Before T) (h : IsFound T) where
   ])
 
   -- a new message is listed
-  adds : (M : Mes) (crowded : Bool) (p : FolderPlace) (index : ℕ) → M.nid % 32 ≡ 4 → find_place M.folder T.places ≡ Some p → is_plain p ≡ true → IfOk (added_message T M (record nothing { crowded = crowded }) >>= making T T.places 4 index) After
-  adds M crowded p index four found plain =
-      let D0 = record nothing { crowded = crowded } in
+  adds : (a : Answer Changed) → IfOk a (Finds T T.places) → (M : Mes) (p : FolderPlace) (index : ℕ) → M.nid % 32 ≡ 4 → find_place M.folder T.places ≡ Some p → is_plain p ≡ true → IfOk (a >>= added_message T M >>= making T T.places 4 index) After
+  adds a k M p index four found plain = then_making T.places h.reached (a >>= added_message T M) 4 index (if_then (Finds T T.places) (Finds T T.places) a (added_message T M) k (λ D0 s0.
       let o = Some (Message M) in
       let D = with_object M.nid o D0 in
-      let a = add_shown T (contents M.folder) M.nid M.props D in
-      let s0 : Finds T T.places D0 = record { listed = start.listed; told = start.told; apart = start.apart; owned = start.owned } in
-      then_making T.places h.reached (a >>= settled T T.places M.folder) 4 index (then_finds T T.places ids a M.folder p found plain
-      (finds_add_message T T.places ids D M.folder M.nid M.props (message_changes D0 D M.nid o four s0 (puts_object T D0 M.nid o) (λ x other. get_other D0 M.nid x o other) (some_belongs T.places M.nid (Message M) tt))))
+      then_finds T T.places ids (add_shown T (contents M.folder) M.nid M.props D) M.folder p found plain
+      (finds_add_message T T.places ids D M.folder M.nid M.props (message_changes D0 D M.nid o four s0 (puts_object T D0 M.nid o) (λ x other. get_other D0 M.nid x o other) (some_belongs T.places M.nid (Message M) tt)))))
+
+  -- the folder of a message, put as it is before other changes
+  touches : (m : ℕ) (M : Mes) → now_at T nothing m ≡ Some (Message M) → (crowded : Bool) → IfOk (touched T M.folder (record nothing { crowded = crowded })) (Finds T T.places)
+  touches m M is crowded = touched_stays T (Finds T T.places) (finds_same T T.places ids) M.folder (record nothing { crowded = crowded }) (home_kind T w m M is) (record { listed = start.listed; told = start.told; apart = start.apart; owned = start.owned })
 
   -- `cp`
   copies : (m folder : ℕ) → IfOk (copied_message T m folder) After
@@ -192,8 +193,8 @@ module _ (T : Tree) (w : Before T) (h : IsFound T) where
       | inl plain ↦ rw plain (elim (cases_Bool (is_overfull M.recipients || is_overfull M.attachments)) [
         | inl b ↦ rw b tt
         | inr b ↦ rw b (if_then (λ u. Unit {0}) After (unless_full T (contents folder)) _ (if_any (unless_full T (contents folder))) (λ u v. elim (cases_Bool (is_spent (next_index T 4 message_kinds))) [
-          | inl t ↦ never_made T T.places 4 (next_index T 4 message_kinds) After (added_message T (copy_of (new_id 4 (next_index T 4 message_kinds)) folder M) (record nothing { crowded = is_crowded_message M })) t
-          | inr t ↦ (adds (copy_of (new_id 4 (next_index T 4 message_kinds)) folder M) (is_crowded_message M) p.0 (next_index T 4 message_kinds) (new_message_id T t).0 p.1 plain)
+          | inl t ↦ never_made T T.places 4 (next_index T 4 message_kinds) After (touched T M.folder (record nothing { crowded = is_crowded_message M }) >>= added_message T (copy_of (new_id 4 (next_index T 4 message_kinds)) folder M)) t
+          | inr t ↦ (adds (touched T M.folder (record nothing { crowded = is_crowded_message M })) (touches m M k.0 (is_crowded_message M)) (copy_of (new_id 4 (next_index T 4 message_kinds)) folder M) p.0 (next_index T 4 message_kinds) (new_message_id T t).0 p.1 plain)
         ]))
       ])
     ])
@@ -216,7 +217,7 @@ module _ (T : Tree) (w : Before T) (h : IsFound T) where
             | inr t ↦
                 let index = next_index T 4 message_kinds in
                 let N = plain_message (new_id 4 index) folder (message_props (new_id 4 index) class time store.0.props) in
-                (adds (finished N) false p.0 index (ap (λ x. x % 32) (finished_id N) ∙ (new_message_id T t).0) (ap (λ x. find_place x T.places) (finished_folder N) ∙ p.1) plain)
+                (adds (Ok nothing) start (finished N) p.0 index (ap (λ x. x % 32) (finished_id N) ∙ (new_message_id T t).0) (ap (λ x. find_place x T.places) (finished_folder N) ∙ p.1) plain)
           ]))
     ])
   ]

@@ -26,12 +26,12 @@ use Rattle.mail_tree.specs.Ids.{is_taken}
 use Rattle.mail_tree.specs.Step.{after}
 use Rattle.mail_tree.specs.Found.{AreOwned, BelongsAt, IsFound, named_sort}
 use Rattle.mail_tree.proofs.AfterLaws.{get-without_changed}
-use Rattle.mail_tree.proofs.AfterTree.{after_now, puts_object, puts_values, tied}
+use Rattle.mail_tree.proofs.AfterTree.{after_now, puts_object, puts_values, same_now, tied}
 use Rattle.mail_laws.proofs.Depths.{AreReached}
 use Rattle.mail_laws.proofs.Keeping.{if_any, if_then}
 use Rattle.mail_tree.proofs.KeyedFinds.{find-put_other}
 use Rattle.mail_tree.proofs.KindsOfPuts.{beside_kind, same_folder, same_table}
-use Rattle.mail_laws.proofs.MirrorSteps.{if_context, if_table}
+use Rattle.mail_laws.proofs.Touches.{Stays, if_context, if_table, table_stays}
 use Rattle.mail_tree.proofs.Nearly.{Puts}
 use Rattle.mail_laws.proofs.PlaceEffects.{found_id, is_place}
 
@@ -169,11 +169,21 @@ module _ (T : Tree) (places : List FolderPlace) (ids : PlainIds places) where
   unfolding drop_shown
   finds_drop_message D f id s = if_then (λ t. now_at T D (contents f) ≡ Some (Table t)) (Finds T places) (table_at T D (contents f)) _ (if_table T D (contents f)) (λ t at. finds_message_table D f t (drop_row id t.table.rows) s at)
 
+  -- what stands there is put as it is
+  pub finds_same : Stays T (Finds T places)
+  finds_same D q o kind at s =
+      let same = same_now T D q o at in record {
+        listed = λ f p t r e plain is row. s.listed f p t r e plain (ap (λ g. g (hierarchy f)) (sym same) ∙ is) row;
+        told = λ f p c e plain no_root is. s.told f p c e plain no_root (ap (λ g. g f) (sym same) ∙ is);
+        apart = λ k three. get_other D q k (Some o) (λ e. elim kind [ inl two ↦ omega arith | inr high ↦ omega arith ]) ∙ s.apart k three;
+        owned = subst (AreOwned places) (sym same) s.owned;
+      }
+
   -- the row of a folder shows it
   pub finds_mirrored : (D : Changed) (f : ℕ) (p : FolderPlace) → find_place f places ≡ Some p → is_plain p ≡ true → Finds T places D → IfOk (mirrored T f D) (Finds T places)
   unfolding mirrored
   finds_mirrored D f p e plain s = elim (cases_Bool (f == ROOT)) [
-    | inl b ↦ rw b s
+    | inl b ↦ rw b (table_stays T (Finds T places) finds_same (hierarchy ROOT) D (omega (arith, beside_kind ROOT 13 (omega arith))) s)
     | inr b ↦ rw b (if_then (λ c. now_at T D f ≡ Some (Context c)) (Finds T places) (context_at T D f) _ (if_context T D f) (λ c at.
         let up = s.told f p c e plain (eqb-false f ROOT b) at in
         let two = ids f p e plain in

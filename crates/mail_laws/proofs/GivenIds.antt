@@ -1,7 +1,7 @@
 -- Each id that a command gives lies behind the counter of its kind, which has its index then.
 use Rattle.command_text.specs.declared.reply.LastLine.{LastLine}
 use Rattle.command_text.specs.declared.reply.CommandRefusal.{CommandRefusal}
-use Rattle.std.proofs.Common.{◌≡◌, ℕ, suc, ◌%◌, ◌/◌, ◌<◌, ◌==◌, ◌||◌, false, max, nat_le, not, filter, set, get_or, List, None, Some, is_some, IfOk, arith, refl, sym, subst, ap, ◌∙◌, inl, inr, Bool, Option}
+use Rattle.std.proofs.Common.{◌≡◌, ℕ, suc, ◌%◌, ◌/◌, ◌<◌, ◌==◌, ◌||◌, false, max, not, filter, set, get_or, List, None, Some, is_some, IfOk, arith, refl, sym, subst, ap, ◌∙◌, inl, inr, Bool, Option}
 use Rattle.std.proofs.lemmas.Bool.{cases_Bool}
 use Rattle.pst_base.specs.Ids.{index_of, nid_of}
 use Rattle.mapi_values.specs.Characters.{folded}
@@ -21,14 +21,12 @@ use Rattle.mail_tree.specs.Places.{children, is_child, is_deep, is_plain, is_wit
 use Rattle.mail_tree.specs.Tree.{Tree}
 use Rattle.mail_tree.specs.Values.{bytes_of, crowds, finished, folder_props, is_set_protected, is_unset_protected, message_props, name_of, text, with_props}
 use Rattle.mail_tree.specs.Changing.{Answer, Changed, ◌>>=◌, add_shown, contents, context_at, drop_shown, found, hierarchy, nothing, put_shown, refused_if, table_at, with_object, within_limits, known}
-use Rattle.named_props.specs.Adding as adding
 use Rattle.named_props.specs.Finding.{name_at}
 use Rattle.named_props.specs.Holding.{names_of, written}
 use Rattle.named_props.specs.declared.names.Names.{Names}
-use Rattle.command_text.specs.declared.reply.Limit.TheVariants as limits
-use Rattle.mail_tree.specs.Names.{NAMES, found_or_added, is_name, named_property, unless_nameless}
+use Rattle.mail_tree.specs.Names.{NAMES, found_or_added, is_name, named_property, no_room, unless_nameless, with_another}
 use Rattle.mail_objects.specs.Forms.{Ctx}
-use Rattle.mail_tree.specs.Settling.{message_ids, mirrored, settled, with_context}
+use Rattle.mail_tree.specs.Settling.{message_ids, mirrored, settled, with_context, touched}
 use Rattle.mail_tree.specs.Ids.{LAST_INDEX, folder_kinds, greatest, is_spent, is_used, message_kinds, new_id, next_index}
 use Rattle.mail_tree.specs.Folders.{Outcome, associated_in, changing, folder_in, folder_lines, has_associated, has_rows, listing, made_folder, making, making_folder, message_lines, moved_between, moved_folder, moving, place, removed_folder, renamed_folder, replied, siblings, unless_full, unless_named, unless_plain, unless_protected, with_folder, without_folder, replying, unless}
 use Rattle.mail_tree.specs.Messages.{added_attachment, added_message, added_recipient, adding_attachment, adding_recipient, appended_data, appending, fetched_data, removed_attachment, spent_index, too_long, changed_message, copied_message, copy_of, copying, details, in_folder, is_crowded_message, is_overfull, making_message, message_in, moved_message, new_message, plain_message, remaking, removed_message, removed_recipient, set_value, spent_row, unset_value, value_in, value_of, with_message}
@@ -144,10 +142,10 @@ module _ (T : Tree) where
       then_any (unless_full T (contents folder)) _ (λ w. elim (cases_Bool (is_spent (next_index T 4 message_kinds))) [
         | inl t ↦
             let n = new_id 4 (next_index T 4 message_kinds) in
-            never_made T T.places 4 (next_index T 4 message_kinds) Right (added_message T (copy_of n folder M) (record nothing { crowded = is_crowded_message M })) t
+            never_made T T.places 4 (next_index T 4 message_kinds) Right (touched T M.folder (record nothing { crowded = is_crowded_message M }) >>= added_message T (copy_of n folder M)) t
         | inr t ↦
             let n = new_id 4 (next_index T 4 message_kinds) in
-            (then_making T.places 4 message_kinds (added_message T (copy_of n folder M) (record nothing { crowded = is_crowded_message M })) (omega arith) t)
+            (then_making T.places 4 message_kinds (touched T M.folder (record nothing { crowded = is_crowded_message M }) >>= added_message T (copy_of n folder M)) (omega arith) t)
       ])))))
 
   remakes : (M new : Mes) (crowded : Bool) (reason : Option CommandRefusal) (last : LastLine) → Counted T.last T.last last → IfOk (remaking T M new crowded reason last) Right
@@ -225,7 +223,7 @@ module _ (T : Tree) where
     where
       by_name : (c : Ctx) (n : Names) (o : Option ℕ) → IfOk (found_or_added T c n guid number o) Right
       by_name c n (Some property) = refl
-      by_name c n None = then_any (refused_if (adding.is_full n guid number) (Limit limits.Names)) _ (λ u. then_any (within_limits (with_context NAMES c (written (adding.added n guid number)) nothing)) _ (λ v. refl))
+      by_name c n None = then_any (within_limits (with_context NAMES c (written (with_another n guid number)) nothing)) _ (λ u. then_any (unless (no_room n guid number)) _ (λ v. refl))
 
   pub gives_new : (c : Command) → IfOk (outcome T c) (λ o. Counted T.last o.last o.reply.last)
   unfolding outcome

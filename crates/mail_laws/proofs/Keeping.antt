@@ -8,12 +8,12 @@ use Rattle.command_text.specs.declared.reply.CommandRefusal.TheVariants.{Ids}
 use Rattle.command_text.specs.declared.reply.Reply.{Reply}
 use Rattle.mail_objects.specs.Forms.{Ctx}
 use Rattle.mail_objects.specs.declared.object.Object.{Object}
-use Rattle.mail_objects.specs.declared.object.Object.TheVariants.{Context}
+use Rattle.mail_objects.specs.declared.object.Object.TheVariants.{Context, Table}
 use Rattle.mail_tree.specs.declared.places.FolderPlace.{FolderPlace}
 use Rattle.mail_tree.specs.Places.{ROOT}
 use Rattle.mail_tree.specs.Tree.{Tree}
 use Rattle.mail_tree.specs.Changing.{Answer, Changed, ◌>>=◌, add_shown, beside, contents, context_at, drop_shown, found, hierarchy, now_at, overfills, put_shown, refused_if, shown_row, table_at, with_rows, within_limits}
-use Rattle.mail_tree.specs.Settling.{counted, message_ids, mirrored, settled, unread_among, with_context}
+use Rattle.mail_tree.specs.Settling.{counted, message_ids, mirrored, table_as_is, settled, unread_among, with_context}
 use Rattle.mail_tree.specs.Folders.{Outcome, changing, making, moving, nid, replied, replying}
 use Rattle.command_text.specs.declared.reply.LastLine.TheVariants.{Made}
 use Rattle.mail_tree.specs.Ids.{is_spent, new_id}
@@ -125,10 +125,15 @@ module _ (S : ℕ → Type 0) (no_hierarchy : (g : ℕ) → S (hierarchy g) → 
       if_then (λ n. Unit {0}) (KeepsAt S T D) (unread_among T D (message_ids t.table)) _ (if_any (unread_among T D (message_ids t.table))) (λ n u.
       context_keeps f c _ D other)))
 
+  -- a table is put as it is
+  same_keeps : (q : ℕ) (D : Changed) → (S q → ⊥) → IfOk (table_as_is T q D) (KeepsAt S T D)
+  unfolding table_as_is
+  same_keeps q D other = if_then (λ t. Unit {0}) (KeepsAt S T D) (table_at T D q) _ (if_any (table_at T D q)) (λ t u. kept_put S _ _ q _ (puts_object T D q (Some (Table t))) other)
+
   pub mirrored_keeps : (f : ℕ) (D : Changed) → IfOk (mirrored T f D) (KeepsAt S T D)
   unfolding mirrored
   mirrored_keeps f D = elim (cases_Bool (f == ROOT)) [
-    | inl b ↦ rw b (λ k four. refl)
+    | inl b ↦ rw b (same_keeps (hierarchy ROOT) D (no_hierarchy ROOT))
     | inr b ↦ rw b (if_then (λ c. Unit {0}) (KeepsAt S T D) (context_at T D f) _ (if_any (context_at T D f)) (λ c u. put_keeps (hierarchy c.parent) f c.props D (no_hierarchy c.parent)))
   ]
 

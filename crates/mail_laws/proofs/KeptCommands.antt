@@ -2,7 +2,7 @@
 use Rattle.command_text.specs.declared.reply.LastLine.{LastLine}
 use Rattle.command_text.specs.declared.reply.Limit.TheVariants.{Rows}
 use Rattle.command_text.specs.declared.reply.CommandRefusal.{CommandRefusal}
-use Rattle.std.proofs.Common.{◌≡◌, ℕ, ◌%◌, ◌/◌, ◌<◌, ◌==◌, ◌||◌, ◌&&◌, Bool, true, false, nat_le, List, [], ◌∷◌, Option, None, Some, IfOk, is_some, arith, refl, sym, subst, ap, ◌∙◌, inl, inr, not}
+use Rattle.std.proofs.Common.{◌≡◌, ℕ, ◌%◌, ◌/◌, ◌<◌, ◌==◌, ◌||◌, ◌&&◌, Bool, true, false, List, [], ◌∷◌, Option, None, Some, IfOk, is_some, arith, refl, sym, subst, ap, ◌∙◌, inl, inr, not, Ok}
 use Rattle.std.specs.List.{list_any}
 use Rattle.std.proofs.lemmas.Bool.{cases_Bool, eq-eqb, eqb-false, false≢true, or_parts}
 use Rattle.std.proofs.lemmas.Option.{none-some}
@@ -27,10 +27,11 @@ use Rattle.mail_tree.specs.Tree.{Tree, object_at}
 use Rattle.mail_tree.specs.Values.{bytes_of, crowds, finished, folder_props, is_set_protected, is_unset_protected, message_props, name_of, text, with_props}
 use Rattle.command_text.specs.declared.reply.CommandRefusal.TheVariants.{Ids, Limit, Object as NoObject, Property as NoProperty}
 use Rattle.mail_tree.specs.Names.{NAMES, named_property, unless_nameless}
+use Rattle.mail_laws.proofs.Touches.{touched_stays}
 use Rattle.mail_laws.proofs.NameSteps.{PutsNames, puts_names_after}
 use Rattle.mail_tree.specs.Changing.{Answer, Changed, ◌>>=◌, add_shown, associated, beside, contents, drop_shown, hierarchy, nothing, now_at, put_shown, table_at, with_object, within_limits}
 use Rattle.mail_tree.specs.Columns.{contents_table, hierarchy_table}
-use Rattle.mail_tree.specs.Settling.{mirrored, settled, with_context}
+use Rattle.mail_tree.specs.Settling.{mirrored, settled, with_context, touched}
 use Rattle.mail_tree.specs.Ids.{folder_kinds, is_spent, is_taken, message_kinds, new_id, next_index}
 use Rattle.mail_tree.specs.Folders.{Outcome, associated_in, changing, has_associated, has_rows, made_folder, making, making_folder, moved_between, moved_folder, moving, place, removed_folder, renamed_folder, replied, siblings, unchanged, unless_full, unless_named, unless_protected, without_folder, without_node, with_folder}
 use Rattle.mail_tree.specs.Messages.{added_attachment, added_message, added_recipient, adding_attachment, adding_recipient, appended_data, appending, removed_attachment, spent_index, too_long, changed_message, copied_message, copy_of, copying, in_folder, is_crowded_message, is_overfull, making_message, message_in, moved_message, new_message, plain_message, remaking, removed_message, removed_recipient, set_value, spent_row, unset_value, with_message}
@@ -44,11 +45,11 @@ use Rattle.mail_tree.proofs.FineLaws.{cases_Option}
 use Rattle.mail_laws.proofs.FolderSteps.{fine_protected}
 use Rattle.mail_laws.proofs.Keeping.{from_fine, if_any, if_found, if_test, if_then, if_weaker, never_made, if_replying}
 use Rattle.mail_laws.proofs.KeptObjects.{KeepsObjects, Scope, fits_context, fits_gone, fits_message, fits_new, keeps_all, keeps_more, touched_here, touched_still, keeps_names}
-use Rattle.mail_laws.proofs.KeptSteps.{add_good, context_good, drop_good, mirrored_good, put_good, stood, table_elsewhere, then_good}
+use Rattle.mail_laws.proofs.KeptSteps.{add_good, context_good, drop_good, mirrored_good, put_good, stood, table_elsewhere, then_good, good_same}
 use Rattle.mail_tree.proofs.KeyedFinds.{find-put_other}
 use Rattle.mail_tree.proofs.KindsOfPuts.{low}
 use Rattle.mail_laws.proofs.LawSteps.{before, reads_only}
-use Rattle.mail_laws.proofs.MessageSteps.{Before, fine_message_in, finished_folder, finished_id, home_of}
+use Rattle.mail_laws.proofs.MessageSteps.{Before, fine_message_in, finished_folder, finished_id, home_of, home_kind}
 use Rattle.mail_tree.proofs.Nearly.{folder_kind}
 use Rattle.mail_laws.proofs.NewIds.{new_id_is, next_is_free}
 use Rattle.mail_tree.proofs.Settles.{store_of}
@@ -180,14 +181,16 @@ module _ (T : Tree) (whole : IsWhole T) (scope : Scope) where
     ])
   ])
 
-  adds : (M : Mes) (crowded : Bool) (p : FolderPlace) (index : ℕ) → M.nid % 32 ≡ 4 → Free T M.nid → scope.brings M.nid ≡ true → find_place M.folder T.places ≡ Some p → IfOk (added_message T M (record nothing { crowded = crowded }) >>= making T T.places 4 index) After
-  adds M crowded p index four free brings found =
-      let D0 = record nothing { crowded = crowded } in
+  adds : (a : Answer Changed) → IfOk a Kept → (M : Mes) (p : FolderPlace) (index : ℕ) → M.nid % 32 ≡ 4 → Free T M.nid → scope.brings M.nid ≡ true → find_place M.folder T.places ≡ Some p → IfOk (a >>= added_message T M >>= making T T.places 4 index) After
+  adds a k M p index four free brings found = then_making T.places (a >>= added_message T M) 4 index (if_then Kept Kept a (added_message T M) k (λ D0 k0.
       let D = with_object M.nid (Some (Message M)) D0 in
-      let a = add_shown T (contents M.folder) M.nid M.props D in
-      then_making T.places (a >>= settled T T.places M.folder) 4 index (then_settled T.places a M.folder p found
-      (add_good T scope (contents M.folder) M.nid M.props D (table_elsewhere M.folder 14 (omega arith) (omega arith)) (touched_here T nothing.objects M.nid (Some (Message M)))
-      (keeps_more T scope nothing.objects M.nid (Some (Message M)) none_yet (fits_message T scope nothing.objects M.nid (Some (Message M)) (whole.objects.typed M.nid) four (λ none. (refl, free.1)) (λ e. absurd (none-some (Message M) (sym e))) (λ none. brings)))))
+      then_settled T.places (add_shown T (contents M.folder) M.nid M.props D) M.folder p found
+      (add_good T scope (contents M.folder) M.nid M.props D (table_elsewhere M.folder 14 (omega arith) (omega arith)) (touched_here T D0.objects M.nid (Some (Message M)))
+      (keeps_more T scope D0.objects M.nid (Some (Message M)) k0 (fits_message T scope D0.objects M.nid (Some (Message M)) (whole.objects.typed M.nid) four (λ none. (refl, free.1)) (λ e. absurd (none-some (Message M) (sym e))) (λ none. brings))))))
+
+  -- the folder of a message, put as it is before other changes
+  touches : (m : ℕ) (M : Mes) → now_at T nothing m ≡ Some (Message M) → (crowded : Bool) → IfOk (touched T M.folder (record nothing { crowded = crowded })) Kept
+  touches m M is crowded = touched_stays T Kept (good_same T scope) M.folder (record nothing { crowded = crowded }) (home_kind T w m M is) none_yet
 
   copies : (m folder : ℕ) → scope.brings (new_id 4 (next_index T 4 message_kinds)) ≡ true → IfOk (copied_message T m folder) After
   unfolding copied_message copying
@@ -198,8 +201,8 @@ module _ (T : Tree) (whole : IsWhole T) (scope : Scope) where
       | inl plain ↦ rw plain (elim (cases_Bool (is_overfull M.recipients || is_overfull M.attachments)) [
         | inl t ↦ rw t tt
         | inr t ↦ rw t (if_then (λ u. Unit {0}) After (unless_full T (contents folder)) _ (if_any (unless_full T (contents folder))) (λ u v. elim (cases_Bool (is_spent (next_index T 4 message_kinds))) [
-          | inl t ↦ never_made T T.places 4 (next_index T 4 message_kinds) After (added_message T (copy_of (new_id 4 (next_index T 4 message_kinds)) folder M) (record nothing { crowded = is_crowded_message M })) t
-          | inr t ↦ let id = new_message_free T t in (adds (copy_of (new_id 4 (next_index T 4 message_kinds)) folder M) (is_crowded_message M) p.0 (next_index T 4 message_kinds) id.0 id.1 brings p.1)
+          | inl t ↦ never_made T T.places 4 (next_index T 4 message_kinds) After (touched T M.folder (record nothing { crowded = is_crowded_message M }) >>= added_message T (copy_of (new_id 4 (next_index T 4 message_kinds)) folder M)) t
+          | inr t ↦ let id = new_message_free T t in (adds (touched T M.folder (record nothing { crowded = is_crowded_message M })) (touches m M h.0 (is_crowded_message M)) (copy_of (new_id 4 (next_index T 4 message_kinds)) folder M) p.0 (next_index T 4 message_kinds) id.0 id.1 brings p.1)
         ]))
       ])
     ])
@@ -222,7 +225,7 @@ module _ (T : Tree) (whole : IsWhole T) (scope : Scope) where
                 let index = next_index T 4 message_kinds in
                 let N = plain_message (new_id 4 index) folder (message_props (new_id 4 index) class time store.0.props) in
                 let id = new_message_free T t in
-                (adds (finished N) false p.0 index (ap (λ x. x % 32) (finished_id N) ∙ id.0) (subst (Free T) (sym (finished_id N)) id.1) (subst (λ x. scope.brings x ≡ true) (sym (finished_id N)) brings) (ap (λ x. find_place x T.places) (finished_folder N) ∙ p.1))
+                (adds (Ok nothing) none_yet (finished N) p.0 index (ap (λ x. x % 32) (finished_id N) ∙ id.0) (subst (Free T) (sym (finished_id N)) id.1) (subst (λ x. scope.brings x ≡ true) (sym (finished_id N)) brings) (ap (λ x. find_place x T.places) (finished_folder N) ∙ p.1))
           ]))
     ])
   ]

@@ -1,5 +1,5 @@
 -- In the words of mail: which nodes, values and tables are as they were after each command.
-use Rattle.std.proofs.Common.{◌≡◌, ℕ, true, false, cond, Option, None, Some, IfOk, IsSome, is_some, refl, sym, subst, ap, ◌∙◌, inl, inr, ◌%◌, arith}
+use Rattle.std.proofs.Common.{◌≡◌, ℕ, true, false, cond, Option, None, Some, IfOk, IsSome, is_some, refl, sym, subst, ap, ◌∙◌, inl, inr, arith}
 use Rattle.std.proofs.lemmas.Bool.{eqb-true, false≢true}
 use Rattle.std.proofs.lemmas.Option.{none-some}
 use Rattle.std.specs.FinMap as map

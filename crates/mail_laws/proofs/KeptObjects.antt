@@ -122,6 +122,24 @@ keeps_all T scope = record {
     start : (q : ℕ) → now T map.empty q ≡ object_at T q
     start q = ap (λ r. newest r (object_at T q)) (map.get-empty nat_cmp q)
 
+-- what stands there may be put as it is
+pub fits_same : (T : Tree) (scope : Scope) (m : Changes) (q : ℕ) (o : Object) → KeepsObjects T scope m → (q % 32 ≡ 1 → ⊥) → now T m q ≡ Some o → Fits T scope m q (Some o)
+fits_same T scope m q o k elsewhere is = record {
+  clear = λ none. k.clear q (Some o) (changed none) none;
+  folder = λ old at. subst (KeepsFolder (scope.names q) old) is (k.folders q old (λ e. elsewhere (ap (λ x. x % 32) e)) at);
+  table = λ old at. subst (KeepsTable (Untouched T (map.insert m q (Some o))) old) is (fewer (Untouched T m) (Untouched T (map.insert m q (Some o))) old (now T m q) (untouched_before T m q (Some o)) (k.tables q old at));
+  store = elsewhere;
+  goes = λ e. absurd (none-some o (sym e));
+  comes = λ none. k.comes q (Some o) (changed none) none;
+}
+  where
+    put : (x : Option (Option Object)) → newest x None ≡ Some o → x ≡ Some (Some o)
+    put None e = cc
+    put (Some y) e = ap (λ z. Some z) e
+
+    changed : object_at T q ≡ None → map.get m q ≡ Some (Some o)
+    changed none = put (map.get m q) (ap (λ z. newest (map.get m q) z) (sym none) ∙ is)
+
 -- after one more change
 pub keeps_more : (T : Tree) (scope : Scope) (m : Changes) (q : ℕ) (o : Option Object) → KeepsObjects T scope m → Fits T scope m q o → KeepsObjects T scope (map.insert m q o)
 keeps_more T scope m q o k fits = record {

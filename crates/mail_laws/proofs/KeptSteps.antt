@@ -18,9 +18,9 @@ use Rattle.mail_tree.specs.Settling.{counted, message_ids, mirrored, settled, un
 use Rattle.mail_laws.specs.Stays.{StaysFolder}
 use Rattle.mail_tree.proofs.KeyedFinds.{find-drop_other, find-put_other}
 use Rattle.mail_laws.proofs.Keeping.{if_any, if_then}
-use Rattle.mail_laws.proofs.KeptObjects.{Changes, KeepsObjects, Scope, Untouched, fits_context, fits_rows, keeps_more}
+use Rattle.mail_laws.proofs.KeptObjects.{Changes, KeepsObjects, Scope, Untouched, fits_context, fits_rows, fits_same, keeps_more}
 use Rattle.mail_tree.proofs.KindsOfPuts.{beside_kind}
-use Rattle.mail_laws.proofs.MirrorSteps.{if_context, if_table}
+use Rattle.mail_laws.proofs.Touches.{Stays, if_context, if_table, table_stays}
 
 -- a folder that is counted anew has its other values still
 counts_stay : (named : Bool) (c : Ctx) (messages unread : ℕ) (has_folders : Bool) → StaysFolder named c (record c { props = with_counts messages unread has_folders c.props })
@@ -81,10 +81,14 @@ module _ (T : Tree) (scope : Scope) where
       if_then (λ n. Unit {0}) Good (unread_among T D (message_ids t.table)) _ (if_any (unread_among T D (message_ids t.table))) (λ n u.
       context_good f c _ D other is (counts_stay (scope.names f) c (length (message_ids t.table)) n (list_any (is_child f) places)) k)))
 
+  -- what stands there is put as it is
+  pub good_same : Stays T Good
+  good_same D q o kind at k = keeps_more T scope D.objects q (Some o) k (fits_same T scope D.objects q o k (λ e. elim kind [ inl two ↦ omega arith | inr high ↦ omega arith ]) at)
+
   pub mirrored_good : (f : ℕ) (D : Changed) → (Untouched T D.objects f → ⊥) → Good D → IfOk (mirrored T f D) Good
   unfolding mirrored
   mirrored_good f D touched k = elim (cases_Bool (f == ROOT)) [
-    | inl b ↦ rw b k
+    | inl b ↦ rw b (table_stays T Good good_same (hierarchy ROOT) D (omega (arith, beside_kind ROOT 13 (omega arith))) k)
     | inr b ↦ rw b (if_then (λ c. Unit {0}) Good (context_at T D f) _ (if_any (context_at T D f)) (λ c u. put_good (hierarchy c.parent) f c.props D (table_elsewhere c.parent 13 (omega arith) (omega arith)) touched k))
   ]
 

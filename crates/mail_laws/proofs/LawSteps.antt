@@ -42,7 +42,7 @@ pub was_nothing : (T : Tree) (q : ℕ) → now_at T nothing q ≡ None → objec
 was_nothing T q is = ap (λ g. g q) (sym (now_nothing T false)) ∙ is
 
 -- an object that is a message
-is_message : (o : Option Object) (M : Mes) → as_message o ≡ Some M → o ≡ Some (Message M)
+pub is_message : (o : Option Object) (M : Mes) → as_message o ≡ Some M → o ≡ Some (Message M)
 is_message None M e = cc
 is_message (Some (Context c)) M e = cc
 is_message (Some (Table t)) M e = cc

@@ -13,6 +13,7 @@ pub mod PlaceEffects
 pub mod LawSteps
 pub mod Strays
 pub mod MirrorPuts
+pub mod Touches
 pub mod MirrorSteps
 pub mod MirrorCommands
 pub mod CountSteps
@@ -28,3 +29,10 @@ pub mod Depths
 pub mod FoundSteps
 pub mod FoundCommands
 pub mod FoundStart
+pub mod FoundMessages
+pub mod Finishing
+pub mod Telling
+pub mod Newness
+pub mod Listings
+pub mod PartRows
+pub mod PartCommands

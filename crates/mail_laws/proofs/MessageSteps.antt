@@ -3,7 +3,7 @@ use Rattle.command_text.specs.declared.reply.Reply.{Reply}
 use Rattle.command_text.specs.declared.reply.LastLine.{LastLine}
 use Rattle.command_text.specs.declared.reply.Limit.TheVariants.{Rows}
 use Rattle.command_text.specs.declared.reply.CommandRefusal.{CommandRefusal}
-use Rattle.std.proofs.Common.{◌≡◌, ℕ, ◌%◌, ◌==◌, true, false, nat_le, length, ◌||◌, List, Option, None, Some, IsSome, is_some, Ok, arith, refl, sym, ap, ◌∙◌, inl, inr, Err, Bool, not}
+use Rattle.std.proofs.Common.{◌≡◌, ℕ, ◌%◌, ◌==◌, true, false, nat_le, length, ◌||◌, List, Option, None, Some, IsSome, is_some, Ok, arith, refl, sym, subst, ap, ◌∙◌, inl, inr, Err, Bool, not}
 use Rattle.std.proofs.lemmas.Bool.{cases_Bool, eqb-true}
 use Rattle.std.proofs.lemmas.Option.{none-some}
 use Rattle.pst_base.specs.Ids.{nid_of}
@@ -24,7 +24,7 @@ use Rattle.command_text.specs.declared.reply.CommandRefusal.TheVariants.{Ids, Li
 use Rattle.named_props.specs.Finding.{is_property_named}
 use Rattle.mail_tree.specs.Names.{names_in, unless_nameless}
 use Rattle.mail_tree.specs.Changing.{Answer, Changed, ◌>>=◌, add_shown, contents, drop_shown, nothing, now_at, overfills, put_shown, shown_row, with_object, with_rows, within_limits}
-use Rattle.mail_tree.specs.Settling.{settled}
+use Rattle.mail_tree.specs.Settling.{settled, touched}
 use Rattle.mail_tree.specs.Folders.{Outcome, changing, making, replied, unless_full, replying}
 use Rattle.mail_tree.specs.Messages.{added_attachment, added_message, added_recipient, adding_attachment, adding_recipient, appended_data, appending, fetched_data, removed_attachment, spent_index, too_long, changed_message, copied_message, copy_of, copying, details, in_folder, is_crowded_message, is_overfull, making_message, message_in, moved_message, new_message, parent_at, plain_message, remaking, removed_message, removed_recipient, set_value, spent_row, unset_value, value_in, value_of, with_message}
 use Rattle.mail_tree.specs.Parts.{attachment_props, attachment_tags, data_tag, has_recipient, is_full, is_wide, lengthened, new_row, next_part, next_row, part_in, part_nid, part_with, plain_part, recipient_props, recipient_tags, room_for, rows_of, with_attachment, with_bytes, with_part, with_recipient, without_attachment, without_recipient}
@@ -33,11 +33,11 @@ use Rattle.mail_tree.specs.Whole.{AreWhole, Fine}
 use Rattle.mail_tree.proofs.AfterTree.{now_nothing, puts_object, puts_values}
 use Rattle.mail_laws.proofs.NewIds.{free_message, new_id_is, next_is_free}
 use Rattle.mail_tree.proofs.FineLaws.{after_found, after_limits, after_test, cases_Option, fine_then, fine_either, fine_test}
-use Rattle.mail_tree.proofs.Nearly.{AreNearly, Puts, message_id, table_of}
+use Rattle.mail_tree.proofs.Nearly.{AreNearly, Puts, message_id, table_of, nearly, plain_id}
 use Rattle.mail_tree.proofs.KindsOfPuts.{beside_kind}
 use Rattle.mail_laws.proofs.Closing.{whole_message}
 use Rattle.mail_laws.proofs.MessagePuts.{apart, drops_message, lists_message, puts_at, removes_at}
-use Rattle.mail_tree.proofs.Settles.{fine_settled, messages_of, store_of}
+use Rattle.mail_tree.proofs.Settles.{fine_settled, fine_touched, messages_of, store_of}
 use Rattle.mail_laws.proofs.Spent.{fine_planned, new_id_kind, refused_later}
 
 -- the tree is whole before the command
@@ -129,6 +129,13 @@ shown_message T old new crowded p w is four folder nid found plain =
 -- what a message of a whole tree has
 pub home_of : (T : Tree) → Before T → (m : ℕ) (M : Mes) → now_at T nothing m ≡ Some (Message M) → (M.nid ≡ m) × (p : FolderPlace) × (find_place M.folder T.places ≡ Some p) × (is_plain p ≡ true)
 home_of T w m M is = let v = w.held m M is in ((message_id m M (w.typed m (Message M) is)).1, v.0, v.1, v.2)
+
+-- the folder of a message, put as it is before other changes
+pub fine_home : (T : Tree) → Before T → (m : ℕ) (M : Mes) → now_at T nothing m ≡ Some (Message M) → (crowded : Bool) → Fine (touched T M.folder (record nothing { crowded = crowded })) (λ D. now_at T D ≡ now_at T nothing)
+fine_home T w m M is crowded = let v = home_of T w m M is in fine_touched T T.places M.folder v.1 (record nothing { crowded = crowded }) w v.2 v.3
+
+pub home_kind : (T : Tree) → Before T → (m : ℕ) (M : Mes) → now_at T nothing m ≡ Some (Message M) → M.folder % 32 ≡ 2
+home_kind T w m M is = let v = home_of T w m M is in plain_id (nearly (λ x. ⊥) T.places (now_at T nothing) w) M.folder v.1 v.2 v.3
 
 -- settled, and within the limits
 settled_ending : (T : Tree) (a : Answer Changed) (f : ℕ) (p : FolderPlace) (reply : Reply) → find_place f T.places ≡ Some p → is_plain p ≡ true → Fine a (Leaves T) → Fine (a >>= settled T T.places f >>= changing T reply) (Keeps T)
@@ -308,7 +315,7 @@ fine_made T folder p class time store w found plain = elim (cases_Bool (is_spent
       let m = new_id 4 (next_index T 4 message_kinds) in
       let M = plain_message m folder (message_props m class time store) in
       refused_later T T.places 4 (next_index T 4 message_kinds) (Keeps T) (added_message T (finished M) nothing) t
-      (fine_planned T (finished M) false p w (ap (λ x. x % 32) (finished_id M) ∙ new_id_kind 4 (next_index T 4 message_kinds) (omega arith)) (ap (λ x. find_place x T.places) (finished_folder M) ∙ found) plain)
+      (fine_planned T (finished M) nothing p w (ap (λ x. x % 32) (finished_id M) ∙ new_id_kind 4 (next_index T 4 message_kinds) (omega arith)) (ap (λ x. find_place x T.places) (finished_folder M) ∙ found) plain)
   | inr t ↦
       let m = new_id 4 (next_index T 4 message_kinds) in
       let id = new_message_id T t in
@@ -330,19 +337,24 @@ fine_new T folder class time w = elim (cases_Option (find_place folder T.places)
 ]
 
 -- `cp`
-fine_copying : (T : Tree) (M : Mes) (folder : ℕ) (p : FolderPlace) → Before T → find_place folder T.places ≡ Some p → is_plain p ≡ true → Fine (copying T M folder (next_index T 4 message_kinds)) (Keeps T)
+fine_copying : (T : Tree) (m : ℕ) (M : Mes) (folder : ℕ) (p : FolderPlace) → Before T → now_at T nothing m ≡ Some (Message M) → find_place folder T.places ≡ Some p → is_plain p ≡ true
+    → Fine (copying T M folder (next_index T 4 message_kinds)) (Keeps T)
 unfolding copying
-fine_copying T M folder p w found plain = elim (cases_Bool (is_spent (next_index T 4 message_kinds))) [
-  | inl t ↦
-      let N = copy_of (new_id 4 (next_index T 4 message_kinds)) folder M in
-      refused_later T T.places 4 (next_index T 4 message_kinds) (Keeps T) (added_message T N (record nothing { crowded = is_crowded_message M })) t
-      (fine_planned T N (is_crowded_message M) p w (new_id_kind 4 (next_index T 4 message_kinds) (omega arith)) found plain)
-  | inr t ↦
-      let id = new_message_id T t in
-      let D = record nothing { crowded = is_crowded_message M } in
-      let N = copy_of (new_id 4 (next_index T 4 message_kinds)) folder M in
-      (fine_making T (added_message T N D) 4 (next_index T 4 message_kinds) (fine_added T D N p w id.0 id.1 found plain))
-]
+fine_copying T m M folder p w is found plain =
+    let D : Changed = record nothing { crowded = is_crowded_message M } in
+    let N = copy_of (new_id 4 (next_index T 4 message_kinds)) folder M in
+    let Same : Changed → Type 0 = λ D'. now_at T D' ≡ now_at T nothing in
+    let touches : Fine (touched T M.folder D) Same = fine_home T w m M is (is_crowded_message M) in
+    elim (cases_Bool (is_spent (next_index T 4 message_kinds))) [
+      | inl t ↦ refused_later T T.places 4 (next_index T 4 message_kinds) (Keeps T) (touched T M.folder D >>= added_message T N) t
+          (fine_then Same (λ D'. Unit {0}) (touched T M.folder D) (added_message T N) touches (λ D' same.
+          fine_planned T N D' p (subst (AreWhole T.places) (sym same) w) (new_id_kind 4 (next_index T 4 message_kinds) (omega arith)) found plain))
+      | inr t ↦
+          let id = new_message_id T t in
+          (fine_making T (touched T M.folder D >>= added_message T N) 4 (next_index T 4 message_kinds)
+          (fine_then Same (Leaves T) (touched T M.folder D) (added_message T N) touches (λ D' same.
+          fine_added T D' N p (subst (AreWhole T.places) (sym same) w) id.0 (ap (λ at. at N.nid) same ∙ id.1) found plain)))
+    ]
 
 pub fine_copied : (T : Tree) (m folder : ℕ) → Before T → Fine (copied_message T m folder) (Keeps T)
 unfolding copied_message
@@ -354,7 +366,7 @@ fine_copied T m folder w = fine_then _ (Keeps T) (message_in T m) _ (fine_messag
         let t = messages_of w folder p.0 p.1 plain in
         rw plain (elim (cases_Bool (is_overfull M.recipients || is_overfull M.attachments)) [
           | inl b ↦ rw b tt
-          | inr b ↦ rw b (fine_then (λ u. Unit {0}) (Keeps T) (unless_full T (contents folder)) _ (fine_unless_full T (contents folder) t.0 t.1) (λ u v. fine_copying T M folder p.0 w p.1 plain))
+          | inr b ↦ rw b (fine_then (λ u. Unit {0}) (Keeps T) (unless_full T (contents folder)) _ (fine_unless_full T (contents folder) t.0 t.1) (λ u v. fine_copying T m M folder p.0 w h.0 p.1 plain))
         ])
   ])
 ])

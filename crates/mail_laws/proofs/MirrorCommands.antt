@@ -2,7 +2,7 @@
 use Rattle.command_text.specs.declared.reply.LastLine.{LastLine}
 use Rattle.command_text.specs.declared.reply.Limit.TheVariants.{Rows}
 use Rattle.command_text.specs.declared.reply.CommandRefusal.{CommandRefusal}
-use Rattle.std.proofs.Common.{◌≡◌, ℕ, ◌%◌, ◌<◌, ◌==◌, ◌||◌, Bool, true, false, nat_le, filter, List, [], Option, None, Some, IfOk, is_some, arith, refl, sym, ap, ◌∙◌, inl, inr, not, subst}
+use Rattle.std.proofs.Common.{◌≡◌, ℕ, ◌%◌, ◌<◌, ◌==◌, ◌||◌, Bool, true, false, filter, List, [], Option, None, Some, IfOk, is_some, arith, refl, sym, ap, ◌∙◌, inl, inr, not, subst, Ok}
 use Rattle.std.proofs.lemmas.Bool.{cases_Bool, cases_eq, or_parts}
 use Rattle.std.proofs.lemmas.Option.{none-some}
 use Rattle.mapi_values.specs.Characters.{folded}
@@ -28,7 +28,7 @@ use Rattle.mail_tree.specs.Names.{NAMES, named_property, unless_nameless}
 use Rattle.mail_laws.proofs.NameSteps.{PutsNames, puts_names_after}
 use Rattle.mail_tree.specs.Changing.{Answer, Changed, ◌>>=◌, add_shown, associated, beside, contents, context_at, drop_shown, hierarchy, nothing, now_at, put_shown, table_at, with_object, within_limits}
 use Rattle.mail_tree.specs.Columns.{contents_table, hierarchy_table}
-use Rattle.mail_tree.specs.Settling.{message_ids, mirrored, settled, with_context}
+use Rattle.mail_tree.specs.Settling.{message_ids, mirrored, settled, with_context, touched}
 use Rattle.mail_tree.specs.Ids.{folder_kinds, is_spent, is_taken, message_kinds, new_id, next_index}
 use Rattle.mail_tree.specs.Folders.{Outcome, associated_in, changing, folder_lines, has_associated, has_rows, listing, made_folder, making, making_folder, moved_between, moved_folder, place, removed_folder, without_folder, without_node, message_lines, moving, renamed_folder, replied, siblings, unless_full, unless_named, unless_protected, with_folder}
 use Rattle.mail_tree.specs.Messages.{added_attachment, added_message, added_recipient, adding_attachment, adding_recipient, appended_data, appending, fetched_data, removed_attachment, spent_index, too_long, changed_message, copied_message, copy_of, copying, details, in_folder, is_crowded_message, is_overfull, making_message, message_in, moved_message, new_message, plain_message, remaking, removed_message, removed_recipient, set_value, spent_row, unset_value, value_in, value_of, with_message}
@@ -42,9 +42,10 @@ use Rattle.mail_laws.proofs.NewIds.{new_folder_id}
 use Rattle.mail_tree.specs.Step.{outcome}
 use Rattle.mail_laws.proofs.Keeping.{from_fine, if_any, if_found, if_test, if_then, if_weaker, never_made, if_replying}
 use Rattle.mail_tree.proofs.KindsOfPuts.{beside_kind, same_table}
-use Rattle.mail_laws.proofs.MessageSteps.{Before, fine_message_in, finished_folder, finished_id, home_of, new_message_id}
+use Rattle.mail_laws.proofs.MessageSteps.{Before, fine_message_in, finished_folder, finished_id, home_of, new_message_id, fine_home}
 use Rattle.mail_laws.proofs.MirrorPuts.{AreShownBut, FolderIds, closes, shown_places, shown_put, shown_unlisting}
-use Rattle.mail_laws.proofs.MirrorSteps.{add_folder, add_message, context_opens, drop_one, if_table, mirrored_shows, put_message, then_shows}
+use Rattle.mail_laws.proofs.MirrorSteps.{add_folder, add_message, context_opens, drop_one, mirrored_shows, put_message, then_shows}
+use Rattle.mail_laws.proofs.Touches.{if_table}
 use Rattle.mail_tree.proofs.Nearly.{Puts, folder_kind, nearly, plain_id}
 use Rattle.mail_tree.proofs.Settles.{store_of}
 
@@ -113,15 +114,24 @@ module _ (T : Tree) (w : Before T) (s : AreShownBut (λ x. ⊥) T.places (now_at
     ])
   ])
 
-  adds : (M : Mes) (crowded : Bool) (p : FolderPlace) (index : ℕ) → M.nid % 32 ≡ 4 → find_place M.folder T.places ≡ Some p → IfOk (added_message T M (record nothing { crowded = crowded }) >>= making T T.places 4 index) After
+  adds : (a : Answer Changed) → IfOk a Shows_now → (M : Mes) (p : FolderPlace) (index : ℕ) → M.nid % 32 ≡ 4 → find_place M.folder T.places ≡ Some p → IfOk (a >>= added_message T M >>= making T T.places 4 index) After
   unfolding Shows_now
-  adds M crowded p index four found =
-      let D0 = record nothing { crowded = crowded } in
+  adds a k M p index four found = then_making (a >>= added_message T M) 4 index (if_then Shows_now Shows_now a (added_message T M) k (λ D0 s0.
       let D = with_object M.nid (Some (Message M)) D0 in
       let puts = puts_object T D0 M.nid (Some (Message M)) in
-      let a = add_shown T (contents M.folder) M.nid M.props D in
-      then_making (a >>= settled T T.places M.folder) 4 index (then_shows T T.places ids a M.folder (ids M.folder p found)
-      (add_message T T.places ids D M.nid M four (message_opens D0 M.nid (Some (Message M)) (now_at T D) four s puts) puts.here))
+      then_shows T T.places ids (add_shown T (contents M.folder) M.nid M.props D) M.folder (ids M.folder p found)
+      (add_message T T.places ids D M.nid M four (message_opens D0 M.nid (Some (Message M)) (now_at T D) four s0 puts) puts.here)))
+
+  -- the folder of a message, put as it is before other changes
+  touches : (m : ℕ) (M : Mes) → now_at T nothing m ≡ Some (Message M) → (crowded : Bool) → IfOk (touched T M.folder (record nothing { crowded = crowded })) Shows_now
+  unfolding Shows_now
+  touches m M is crowded =
+      let a = touched T M.folder (record nothing { crowded = crowded }) in
+      if_weaker (λ D. now_at T D ≡ now_at T nothing) Shows_now a (from_fine (λ D. now_at T D ≡ now_at T nothing) a (fine_home T w m M is crowded)) (λ D same. subst (AreShownBut (λ x. ⊥) T.places) (sym same) s)
+
+  starts : Shows_now nothing
+  unfolding Shows_now
+  starts = s
 
   copies : (m folder : ℕ) → IfOk (copied_message T m folder) After
   unfolding copied_message copying
@@ -132,8 +142,8 @@ module _ (T : Tree) (w : Before T) (s : AreShownBut (λ x. ⊥) T.places (now_at
       | inl plain ↦ rw plain (elim (cases_Bool (is_overfull M.recipients || is_overfull M.attachments)) [
         | inl b ↦ rw b tt
         | inr b ↦ rw b (if_then (λ u. Unit {0}) After (unless_full T (contents folder)) _ (if_any (unless_full T (contents folder))) (λ u v. elim (cases_Bool (is_spent (next_index T 4 message_kinds))) [
-          | inl t ↦ never_made T T.places 4 (next_index T 4 message_kinds) After (added_message T (copy_of (new_id 4 (next_index T 4 message_kinds)) folder M) (record nothing { crowded = is_crowded_message M })) t
-          | inr t ↦ (adds (copy_of (new_id 4 (next_index T 4 message_kinds)) folder M) (is_crowded_message M) p.0 (next_index T 4 message_kinds) (new_message_id T t).0 p.1)
+          | inl t ↦ never_made T T.places 4 (next_index T 4 message_kinds) After (touched T M.folder (record nothing { crowded = is_crowded_message M }) >>= added_message T (copy_of (new_id 4 (next_index T 4 message_kinds)) folder M)) t
+          | inr t ↦ (adds (touched T M.folder (record nothing { crowded = is_crowded_message M })) (touches m M h.0 (is_crowded_message M)) (copy_of (new_id 4 (next_index T 4 message_kinds)) folder M) p.0 (next_index T 4 message_kinds) (new_message_id T t).0 p.1)
         ]))
       ])
     ])
@@ -155,7 +165,7 @@ module _ (T : Tree) (w : Before T) (s : AreShownBut (λ x. ⊥) T.places (now_at
             | inr t ↦
                 let index = next_index T 4 message_kinds in
                 let N = plain_message (new_id 4 index) folder (message_props (new_id 4 index) class time store.0.props) in
-                (adds (finished N) false p.0 index (ap (λ x. x % 32) (finished_id N) ∙ (new_message_id T t).0) (ap (λ x. find_place x T.places) (finished_folder N) ∙ p.1))
+                (adds (Ok nothing) starts (finished N) p.0 index (ap (λ x. x % 32) (finished_id N) ∙ (new_message_id T t).0) (ap (λ x. find_place x T.places) (finished_folder N) ∙ p.1))
           ]))
     ])
   ]

@@ -1,5 +1,5 @@
 -- Steps after which rows show what they name.
-use Rattle.std.proofs.Common.{◌≡◌, ℕ, ◌%◌, ◌<◌, ◌==◌, List, length, Option, None, Some, IfOk, arith, refl, sym, subst, ◌∙◌, ◌⊎◌, inl, inr}
+use Rattle.std.proofs.Common.{◌≡◌, ℕ, ◌%◌, ◌<◌, ◌==◌, List, length, Option, Some, IfOk, arith, refl, sym, subst, ◌∙◌, ◌⊎◌, inl, inr}
 use Rattle.std.specs.List.{list_any}
 use Rattle.std.proofs.lemmas.Bool.{cases_Bool, eqb-true}
 use Rattle.mapi_values.specs.Messages.{Mes}
@@ -12,36 +12,18 @@ use Rattle.mail_tree.specs.declared.places.FolderPlace.{FolderPlace}
 use Rattle.mail_tree.specs.Places.{ROOT, is_child}
 use Rattle.mail_tree.specs.Tree.{Tree}
 use Rattle.mail_tree.specs.Values.{with_counts}
-use Rattle.mail_tree.specs.Changing.{Answer, Changed, ◌>>=◌, add_shown, as_context, as_table, contents, context_at, drop_shown, hierarchy, known, now_at, overfills, put_shown, shown_row, table_at, with_object, with_rows}
-use Rattle.mail_tree.specs.Settling.{counted, message_ids, mirrored, settled, unread_among, with_context}
+use Rattle.mail_tree.specs.Changing.{Answer, Changed, ◌>>=◌, add_shown, contents, context_at, drop_shown, hierarchy, now_at, overfills, put_shown, shown_row, table_at, with_object, with_rows}
+use Rattle.mail_tree.specs.Settling.{counted, message_ids, mirrored, table_as_is, settled, unread_among, with_context}
 use Rattle.mail_laws.specs.Laws.{Shows}
 use Rattle.mail_tree.proofs.AfterTree.{puts_object, puts_values}
 use Rattle.mail_tree.proofs.KeyedFinds.{find-put_other, find-put_same, find-drop_other}
-use Rattle.mail_laws.proofs.Keeping.{if_any, if_then}
+use Rattle.mail_laws.proofs.Keeping.{if_any, if_then, if_weaker}
+use Rattle.mail_laws.proofs.Touches.{if_table, table_same}
 use Rattle.mail_tree.proofs.KindsOfPuts.{beside_kind}
 use Rattle.mail_laws.proofs.MirrorPuts.{AreShownBut, FolderIds, closes, shown_put, shown_rows}
 use Rattle.mail_tree.proofs.Nearly.{Puts}
 
--- what stands there
-known_context : (o : Option Object) → IfOk (known (as_context o)) (λ c. o ≡ Some (Context c))
-known_context None = tt
-known_context (Some (Context c)) = refl
-known_context (Some (Table t)) = tt
-known_context (Some (Message m)) = tt
-
-known_table : (o : Option Object) → IfOk (known (as_table o)) (λ t. o ≡ Some (Table t))
-known_table None = tt
-known_table (Some (Context c)) = tt
-known_table (Some (Table t)) = refl
-known_table (Some (Message m)) = tt
-
 module _ (T : Tree) where
-  pub if_context : (D : Changed) (q : ℕ) → IfOk (context_at T D q) (λ c. now_at T D q ≡ Some (Context c))
-  if_context D q = known_context (now_at T D q)
-
-  pub if_table : (D : Changed) (q : ℕ) → IfOk (table_at T D q) (λ t. now_at T D q ≡ Some (Table t))
-  if_table D q = known_table (now_at T D q)
-
   module _ (places : List FolderPlace) (ids : FolderIds places) where
     -- rows show what they name, but for one id
     abbrev pub ShownBut : ℕ → Changed → Type 0
@@ -84,12 +66,12 @@ module _ (T : Tree) where
 
     pub put_folder : (D : Changed) (f : ℕ) (c : Ctx) → (f % 32 ≡ 2) ⊎ (f % 32 ≡ 3) → ShownBut f D → now_at T D f ≡ Some (Context c) → IfOk (put_shown T (hierarchy c.parent) f c.props D) Shown
     unfolding put_shown
-    put_folder D f c kind s is = if_then (λ t. now_at T D (hierarchy c.parent) ≡ Some (Table t)) Shown (table_at T D (hierarchy c.parent)) _ (if_table D (hierarchy c.parent))
+    put_folder D f c kind s is = if_then (λ t. now_at T D (hierarchy c.parent) ≡ Some (Table t)) Shown (table_at T D (hierarchy c.parent)) _ (if_table T D (hierarchy c.parent))
         (λ t is_t. folder_closes D f c t (with_object (hierarchy c.parent) (Some (with_rows (shown_row f c.props t.table) t)) D) kind s is is_t (puts_object T D (hierarchy c.parent) (Some (with_rows (shown_row f c.props t.table) t))))
 
     pub add_folder : (D : Changed) (f : ℕ) (c : Ctx) → (f % 32 ≡ 2) ⊎ (f % 32 ≡ 3) → ShownBut f D → now_at T D f ≡ Some (Context c) → IfOk (add_shown T (hierarchy c.parent) f c.props D) Shown
     unfolding add_shown
-    add_folder D f c kind s is = if_then (λ t. now_at T D (hierarchy c.parent) ≡ Some (Table t)) Shown (table_at T D (hierarchy c.parent)) _ (if_table D (hierarchy c.parent))
+    add_folder D f c kind s is = if_then (λ t. now_at T D (hierarchy c.parent) ≡ Some (Table t)) Shown (table_at T D (hierarchy c.parent)) _ (if_table T D (hierarchy c.parent))
         (λ t is_t. elim (cases_Bool (overfills t.table.rows (shown_row f c.props t.table))) [
           | inl b ↦ rw b tt
           | inr b ↦ rw b (folder_closes D f c t (with_object (hierarchy c.parent) (Some (with_rows (shown_row f c.props t.table) t)) D) kind s is is_t (puts_object T D (hierarchy c.parent) (Some (with_rows (shown_row f c.props t.table) t))))
@@ -97,12 +79,12 @@ module _ (T : Tree) where
 
     pub put_message : (D : Changed) (m : ℕ) (M : Mes) → m % 32 ≡ 4 → ShownBut m D → now_at T D m ≡ Some (Message M) → IfOk (put_shown T (contents M.folder) m M.props D) Shown
     unfolding put_shown
-    put_message D m M four s is = if_then (λ t. now_at T D (contents M.folder) ≡ Some (Table t)) Shown (table_at T D (contents M.folder)) _ (if_table D (contents M.folder))
+    put_message D m M four s is = if_then (λ t. now_at T D (contents M.folder) ≡ Some (Table t)) Shown (table_at T D (contents M.folder)) _ (if_table T D (contents M.folder))
         (λ t is_t. message_closes D m M t (with_object (contents M.folder) (Some (with_rows (shown_row m M.props t.table) t)) D) four s is is_t (puts_object T D (contents M.folder) (Some (with_rows (shown_row m M.props t.table) t))))
 
     pub add_message : (D : Changed) (m : ℕ) (M : Mes) → m % 32 ≡ 4 → ShownBut m D → now_at T D m ≡ Some (Message M) → IfOk (add_shown T (contents M.folder) m M.props D) Shown
     unfolding add_shown
-    add_message D m M four s is = if_then (λ t. now_at T D (contents M.folder) ≡ Some (Table t)) Shown (table_at T D (contents M.folder)) _ (if_table D (contents M.folder))
+    add_message D m M four s is = if_then (λ t. now_at T D (contents M.folder) ≡ Some (Table t)) Shown (table_at T D (contents M.folder)) _ (if_table T D (contents M.folder))
         (λ t is_t. elim (cases_Bool (overfills t.table.rows (shown_row m M.props t.table))) [
           | inl b ↦ rw b tt
           | inr b ↦ rw b (message_closes D m M t (with_object (contents M.folder) (Some (with_rows (shown_row m M.props t.table) t)) D) four s is is_t (puts_object T D (contents M.folder) (Some (with_rows (shown_row m M.props t.table) t))))
@@ -111,7 +93,7 @@ module _ (T : Tree) where
     -- a row that needn't show anything goes
     pub drop_one : (D : Changed) (q id : ℕ) → 4 < q % 32 → ShownBut id D → IfOk (drop_shown T q id D) (λ D'. ShownBut id D' × ((x : ℕ) → (x ≡ q → ⊥) → now_at T D' x ≡ now_at T D x))
     unfolding drop_shown
-    drop_one D q id high s = if_then (λ t. now_at T D q ≡ Some (Table t)) _ (table_at T D q) _ (if_table D q) (λ t is_t.
+    drop_one D q id high s = if_then (λ t. now_at T D q ≡ Some (Table t)) _ (table_at T D q) _ (if_table T D q) (λ t is_t.
         let t' : Tbl = record { parent = t.parent; table = record t.table { rows = drop_row id t.table.rows } } in
         let puts = puts_object T D q (Some (with_rows (drop_row id t.table.rows) t)) in
         (shown_rows (λ x. x ≡ id) places (now_at T D) _ q t t' s ids high is_t puts refl (λ k other. find-drop_other (λ r. r.0) k id t.table.rows other), puts.others))
@@ -128,7 +110,9 @@ module _ (T : Tree) where
     pub mirrored_shows : (D : Changed) (f : ℕ) (c : Ctx) → (f % 32 ≡ 2) ⊎ (f % 32 ≡ 3) → ShownBut f D → now_at T D f ≡ Some (Context c) → IfOk (mirrored T f D) Shown
     unfolding mirrored
     mirrored_shows D f c kind s is = elim (cases_Bool (f == ROOT)) [
-      | inl b ↦ rw b (closes f places (now_at T D) s (λ p c e no_root is'. absurd (no_root (eqb-true f ROOT b))) (λ M is'. cc (sym is ∙ is')))
+      | inl b ↦
+          let shown : Shown D = closes f places (now_at T D) s (λ p c e no_root is'. absurd (no_root (eqb-true f ROOT b))) (λ M is'. cc (sym is ∙ is')) in
+          rw b (if_weaker (λ D'. now_at T D' ≡ now_at T D) Shown (table_as_is T (hierarchy ROOT) D) (table_same T (hierarchy ROOT) D) (λ D' same. subst (AreShownBut (λ x. ⊥) places) (sym same) shown))
       | inr b ↦ rw (b, is) (put_folder D f c kind s is)
     ]
 

@@ -1,31 +1,30 @@
 -- What `name` finds, and what it leaves of other names.
-use Rattle.std.proofs.Common.{◌≡◌, ◌∙◌, ℕ, ◌^◌, ◌==◌, ◌+◌, true, false, not, nat_lt, length, List, Option, None, Some, Ok, IfOk, refl, sym, ap, inl, inr}
+use Rattle.std.proofs.Common.{◌≡◌, ◌∙◌, ℕ, ◌^◌, ◌==◌, ◌+◌, true, false, nat_lt, length, List, Option, None, Some, Ok, IfOk, refl, sym, ap, inl, inr}
 use Rattle.std.specs.List.{list_all}
 use Rattle.std.proofs.lemmas.Bool.{and_parts, cases_Bool, eqb-true, ltb-true}
 use Rattle.named_props.specs.Adding as adding
 use Rattle.named_props.specs.Entries.{fits_id}
-use Rattle.named_props.specs.Finding.{guids_known, name_at}
+use Rattle.named_props.specs.Finding.{name_at}
 use Rattle.named_props.specs.Holding.{IsWritable, names_of, written}
 use Rattle.named_props.specs.declared.names.Names.{Names}
 use Rattle.named_props.proofs.AddedLaws.{writes-added}
 use Rattle.named_props.proofs.FoundLaws.{name_at-added, name_at-kept}
-use Rattle.command_text.specs.declared.reply.CommandRefusal.TheVariants.{Limit, Line}
 use Rattle.command_text.specs.declared.reply.LastLine.TheVariants.{Named}
-use Rattle.command_text.specs.declared.reply.Limit.TheVariants as limits
 use Rattle.mail_objects.specs.Forms.{Ctx}
 use Rattle.mail_objects.specs.declared.object.Object.TheVariants.{Context}
-use Rattle.mail_tree.specs.Tree.{Tree, object_at}
+use Rattle.mail_tree.specs.Tree.{Tree}
 use Rattle.mail_tree.specs.Changing.{nothing, now_at}
 use Rattle.mail_tree.specs.Folders.{Outcome, replied, unchanged}
-use Rattle.mail_tree.specs.Names.{NAMES, found_or_added, is_name, named_property, names_in}
+use Rattle.mail_tree.specs.Names.{NAMES, found_or_added, is_name, named_property, names_in, with_another}
 use Rattle.mail_tree.specs.Settling.{with_context}
 use Rattle.mail_tree.specs.Step.{after}
 use Rattle.mail_tree.specs.Whole.{Fine}
 use Rattle.mail_tree.proofs.AfterTree.{after_now, now_nothing, puts_values}
-use Rattle.mail_tree.proofs.FineLaws.{after_limits, after_test}
+use Rattle.mail_tree.proofs.FineLaws.{after_limits}
 use Rattle.mail_laws.specs.Laws.{FindsName}
 use Rattle.mail_laws.proofs.Keeping.{from_fine}
 use Rattle.mail_laws.proofs.MessageSteps.{Before}
+use Rattle.mail_laws.proofs.NameSteps.{another_is}
 
 -- what stands there after changes stands there in the tree after them
 in_after : (T : Tree) (o : Outcome) (q : ℕ) → now_at (after T o) nothing q ≡ now_at T o.changed q
@@ -78,9 +77,10 @@ module _ (T : Tree) (guid : List ℕ) (number : ℕ) (is : is_name guid number �
   either : (found : Option ℕ) → name_at n.guids n.entries guid number ≡ found → Fine (found_or_added T c n guid number found) (FindsName T guid number)
   unfolding found_or_added
   either (Some property) e = there property e _ refl
-  either None e =
-      after_test (FindsName T guid number) (adding.is_full n guid number) (Limit limits.Names) _ (λ room.
-      after_limits (FindsName T guid number) (with_context NAMES c (written (adding.added n guid number)) nothing) _ (added e room _ refl refl refl))
+  either None e = elim (cases_Bool (adding.is_full n guid number)) [
+    | inl full ↦ rw full (after_limits (FindsName T guid number) (with_context NAMES c (written (with_another n guid number)) nothing) _ tt)
+    | inr room ↦ rw (room, another_is n guid number room) (after_limits (FindsName T guid number) (with_context NAMES c (written (adding.added n guid number)) nothing) _ (added e room _ refl refl refl))
+  ]
 
 -- `name`
 pub finds_name : (T : Tree) (guid : List ℕ) (number : ℕ) → Before T → IfOk (named_property T guid number) (FindsName T guid number)

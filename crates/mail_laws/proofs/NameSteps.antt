@@ -1,5 +1,5 @@
 -- What `name` leaves: it puts names at the node of names or changes nothing.
-use Rattle.std.proofs.Common.{◌≡◌, ℕ, ◌^◌, ◌==◌, true, false, not, nat_lt, length, List, Option, None, Some, Ok, IfOk, refl, sym, subst, ◌∙◌, ◌⊎◌, inl, inr}
+use Rattle.std.proofs.Common.{◌≡◌, ℕ, ◌^◌, ◌==◌, true, false, nat_lt, length, List, Option, None, Some, IfOk, refl, sym, subst, ◌⊎◌, inl, inr}
 use Rattle.std.specs.FinMap as map
 use Rattle.std.specs.List.{list_all}
 use Rattle.std.proofs.lemmas.Bool.{and_parts, cases_Bool, eqb-true, ltb-true, ne_eqb}
@@ -10,19 +10,17 @@ use Rattle.named_props.specs.Finding.{name_at}
 use Rattle.named_props.specs.Holding.{IsWritable, names_of, written}
 use Rattle.named_props.specs.declared.names.Names.{Names}
 use Rattle.named_props.proofs.AddedLaws.{writes-added}
-use Rattle.command_text.specs.declared.reply.CommandRefusal.TheVariants.{Limit, Line}
 use Rattle.command_text.specs.declared.reply.LastLine.TheVariants.{Named}
-use Rattle.command_text.specs.declared.reply.Limit.TheVariants as limits
 use Rattle.mail_objects.specs.Forms.{Ctx}
 use Rattle.mail_objects.specs.declared.object.Object.TheVariants.{Context}
 use Rattle.mail_tree.specs.Tree.{Tree}
 use Rattle.mail_tree.specs.Changing.{nothing, now_at}
 use Rattle.mail_tree.specs.Folders.{Outcome, replied, unchanged}
-use Rattle.mail_tree.specs.Names.{AreNames, NAMES, found_or_added, is_name, named_property}
+use Rattle.mail_tree.specs.Names.{AreNames, NAMES, found_or_added, is_name, named_property, with_another}
 use Rattle.mail_tree.specs.Settling.{with_context}
 use Rattle.mail_tree.specs.Whole.{AreWhole, Fine}
 use Rattle.mail_tree.proofs.AfterTree.{puts_values, tied}
-use Rattle.mail_tree.proofs.FineLaws.{after_context, after_limits, after_test, fine_weaker}
+use Rattle.mail_tree.proofs.FineLaws.{after_limits, fine_weaker}
 use Rattle.mail_tree.proofs.KindsOfPuts.{puts_names}
 use Rattle.mail_tree.proofs.Nearly.{Puts, nearly, whole}
 use Rattle.mail_laws.proofs.Keeping.{from_fine}
@@ -38,6 +36,11 @@ pub record PutsNames (T : Tree) (o : Outcome) : Type 0 where
   pub gets : (k : ℕ) → (k ≡ NAMES → ⊥) → map.get o.changed.objects k ≡ map.get nothing.objects k
   pub objects_are : (o.changed.objects ≡ map.empty) ⊎ (o.changed.objects ≡ map.insert map.empty NAMES (Some (Context new)))
   pub places_are : o.places ≡ T.places
+
+-- the names that are planned where there is room
+pub another_is : (n : Names) (guid : List ℕ) (number : ℕ) → adding.is_full n guid number ≡ false → with_another n guid number ≡ adding.added n guid number
+unfolding with_another
+another_is n guid number room = rw room refl
 
 module _ (T : Tree) (guid : List ℕ) (number : ℕ) (is : is_name guid number ≡ true) (c : Ctx) (n : Names) (at : now_at T nothing NAMES ≡ Some (Context c)) (reads : names_of c.props ≡ Some n) (writes : IsWritable n) (numbers : list_all fits_id n.entries ≡ true) where
   -- a name that is there changes nothing
@@ -73,9 +76,10 @@ module _ (T : Tree) (guid : List ℕ) (number : ℕ) (is : is_name guid number �
   by_name : (property : Option ℕ) → Fine (found_or_added T c n guid number property) (PutsNames T)
   unfolding found_or_added
   by_name (Some property) = found_one property
-  by_name None =
-      after_test (PutsNames T) (adding.is_full n guid number) (Limit limits.Names) _ (λ room.
-      after_limits (PutsNames T) (with_context NAMES c (written (adding.added n guid number)) nothing) _ (added_one room _ refl refl))
+  by_name None = elim (cases_Bool (adding.is_full n guid number)) [
+    | inl full ↦ rw full (after_limits (PutsNames T) (with_context NAMES c (written (with_another n guid number)) nothing) _ tt)
+    | inr room ↦ rw (room, another_is n guid number room) (after_limits (PutsNames T) (with_context NAMES c (written (adding.added n guid number)) nothing) _ (added_one room _ refl refl))
+  ]
 
 -- `name`
 pub fine_puts_names : (T : Tree) (guid : List ℕ) (number : ℕ) → Before T → Fine (named_property T guid number) (PutsNames T)

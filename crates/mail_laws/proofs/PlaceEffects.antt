@@ -75,6 +75,7 @@ NamedNow T f name o = (c : Ctx) × (now_at T o.changed f ≡ Some (Context c)) �
 
 abbrev pub MadeFolder : Tree → ℕ → List ℕ → Outcome → Type 0
 MadeFolder T parent name o = (f : ℕ) × (o.reply ≡ replied (Made (nid f))) × (now_at T nothing f ≡ None) × Placed T f (Some (place f parent)) o × NamedNow T f name o × (node_at T.others (associated f) ≡ None)
+    × (now_at T o.changed f ≡ Some (Context (record { parent = parent; props = folder_props name; kept = [] })))
 
 -- a folder's own id is none of a table
 own_apart : (f g kind : ℕ) → f % 32 ≡ 2 → kind < 32 → 4 < kind → f ≡ beside g kind → ⊥
@@ -132,6 +133,7 @@ makes_folder T parent name w = elim (cases_Option (find_place parent T.places)) 
                   put_placed T f parent o (λ k four. c.keeps k four ∙ with_folder_keeps T f parent name two k four) c.places_are,
                   (record { parent = parent; props = folder_props name; kept = [] }, k.keeps f refl ∙ with_folder_is T f parent name two, refl),
                   no_stray_beside T t,
+                  k.keeps f refl ∙ with_folder_is T f parent name two,
                 )))
           ]))
         ]))

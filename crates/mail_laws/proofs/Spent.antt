@@ -1,5 +1,5 @@
 -- Where no index is left a command is planned with the last one, whatever stands there, and then it is refused.
-use Rattle.std.proofs.Common.{◌≡◌, ◌<◌, ℕ, ◌%◌, ◌==◌, Bool, true, List, [], length, Option, Some, IsSome, arith, sym, subst, ap, ◌∙◌, inl, inr}
+use Rattle.std.proofs.Common.{◌≡◌, ◌<◌, ℕ, ◌%◌, ◌==◌, true, List, [], length, Option, Some, IsSome, arith, sym, subst, ap, ◌∙◌, inl, inr}
 use Rattle.std.specs.List.{list_any}
 use Rattle.std.proofs.lemmas.Bool.{cases_Bool, cases_eq, eqb-false}
 use Rattle.mapi_values.specs.Messages.{Mes}
@@ -14,17 +14,17 @@ use Rattle.mail_tree.specs.Tree.{Tree}
 use Rattle.mail_tree.specs.Values.{folder_props, with_counts}
 use Rattle.mail_tree.specs.Changing.{Answer, Changed, ◌>>=◌, add_shown, associated, contents, hierarchy, nothing, now_at, overfills, put_shown, shown_row, with_object, with_rows}
 use Rattle.mail_tree.specs.Columns.{contents_table, hierarchy_table}
-use Rattle.mail_tree.specs.Settling.{counted, message_ids, mirrored, settled, unread_among}
+use Rattle.mail_tree.specs.Settling.{counted, message_ids, mirrored, table_as_is, settled, unread_among}
 use Rattle.mail_tree.specs.Ids.{is_spent, new_id}
 use Rattle.mail_tree.specs.Folders.{Outcome, making, with_folder}
 use Rattle.mail_tree.specs.Messages.{added_message}
 use Rattle.mail_tree.specs.Whole.{AreWhole, Fine}
 use Rattle.mail_tree.proofs.AfterTree.{puts_object, puts_values}
-use Rattle.mail_tree.proofs.FineLaws.{after_limits, fine_then}
+use Rattle.mail_tree.proofs.FineLaws.{after_limits, fine_then, fine_weaker}
 use Rattle.mail_tree.proofs.KeyedFinds.{find-put_other}
 use Rattle.mail_tree.proofs.KindsOfPuts.{beside_kind}
 use Rattle.mail_tree.proofs.Nearly.{nearly, plain_id}
-use Rattle.mail_tree.proofs.Settles.{EachMessage, each_message, fine_unread, folders_of, messages_of}
+use Rattle.mail_tree.proofs.Settles.{EachMessage, each_message, fine_same, fine_unread, folders_of, messages_of}
 
 -- a new id is of its kind
 pub new_id_kind : (kind index : ℕ) → kind < 32 → new_id kind index % 32 ≡ kind
@@ -34,13 +34,22 @@ new_id_kind kind index small = omega arith
 pub refused_later : (T : Tree) (places : List FolderPlace) (kind index : ℕ) (Q : Outcome → Type 0) (a : Answer Changed) → is_spent index ≡ true → Fine a (λ D. Unit {0}) → Fine (a >>= making T places kind index) Q
 refused_later T places kind index Q a spent fine = fine_then (λ D. Unit {0}) Q a (making T places kind index) fine (λ D u. after_limits Q D _ (rw spent tt))
 
+-- the root's table of folders is there
+abbrev HasRootTable : (ℕ → Option Object) → Type 0
+HasRootTable at = (u : Tbl) × (at (hierarchy ROOT) ≡ Some (Table u))
+
+-- a folder's values are there, and the table that lists it, but for the root
+abbrev Lists : (ℕ → Option Object) → ℕ → Type 0
+Lists at f = (c : Ctx) × (at f ≡ Some (Context c)) × ((f ≡ ROOT → ⊥) → (u : Tbl) × (at (hierarchy c.parent) ≡ Some (Table u)))
+
 -- what counting a folder anew and showing it asks for
 record IsReadable (at : ℕ → Option Object) (f : ℕ) : Type 0 where
-  context : (c : Ctx) × (at f ≡ Some (Context c)) × ((f ≡ ROOT → ⊥) → (u : Tbl) × (at (hierarchy c.parent) ≡ Some (Table u)))
+  root : HasRootTable at
+  context : Lists at f
   table : (t : Tbl) × (at (contents f) ≡ Some (Table t)) × EachMessage at (message_ids t.table)
 
 abbrev CanMirror : (ℕ → Option Object) → ℕ → Type 0
-CanMirror at f = (c : Ctx) × (at f ≡ Some (Context c)) × ((f ≡ ROOT → ⊥) → (u : Tbl) × (at (hierarchy c.parent) ≡ Some (Table u)))
+CanMirror at f = HasRootTable at × Lists at f
 
 fine_counts : (T : Tree) (places : List FolderPlace) (f : ℕ) (D : Changed) → f % 32 ≡ 2 → IsReadable (now_at T D) f → Fine (counted T places f D) (λ D'. CanMirror (now_at T D') f)
 unfolding counted
@@ -50,13 +59,17 @@ fine_counts T places f D two r =
     (λ n u.
     let props = with_counts (length (message_ids t.0.table)) n (list_any (is_child f) places) c.0.props in
     let puts = puts_values T D f (Context (record c.0 { props = props })) c.0.props props in
-    (record c.0 { props = props }, puts.here, (λ no_root. let u = c.2 no_root in (u.0, puts.others (hierarchy c.0.parent) (λ e. omega (arith, beside_kind c.0.parent 13 (omega arith))) ∙ u.1)))))
+    ((r.root.0, puts.others (hierarchy ROOT) (λ e. omega (arith, beside_kind ROOT 13 (omega arith))) ∙ r.root.1), (record c.0 { props = props }, puts.here, (λ no_root. let u = c.2 no_root in (u.0, puts.others (hierarchy c.0.parent) (λ e. omega (arith, beside_kind c.0.parent 13 (omega arith))) ∙ u.1))))))
+
+-- a table that is there is put as it is
+fine_put : (T : Tree) (D : Changed) (q : ℕ) (u : Tbl) → now_at T D q ≡ Some (Table u) → Fine (table_as_is T q D) (λ D'. Unit {0})
+fine_put T D q u at = fine_weaker (λ D'. now_at T D' ≡ now_at T D) (λ D'. Unit {0}) (table_as_is T q D) (fine_same T D q u at) (λ D' same. tt)
 
 fine_shows : (T : Tree) (f : ℕ) (D : Changed) → CanMirror (now_at T D) f → Fine (mirrored T f D) (λ D'. Unit {0})
 unfolding mirrored put_shown
 fine_shows T f D c = elim (cases_Bool (f == ROOT)) [
-  | inl t ↦ rw t tt
-  | inr t ↦ let u = c.2 (eqb-false f ROOT t) in rw (t, c.1, u.1) tt
+  | inl t ↦ rw t (fine_put T D (hierarchy ROOT) c.0.0 c.0.1)
+  | inr t ↦ let u = c.1.2 (eqb-false f ROOT t) in rw (t, c.1.1, u.1) tt
 ]
 
 fine_read : (T : Tree) (places : List FolderPlace) (f : ℕ) (D : Changed) → f % 32 ≡ 2 → IsReadable (now_at T D) f → Fine (settled T places f D) (λ D'. Unit {0})
@@ -64,13 +77,12 @@ unfolding settled
 fine_read T places f D two r = fine_then (λ D'. CanMirror (now_at T D') f) (λ D'. Unit {0}) (counted T places f D) (mirrored T f) (fine_counts T places f D two r) (λ D' c. fine_shows T f D' c)
 
 -- a message that is planned at an id of its kind
-pub fine_planned : (T : Tree) (M : Mes) (crowded : Bool) (p : FolderPlace) → AreWhole T.places (now_at T nothing) → M.nid % 32 ≡ 4 → find_place M.folder T.places ≡ Some p → is_plain p ≡ true
-    → Fine (added_message T M (record nothing { crowded = crowded })) (λ D. Unit {0})
+pub fine_planned : (T : Tree) (M : Mes) (D0 : Changed) (p : FolderPlace) → AreWhole T.places (now_at T D0) → M.nid % 32 ≡ 4 → find_place M.folder T.places ≡ Some p → is_plain p ≡ true
+    → Fine (added_message T M D0) (λ D. Unit {0})
 unfolding add_shown
-fine_planned T M crowded p w four found plain =
+fine_planned T M D0 p w four found plain =
     let F = M.folder in
-    let two = plain_id (nearly (λ x. ⊥) T.places (now_at T nothing) w) F p found plain in
-    let D0 = record nothing { crowded = crowded } in
+    let two = plain_id (nearly (λ x. ⊥) T.places (now_at T D0) w) F p found plain in
     let D1 = with_object M.nid (Some (Message M)) D0 in
     let p1 = puts_object T D0 M.nid (Some (Message M)) in
     let t = messages_of w F p found plain in
@@ -94,8 +106,12 @@ fine_planned T M crowded p w four found plain =
             let q = w.parents F p found no_root in let u = folders_of w p.parent.bits q.0 q.1 q.2 in (
               u.0,
               p2.others (hierarchy c.0.parent) (λ e. omega (arith, beside_kind F 14 (omega arith), beside_kind c.0.parent 13 (omega arith)))
-                  ∙ p1.others (hierarchy c.0.parent) (λ e. omega (arith, beside_kind c.0.parent 13 (omega arith))) ∙ ap (λ x. now_at T nothing (hierarchy x)) (c.2 no_root) ∙ u.1,
+                  ∙ p1.others (hierarchy c.0.parent) (λ e. omega (arith, beside_kind c.0.parent 13 (omega arith))) ∙ ap (λ x. now_at T D0 (hierarchy x)) (c.2 no_root) ∙ u.1,
             )),
+      );
+      root = let u = folders_of w ROOT w.root.0 w.root.1 w.root.2 in (
+        u.0,
+        p2.others (hierarchy ROOT) (λ e. omega (arith, beside_kind F 14 (omega arith), beside_kind ROOT 13 (omega arith))) ∙ p1.others (hierarchy ROOT) (λ e. omega (arith, beside_kind ROOT 13 (omega arith))) ∙ u.1,
       );
       table = (record { parent = t.0.parent; table = record t.0.table { rows = row } }, p2.here, each);
     } in
@@ -175,7 +191,10 @@ module _ (T : Tree) (f parent : ℕ) (name : List ℕ) (two : f % 32 ≡ 2) wher
     beyond : (x : ℕ) → (x % 32 ≡ 13 → ⊥) → now_at T D5 x ≡ now_at T D4 x
     beyond x other = (puts_object T D4 (hierarchy parent) (Some (with_rows row t))).others x (λ e. other (subst (λ y. y % 32 ≡ 13) (sym e) (beside_kind parent 13 (omega arith))))
 
-    context_there : CanMirror (now_at T D5) parent
+    root_there : HasRootTable (now_at T D5)
+    root_there = let u = folders_of w ROOT w.root.0 w.root.1 w.root.2 in let v = still_table ROOT u.0 u.1 in shown_table ROOT v.0 v.1
+
+    context_there : Lists (now_at T D5) parent
     context_there = elim (cases_eq parent f) [
       | inl same ↦ (
         Own,
@@ -213,7 +232,7 @@ module _ (T : Tree) (f parent : ℕ) (name : List ℕ) (two : f % 32 ≡ 2) wher
     ]
 
     readable_there : IsReadable (now_at T D5) parent
-    readable_there = record { context = context_there; table = table_there }
+    readable_there = record { root = root_there; context = context_there; table = table_there }
 
 -- a folder that is planned at an id of its kind
 pub fine_planned_folder : (T : Tree) (f parent : ℕ) (q : FolderPlace) (name : List ℕ) (places : List FolderPlace) → AreWhole T.places (now_at T nothing) → f % 32 ≡ 2 → find_place parent T.places ≡ Some q → is_plain q ≡ true

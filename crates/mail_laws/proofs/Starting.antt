@@ -153,6 +153,11 @@ unfolding start_others
 no_stray name T s f p e plain =
     four (λ f p. node_at T.others (associated f) ≡ None) (s.others 0x12F) (s.others 0x802F) (s.others 0x804F) (s.others 0x806F) f p (ap (find_place f) (sym s.places) ∙ e)
 
+-- a new store has no messages
+pub starts_empty : (name : List ℕ) (T : Tree) → IsStart name T → (m : ℕ) (M : Mes) → object_at T m ≡ Some (Message M) → ⊥
+unfolding at start_objects root_hierarchy no_message listing root_context folder_context
+starts_empty name T s m M is = false≢true (find_passes no_message (start_objects name) m (Message M) (ap (λ g. g m) (at_is name T s) ∙ is) refl)
+
 pub starts_whole : (name : List ℕ) (T : Tree) → IsStart name T → IsWhole T × Mirrors T × Counts T
 starts_whole name T s = (
   record {

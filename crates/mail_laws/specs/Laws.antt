@@ -188,7 +188,7 @@ CountsOf T f = AreCountedBut (λ g. g ≡ f → ⊥) T.places (object_at T)
 abbrev pub CountsStay : Type 0
 CountsStay = (T : Tree) (c : Command) → IsWhole T → Counts T → IfOk (outcome T c) (λ o. Counts (after T o))
 
--- after a message came, changed or went, the counts of its folder are right, whatever they were
+-- the counts of each folder in which a message or a folder came, changed or went are right after the command, whatever they were; those of a new folder too
 pub record CountsAnew : Type 0 where
   pub makes : (T : Tree) (folder : Nid) (class : List ℕ) (time : ℕ) → IsWhole T → IfOk (outcome T (NewMessage folder class time)) (λ o. CountsOf (after T o) folder.bits)
   pub copies : (T : Tree) (m folder : Nid) → IsWhole T → IfOk (outcome T (CopyMessage m folder)) (λ o. CountsOf (after T o) folder.bits)
@@ -200,6 +200,10 @@ pub record CountsAnew : Type 0 where
   pub adds_attachment : (T : Tree) (m : Nid) (name bytes : List ℕ) → IsWhole T → IfOk (outcome T (AddAttachment m name bytes)) (λ o. (M : Mes) × (message_with T m.bits ≡ Some M) × CountsOf (after T o) M.folder)
   pub appends_data : (T : Tree) (m n : Nid) (bytes : List ℕ) → IsWhole T → IfOk (outcome T (AppendData m n bytes)) (λ o. (M : Mes) × (message_with T m.bits ≡ Some M) × CountsOf (after T o) M.folder)
   pub removes_attachment : (T : Tree) (m n : Nid) → IsWhole T → IfOk (outcome T (RemoveAttachment m n)) (λ o. (M : Mes) × (message_with T m.bits ≡ Some M) × CountsOf (after T o) M.folder)
+  pub moves : (T : Tree) (m folder : Nid) → IsWhole T → IfOk (outcome T (MoveMessage m folder)) (λ o. (M : Mes) × (message_with T m.bits ≡ Some M) × ((M.folder ≡ folder.bits → ⊥) → CountsOf (after T o) M.folder × CountsOf (after T o) folder.bits))
+  pub makes_folder : (T : Tree) (parent : Nid) (name : List ℕ) → IsWhole T → IfOk (outcome T (MakeFolder parent name)) (λ o. (f : Nid) × (o.reply ≡ replied (Made f)) × CountsOf (after T o) f.bits × CountsOf (after T o) parent.bits)
+  pub moves_folder : (T : Tree) (f parent : Nid) → IsWhole T → IfOk (outcome T (MoveFolder f parent)) (λ o. (p : FolderPlace) × (find_place f.bits T.places ≡ Some p) × ((p.parent.bits ≡ parent.bits → ⊥) → CountsOf (after T o) p.parent.bits × CountsOf (after T o) parent.bits))
+  pub removes_folder : (T : Tree) (f : Nid) → IsWhole T → IfOk (outcome T (RemoveFolder f)) (λ o. (p : FolderPlace) × (find_place f.bits T.places ≡ Some p) × CountsOf (after T o) p.parent.bits)
 
 -- After `name` the property that is replied is that of the name, each name that was there keeps its property, if no entry names an index that no GUID has, and all but the names is as it was.
 pub record FindsName (T : Tree) (guid : List ℕ) (number : ℕ) (o : Outcome) : Type 0 where

@@ -114,7 +114,7 @@ pub fn counts_stay()
     ensures { CountsStay }
 {}
 
-/// After `new`, `cp`, `set`, `unset`, `rm`, `rcpt`, `unrcpt`, `attach`, `append` and `detach` the counts of the message's folder are right, whatever they were.
+/// After `new`, `cp`, `set`, `unset`, `rm`, `rcpt`, `unrcpt`, `attach`, `append` and `detach` the counts of the message's folder are right, whatever they were; so are those of both folders after `mv` from one to another, of a new folder and its parent after `mkdir`, of both parents after `mvdir` from one to another, and of the parent after `rmdir`.
 pub fn counts_anew()
     ensures { CountsAnew }
 {}

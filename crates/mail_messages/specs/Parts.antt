@@ -13,13 +13,13 @@ use Rattle.mail_objects.specs.Forms.{Tbl}
 use Rattle.mapi_values.specs.declared.value.Tag.{Tag}
 use Rattle.mail_tree.specs.Tree.{Tree}
 use Rattle.mail_tree.specs.Values.{bytes_of, is_set_protected, is_unset_protected}
-use Rattle.mail_tree.specs.Changing.{Answer, Changed, ◌>>=◌, add_shown, contents, found, put_shown, refused_if}
-use Rattle.mail_tree.specs.Settling.{settled}
+use Rattle.mail_tree.specs.Changing.{Answer, Changed, ◌>>=◌, add_shown, contents, found, nothing, put_shown, refused_if}
+use Rattle.mail_tree.specs.Settling.{settled, touched}
 use Rattle.mail_tree.specs.Ids.{is_spent, message_kinds, next_index}
 use Rattle.mail_tree.specs.Names.{unless_nameless}
 use Rattle.mail_tree.specs.Folders.{Outcome, changing, making, replied, replying, unchanged, unless_full}
 use Rattle.mail_messages.specs.Finding.{plain_at}
-use Rattle.mail_tree.specs.Messages.{added_message, attachment_line, changed_message, copying, is_overfull, making_message, property_line, recipient_line, value_of}
+use Rattle.mail_tree.specs.Messages.{added_message, attachment_line, changed_message, copying, is_crowded_message, is_overfull, making_message, property_line, recipient_line, value_of}
 use Rattle.mail_tree.specs.Parts.{rows_of}
 use Rattle.mail_messages.specs.Pieces.{moving_message}
 
@@ -74,6 +74,10 @@ adding T m D index = added_message T m D >>= making T T.places 4 index
 -- a folder that has room for it gets a new message of this class and time, in a store of these values
 abbrev pub making_in : Tree → ℕ → List ℕ → ℕ → List Val → Answer Outcome
 making_in T folder class time store = unless_full T (contents folder) >>= λ u. making_message T folder class time store (next_index T 4 message_kinds)
+
+-- the folder of a message that is copied is put as it is
+abbrev pub home_touched : Tree → Mes → Answer Changed
+home_touched T M = touched T M.folder (record nothing { crowded = is_crowded_message M })
 
 -- a folder that has room for it gets a copy of a message
 abbrev pub copying_in : Tree → ℕ → Mes → Answer Outcome

@@ -1,5 +1,6 @@
 //! New messages in a folder.
 ghost use Rattle.std.specs.Prelude.{◌≡◌, IfErr, Ok};
+ghost use Rattle.mail_tree.specs.Knowing.{Knows};
 ghost use Rattle.mail_tree.specs.Tree.{Shown, Tree};
 ghost use Rattle.mail_tree.specs.Messages.{added_message};
 ghost use Rattle.mail_draft.specs.Drafts.{changed_of};
@@ -14,7 +15,7 @@ use crate::find::contents;
 use command_text::{CommandRefusal, Limit};
 use mail_draft::{Draft, Outcome, Stop, add_shown, making, next_index, settled, table_at};
 use mail_objects::{Mail, Object, TableNode};
-use mail_tree::Places;
+use mail_tree::Known;
 use mapi_values::Props;
 use node_port::{Keeper, NodeReader};
 use pst_base::Nid;
@@ -68,18 +69,18 @@ fn add_row<W: Outside, K: NodeReader<W>>(
     alloc: Global,
     keeper: &mut K,
     w: &mut W,
-    places: &Places,
+    known: &Known,
     draft: Draft,
     folder: Nid,
     message: Nid,
     props: &Props,
 ) -> Result<Draft, Stop>
-    ensures answer { (T : Tree) → Shown (K.holds keeper.old (W.view w.old)) (K.last keeper.old) T → T.places ≡ places.now → Says changed_of (adding_row T folder.bits message.bits props.now (changed_of draft)) result }
+    ensures answer { (T : Tree) → Shown (K.holds keeper.old (W.view w.old)) (K.last keeper.old) T → Knows T known.now → Says changed_of (adding_row T folder.bits message.bits props.now (changed_of draft)) result }
     ensures looks { Looks (K.holds keeper.old (W.view w.old)) (K.holds keeper.new (W.view w.new)) (K.last keeper.old) (K.last keeper.new) (K.room keeper.old) (K.room keeper.new) (W.view w.old) (W.view w.new) }
     ensures cause { IfErr result (IsCaused K.has_disk (W.view w.old).disk_faults (W.view w.new).disk_faults) }
 {
     let draft = add_shown(alloc, keeper, w, draft, contents(folder), message, props)?;
-    settled(alloc, keeper, w, draft, places, folder)
+    settled(alloc, keeper, w, draft, &known.flags, &known.places, folder)
 }
 
 /// Puts a new message, which its folder then lists.
@@ -87,11 +88,11 @@ fn add_message<W: Outside, K: NodeReader<W>>(
     alloc: Global,
     keeper: &mut K,
     w: &mut W,
-    places: &Places,
+    known: &Known,
     draft: Draft,
     mail: Mail,
 ) -> Result<Draft, Stop>
-    ensures answer { (T : Tree) → Shown (K.holds keeper.old (W.view w.old)) (K.last keeper.old) T → T.places ≡ places.now → Says changed_of (added_message T mail (changed_of draft)) result }
+    ensures answer { (T : Tree) → Shown (K.holds keeper.old (W.view w.old)) (K.last keeper.old) T → Knows T known.now → Says changed_of (added_message T mail (changed_of draft)) result }
     ensures looks { Looks (K.holds keeper.old (W.view w.old)) (K.holds keeper.new (W.view w.new)) (K.last keeper.old) (K.last keeper.new) (K.room keeper.old) (K.room keeper.new) (W.view w.old) (W.view w.new) }
     ensures cause { IfErr result (IsCaused K.has_disk (W.view w.old).disk_faults (W.view w.new).disk_faults) }
 {
@@ -99,7 +100,7 @@ fn add_message<W: Outside, K: NodeReader<W>>(
     let nid = mail.message().nid;
     let props = mail.message().props.copy(alloc)?;
     let draft = draft.with(nid, Some(Object::Message(mail)))?;
-    add_row(alloc, keeper, w, places, draft, folder, nid, &props)
+    add_row(alloc, keeper, w, known, draft, folder, nid, &props)
 }
 
 /// Puts a new message with this index, and makes the changes.
@@ -107,16 +108,16 @@ pub(crate) fn adding<W: Outside, K: Keeper<W>>(
     alloc: Global,
     keeper: &mut K,
     w: &mut W,
-    places: &Places,
+    known: &Known,
     draft: Draft,
     mail: Mail,
     index: u64,
 ) -> Result<Outcome, Stop>
-    ensures answer { (T : Tree) → Shown (K.holds keeper.old (W.view w.old)) (K.last keeper.old) T → T.places ≡ places.now → Says (outcome_of T) (adding T mail (changed_of draft) index) result }
+    ensures answer { (T : Tree) → Shown (K.holds keeper.old (W.view w.old)) (K.last keeper.old) T → Knows T known.now → Says (outcome_of T) (adding T mail (changed_of draft) index) result }
     ensures looks { Looks (K.holds keeper.old (W.view w.old)) (K.holds keeper.new (W.view w.new)) (K.last keeper.old) (K.last keeper.new) (K.room keeper.old) (K.room keeper.new) (W.view w.old) (W.view w.new) }
     ensures cause { IfErr result (IsCaused K.has_disk (W.view w.old).disk_faults (W.view w.new).disk_faults) }
 {
-    let draft = add_message(alloc, keeper, w, places, draft, mail)?;
+    let draft = add_message(alloc, keeper, w, known, draft, mail)?;
     let counts = keeper.counts();
     making(alloc, counts, draft, None, 4, index)
 }

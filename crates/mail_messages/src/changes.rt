@@ -1,6 +1,7 @@
 //! What changes of messages come to.
 ghost use Rattle.std.specs.Prelude.{◌≡◌, IfErr, length};
 ghost use Rattle.mapi_values.specs.Messages.{Mes};
+ghost use Rattle.mail_tree.specs.Knowing.{Knows};
 ghost use Rattle.mail_tree.specs.Tree.{Shown, Tree};
 ghost use Rattle.mail_tree.specs.Messages.{changed_message, remaking};
 ghost use Rattle.mail_draft.specs.Answers.{IsCaused, Looks, Says};
@@ -14,7 +15,7 @@ use crate::find::contents;
 use crate::mails::{finished, message_draft, with_props};
 use mail_draft::{Draft, Outcome, Stop, changing, put_shown, replying, settled};
 use mail_objects::Mail;
-use mail_tree::Places;
+use mail_tree::Known;
 use mapi_values::Props;
 use node_port::NodeReader;
 use pst_base::Nid;
@@ -26,15 +27,15 @@ pub(crate) fn settling<W: Outside, K: NodeReader<W>>(
     alloc: Global,
     keeper: &mut K,
     w: &mut W,
-    places: &Places,
+    known: &Known,
     draft: Draft,
     folder: Nid,
 ) -> Result<Outcome, Stop>
-    ensures answer { (T : Tree) → Shown (K.holds keeper.old (W.view w.old)) (K.last keeper.old) T → T.places ≡ places.now → Says (outcome_of T) (settling T folder.bits (changed_of draft)) result }
+    ensures answer { (T : Tree) → Shown (K.holds keeper.old (W.view w.old)) (K.last keeper.old) T → Knows T known.now → Says (outcome_of T) (settling T folder.bits (changed_of draft)) result }
     ensures looks { Looks (K.holds keeper.old (W.view w.old)) (K.holds keeper.new (W.view w.new)) (K.last keeper.old) (K.last keeper.new) (K.room keeper.old) (K.room keeper.new) (W.view w.old) (W.view w.new) }
     ensures cause { IfErr result (IsCaused K.has_disk (W.view w.old).disk_faults (W.view w.new).disk_faults) }
 {
-    let draft = settled(alloc, keeper, w, draft, places, folder)?;
+    let draft = settled(alloc, keeper, w, draft, &known.flags, &known.places, folder)?;
     changing(alloc, draft)
 }
 
@@ -43,16 +44,16 @@ fn ending<W: Outside, K: NodeReader<W>>(
     alloc: Global,
     keeper: &mut K,
     w: &mut W,
-    places: &Places,
+    known: &Known,
     draft: Draft,
     folder: Nid,
     end: Ending,
 ) -> Result<Outcome, Stop>
-    ensures answer { (T : Tree) → Shown (K.holds keeper.old (W.view w.old)) (K.last keeper.old) T → T.places ≡ places.now → Says (outcome_of T) (ending T folder.bits end.reason end.last (changed_of draft)) result }
+    ensures answer { (T : Tree) → Shown (K.holds keeper.old (W.view w.old)) (K.last keeper.old) T → Knows T known.now → Says (outcome_of T) (ending T folder.bits end.reason end.last (changed_of draft)) result }
     ensures looks { Looks (K.holds keeper.old (W.view w.old)) (K.holds keeper.new (W.view w.new)) (K.last keeper.old) (K.last keeper.new) (K.room keeper.old) (K.room keeper.new) (W.view w.old) (W.view w.new) }
     ensures cause { IfErr result (IsCaused K.has_disk (W.view w.old).disk_faults (W.view w.new).disk_faults) }
 {
-    let draft = settled(alloc, keeper, w, draft, places, folder)?;
+    let draft = settled(alloc, keeper, w, draft, &known.flags, &known.places, folder)?;
     replying(alloc, draft, end.reason, end.last)
 }
 
@@ -61,19 +62,19 @@ fn showing_row<W: Outside, K: NodeReader<W>>(
     alloc: Global,
     keeper: &mut K,
     w: &mut W,
-    places: &Places,
+    known: &Known,
     draft: Draft,
     folder: Nid,
     message: Nid,
     props: &Props,
     end: Ending,
 ) -> Result<Outcome, Stop>
-    ensures answer { (T : Tree) → Shown (K.holds keeper.old (W.view w.old)) (K.last keeper.old) T → T.places ≡ places.now → Says (outcome_of T) (showing_row T folder.bits message.bits props.now end.reason end.last (changed_of draft)) result }
+    ensures answer { (T : Tree) → Shown (K.holds keeper.old (W.view w.old)) (K.last keeper.old) T → Knows T known.now → Says (outcome_of T) (showing_row T folder.bits message.bits props.now end.reason end.last (changed_of draft)) result }
     ensures looks { Looks (K.holds keeper.old (W.view w.old)) (K.holds keeper.new (W.view w.new)) (K.last keeper.old) (K.last keeper.new) (K.room keeper.old) (K.room keeper.new) (W.view w.old) (W.view w.new) }
     ensures cause { IfErr result (IsCaused K.has_disk (W.view w.old).disk_faults (W.view w.new).disk_faults) }
 {
     let draft = put_shown(alloc, keeper, w, draft, contents(folder), message, props)?;
-    ending(alloc, keeper, w, places, draft, folder, end)
+    ending(alloc, keeper, w, known, draft, folder, end)
 }
 
 /// Puts a message that had so many values before, and shows it as it is now.
@@ -81,12 +82,12 @@ fn showing_message<W: Outside, K: NodeReader<W>>(
     alloc: Global,
     keeper: &mut K,
     w: &mut W,
-    places: &Places,
+    known: &Known,
     old_len: usize,
     mail: Mail,
     end: Ending,
 ) -> Result<Outcome, Stop>
-    ensures answer { (T : Tree) → Shown (K.holds keeper.old (W.view w.old)) (K.last keeper.old) T → T.places ≡ places.now → (old : Mes) → length old.props ≡ old_len → Says (outcome_of T) (showing_message T old mail end.crowded end.reason end.last) result }
+    ensures answer { (T : Tree) → Shown (K.holds keeper.old (W.view w.old)) (K.last keeper.old) T → Knows T known.now → (old : Mes) → length old.props ≡ old_len → Says (outcome_of T) (showing_message T old mail end.crowded end.reason end.last) result }
     ensures looks { Looks (K.holds keeper.old (W.view w.old)) (K.holds keeper.new (W.view w.new)) (K.last keeper.old) (K.last keeper.new) (K.room keeper.old) (K.room keeper.new) (W.view w.old) (W.view w.new) }
     ensures cause { IfErr result (IsCaused K.has_disk (W.view w.old).disk_faults (W.view w.new).disk_faults) }
 {
@@ -94,7 +95,7 @@ fn showing_message<W: Outside, K: NodeReader<W>>(
     let nid = mail.message().nid;
     let props = mail.message().props.copy(alloc)?;
     let draft = message_draft(alloc, old_len, mail, end.crowded)?;
-    showing_row(alloc, keeper, w, places, draft, folder, nid, &props, end)
+    showing_row(alloc, keeper, w, known, draft, folder, nid, &props, end)
 }
 
 /// Puts another message in place of one that had so many values: its flags and its size are made right, and it is shown.
@@ -102,17 +103,17 @@ pub fn remake_message<W: Outside, K: NodeReader<W>>(
     alloc: Global,
     keeper: &mut K,
     w: &mut W,
-    places: &Places,
+    known: &Known,
     old_len: usize,
     mail: Mail,
     end: Ending,
 ) -> Result<Outcome, Stop>
-    ensures answer { (T : Tree) → Shown (K.holds keeper.old (W.view w.old)) (K.last keeper.old) T → T.places ≡ places.now → (old : Mes) → length old.props ≡ old_len → Says (outcome_of T) (remaking T old mail end.crowded end.reason end.last) result }
+    ensures answer { (T : Tree) → Shown (K.holds keeper.old (W.view w.old)) (K.last keeper.old) T → Knows T known.now → (old : Mes) → length old.props ≡ old_len → Says (outcome_of T) (remaking T old mail end.crowded end.reason end.last) result }
     ensures looks { Looks (K.holds keeper.old (W.view w.old)) (K.holds keeper.new (W.view w.new)) (K.last keeper.old) (K.last keeper.new) (K.room keeper.old) (K.room keeper.new) (W.view w.old) (W.view w.new) }
     ensures cause { IfErr result (IsCaused K.has_disk (W.view w.old).disk_faults (W.view w.new).disk_faults) }
 {
     let mail = finished(alloc, mail)?;
-    showing_message(alloc, keeper, w, places, old_len, mail, end)
+    showing_message(alloc, keeper, w, known, old_len, mail, end)
 }
 
 /// Gives a message other values.
@@ -120,15 +121,15 @@ pub(crate) fn change_message<W: Outside, K: NodeReader<W>>(
     alloc: Global,
     keeper: &mut K,
     w: &mut W,
-    places: &Places,
+    known: &Known,
     old: Mail,
     props: Props,
 ) -> Result<Outcome, Stop>
-    ensures answer { (T : Tree) → Shown (K.holds keeper.old (W.view w.old)) (K.last keeper.old) T → T.places ≡ places.now → Says (outcome_of T) (changed_message T old props) result }
+    ensures answer { (T : Tree) → Shown (K.holds keeper.old (W.view w.old)) (K.last keeper.old) T → Knows T known.now → Says (outcome_of T) (changed_message T old props) result }
     ensures looks { Looks (K.holds keeper.old (W.view w.old)) (K.holds keeper.new (W.view w.new)) (K.last keeper.old) (K.last keeper.new) (K.room keeper.old) (K.room keeper.new) (W.view w.old) (W.view w.new) }
     ensures cause { IfErr result (IsCaused K.has_disk (W.view w.old).disk_faults (W.view w.new).disk_faults) }
 {
     let old_len = old.message().props.len();
     let mail = with_props(old, props);
-    remake_message(alloc, keeper, w, places, old_len, mail, Ending::done())
+    remake_message(alloc, keeper, w, known, old_len, mail, Ending::done())
 }

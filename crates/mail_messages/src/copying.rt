@@ -1,18 +1,20 @@
 //! `cp`
 ghost use Rattle.std.specs.Prelude.{◌≡◌, IfErr};
+ghost use Rattle.mail_tree.specs.Knowing.{Knows};
 ghost use Rattle.mail_tree.specs.Tree.{Shown, Tree};
 ghost use Rattle.mail_tree.specs.Messages.{copied_message, is_overfull};
+ghost use Rattle.mail_draft.specs.Drafts.{changed_of};
 ghost use Rattle.mail_draft.specs.Outcomes.{outcome_of};
 ghost use Rattle.mail_draft.specs.Answers.{IsCalm, IsCaused, Looks, Says};
-ghost use Rattle.mail_messages.specs.Parts.{copying_in, copying_into, may_copy};
+ghost use Rattle.mail_messages.specs.Parts.{copying_in, copying_into, home_touched, may_copy};
 
 use crate::adding::{adding, next_message, unless_full};
 use crate::find::{check_plain, message_in};
 use crate::mails::{copy_of, is_crowded_message};
 use command_text::{CommandRefusal, Limit};
-use mail_draft::{Draft, Outcome, Stop, new_id};
+use mail_draft::{Draft, Outcome, Stop, new_id, touched};
 use mail_objects::Mail;
-use mail_tree::Places;
+use mail_tree::Known;
 use mapi_values::Table;
 use node_port::{Keeper, NodeReader};
 use pst_base::Nid;
@@ -44,24 +46,40 @@ fn check_rows(mail: &Mail) -> Result<(), Stop>
     Ok(())
 }
 
+/// The changes in which the folder of a message that is copied is put as it is.
+fn home_touched<W: Outside, K: NodeReader<W>>(
+    alloc: Global,
+    keeper: &mut K,
+    w: &mut W,
+    mail: &Mail,
+) -> Result<Draft, Stop>
+    ensures answer { (T : Tree) → Shown (K.holds keeper.old (W.view w.old)) (K.last keeper.old) T → Says changed_of (home_touched T mail.now) result }
+    ensures looks { Looks (K.holds keeper.old (W.view w.old)) (K.holds keeper.new (W.view w.new)) (K.last keeper.old) (K.last keeper.new) (K.room keeper.old) (K.room keeper.new) (W.view w.old) (W.view w.new) }
+    ensures cause { IfErr result (IsCaused K.has_disk (W.view w.old).disk_faults (W.view w.new).disk_faults) }
+{
+    let draft = Draft::new(alloc).crowded(is_crowded_message(mail));
+    let from = mail.message().folder;
+    touched(alloc, keeper, w, draft, from)
+}
+
 /// Puts a copy of a message into a folder that has room for it.
 fn copy_mail<W: Outside, K: Keeper<W>>(
     alloc: Global,
     keeper: &mut K,
     w: &mut W,
-    places: &Places,
+    known: &Known,
     folder: Nid,
     mail: Mail,
 ) -> Result<Outcome, Stop>
-    ensures answer { (T : Tree) → Shown (K.holds keeper.old (W.view w.old)) (K.last keeper.old) T → T.places ≡ places.now → Says (outcome_of T) (copying_in T folder.bits mail) result }
+    ensures answer { (T : Tree) → Shown (K.holds keeper.old (W.view w.old)) (K.last keeper.old) T → Knows T known.now → Says (outcome_of T) (copying_in T folder.bits mail) result }
     ensures looks { Looks (K.holds keeper.old (W.view w.old)) (K.holds keeper.new (W.view w.new)) (K.last keeper.old) (K.last keeper.new) (K.room keeper.old) (K.room keeper.new) (W.view w.old) (W.view w.new) }
     ensures cause { IfErr result (IsCaused K.has_disk (W.view w.old).disk_faults (W.view w.new).disk_faults) }
 {
     unless_full(alloc, keeper, w, folder)?;
     let index = next_message(alloc, keeper, w)?;
-    let draft = Draft::new(alloc).crowded(is_crowded_message(&mail));
+    let draft = home_touched(alloc, keeper, w, &mail)?;
     let copy = copy_of(new_id(4, index), folder, mail);
-    adding(alloc, keeper, w, places, draft, copy, index)
+    adding(alloc, keeper, w, known, draft, copy, index)
 }
 
 /// Copies a message into a folder that is plain.
@@ -69,17 +87,17 @@ fn copy_into<W: Outside, K: Keeper<W>>(
     alloc: Global,
     keeper: &mut K,
     w: &mut W,
-    places: &Places,
+    known: &Known,
     folder: Nid,
     mail: Mail,
 ) -> Result<Outcome, Stop>
-    ensures answer { (T : Tree) → Shown (K.holds keeper.old (W.view w.old)) (K.last keeper.old) T → T.places ≡ places.now → Says (outcome_of T) (copying_into T folder.bits mail) result }
+    ensures answer { (T : Tree) → Shown (K.holds keeper.old (W.view w.old)) (K.last keeper.old) T → Knows T known.now → Says (outcome_of T) (copying_into T folder.bits mail) result }
     ensures looks { Looks (K.holds keeper.old (W.view w.old)) (K.holds keeper.new (W.view w.new)) (K.last keeper.old) (K.last keeper.new) (K.room keeper.old) (K.room keeper.new) (W.view w.old) (W.view w.new) }
     ensures cause { IfErr result (IsCaused K.has_disk (W.view w.old).disk_faults (W.view w.new).disk_faults) }
 {
-    check_plain(places, folder, CommandRefusal::Reserved)?;
+    check_plain(&known.places, folder, CommandRefusal::Reserved)?;
     check_rows(&mail)?;
-    copy_mail(alloc, keeper, w, places, folder, mail)
+    copy_mail(alloc, keeper, w, known, folder, mail)
 }
 
 /// Copies a message with its recipients, attachments and all subnodes into a folder. Refused, in this order: the message isn't there, or the folder (`Object`), the folder isn't plain (`Reserved`), the copy or the folder's table would have too many rows (`Limit(Rows)`), an object would have too many values (`Limit(Properties)`), no index is left (`Ids`).
@@ -87,14 +105,14 @@ pub fn copy_message<W: Outside, K: Keeper<W>>(
     alloc: Global,
     keeper: &mut K,
     w: &mut W,
-    places: &Places,
+    known: &Known,
     message: Nid,
     folder: Nid,
 ) -> Result<Outcome, Stop>
-    ensures answer { (T : Tree) → Shown (K.holds keeper.old (W.view w.old)) (K.last keeper.old) T → T.places ≡ places.now → Says (outcome_of T) (copied_message T message.bits folder.bits) result }
+    ensures answer { (T : Tree) → Shown (K.holds keeper.old (W.view w.old)) (K.last keeper.old) T → Knows T known.now → Says (outcome_of T) (copied_message T message.bits folder.bits) result }
     ensures looks { Looks (K.holds keeper.old (W.view w.old)) (K.holds keeper.new (W.view w.new)) (K.last keeper.old) (K.last keeper.new) (K.room keeper.old) (K.room keeper.new) (W.view w.old) (W.view w.new) }
     ensures cause { IfErr result (IsCaused K.has_disk (W.view w.old).disk_faults (W.view w.new).disk_faults) }
 {
-    let mail = message_in(alloc, keeper, w, places, message)?;
-    copy_into(alloc, keeper, w, places, folder, mail)
+    let mail = message_in(alloc, keeper, w, &known.places, message)?;
+    copy_into(alloc, keeper, w, known, folder, mail)
 }

@@ -53,7 +53,7 @@ fn parent_at<W: Outside, K: NodeReader<W>>(
     ensures looks { Looks (K.holds keeper.old (W.view w.old)) (K.holds keeper.new (W.view w.new)) (K.last keeper.old) (K.last keeper.new) (K.room keeper.old) (K.room keeper.new) (W.view w.old) (W.view w.new) }
     ensures cause { IfErr result (IsCaused K.has_disk (W.view w.old).disk_faults (W.view w.new).disk_faults) }
 {
-    match keeper.get(alloc, w, node)? {
+    match keeper.get_content(alloc, w, node)? {
         Some(node) => Ok(node.parent),
         None => Err(Stop::Refused(CommandRefusal::Object)),
     }

@@ -1,5 +1,6 @@
 //! `new`
 ghost use Rattle.std.specs.Prelude.{◌≡◌, IfErr, IfOk};
+ghost use Rattle.mail_tree.specs.Knowing.{Knows};
 ghost use Rattle.mail_tree.specs.Tree.{Shown, Tree};
 ghost use Rattle.mail_tree.specs.Messages.{new_message, plain_message};
 ghost use Rattle.mail_tree.specs.Values.{finished, message_props};
@@ -14,7 +15,7 @@ use crate::mails::{finished, message_props, plain_message};
 use command_text::CommandRefusal;
 use mail_draft::{Draft, Outcome, Stop, context_at, new_id};
 use mail_objects::{Context, Mail};
-use mail_tree::Places;
+use mail_tree::Known;
 use mapi_values::Units;
 use node_port::{Keeper, NodeReader};
 use pst_base::Nid;
@@ -45,20 +46,20 @@ fn make_message<W: Outside, K: Keeper<W>>(
     alloc: Global,
     keeper: &mut K,
     w: &mut W,
-    places: &Places,
+    known: &Known,
     folder: Nid,
     class: &Units,
     time: u64,
     store: &Context,
 ) -> Result<Outcome, Stop>
-    ensures answer { (T : Tree) → Shown (K.holds keeper.old (W.view w.old)) (K.last keeper.old) T → T.places ≡ places.now → Says (outcome_of T) (making_in T folder.bits class.now time store.now.props) result }
+    ensures answer { (T : Tree) → Shown (K.holds keeper.old (W.view w.old)) (K.last keeper.old) T → Knows T known.now → Says (outcome_of T) (making_in T folder.bits class.now time store.now.props) result }
     ensures looks { Looks (K.holds keeper.old (W.view w.old)) (K.holds keeper.new (W.view w.new)) (K.last keeper.old) (K.last keeper.new) (K.room keeper.old) (K.room keeper.new) (W.view w.old) (W.view w.new) }
     ensures cause { IfErr result (IsCaused K.has_disk (W.view w.old).disk_faults (W.view w.new).disk_faults) }
 {
     unless_full(alloc, keeper, w, folder)?;
     let index = next_message(alloc, keeper, w)?;
     let mail = new_mail(alloc, folder, class, time, store, index)?;
-    adding(alloc, keeper, w, places, Draft::new(alloc), mail, index)
+    adding(alloc, keeper, w, known, Draft::new(alloc), mail, index)
 }
 
 /// A new message of a class and a time in a folder. Refused, in this order: the folder isn't there (`Object`) or isn't plain (`Reserved`), its table would have too many rows (`Limit(Rows)`), a folder would have too many values (`Limit(Properties)`), no index is left (`Ids`).
@@ -66,16 +67,16 @@ pub fn new_message<W: Outside, K: Keeper<W>>(
     alloc: Global,
     keeper: &mut K,
     w: &mut W,
-    places: &Places,
+    known: &Known,
     folder: Nid,
     class: &Units,
     time: u64,
 ) -> Result<Outcome, Stop>
-    ensures answer { (T : Tree) → Shown (K.holds keeper.old (W.view w.old)) (K.last keeper.old) T → T.places ≡ places.now → Says (outcome_of T) (new_message T folder.bits class.now time) result }
+    ensures answer { (T : Tree) → Shown (K.holds keeper.old (W.view w.old)) (K.last keeper.old) T → Knows T known.now → Says (outcome_of T) (new_message T folder.bits class.now time) result }
     ensures looks { Looks (K.holds keeper.old (W.view w.old)) (K.holds keeper.new (W.view w.new)) (K.last keeper.old) (K.last keeper.new) (K.room keeper.old) (K.room keeper.new) (W.view w.old) (W.view w.new) }
     ensures cause { IfErr result (IsCaused K.has_disk (W.view w.old).disk_faults (W.view w.new).disk_faults) }
 {
-    check_plain(places, folder, CommandRefusal::Reserved)?;
+    check_plain(&known.places, folder, CommandRefusal::Reserved)?;
     let store = context_at(alloc, keeper, w, &Draft::new(alloc), STORE)?;
-    make_message(alloc, keeper, w, places, folder, class, time, &store)
+    make_message(alloc, keeper, w, known, folder, class, time, &store)
 }

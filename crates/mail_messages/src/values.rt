@@ -1,5 +1,6 @@
 //! `set` and `unset`
 ghost use Rattle.std.specs.Prelude.{◌≡◌, IfErr};
+ghost use Rattle.mail_tree.specs.Knowing.{Knows};
 ghost use Rattle.mail_tree.specs.Tree.{Shown, Tree};
 ghost use Rattle.mail_tree.specs.Messages.{set_value, unset_value};
 ghost use Rattle.mail_draft.specs.Outcomes.{outcome_of};
@@ -14,7 +15,7 @@ use command_text::CommandRefusal;
 use mail_draft::{Outcome, Stop, bytes_of};
 use mail_names::check_named;
 use mail_objects::Mail;
-use mail_tree::Places;
+use mail_tree::Known;
 use mapi_values::tags::{
     ID_LTP_ROW_ID, ID_LTP_ROW_VER, ID_MESSAGE_ATTACHMENTS, ID_MESSAGE_FLAGS, ID_MESSAGE_RECIPIENTS,
     ID_MESSAGE_SIZE, ID_SEARCH_KEY, PTYP_OBJECT,
@@ -87,11 +88,11 @@ fn put_value<W: Outside, K: NodeReader<W>>(
     alloc: Global,
     keeper: &mut K,
     w: &mut W,
-    places: &Places,
+    known: &Known,
     mail: Mail,
     value: &Value,
 ) -> Result<Outcome, Stop>
-    ensures answer { (T : Tree) → Shown (K.holds keeper.old (W.view w.old)) (K.last keeper.old) T → T.places ≡ places.now → Says (outcome_of T) (putting_value T value.now mail) result }
+    ensures answer { (T : Tree) → Shown (K.holds keeper.old (W.view w.old)) (K.last keeper.old) T → Knows T known.now → Says (outcome_of T) (putting_value T value.now mail) result }
     ensures looks { Looks (K.holds keeper.old (W.view w.old)) (K.holds keeper.new (W.view w.new)) (K.last keeper.old) (K.last keeper.new) (K.room keeper.old) (K.room keeper.new) (W.view w.old) (W.view w.new) }
     ensures cause { IfErr result (IsCaused K.has_disk (W.view w.old).disk_faults (W.view w.new).disk_faults) }
 {
@@ -99,7 +100,7 @@ fn put_value<W: Outside, K: NodeReader<W>>(
     check_set(id, &mail)?;
     check_named(alloc, keeper, w, id)?;
     let props = with_value(alloc, &mail, value)?;
-    change_message(alloc, keeper, w, places, mail, props)
+    change_message(alloc, keeper, w, known, mail, props)
 }
 
 /// Removes a value from this message.
@@ -107,17 +108,17 @@ fn remove_value<W: Outside, K: NodeReader<W>>(
     alloc: Global,
     keeper: &mut K,
     w: &mut W,
-    places: &Places,
+    known: &Known,
     mail: Mail,
     tag: Tag,
 ) -> Result<Outcome, Stop>
-    ensures answer { (T : Tree) → Shown (K.holds keeper.old (W.view w.old)) (K.last keeper.old) T → T.places ≡ places.now → Says (outcome_of T) (removing_value T tag mail) result }
+    ensures answer { (T : Tree) → Shown (K.holds keeper.old (W.view w.old)) (K.last keeper.old) T → Knows T known.now → Says (outcome_of T) (removing_value T tag mail) result }
     ensures looks { Looks (K.holds keeper.old (W.view w.old)) (K.holds keeper.new (W.view w.new)) (K.last keeper.old) (K.last keeper.new) (K.room keeper.old) (K.room keeper.new) (W.view w.old) (W.view w.new) }
     ensures cause { IfErr result (IsCaused K.has_disk (W.view w.old).disk_faults (W.view w.new).disk_faults) }
 {
     check_unset(tag, &mail)?;
     let props = without_value(alloc, &mail, tag.id)?;
-    change_message(alloc, keeper, w, places, mail, props)
+    change_message(alloc, keeper, w, known, mail, props)
 }
 
 /// Puts a value into a message. Refused where the message isn't there, the id is the store's own or that of an object (`Protected`), or it is 8000h or more and no name has it (`Property`).
@@ -125,16 +126,16 @@ pub fn set_value<W: Outside, K: NodeReader<W>>(
     alloc: Global,
     keeper: &mut K,
     w: &mut W,
-    places: &Places,
+    known: &Known,
     message: Nid,
     value: &Value,
 ) -> Result<Outcome, Stop>
-    ensures answer { (T : Tree) → Shown (K.holds keeper.old (W.view w.old)) (K.last keeper.old) T → T.places ≡ places.now → Says (outcome_of T) (set_value T message.bits value.now) result }
+    ensures answer { (T : Tree) → Shown (K.holds keeper.old (W.view w.old)) (K.last keeper.old) T → Knows T known.now → Says (outcome_of T) (set_value T message.bits value.now) result }
     ensures looks { Looks (K.holds keeper.old (W.view w.old)) (K.holds keeper.new (W.view w.new)) (K.last keeper.old) (K.last keeper.new) (K.room keeper.old) (K.room keeper.new) (W.view w.old) (W.view w.new) }
     ensures cause { IfErr result (IsCaused K.has_disk (W.view w.old).disk_faults (W.view w.new).disk_faults) }
 {
-    let mail = message_in(alloc, keeper, w, places, message)?;
-    put_value(alloc, keeper, w, places, mail, value)
+    let mail = message_in(alloc, keeper, w, &known.places, message)?;
+    put_value(alloc, keeper, w, known, mail, value)
 }
 
 /// Removes a value of this id and kind from a message. Refused where the message isn't there, the value is the store's own or an object (`Protected`), or there is none (`Property`).
@@ -142,14 +143,14 @@ pub fn unset_value<W: Outside, K: NodeReader<W>>(
     alloc: Global,
     keeper: &mut K,
     w: &mut W,
-    places: &Places,
+    known: &Known,
     message: Nid,
     tag: Tag,
 ) -> Result<Outcome, Stop>
-    ensures answer { (T : Tree) → Shown (K.holds keeper.old (W.view w.old)) (K.last keeper.old) T → T.places ≡ places.now → Says (outcome_of T) (unset_value T message.bits tag) result }
+    ensures answer { (T : Tree) → Shown (K.holds keeper.old (W.view w.old)) (K.last keeper.old) T → Knows T known.now → Says (outcome_of T) (unset_value T message.bits tag) result }
     ensures looks { Looks (K.holds keeper.old (W.view w.old)) (K.holds keeper.new (W.view w.new)) (K.last keeper.old) (K.last keeper.new) (K.room keeper.old) (K.room keeper.new) (W.view w.old) (W.view w.new) }
     ensures cause { IfErr result (IsCaused K.has_disk (W.view w.old).disk_faults (W.view w.new).disk_faults) }
 {
-    let mail = message_in(alloc, keeper, w, places, message)?;
-    remove_value(alloc, keeper, w, places, mail, tag)
+    let mail = message_in(alloc, keeper, w, &known.places, message)?;
+    remove_value(alloc, keeper, w, known, mail, tag)
 }

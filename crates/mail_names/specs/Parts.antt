@@ -1,11 +1,8 @@
 -- The command `name`, part by part.
-use Rattle.std.specs.Prelude.{ℕ, ◌+◌, List, Ok}
-use Rattle.command_text.specs.declared.reply.CommandRefusal.TheVariants.{Limit}
-use Rattle.command_text.specs.declared.reply.Limit.TheVariants as limits
-use Rattle.mail_tree.specs.Changing.{Answer, ◌>>=◌, refused_if}
-use Rattle.named_props.specs.Adding.{added, is_full, next_index}
+use Rattle.std.specs.Prelude.{ℕ, ◌+◌, List, Option, None, Some, if◌then◌else◌}
+use Rattle.named_props.specs.Adding.{is_full, next_index}
 use Rattle.named_props.specs.declared.names.Names.{Names}
 
--- the names with another one, and its property, where there is room for it
-abbrev pub with_another : Names → List ℕ → ℕ → Answer (Names × ℕ)
-with_another n guid number = refused_if (is_full n guid number) (Limit limits.Names) >>= λ u. Ok (added n guid number, 0x8000 + next_index n.entries)
+-- the property that a new name gets, where there is room for it
+abbrev pub property_given : Names → List ℕ → ℕ → Option ℕ
+property_given n guid number = if is_full n guid number then None else Some (0x8000 + next_index n.entries)

@@ -1,45 +1,46 @@
 //! `name`
 ghost use Rattle.std.specs.Prelude.{◌≡◌, IfErr, IfOk, None};
 ghost use Rattle.mail_tree.specs.Tree.{Shown, Tree};
-ghost use Rattle.mail_tree.specs.Names.{found_or_added, named_property};
+ghost use Rattle.mail_tree.specs.Names.{found_or_added, named_property, with_another};
 ghost use Rattle.mail_draft.specs.Answers.{IsCalm, IsCaused, Looks, Says};
 ghost use Rattle.mail_draft.specs.Outcomes.{outcome_of};
-ghost use Rattle.mail_names.specs.Parts.{with_another};
+ghost use Rattle.mail_names.specs.Parts.{property_given};
 ghost use Rattle.named_props.specs.Finding.{name_at};
 ghost use Rattle.named_props.specs.Holding.{IsWritable};
 
 use crate::reading::{NAMES, names_of};
 use command_text::{CommandRefusal, LastLine, Limit, Reply};
-use mail_draft::{Draft, Outcome, Stop, context_at, replying, with_context};
+use mail_draft::{Draft, Outcome, Stop, context_at, replying, with_context, within_limits};
 use mail_objects::Context;
 use named_props::{Names, write_names};
 use node_port::NodeReader;
 use pst_base::MemOr;
 use pst_outside::Outside;
-use std::alloc::Global;
+use std::alloc::{AllocError, Global};
 
-/// The names with another one of a number under a GUID, and its property. Refused where there is no room for it.
-fn added_name(
+/// The names with another one of a number under a GUID, and the property that it has; the names as they are, and no property, where there is no room for it.
+#[tactic(auto, unfolding(mail_tree::specs::Names::with_another))]
+fn plan_name(
     alloc: Global,
     names: Names,
     guid: [u8; 16],
     number: u32,
-) -> Result<(Names, u16), Stop>
+) -> Result<(Names, Option<u16>), AllocError>
     requires new { name_at names.guids names.entries guid number ≡ None }
     requires writable { IsWritable names }
-    ensures answer { Says (λ n. n) (with_another names guid number) result }
-    ensures writable { IfOk result (λ n. IsWritable n.0) }
-    ensures cause { IfErr result IsCalm }
+    ensures names { IfOk result (λ planned. planned.0 ≡ with_another names guid number) }
+    ensures property { IfOk result (λ planned. planned.1 ≡ property_given names guid number) }
+    ensures writable { IfOk result (λ planned. IsWritable planned.0) }
 {
     let mut names = names;
     match names.lookup_or_add(alloc, guid, number) {
-        Ok(property) => Ok((names, property)),
-        Err(MemOr::Refused(_)) => Err(Stop::Refused(CommandRefusal::Limit(Limit::Names))),
-        Err(MemOr::Memory) => Err(Stop::Memory),
+        Ok(property) => Ok((names, Some(property))),
+        Err(MemOr::Refused(_)) => Ok((names, None)),
+        Err(MemOr::Memory) => Err(AllocError),
     }
 }
 
-/// Adds a name of a number under a GUID. Refused where there is no room for it, or the values would pass a limit.
+/// Adds a name of a number under a GUID. Refused where the values would pass a limit, and then where there is no room for the name.
 fn add_name(
     alloc: Global,
     context: Context,
@@ -52,10 +53,16 @@ fn add_name(
     ensures answer { (T : Tree) → Says (outcome_of T) (found_or_added T context names guid number None) result }
     ensures cause { IfErr result IsCalm }
 {
-    let (names, property) = added_name(alloc, names, guid, number)?;
+    let (names, property) = plan_name(alloc, names, guid, number)?;
     let props = write_names(alloc, &names)?;
     let draft = with_context(Draft::new(alloc), NAMES, context, props)?;
-    replying(alloc, draft, None, LastLine::Named(property))
+    match property {
+        Some(property) => replying(alloc, draft, None, LastLine::Named(property)),
+        None => {
+            within_limits(&draft)?;
+            Err(Stop::Refused(CommandRefusal::Limit(Limit::Names)))
+        }
+    }
 }
 
 /// The property of a name of a number under a GUID, which is added where it isn't there.

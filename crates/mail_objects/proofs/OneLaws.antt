@@ -1,5 +1,5 @@
 -- A node is at most one object of a form.
-use Rattle.std.proofs.Common.{◌≡◌, ◌∙◌, ℕ, List, refl, sym, ap}
+use Rattle.std.proofs.Common.{◌≡◌, ◌∙◌, ℕ, List, sym, ap}
 use Rattle.pst_base.specs.Flat.{Flat}
 use Rattle.mapi_values.specs.Messages.{Mes}
 use Rattle.mapi_values.specs.Tables.{Tab}

@@ -1,5 +1,5 @@
 -- Which node is which object, and which objects are small enough to be written.
-use Rattle.std.specs.Prelude.{◌≡◌, ◌==◌, ◌+◌, ◌≤◌, ℕ, Bool, true, length}
+use Rattle.std.specs.Prelude.{◌≡◌, ◌==◌, ◌+◌, ℕ, Bool, true, length}
 use Rattle.mapi_values.specs.Messages.{Mes}
 use Rattle.node_port.specs.Stops.{subs_size}
 use Rattle.node_port.specs.declared.node.NodeRec.{NodeRec}
@@ -8,7 +8,7 @@ use Rattle.node_values.specs.Subnodes.{ids_ascend}
 use Rattle.table_context.specs.Context.{IsTableContext}
 use Rattle.message_obj.specs.Message.{ShowsMessage, is_formed}
 use Rattle.write_limits.specs.Limits.{props_fit, table_fits, message_fits}
-use Rattle.space_bound.specs.Space.{kept_space, props_space}
+use Rattle.space_bound.specs.Space.{kept_space, message_space, props_space, table_space}
 use Rattle.mail_objects.specs.Forms.{Ctx, Tbl}
 use Rattle.mail_objects.specs.declared.object.Object.{Object}
 use Rattle.mail_objects.specs.declared.object.Object.TheVariants.{Context, Table, Message}
@@ -52,8 +52,8 @@ object_fits (Message m) = message_fits m
 abbrev pub node_size : NodeRec → ℕ
 node_size node = length node.blocks + subs_size node.subs + 1
 
--- a node of properties takes no more than the room for it
-abbrev pub ContextIsSmall : Object → NodeRec → Type 0
-ContextIsSmall (Context c) node = node_size node ≤ props_space c.props + kept_space c.kept
-ContextIsSmall (Table t) node = Unit {0}
-ContextIsSmall (Message m) node = Unit {0}
+-- the blocks that are asked for an object
+abbrev pub object_space : Object → ℕ
+object_space (Context c) = props_space c.props + kept_space c.kept
+object_space (Table t) = table_space t.table
+object_space (Message m) = message_space m

@@ -1,8 +1,8 @@
 //! Writing objects as nodes.
 ghost use Rattle.std.specs.Prelude.{◌≡◌, ◌+◌, ◌≤◌, ℕ, true, IfOk};
-ghost use Rattle.space_bound.specs.Space.{kept_space, props_space};
+ghost use Rattle.space_bound.specs.Space.{kept_space, props_space, table_space};
 ghost use Rattle.write_limits.specs.Limits.{props_fit, table_fits};
-ghost use Rattle.mail_objects.specs.Objects.{ContextIsSmall, ShowsContext, ShowsObject, ShowsTable, node_size, object_fits, stands_at};
+ghost use Rattle.mail_objects.specs.Objects.{ShowsContext, ShowsObject, ShowsTable, node_size, object_fits, object_space, stands_at};
 
 use crate::context::Context;
 use crate::object::Object;
@@ -42,7 +42,8 @@ fn write_context(alloc: Global, context: &Context) -> Result<NodeRec, AllocError
 /// The node of a table.
 fn write_table(alloc: Global, table: &TableNode) -> Result<NodeRec, AllocError>
     requires { table_fits table.now.table ≡ true }
-    ensures { IfOk result (λ node. ShowsTable node table.now) }
+    ensures shows { IfOk result (λ node. ShowsTable node table.now) }
+    ensures small { IfOk result (λ node. node_size node ≤ table_space table.now.table) }
 {
     let (blocks, subs) = write_tc(alloc, table.table())?;
     Ok(NodeRec {
@@ -52,11 +53,11 @@ fn write_table(alloc: Global, table: &TableNode) -> Result<NodeRec, AllocError>
     })
 }
 
-/// The node of an object that is small enough. A node of properties takes no more blocks than there is room for. The error: memory ran out.
+/// The node of an object that is small enough. It takes no more blocks than are asked for it. The error: memory ran out.
 pub fn write_object(alloc: Global, object: &Object) -> Result<NodeRec, AllocError>
     requires { object_fits object.now ≡ true }
     ensures shows { IfOk result (λ node. (nid : ℕ) → stands_at nid object.now ≡ true → ShowsObject nid node object.now) }
-    ensures small { IfOk result (ContextIsSmall object.now) }
+    ensures small { IfOk result (λ node. node_size node ≤ object_space object.now) }
 {
     match object {
         Object::Context(context) => write_context(alloc, context),

@@ -7,6 +7,7 @@ ghost use Rattle.mapi_values.specs.Keyed.{put_key};
 ghost use Rattle.mapi_values.specs.Messages.{Mes, are_others, part_id};
 ghost use Rattle.mapi_values.specs.declared.part.Part.{Part};
 ghost use Rattle.message_obj.specs.Message.{part_is_formed};
+ghost use Rattle.mail_tree.specs.Knowing.{Knows};
 ghost use Rattle.mail_tree.specs.Tree.{Shown, Tree};
 ghost use Rattle.mail_tree.specs.Messages.{appended_data};
 ghost use Rattle.mail_tree.specs.Parts.{with_part};
@@ -20,7 +21,7 @@ use command_text::{CommandRefusal, LastLine, Limit};
 use mail_draft::{Outcome, Stop, bytes_of, crowds};
 use mail_messages::{Ending, message_in, remake_message};
 use mail_objects::Mail;
-use mail_tree::Places;
+use mail_tree::Known;
 use mapi_values::Part;
 use mapi_values::tags::PID_TAG_ATTACH_DATA_BINARY;
 use node_port::NodeReader;
@@ -51,7 +52,7 @@ fn append_to<W: Outside, K: NodeReader<W>>(
     alloc: Global,
     keeper: &mut K,
     w: &mut W,
-    places: &Places,
+    known: &Known,
     old_len: usize,
     mail: Mail,
     part: Part,
@@ -60,7 +61,7 @@ fn append_to<W: Outside, K: NodeReader<W>>(
     requires table { IsSome mail.attachments }
     requires free { (p : Part) → part_id p ≡ part_id part → are_others (put_key part_id p mail.parts) mail.kept ≡ true }
     requires formed { part_is_formed part ≡ true }
-    ensures answer { (T : Tree) → Shown (K.holds keeper.old (W.view w.old)) (K.last keeper.old) T → T.places ≡ places.now → (M : Mes) → length M.props ≡ old_len → ((p : Part) → part_id p ≡ part_id part → with_part p mail ≡ with_part p M) → Says (outcome_of T) (appending_to T more.now M part) result }
+    ensures answer { (T : Tree) → Shown (K.holds keeper.old (W.view w.old)) (K.last keeper.old) T → Knows T known.now → (M : Mes) → length M.props ≡ old_len → ((p : Part) → part_id p ≡ part_id part → with_part p mail ≡ with_part p M) → Says (outcome_of T) (appending_to T more.now M part) result }
     ensures looks { Looks (K.holds keeper.old (W.view w.old)) (K.holds keeper.new (W.view w.new)) (K.last keeper.old) (K.last keeper.new) (K.room keeper.old) (K.room keeper.new) (W.view w.old) (W.view w.new) }
     ensures cause { IfErr result (IsCaused K.has_disk (W.view w.old).disk_faults (W.view w.new).disk_faults) }
 {
@@ -74,7 +75,7 @@ fn append_to<W: Outside, K: NodeReader<W>>(
     let part = with_data(alloc, part, bytes)?;
     let end = append_ending(crowds(values, &part.props), too_long);
     let mail = with_part(alloc, mail, part)?;
-    remake_message(alloc, keeper, w, places, old_len, mail, end)
+    remake_message(alloc, keeper, w, known, old_len, mail, end)
 }
 
 /// Puts bytes behind the data of the attachment of a message with this id.
@@ -82,18 +83,18 @@ fn append_in<W: Outside, K: NodeReader<W>>(
     alloc: Global,
     keeper: &mut K,
     w: &mut W,
-    places: &Places,
+    known: &Known,
     mail: Mail,
     attachment: Nid,
     more: &Bytes,
 ) -> Result<Outcome, Stop>
-    ensures answer { (T : Tree) → Shown (K.holds keeper.old (W.view w.old)) (K.last keeper.old) T → T.places ≡ places.now → Says (outcome_of T) (appending_in T attachment.bits more.now mail) result }
+    ensures answer { (T : Tree) → Shown (K.holds keeper.old (W.view w.old)) (K.last keeper.old) T → Knows T known.now → Says (outcome_of T) (appending_in T attachment.bits more.now mail) result }
     ensures looks { Looks (K.holds keeper.old (W.view w.old)) (K.holds keeper.new (W.view w.new)) (K.last keeper.old) (K.last keeper.new) (K.room keeper.old) (K.room keeper.new) (W.view w.old) (W.view w.new) }
     ensures cause { IfErr result (IsCaused K.has_disk (W.view w.old).disk_faults (W.view w.new).disk_faults) }
 {
     let old_len = mail.message().props.len();
     match take_attachment(mail, attachment) {
-        Some(taken) => append_to(alloc, keeper, w, places, old_len, taken.0, taken.1, more),
+        Some(taken) => append_to(alloc, keeper, w, known, old_len, taken.0, taken.1, more),
         None => Err(Stop::Refused(CommandRefusal::Object)),
     }
 }
@@ -103,15 +104,15 @@ pub fn append<W: Outside, K: NodeReader<W>>(
     alloc: Global,
     keeper: &mut K,
     w: &mut W,
-    places: &Places,
+    known: &Known,
     message: Nid,
     attachment: Nid,
     more: &Bytes,
 ) -> Result<Outcome, Stop>
-    ensures answer { (T : Tree) → Shown (K.holds keeper.old (W.view w.old)) (K.last keeper.old) T → T.places ≡ places.now → Says (outcome_of T) (appended_data T message.bits attachment.bits more.now) result }
+    ensures answer { (T : Tree) → Shown (K.holds keeper.old (W.view w.old)) (K.last keeper.old) T → Knows T known.now → Says (outcome_of T) (appended_data T message.bits attachment.bits more.now) result }
     ensures looks { Looks (K.holds keeper.old (W.view w.old)) (K.holds keeper.new (W.view w.new)) (K.last keeper.old) (K.last keeper.new) (K.room keeper.old) (K.room keeper.new) (W.view w.old) (W.view w.new) }
     ensures cause { IfErr result (IsCaused K.has_disk (W.view w.old).disk_faults (W.view w.new).disk_faults) }
 {
-    let mail = message_in(alloc, keeper, w, places, message)?;
-    append_in(alloc, keeper, w, places, mail, attachment, more)
+    let mail = message_in(alloc, keeper, w, &known.places, message)?;
+    append_in(alloc, keeper, w, known, mail, attachment, more)
 }

@@ -3,6 +3,7 @@ ghost use Rattle.std.specs.Prelude.{◌≡◌, false, IfErr, IfOk, if◌then◌e
 ghost use Rattle.command_text.specs.declared.reply.CommandRefusal.TheVariants as refusal;
 ghost use Rattle.command_text.specs.declared.reply.Limit.TheVariants as limit;
 ghost use Rattle.command_text.specs.declared.reply.LastLine.TheVariants as last;
+ghost use Rattle.mail_tree.specs.Knowing.{Knows};
 ghost use Rattle.mail_tree.specs.Tree.{Shown, Tree};
 ghost use Rattle.mail_tree.specs.Changing.{refused_if};
 ghost use Rattle.mail_tree.specs.Messages.{added_attachment, fetched_data, removed_attachment, spent_index};
@@ -19,7 +20,7 @@ use command_text::{CommandRefusal, LastLine, Limit};
 use mail_draft::{Outcome, Stop, new_id};
 use mail_messages::{Ending, message_in, remake_message, rows_of, tell_value};
 use mail_objects::Mail;
-use mail_tree::Places;
+use mail_tree::{Known, Places};
 use mapi_values::tags::PID_TAG_ATTACH_DATA_BINARY;
 use mapi_values::{Part, Props, Units};
 use node_port::NodeReader;
@@ -78,11 +79,11 @@ fn attach_to<W: Outside, K: NodeReader<W>>(
     alloc: Global,
     keeper: &mut K,
     w: &mut W,
-    places: &Places,
+    known: &Known,
     mail: Mail,
     props: Props,
 ) -> Result<Outcome, Stop>
-    ensures answer { (T : Tree) → Shown (K.holds keeper.old (W.view w.old)) (K.last keeper.old) T → T.places ≡ places.now → Says (outcome_of T) (attaching_to T mail props) result }
+    ensures answer { (T : Tree) → Shown (K.holds keeper.old (W.view w.old)) (K.last keeper.old) T → Knows T known.now → Says (outcome_of T) (attaching_to T mail props) result }
     ensures looks { Looks (K.holds keeper.old (W.view w.old)) (K.holds keeper.new (W.view w.new)) (K.last keeper.old) (K.last keeper.new) (K.room keeper.old) (K.room keeper.new) (W.view w.old) (W.view w.new) }
     ensures cause { IfErr result (IsCaused K.has_disk (W.view w.old).disk_faults (W.view w.new).disk_faults) }
 {
@@ -95,7 +96,7 @@ fn attach_to<W: Outside, K: NodeReader<W>>(
                 alloc,
                 keeper,
                 w,
-                places,
+                known,
                 old_len,
                 mail,
                 attachment_ending(index),
@@ -121,16 +122,16 @@ fn attach_one<W: Outside, K: NodeReader<W>>(
     alloc: Global,
     keeper: &mut K,
     w: &mut W,
-    places: &Places,
+    known: &Known,
     mail: Mail,
     props: Props,
 ) -> Result<Outcome, Stop>
-    ensures answer { (T : Tree) → Shown (K.holds keeper.old (W.view w.old)) (K.last keeper.old) T → T.places ≡ places.now → Says (outcome_of T) (attaching T mail props) result }
+    ensures answer { (T : Tree) → Shown (K.holds keeper.old (W.view w.old)) (K.last keeper.old) T → Knows T known.now → Says (outcome_of T) (attaching T mail props) result }
     ensures looks { Looks (K.holds keeper.old (W.view w.old)) (K.holds keeper.new (W.view w.new)) (K.last keeper.old) (K.last keeper.new) (K.room keeper.old) (K.room keeper.new) (W.view w.old) (W.view w.new) }
     ensures cause { IfErr result (IsCaused K.has_disk (W.view w.old).disk_faults (W.view w.new).disk_faults) }
 {
     check_room(&mail)?;
-    attach_to(alloc, keeper, w, places, mail, props)
+    attach_to(alloc, keeper, w, known, mail, props)
 }
 
 /// Gives a message an attachment with a file name and data, under the id whose index follows the greatest of its subnodes of that kind. Refused, in this order: the message isn't there (`Object`), its table of attachments would have too many rows or columns (`Limit(Rows)`), an object would have too many values (`Limit(Properties)`), no index is left (`Ids`).
@@ -138,18 +139,18 @@ pub fn attach<W: Outside, K: NodeReader<W>>(
     alloc: Global,
     keeper: &mut K,
     w: &mut W,
-    places: &Places,
+    known: &Known,
     message: Nid,
     name: &Units,
     bytes: &Bytes,
 ) -> Result<Outcome, Stop>
-    ensures answer { (T : Tree) → Shown (K.holds keeper.old (W.view w.old)) (K.last keeper.old) T → T.places ≡ places.now → Says (outcome_of T) (added_attachment T message.bits name.now bytes.now) result }
+    ensures answer { (T : Tree) → Shown (K.holds keeper.old (W.view w.old)) (K.last keeper.old) T → Knows T known.now → Says (outcome_of T) (added_attachment T message.bits name.now bytes.now) result }
     ensures looks { Looks (K.holds keeper.old (W.view w.old)) (K.holds keeper.new (W.view w.new)) (K.last keeper.old) (K.last keeper.new) (K.room keeper.old) (K.room keeper.new) (W.view w.old) (W.view w.new) }
     ensures cause { IfErr result (IsCaused K.has_disk (W.view w.old).disk_faults (W.view w.new).disk_faults) }
 {
-    let mail = message_in(alloc, keeper, w, places, message)?;
+    let mail = message_in(alloc, keeper, w, &known.places, message)?;
     let props = attachment_props(alloc, name, bytes)?;
-    attach_one(alloc, keeper, w, places, mail, props)
+    attach_one(alloc, keeper, w, known, mail, props)
 }
 
 /// Removes the attachment with this id from a message.
@@ -157,19 +158,17 @@ fn detach_one<W: Outside, K: NodeReader<W>>(
     alloc: Global,
     keeper: &mut K,
     w: &mut W,
-    places: &Places,
+    known: &Known,
     mail: Mail,
     attachment: Nid,
 ) -> Result<Outcome, Stop>
-    ensures answer { (T : Tree) → Shown (K.holds keeper.old (W.view w.old)) (K.last keeper.old) T → T.places ≡ places.now → Says (outcome_of T) (detaching T attachment.bits mail) result }
+    ensures answer { (T : Tree) → Shown (K.holds keeper.old (W.view w.old)) (K.last keeper.old) T → Knows T known.now → Says (outcome_of T) (detaching T attachment.bits mail) result }
     ensures looks { Looks (K.holds keeper.old (W.view w.old)) (K.holds keeper.new (W.view w.new)) (K.last keeper.old) (K.last keeper.new) (K.room keeper.old) (K.room keeper.new) (W.view w.old) (W.view w.new) }
     ensures cause { IfErr result (IsCaused K.has_disk (W.view w.old).disk_faults (W.view w.new).disk_faults) }
 {
     let old_len = mail.message().props.len();
     match take_attachment(mail, attachment) {
-        Some(taken) => {
-            remake_message(alloc, keeper, w, places, old_len, taken.0, Ending::done())
-        }
+        Some(taken) => { remake_message(alloc, keeper, w, known, old_len, taken.0, Ending::done()) }
         None => Err(Stop::Refused(CommandRefusal::Object)),
     }
 }
@@ -179,16 +178,16 @@ pub fn detach<W: Outside, K: NodeReader<W>>(
     alloc: Global,
     keeper: &mut K,
     w: &mut W,
-    places: &Places,
+    known: &Known,
     message: Nid,
     attachment: Nid,
 ) -> Result<Outcome, Stop>
-    ensures answer { (T : Tree) → Shown (K.holds keeper.old (W.view w.old)) (K.last keeper.old) T → T.places ≡ places.now → Says (outcome_of T) (removed_attachment T message.bits attachment.bits) result }
+    ensures answer { (T : Tree) → Shown (K.holds keeper.old (W.view w.old)) (K.last keeper.old) T → Knows T known.now → Says (outcome_of T) (removed_attachment T message.bits attachment.bits) result }
     ensures looks { Looks (K.holds keeper.old (W.view w.old)) (K.holds keeper.new (W.view w.new)) (K.last keeper.old) (K.last keeper.new) (K.room keeper.old) (K.room keeper.new) (W.view w.old) (W.view w.new) }
     ensures cause { IfErr result (IsCaused K.has_disk (W.view w.old).disk_faults (W.view w.new).disk_faults) }
 {
-    let mail = message_in(alloc, keeper, w, places, message)?;
-    detach_one(alloc, keeper, w, places, mail, attachment)
+    let mail = message_in(alloc, keeper, w, &known.places, message)?;
+    detach_one(alloc, keeper, w, known, mail, attachment)
 }
 
 /// The data of the attachment with this id as the reply. Refused where there is no such attachment, or it has none.

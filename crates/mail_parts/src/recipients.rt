@@ -3,6 +3,7 @@ ghost use Rattle.std.specs.Prelude.{◌≡◌, false, IfErr, not};
 ghost use Rattle.command_text.specs.declared.reply.CommandRefusal.TheVariants as refusal;
 ghost use Rattle.command_text.specs.declared.reply.Limit.TheVariants as limit;
 ghost use Rattle.command_text.specs.declared.reply.LastLine.TheVariants as last;
+ghost use Rattle.mail_tree.specs.Knowing.{Knows};
 ghost use Rattle.mail_tree.specs.Tree.{Shown, Tree};
 ghost use Rattle.mail_tree.specs.Changing.{refused_if};
 ghost use Rattle.mail_tree.specs.Messages.{added_recipient, adding_recipient, removed_recipient, spent_row};
@@ -18,7 +19,7 @@ use command_text::{CommandRefusal, LastLine, Limit};
 use mail_draft::{Outcome, Stop};
 use mail_messages::{Ending, message_in, remake_message, rows_of};
 use mail_objects::Mail;
-use mail_tree::Places;
+use mail_tree::Known;
 use mapi_values::{Props, Units};
 use node_port::NodeReader;
 use pst_base::Nid;
@@ -51,11 +52,11 @@ fn add_to<W: Outside, K: NodeReader<W>>(
     alloc: Global,
     keeper: &mut K,
     w: &mut W,
-    places: &Places,
+    known: &Known,
     mail: Mail,
     props: &Props,
 ) -> Result<Outcome, Stop>
-    ensures answer { (T : Tree) → Shown (K.holds keeper.old (W.view w.old)) (K.last keeper.old) T → T.places ≡ places.now → Says (outcome_of T) (adding_to T mail props.now) result }
+    ensures answer { (T : Tree) → Shown (K.holds keeper.old (W.view w.old)) (K.last keeper.old) T → Knows T known.now → Says (outcome_of T) (adding_to T mail props.now) result }
     ensures looks { Looks (K.holds keeper.old (W.view w.old)) (K.holds keeper.new (W.view w.new)) (K.last keeper.old) (K.last keeper.new) (K.room keeper.old) (K.room keeper.new) (W.view w.old) (W.view w.new) }
     ensures cause { IfErr result (IsCaused K.has_disk (W.view w.old).disk_faults (W.view w.new).disk_faults) }
 {
@@ -68,7 +69,7 @@ fn add_to<W: Outside, K: NodeReader<W>>(
                 alloc,
                 keeper,
                 w,
-                places,
+                known,
                 old_len,
                 mail,
                 recipient_ending(row),
@@ -94,16 +95,16 @@ fn add_one<W: Outside, K: NodeReader<W>>(
     alloc: Global,
     keeper: &mut K,
     w: &mut W,
-    places: &Places,
+    known: &Known,
     mail: Mail,
     props: &Props,
 ) -> Result<Outcome, Stop>
-    ensures answer { (T : Tree) → Shown (K.holds keeper.old (W.view w.old)) (K.last keeper.old) T → T.places ≡ places.now → Says (outcome_of T) (adding_one T mail props.now) result }
+    ensures answer { (T : Tree) → Shown (K.holds keeper.old (W.view w.old)) (K.last keeper.old) T → Knows T known.now → Says (outcome_of T) (adding_one T mail props.now) result }
     ensures looks { Looks (K.holds keeper.old (W.view w.old)) (K.holds keeper.new (W.view w.new)) (K.last keeper.old) (K.last keeper.new) (K.room keeper.old) (K.room keeper.new) (W.view w.old) (W.view w.new) }
     ensures cause { IfErr result (IsCaused K.has_disk (W.view w.old).disk_faults (W.view w.new).disk_faults) }
 {
     check_room(&mail)?;
-    add_to(alloc, keeper, w, places, mail, props)
+    add_to(alloc, keeper, w, known, mail, props)
 }
 
 /// Gives a message a recipient of a type, an address and a name, in the row that follows its greatest. Refused, in this order: the message isn't there (`Object`), its table of recipients would have too many rows or columns (`Limit(Rows)`), an object would have too many values (`Limit(Properties)`), no row is left (`Ids`).
@@ -111,19 +112,19 @@ pub fn add_recipient<W: Outside, K: NodeReader<W>>(
     alloc: Global,
     keeper: &mut K,
     w: &mut W,
-    places: &Places,
+    known: &Known,
     message: Nid,
     kind: u32,
     address: &Units,
     name: &Units,
 ) -> Result<Outcome, Stop>
-    ensures answer { (T : Tree) → Shown (K.holds keeper.old (W.view w.old)) (K.last keeper.old) T → T.places ≡ places.now → Says (outcome_of T) (added_recipient T message.bits kind address.now name.now) result }
+    ensures answer { (T : Tree) → Shown (K.holds keeper.old (W.view w.old)) (K.last keeper.old) T → Knows T known.now → Says (outcome_of T) (added_recipient T message.bits kind address.now name.now) result }
     ensures looks { Looks (K.holds keeper.old (W.view w.old)) (K.holds keeper.new (W.view w.new)) (K.last keeper.old) (K.last keeper.new) (K.room keeper.old) (K.room keeper.new) (W.view w.old) (W.view w.new) }
     ensures cause { IfErr result (IsCaused K.has_disk (W.view w.old).disk_faults (W.view w.new).disk_faults) }
 {
-    let mail = message_in(alloc, keeper, w, places, message)?;
+    let mail = message_in(alloc, keeper, w, &known.places, message)?;
     let props = recipient_props(alloc, kind, address, name)?;
-    add_one(alloc, keeper, w, places, mail, &props)
+    add_one(alloc, keeper, w, known, mail, &props)
 }
 
 /// Checks that a message has a recipient in this row.
@@ -142,18 +143,18 @@ fn remove_one<W: Outside, K: NodeReader<W>>(
     alloc: Global,
     keeper: &mut K,
     w: &mut W,
-    places: &Places,
+    known: &Known,
     mail: Mail,
     row: u32,
 ) -> Result<Outcome, Stop>
-    ensures answer { (T : Tree) → Shown (K.holds keeper.old (W.view w.old)) (K.last keeper.old) T → T.places ≡ places.now → Says (outcome_of T) (removing_one T row mail) result }
+    ensures answer { (T : Tree) → Shown (K.holds keeper.old (W.view w.old)) (K.last keeper.old) T → Knows T known.now → Says (outcome_of T) (removing_one T row mail) result }
     ensures looks { Looks (K.holds keeper.old (W.view w.old)) (K.holds keeper.new (W.view w.new)) (K.last keeper.old) (K.last keeper.new) (K.room keeper.old) (K.room keeper.new) (W.view w.old) (W.view w.new) }
     ensures cause { IfErr result (IsCaused K.has_disk (W.view w.old).disk_faults (W.view w.new).disk_faults) }
 {
     check_recipient(&mail, row)?;
     let old_len = mail.message().props.len();
     let mail = without_recipient(mail, row);
-    remake_message(alloc, keeper, w, places, old_len, mail, Ending::done())
+    remake_message(alloc, keeper, w, known, old_len, mail, Ending::done())
 }
 
 /// Removes the recipient in this row from a message. Refused where the message isn't there, or has none in it.
@@ -161,14 +162,14 @@ pub fn remove_recipient<W: Outside, K: NodeReader<W>>(
     alloc: Global,
     keeper: &mut K,
     w: &mut W,
-    places: &Places,
+    known: &Known,
     message: Nid,
     row: u32,
 ) -> Result<Outcome, Stop>
-    ensures answer { (T : Tree) → Shown (K.holds keeper.old (W.view w.old)) (K.last keeper.old) T → T.places ≡ places.now → Says (outcome_of T) (removed_recipient T message.bits row) result }
+    ensures answer { (T : Tree) → Shown (K.holds keeper.old (W.view w.old)) (K.last keeper.old) T → Knows T known.now → Says (outcome_of T) (removed_recipient T message.bits row) result }
     ensures looks { Looks (K.holds keeper.old (W.view w.old)) (K.holds keeper.new (W.view w.new)) (K.last keeper.old) (K.last keeper.new) (K.room keeper.old) (K.room keeper.new) (W.view w.old) (W.view w.new) }
     ensures cause { IfErr result (IsCaused K.has_disk (W.view w.old).disk_faults (W.view w.new).disk_faults) }
 {
-    let mail = message_in(alloc, keeper, w, places, message)?;
-    remove_one(alloc, keeper, w, places, mail, row)
+    let mail = message_in(alloc, keeper, w, &known.places, message)?;
+    remove_one(alloc, keeper, w, known, mail, row)
 }

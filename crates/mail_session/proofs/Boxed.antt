@@ -1,5 +1,5 @@
 -- What plans and commits do to a store in memory.
-use Rattle.std.proofs.Common.{arith, IfOk, OnOk, OnErr, ◌≡◌, ◌<◌, ◌^◌, ℕ, List, Bool, Option, None, Some, Result, Ok, Err, false, true, refl, sym, subst, ap, ◌∙◌}
+use Rattle.std.proofs.Common.{arith, IfOk, OnOk, OnErr, ◌≡◌, ◌<◌, ◌^◌, ℕ, List, [], Bool, Option, None, Some, Result, Ok, Err, false, true, refl, sym, subst, ap, ◌∙◌}
 use Rattle.std.proofs.lemmas.Bool.{false≢true}
 use Rattle.command_text.specs.declared.command.Command.{Command}
 use Rattle.command_text.specs.declared.reply.CommandRefusal.{CommandRefusal}
@@ -17,7 +17,9 @@ use Rattle.mail_draft.proofs.Looking.{shown_still}
 use Rattle.mail_draft.specs.Answers.{IsRefusal, Looks}
 use Rattle.mail_draft.specs.declared.stop.Stop.{Stop}
 use Rattle.mail_draft.specs.declared.stop.Stop.TheVariants.{Refused}
-use Rattle.mail_store.specs.Planning.{IsHindered, Plans, PlansTo, Stores}
+use Rattle.mail_store.proofs.FlagLaws.{nothing_known}
+use Rattle.mail_store.proofs.StoreLaws.{stores_still}
+use Rattle.mail_store.specs.Planning.{IsHindered, Plans, PlansTo, SameKnown, Stores}
 use Rattle.mail_store.specs.declared.store.Store.{Store}
 use Rattle.mail_laws.proofs.Starting.{starts_whole}
 use Rattle.mail_laws.proofs.Strays.{whole_after}
@@ -33,25 +35,25 @@ use Rattle.mail_session.specs.Run.{Steps, refused}
 
 -- a call that only looks leaves what a store has
 pub stays_stored : (old new : Store MapKeeper) {v w : World} → Looks (Keeps old.keeper.nodes) (Keeps new.keeper.nodes) old.keeper.counts.last new.keeper.counts.last ample ample v w
-    → new.places ≡ old.places → (T : Tree) → Stores (Keeps old.keeper.nodes) old.keeper.counts.last old.places T → Stores (Keeps new.keeper.nodes) new.keeper.counts.last new.places T
-stays_stored old new looks places T s = record { shown = shown_still T looks s.shown; where_is = s.where_is ∙ sym places }
+    → SameKnown old.known new.known → (T : Tree) → Stores (Keeps old.keeper.nodes) old.keeper.counts.last old.known T → Stores (Keeps new.keeper.nodes) new.keeper.counts.last new.known T
+stays_stored old new looks same T s = stores_still old.known new.known T looks same s
 
 -- so its tree stays
 pub stays : (old new : Store MapKeeper) {v w : World} → Looks (Keeps old.keeper.nodes) (Keeps new.keeper.nodes) old.keeper.counts.last new.keeper.counts.last ample ample v w
-    → new.places ≡ old.places → StaysAs old new
-stays old new looks places T h = record {
-  stores = stays_stored old new looks places T h.stores;
+    → SameKnown old.known new.known → StaysAs old new
+stays old new looks same T h = record {
+  stores = stays_stored old new looks same T h.stores;
   whole = h.whole;
 }
 
 -- the nodes of a new store have its tree
 pub new_holds : (store : Store MapKeeper) (nodes : List (Nid × Option NodeRec)) (T : Tree) → IsStart NAME T
     → ((q : ℕ) → StandsAt q (node_at (changed no_nodes nodes) q) (object_at T q) (node_at T.others q))
-    → Keeps store.keeper.nodes (changed no_nodes nodes) → store.keeper.counts.last ≡ start_last → store.places ≡ start_places → Holds store T
-new_holds store nodes T start at keeps counts places = record {
+    → Keeps store.keeper.nodes (changed no_nodes nodes) → store.keeper.counts.last ≡ start_last → store.known.places ≡ start_places → store.known.flags ≡ [] → Holds store T
+new_holds store nodes T start at keeps counts places flags = record {
   stores = record {
     shown = record { nodes = changed no_nodes nodes; held = keeps; at = at; counters = start.counters ∙ sym counts };
-    where_is = start.places ∙ sym places;
+    knows = record { places = start.places ∙ sym places; flags = nothing_known (object_at T) store.known.flags flags };
   };
   whole = (starts_whole NAME T start).0;
 }
@@ -73,7 +75,7 @@ refused_by old new c said refusal plans T (Err None) is free gave h fine answer 
 
 pub refuses : (old new : Store MapKeeper) (c : Command) (said : List ℕ) (refusal : CommandRefusal) {P : Type 0} (plans : Tree → Outcome → P → Type 0)
     → is_full refusal ≡ false
-    → ((T : Tree) → Stores (Keeps old.keeper.nodes) old.keeper.counts.last old.places T → Plans {P = P} ample (plans T) (outcome T c) (Err (Refused refusal)))
+    → ((T : Tree) → Stores (Keeps old.keeper.nodes) old.keeper.counts.last old.known T → Plans {P = P} ample (plans T) (outcome T c) (Err (Refused refusal)))
     → said ≡ refused refusal → StaysAs old new → DoesStep old c said new
 refuses old new c said refusal plans small answers gave stays T h =
     refused_by old new c said refusal (plans T) T (outcome T c) refl (no_hindrance refusal small) gave (stays T h) (whole_after T c h.whole) (answers T h.stores)
@@ -81,7 +83,7 @@ refuses old new c said refusal plans small answers gave stays T h =
 -- what an answer does
 done_by : (new : Store MapKeeper) (c : Command) {P : Type 0} (planned : P) (plans : Outcome → P → Type 0) (reply_of : P → List ℕ) (T : Tree) (answer : Answer Outcome)
     → outcome T c ≡ answer → ((o : Outcome) → plans o planned → reply_of planned ≡ text o.reply)
-    → ((o : Outcome) → plans o planned → Stores (Keeps new.keeper.nodes) new.keeper.counts.last new.places (after T o))
+    → ((o : Outcome) → plans o planned → Stores (Keeps new.keeper.nodes) new.keeper.counts.last new.known (after T o))
     → Fine answer (λ o. IsWhole (after T o)) → Plans {P = P} ample plans answer (Ok planned) → (U : Tree) × Steps T c (reply_of planned) U × Holds new U
 done_by new c planned plans reply_of T (Ok o) is said makes fine answer =
     (after T o, (o.reply, ap (stepped T) is, said o answer.0), record { stores = makes o answer.0; whole = fine })
@@ -89,10 +91,10 @@ done_by new c planned plans reply_of T (Err (Some r)) is said makes fine answer 
 done_by new c planned plans reply_of T (Err None) is said makes fine answer = absurd fine
 
 pub does : (old new : Store MapKeeper) (c : Command) {P : Type 0} (planned : P) (plans : Tree → Outcome → P → Type 0) (said : List ℕ)
-    → ((T : Tree) → Stores (Keeps old.keeper.nodes) old.keeper.counts.last old.places T → Plans {P = P} ample (plans T) (outcome T c) (Ok planned))
+    → ((T : Tree) → Stores (Keeps old.keeper.nodes) old.keeper.counts.last old.known T → Plans {P = P} ample (plans T) (outcome T c) (Ok planned))
     → ((T : Tree) (o : Outcome) → plans T o planned → said ≡ text o.reply)
-    → ((T : Tree) (o : Outcome) → Stores (Keeps old.keeper.nodes) old.keeper.counts.last old.places T → plans T o planned
-    → Stores (Keeps new.keeper.nodes) new.keeper.counts.last new.places (after T o))
+    → ((T : Tree) (o : Outcome) → Stores (Keeps old.keeper.nodes) old.keeper.counts.last old.known T → plans T o planned
+    → Stores (Keeps new.keeper.nodes) new.keeper.counts.last new.known (after T o))
     → DoesStep old c said new
 does old new c planned plans said answers gives makes T h =
     done_by new c planned (plans T) (λ p. said) T (outcome T c) refl (gives T) (λ o p. makes T o h.stores p) (whole_after T c h.whole) (answers T h.stores)

@@ -17,7 +17,7 @@ use Rattle.mail_session.specs.Run.{Answers, Run, Steps}
 
 -- the store has this tree, and it is whole
 pub record Holds (store : Store MapKeeper) (T : Tree) : Type 0 where
-  pub stores : Stores (Keeps store.keeper.nodes) store.keeper.counts.last store.places T
+  pub stores : Stores (Keeps store.keeper.nodes) store.keeper.counts.last store.known T
   pub whole : IsWhole T
 
 -- whatever tree the store had, it has it still

@@ -14,6 +14,7 @@ use crate::nowhere::Nowhere;
 use command_text::{Command, CommandRefusal, reply_text};
 use mail_draft::Stop;
 use mail_store::{Store, commit, plan};
+use mail_tree::{Flags, Known};
 use mapi_values::Units;
 use new_store::new_store;
 use node_port::{Changes, Keeper, MapKeeper};
@@ -82,7 +83,11 @@ impl Mailbox {
     {
         let name = store_name(alloc)?;
         let new = new_store(alloc, &name)?;
-        let places = new.places;
+        let flags = Flags::new(alloc);
+        let known = Known {
+            places: new.places,
+            flags,
+        };
         let changes = Changes {
             nodes: new.nodes,
             counts: new.counts,
@@ -90,7 +95,7 @@ impl Mailbox {
         };
         let keeper = keep_nodes(alloc, changes)?;
         Ok(Mailbox {
-            store: Store { keeper, places },
+            store: Store { keeper, known },
         })
     }
 

@@ -15,7 +15,7 @@ use Rattle.command_text.specs.declared.command.Command.{Command}
 use Rattle.command_text.specs.declared.command.Command.TheVariants.{MakeFolder, RenameFolder, MoveFolder, RemoveFolder, ListFolder, NewMessage, SetProperty, UnsetProperty, GetProperty, ListProperties, MoveMessage, CopyMessage, RemoveMessage, AddRecipient, RemoveRecipient, AddAttachment, AppendData, RemoveAttachment, FetchData, NameProperty, Save, Quit}
 use Rattle.command_text.specs.declared.reply.CommandRefusal.{CommandRefusal}
 use Rattle.command_text.specs.declared.reply.CommandRefusal.TheVariants.{Property, NotEmpty, Cycle, Protected, Limit, Line, Ids, Object}
-use Rattle.command_text.specs.declared.reply.Limit.TheVariants.{Depth, Names, Rows}
+use Rattle.command_text.specs.declared.reply.Limit.TheVariants.{Depth, Rows}
 use Rattle.command_text.specs.declared.reply.LastLine.{LastLine}
 use Rattle.command_text.specs.declared.reply.LastLine.TheVariants.{Attached, Done, Named, Row}
 use Rattle.mail_objects.specs.declared.object.Object.{Object as Obj}
@@ -25,12 +25,11 @@ use Rattle.mail_tree.specs.Places.{ROOT, children, is_child, is_deep, is_plain, 
 use Rattle.mail_tree.specs.Tree.{Tree}
 use Rattle.mail_tree.specs.Values.{bytes_of, crowds, finished, folder_props, is_set_protected, is_unset_protected, message_props, name_of, with_props}
 use Rattle.mail_tree.specs.Changing.{Answer, Changed, ◌>>=◌, add_shown, contents, context_at, drop_shown, found, hierarchy, nothing, put_shown, refused_if, table_at, with_object, within_limits, known}
-use Rattle.mail_tree.specs.Settling.{counted, message_ids, mirrored, settled, unread_among, with_context}
+use Rattle.mail_tree.specs.Settling.{counted, message_ids, mirrored, settled, table_as_is, touched, unread_among, with_context}
 use Rattle.mail_tree.specs.Ids.{folder_kinds, is_spent, message_kinds, new_id, next_index}
 use Rattle.mail_tree.specs.Folders.{Outcome, associated_in, changing, folder_in, folder_lines, has_associated, has_rows, listing, made_folder, making, making_folder, message_lines, moved_between, moved_folder, moving, place, removed_folder, renamed_folder, replied, replying, siblings, unless, unless_full, unless_named, unless_plain, unless_protected, with_folder, without_folder}
 use Rattle.mail_tree.specs.Messages.{added_attachment, added_message, added_recipient, adding_attachment, adding_recipient, appended_data, appending, fetched_data, removed_attachment, spent_index, too_long, changed_message, copied_message, copy_of, copying, details, in_folder, is_crowded_message, is_overfull, making_message, message_in, moved_message, new_message, plain_message, remaking, removed_message, removed_recipient, set_value, spent_row, unset_value, value_in, value_of}
-use Rattle.mail_tree.specs.Names.{NAMES, found_or_added, is_name, named_property, unless_nameless}
-use Rattle.named_props.specs.Adding as adding
+use Rattle.mail_tree.specs.Names.{NAMES, found_or_added, is_name, named_property, no_room, unless_nameless, with_another}
 use Rattle.named_props.specs.Finding.{name_at}
 use Rattle.named_props.specs.Holding.{names_of, written}
 use Rattle.named_props.specs.declared.names.Names.{Names as Held}
@@ -73,10 +72,15 @@ module _ (T : Tree) where
   unfolding counted
   counts places f D = if_any WritesNodes (context_at T D f) _ (λ c. if_any WritesNodes (table_at T D (contents f)) _ (λ t. if_any WritesNodes (unread_among T D (message_ids t.table)) _ (λ unread. some_put D.objects f _)))
 
+  -- what is put as it is is written too
+  same_writes : (q : ℕ) (D : Changed) → IfOk (table_as_is T q D) WritesNodes
+  unfolding table_as_is
+  same_writes q D = if_any WritesNodes (table_at T D q) _ (λ t. some_put D.objects q _)
+
   mirrors : (f : ℕ) (D : Changed) → WritesNodes D → IfOk (mirrored T f D) WritesNodes
   unfolding mirrored
   mirrors f D some = elim (cases_Bool (f == ROOT)) [
-    | inl t ↦ rw t some
+    | inl t ↦ rw t (same_writes (hierarchy ROOT) D)
     | inr t ↦ rw t (if_any WritesNodes (context_at T D f) _ (λ c. shows_row (hierarchy c.parent) f c.props D))
   ]
 
@@ -172,7 +176,7 @@ module _ (T : Tree) where
       let index = next_index T 4 message_kinds in
       let copy = copy_of (new_id 4 index) folder M in
       let D : Changed = record nothing { crowded = is_crowded_message M } in
-      then_making T.places 4 index (added_message T copy D) (adds copy D))))))
+      then_making T.places 4 index (touched T M.folder D >>= added_message T copy) (if_any WritesNodes (touched T M.folder D) _ (λ D'. adds copy D')))))))
 
   remakes : (M new : Mes) (crowded : Bool) (reason : Option CommandRefusal) (last : LastLine) → IfOk (remaking T M new crowded reason last) Right
   unfolding remaking
@@ -215,8 +219,8 @@ module _ (T : Tree) where
   finds_or_adds : (c : Ctx) (n : Held) (guid : List ℕ) (number : ℕ) (found_id : Option ℕ) → IfOk (found_or_added T c n guid number found_id) Right
   unfolding found_or_added
   finds_or_adds c n guid number (Some property) = λ none. (refl, refl)
-  finds_or_adds c n guid number None = then_any (refused_if (adding.is_full n guid number) (Limit Names)) _ (λ u.
-      then_any (within_limits (with_context NAMES c (written (adding.added n guid number)) nothing)) _ (λ v none. (refl, refl)))
+  finds_or_adds c n guid number None = then_any (within_limits (with_context NAMES c (written (with_another n guid number)) nothing)) _ (λ u.
+      then_any (unless (no_room n guid number)) _ (λ v none. (refl, refl)))
 
   names_property : (guid : List ℕ) (number : ℕ) → IfOk (named_property T guid number) Right
   unfolding named_property

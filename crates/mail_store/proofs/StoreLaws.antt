@@ -7,7 +7,7 @@ use Rattle.node_port.specs.Stops.{Room}
 use Rattle.node_port.specs.declared.node.NodeRec.{NodeRec}
 use Rattle.pst_base.specs.declared.ids.Nid.{Nid}
 use Rattle.pst_outside.specs.World.{World}
-use Rattle.mail_tree.specs.declared.places.FolderPlace.{FolderPlace}
+use Rattle.mail_tree.specs.declared.known.Known.{Known}
 use Rattle.mail_tree.specs.Changing.{Answer}
 use Rattle.mail_tree.specs.Folders.{Outcome}
 use Rattle.mail_tree.specs.Step.{after}
@@ -16,7 +16,7 @@ use Rattle.mail_draft.specs.Answers.{Looks, Says}
 use Rattle.mail_draft.specs.declared.stop.Stop.{Stop}
 use Rattle.mail_draft.specs.declared.stop.Stop.TheVariants.{Refused, Fault, Changed, Memory}
 use Rattle.mail_draft.proofs.Looking.{shown_still}
-use Rattle.mail_store.specs.Planning.{Carries, IsHindered, Plans, ShowsTree, StandsFor, Stores, UnlessFault}
+use Rattle.mail_store.specs.Planning.{Carries, IsHindered, Plans, SameKnown, ShowsTree, StandsFor, Stores, UnlessFault}
 use Rattle.mail_store.specs.Space.{HasRoom}
 
 -- what follows of what holds where a call succeeds
@@ -71,9 +71,12 @@ unless_fault (Changed ib stored computed) p = p
 unless_fault Memory p = p
 
 -- a store that was only looked at has its tree still
-pub stores_still : {holds holds' : Nodes → Type 0} {last last' : List ℕ} {room room' : Room} {v w : World} (places places' : List FolderPlace) (T : Tree)
-    → Looks holds holds' last last' room room' v w → places' ≡ places → Stores holds last places T → Stores holds' last' places' T
-stores_still places places' T looks e s = record { shown = shown_still T looks s.shown; where_is = s.where_is ∙ sym e }
+pub stores_still : {holds holds' : Nodes → Type 0} {last last' : List ℕ} {room room' : Room} {v w : World} (known known' : Known) (T : Tree)
+    → Looks holds holds' last last' room room' v w → SameKnown known known' → Stores holds last known T → Stores holds' last' known' T
+stores_still known known' T looks same s = record {
+  shown = shown_still T looks s.shown;
+  knows = record { places = s.knows.places ∙ sym same.0; flags = λ m unread is. s.knows.flags m unread (sym (same.1 m) ∙ is) };
+}
 
 -- what stands for nodes that show a tree stands for the tree
 pub shown_stands : {holds : Nodes → Type 0} (stands : Nodes → List ℕ → Type 0) (last : List ℕ) (T : Tree) (s : Shown holds last T) → stands s.nodes last → StandsFor stands T

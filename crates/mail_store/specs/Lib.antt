@@ -1,3 +1,4 @@
 pub mod Planning
 pub mod Opening
 pub mod Space
+pub mod Knowing

@@ -1,5 +1,5 @@
 -- What a store stands for, and what it plans.
-use Rattle.std.specs.Prelude.{◌≡◌, ℕ, true, List, Option, None, Some, Result, Ok, Err}
+use Rattle.std.specs.Prelude.{◌≡◌, ℕ, Bool, true, List, Option, None, Some, Result, Ok, Err}
 use Rattle.std.specs.FinMap as map
 use Rattle.pst_base.specs.declared.ids.Nid.{Nid}
 use Rattle.pst_outside.specs.World.{Image}
@@ -8,21 +8,29 @@ use Rattle.command_text.specs.declared.reply.Reply.{Reply}
 use Rattle.node_port.specs.Nodes.{Nodes, changed, node_at}
 use Rattle.node_port.specs.Stops.{Room}
 use Rattle.node_port.specs.declared.node.NodeRec.{NodeRec}
+use Rattle.mail_tree.specs.declared.known.Known.{Known}
 use Rattle.mail_tree.specs.declared.places.FolderPlace.{FolderPlace}
 use Rattle.mail_tree.specs.Changing.{Answer, Changed as Changes}
+use Rattle.mail_tree.specs.Flags.{SameFlags}
 use Rattle.mail_tree.specs.Folders.{Outcome}
+use Rattle.mail_tree.specs.Knowing.{Knows}
 use Rattle.mail_tree.specs.Step.{after}
 use Rattle.mail_tree.specs.Tree.{Shown, StandsAt, Tree, object_at}
 use Rattle.mail_draft.specs.Answers.{IsRefusal}
 use Rattle.mail_draft.specs.Outcomes.{places_after}
+use Rattle.mail_draft.specs.Unread.{flag_changes}
 use Rattle.mail_draft.specs.declared.stop.Stop.{Stop}
 use Rattle.mail_draft.specs.declared.stop.Stop.TheVariants.{Refused, Fault, Changed, Memory}
 use Rattle.mail_store.specs.Space.{HasRoom, IsFull, WritesNodes}
 
--- a store over these nodes and counters, with these places, has the tree
-pub record Stores (holds : Nodes → Type 0) (last : List ℕ) (places : List FolderPlace) (T : Tree) : Type 0 where
+-- a store over these nodes and counters, which knows this beside them, has the tree
+pub record Stores (holds : Nodes → Type 0) (last : List ℕ) (known : Known) (T : Tree) : Type 0 where
   pub shown : Shown holds last T
-  pub where_is : T.places ≡ places
+  pub knows : Knows T known
+
+-- the same places, and the same is known of each message
+abbrev pub SameKnown : Known → Known → Type 0
+SameKnown old new = (new.places ≡ old.places) × SameFlags old.flags new.flags
 
 -- an image that stands for nodes and counters stands for the tree that they show
 abbrev pub StandsFor : (Nodes → List ℕ → Type 0) → Tree → Type 0
@@ -46,16 +54,23 @@ abbrev pub Alters : {R : Type 0} → (Image → Image → Type 0) → Option R �
 Alters applied None old new = new ≡ old
 Alters applied (Some ready) old new = applied old new
 
+-- nodes are changed just where the command puts or removes an object
+abbrev pub ChangesNodes : {R : Type 0} → Changes → Option R → Type 0
+ChangesNodes D None = D.objects ≡ map.empty
+ChangesNodes D (Some ready) = WritesNodes D
+
 -- how many bytes carrying out a plan writes at most
 abbrev pub cost_of : {R : Type 0} → (R → ℕ) → Option R → ℕ
 cost_of cost None = 0
 cost_of cost (Some ready) = cost ready
 
--- what was planned comes to this: the reply, the places, and the changes
-pub record PlansTo {R : Type 0} (fits : R → List ℕ → List (Nid × Option NodeRec) → Type 0) (T : Tree) (o : Outcome) (change : Option R) (places : Option (List FolderPlace)) (reply : Reply) : Type 0 where
+-- what was planned comes to this: the reply, the places, what is to be known of messages, and the changes
+pub record PlansTo {R : Type 0} (fits : R → List ℕ → List (Nid × Option NodeRec) → Type 0) (T : Tree) (o : Outcome) (change : Option R) (places : Option (List FolderPlace)) (flags : List (ℕ × Option Bool)) (reply : Reply) : Type 0 where
   pub reply_is : reply ≡ o.reply
   pub places_are : o.places ≡ places_after T.places places
+  pub flags_are : flags ≡ flag_changes o.changed
   pub carries : Carries fits T o change
+  pub changes : ChangesNodes o.changed change
 
 -- A stop that is no matter of the tree: the disk failed, memory ran out, or the changes are to be written and the file has no room or no numbers left for them.
 abbrev pub IsHindered : Room → Changes → Stop → Type 0

@@ -15,7 +15,7 @@ ghost use Rattle.mail_store.specs.Planning.{Stores};
 use crate::store::Store;
 use mail_draft::{Stop, hierarchy};
 use mail_objects::{TableNode, read_table};
-use mail_tree::{FolderPlace, Places, ROOT_FOLDER, Sort};
+use mail_tree::{Flags, FolderPlace, Known, Places, ROOT_FOLDER, Sort};
 use node_port::{Keeper, NodeReader, NodeRec};
 use pst_base::Nid;
 use pst_outside::Outside;
@@ -210,7 +210,7 @@ pub fn open<W: Outside, K: Keeper<W> + Drop>(
     w: &mut W,
 ) -> Result<Store<K>, Stop>
     ensures opens { IfOk result (λ store. (T : Tree) → Shown (K.holds keeper (W.view w.old)) (K.last keeper) T → IsWhole T → IsFound T
-        → Stores (K.holds store.keeper (W.view w.new)) (K.last store.keeper) store.places T) }
+        → Stores (K.holds store.keeper (W.view w.new)) (K.last store.keeper) store.known T) }
     ensures room { IfOk result (λ store. K.room store.keeper ≡ K.room keeper) }
     ensures stops { IfErr result (λ stop. (T : Tree) → Shown (K.holds keeper (W.view w.old)) (K.last keeper) T → IsWhole T → IsFound T → IsNoMatter stop) }
     ensures unrefused { IfErr result IsUnrefused }
@@ -219,5 +219,9 @@ pub fn open<W: Outside, K: Keeper<W> + Drop>(
 {
     let mut keeper = keeper;
     let places = find_folders(alloc, &mut keeper, w)?;
-    Ok(Store { keeper, places })
+    let flags = Flags::new(alloc);
+    Ok(Store {
+        keeper,
+        known: Known { places, flags },
+    })
 }

@@ -9,24 +9,25 @@ ghost use Rattle.mail_tree.specs.Tree.{Shown, Tree};
 ghost use Rattle.mail_tree.specs.Folders.{Outcome as Coming};
 ghost use Rattle.mail_draft.specs.Answers.{IsCaused, Looks};
 ghost use Rattle.mail_draft.specs.Drafts.{all_fit, changed_of};
-ghost use Rattle.mail_draft.specs.Outcomes.{last_after, outcome_of, places_after};
-ghost use Rattle.mail_store.specs.Planning.{Alters, Carries, cost_of, Does, IsHindered, Plans, PlansTo, StandsFor, StaysUnwritten, Stores, UnlessFault};
+ghost use Rattle.mail_draft.specs.Outcomes.{last_after, outcome_of};
+ghost use Rattle.mail_store.specs.Planning.{Alters, Carries, ChangesNodes, cost_of, Does, IsHindered, Plans, PlansTo, SameKnown, StandsFor, StaysUnwritten, Stores, UnlessFault};
 ghost use Rattle.mail_store.specs.Space.{HasCells, HasRoom, WritesNodes};
 
 use crate::commands::outcome;
+use crate::knowing::{plan_flags, settle_known};
 use crate::planned::Planned;
 use command_text::{Command, Reply};
 use mail_draft::{Draft, Outcome, Stop, finish, space_needed};
-use mail_tree::Places;
+use mail_tree::Known;
 use node_port::{Changes, Counts, Keeper, Saver};
 use pst_outside::{Failed, Outside};
 use std::alloc::Global;
 
-/// A store: what keeps its nodes, and where its folders stand.
+/// A store: what keeps its nodes, and what it knows of its tree beside them.
 #[derive(Drop)]
 pub struct Store<K> {
     pub keeper: K,
-    pub places: Places,
+    pub known: Known,
 }
 
 /// The counters after a command.
@@ -76,6 +77,7 @@ fn plan_outcome<W: Outside, K: Keeper<W>>(
 ) -> Result<Option<K::Ready>, Stop>
     ensures carries { IfOk result (λ change. (T : Tree) → Shown (K.holds keeper.old (W.view w.old)) (K.last keeper.old) T → StaysUnwritten T (outcome_of T outcome.now) → Carries (K.fits keeper.new (W.view w.new)) T (outcome_of T outcome.now) change) }
     ensures fits { IfOk result (λ change. ForSome change (λ ready. (after : List ℕ) × (cs : List (Id × Option Rec)) × K.fits keeper.new (W.view w.new) ready after cs)) }
+    ensures changes { IfOk result (ChangesNodes (changed_of outcome.now.draft)) }
     ensures room { OnOk result ((T : Tree) → Shown (K.holds keeper.old (W.view w.old)) (K.last keeper.old) T → HasRoom (K.room keeper.old) (changed_of outcome.now.draft)) }
     ensures hindered { IfErr result (λ stop. (T : Tree) → Shown (K.holds keeper.old (W.view w.old)) (K.last keeper.old) T → IsHindered (K.room keeper.old) (changed_of outcome.now.draft) stop) }
     ensures looks { Looks (K.holds keeper.old (W.view w.old)) (K.holds keeper.new (W.view w.new)) (K.last keeper.old) (K.last keeper.new) (K.room keeper.old) (K.room keeper.new) (W.view w.old) (W.view w.new) }
@@ -95,18 +97,20 @@ pub fn plan<W: Outside, K: Keeper<W>>(
     w: &mut W,
     command: &Command,
 ) -> Result<Planned<K::Ready>, Stop>
-    ensures answer { (T : Tree) → Stores (K.holds store.old.keeper (W.view w.old)) (K.last store.old.keeper) store.old.places T
-        → Plans (K.room store.old.keeper) (λ o planned. PlansTo (K.fits store.new.keeper (W.view w.new)) T o planned.change planned.places planned.reply) (outcome T command.now) result }
+    ensures answer { (T : Tree) → Stores (K.holds store.old.keeper (W.view w.old)) (K.last store.old.keeper) store.old.known T
+        → Plans (K.room store.old.keeper) (λ o planned. PlansTo (K.fits store.new.keeper (W.view w.new)) T o planned.change planned.places planned.flags.items planned.reply) (outcome T command.now) result }
     ensures fits { IfOk result (λ planned. ForSome planned.change (λ ready. (after : List ℕ) × (cs : List (Id × Option Rec)) × K.fits store.new.keeper (W.view w.new) ready after cs)) }
-    ensures places { store.new.places ≡ store.old.places }
+    ensures known { SameKnown store.old.known store.new.known }
     ensures looks { Looks (K.holds store.old.keeper (W.view w.old)) (K.holds store.new.keeper (W.view w.new)) (K.last store.old.keeper) (K.last store.new.keeper) (K.room store.old.keeper) (K.room store.new.keeper) (W.view w.old) (W.view w.new) }
     ensures cause { IfErr result (IsCaused K.has_disk (W.view w.old).disk_faults (W.view w.new).disk_faults) }
 {
-    let outcome = outcome(alloc, &mut store.keeper, w, &store.places, command)?;
+    let outcome = outcome(alloc, &mut store.keeper, w, &store.known, command)?;
+    let flags = plan_flags(alloc, &mut store.known.flags, &outcome.draft)?;
     match plan_outcome(alloc, &mut store.keeper, w, &outcome) {
         Ok(change) => Ok(Planned {
             change,
             places: outcome.places,
+            flags,
             reply: outcome.reply,
         }),
         Err(stop) => Err(stop),
@@ -140,16 +144,6 @@ fn apply_change<W: Outside, K: Keeper<W>>(
     }
 }
 
-/// The places after a command.
-fn settle_places(places: &mut Places, after: Option<Places>)
-    ensures { places.new ≡ places_after places.old after }
-{
-    match after {
-        Some(after) => *places = after,
-        None => (),
-    }
-}
-
 /// Makes the changes of the latest plan, and gives its reply. It fails only where the disk failed. Takes no memory.
 pub fn commit<W: Outside, K: Keeper<W>>(
     store: &mut Store<K>,
@@ -157,17 +151,17 @@ pub fn commit<W: Outside, K: Keeper<W>>(
     planned: Planned<K::Ready>,
 ) -> Result<Reply, Failed>
     requires { ForSome planned.change (λ ready. (after : List ℕ) × (cs : List (Id × Option Rec)) × K.fits store.old.keeper (W.view w.old) ready after cs) }
-    ensures made { OnOk result ((T : Tree) (o : Coming) → Stores (K.holds store.old.keeper (W.view w.old)) (K.last store.old.keeper) store.old.places T
-        → PlansTo (K.fits store.old.keeper (W.view w.old)) T o planned.change planned.places planned.reply → ((W.view w.old).tells → K.rests (W.view w.old).here) → (K.has_disk ≡ true → (W.view w.new).tells)
-        → Stores (K.holds store.new.keeper (W.view w.new)) (K.last store.new.keeper) store.new.places (after T o)) }
+    ensures made { OnOk result ((T : Tree) (o : Coming) → Stores (K.holds store.old.keeper (W.view w.old)) (K.last store.old.keeper) store.old.known T
+        → PlansTo (K.fits store.old.keeper (W.view w.old)) T o planned.change planned.places planned.flags.items planned.reply → ((W.view w.old).tells → K.rests (W.view w.old).here) → (K.has_disk ≡ true → (W.view w.new).tells)
+        → Stores (K.holds store.new.keeper (W.view w.new)) (K.last store.new.keeper) store.new.known (after T o)) }
     ensures reply { IfOk result (λ reply. reply ≡ planned.reply) }
     ensures cause { OnErr result (Rose (W.view w.old).disk_faults (W.view w.new).disk_faults × (K.has_disk ≡ true)) }
     ensures rests { Settled (W.view w.old) → ((W.view w.old).tells → K.rests (W.view w.old).here) → OnOk result (Settled (W.view w.new) × ((W.view w.new).tells → K.rests (W.view w.new).here)) }
     // A crash at any moment leaves the tree from before or that after.
-    ensures any_moment { (T : Tree) (o : Coming) → Stores (K.holds store.old.keeper (W.view w.old)) (K.last store.old.keeper) store.old.places T → PlansTo (K.fits store.old.keeper (W.view w.old)) T o planned.change planned.places planned.reply
+    ensures any_moment { (T : Tree) (o : Coming) → Stores (K.holds store.old.keeper (W.view w.old)) (K.last store.old.keeper) store.old.known T → PlansTo (K.fits store.old.keeper (W.view w.old)) T o planned.change planned.places planned.flags.items planned.reply
         → Settled (W.view w.old) → ((W.view w.old).tells → K.rests (W.view w.old).here)
         → LeavesOnly (W.view w.old) (W.view w.new) (λ c. (c.said ≡ (W.view w.old).here.said) × (StandsFor (K.stands (K.room store.old.keeper).found c) T ⊎ StandsFor (K.stands (K.room store.old.keeper).found c) (after T o))) }
-    ensures applied { OnOk result ((T : Tree) → Stores (K.holds store.old.keeper (W.view w.old)) (K.last store.old.keeper) store.old.places T → ((W.view w.old).tells → K.rests (W.view w.old).here) → (W.view w.new).tells → Alters K.applied planned.change (W.view w.old).here (W.view w.new).here) }
+    ensures applied { OnOk result ((T : Tree) → Stores (K.holds store.old.keeper (W.view w.old)) (K.last store.old.keeper) store.old.known T → ((W.view w.old).tells → K.rests (W.view w.old).here) → (W.view w.new).tells → Alters K.applied planned.change (W.view w.old).here (W.view w.new).here) }
     ensures found { (K.room store.new.keeper).found ≡ (K.room store.old.keeper).found }
     ensures written { (W.view w.new).written ≤ (W.view w.old).written + cost_of K.cost planned.change }
     ensures told { (W.view w.new).tells → (W.view w.old).tells }
@@ -177,22 +171,23 @@ pub fn commit<W: Outside, K: Keeper<W>>(
     let Planned {
         change,
         places,
+        flags,
         reply,
     } = planned;
     apply_change(&mut store.keeper, w, change)?;
-    settle_places(&mut store.places, places);
+    settle_known(&mut store.known, places, flags);
     Ok(reply)
 }
 
 /// Saves what the keeper knows beside the nodes. The tree stays. It fails only where the disk failed. Takes no memory.
 pub fn save<W: Outside, K: Saver<W>>(store: &mut Store<K>, w: &mut W) -> Result<(), Failed>
-    ensures same { OnOk result ((T : Tree) → Stores (K.holds store.old.keeper (W.view w.old)) (K.last store.old.keeper) store.old.places T → ((W.view w.old).tells → K.rests (W.view w.old).here) → (K.has_disk ≡ true → (W.view w.new).tells)
-        → Stores (K.holds store.new.keeper (W.view w.new)) (K.last store.new.keeper) store.new.places T) }
+    ensures same { OnOk result ((T : Tree) → Stores (K.holds store.old.keeper (W.view w.old)) (K.last store.old.keeper) store.old.known T → ((W.view w.old).tells → K.rests (W.view w.old).here) → (K.has_disk ≡ true → (W.view w.new).tells)
+        → Stores (K.holds store.new.keeper (W.view w.new)) (K.last store.new.keeper) store.new.known T) }
     ensures room { K.room store.new.keeper ≡ K.room store.old.keeper }
-    ensures saved { OnOk result ((T : Tree) → Stores (K.holds store.old.keeper (W.view w.old)) (K.last store.old.keeper) store.old.places T → ((W.view w.old).tells → K.rests (W.view w.old).here) → (W.view w.new).tells → K.saved (W.view w.old).here (W.view w.new).here) }
+    ensures saved { OnOk result ((T : Tree) → Stores (K.holds store.old.keeper (W.view w.old)) (K.last store.old.keeper) store.old.known T → ((W.view w.old).tells → K.rests (W.view w.old).here) → (W.view w.new).tells → K.saved (W.view w.old).here (W.view w.new).here) }
     ensures rests { Settled (W.view w.old) → ((W.view w.old).tells → K.rests (W.view w.old).here) → OnOk result (Settled (W.view w.new) × ((W.view w.new).tells → K.rests (W.view w.new).here)) }
     // A crash at any moment leaves the same tree.
-    ensures any_moment { (T : Tree) → Stores (K.holds store.old.keeper (W.view w.old)) (K.last store.old.keeper) store.old.places T → Settled (W.view w.old) → ((W.view w.old).tells → K.rests (W.view w.old).here)
+    ensures any_moment { (T : Tree) → Stores (K.holds store.old.keeper (W.view w.old)) (K.last store.old.keeper) store.old.known T → Settled (W.view w.old) → ((W.view w.old).tells → K.rests (W.view w.old).here)
         → LeavesOnly (W.view w.old) (W.view w.new) (λ c. (c.said ≡ (W.view w.old).here.said) × StandsFor (K.stands (K.room store.old.keeper).found c) T) }
     ensures written { (W.view w.new).written ≤ (W.view w.old).written + K.save_cost store.old.keeper }
     ensures told { (W.view w.new).tells → (W.view w.old).tells }
@@ -210,10 +205,10 @@ pub fn do_command<W: Outside, K: Keeper<W>>(
     w: &mut W,
     command: &Command,
 ) -> Result<Reply, Stop>
-    ensures answer { (T : Tree) → Stores (K.holds store.old.keeper (W.view w.old)) (K.last store.old.keeper) store.old.places T
-        → Plans (K.room store.old.keeper) (Does (Stores (K.holds store.new.keeper (W.view w.new)) (K.last store.new.keeper) store.new.places) (((W.view w.old).tells → K.rests (W.view w.old).here) × (K.has_disk ≡ true → (W.view w.new).tells)) T) (outcome T command.now) result }
-    ensures stays { IfErr result (UnlessFault ((T : Tree) → Stores (K.holds store.old.keeper (W.view w.old)) (K.last store.old.keeper) store.old.places T
-        → Stores (K.holds store.new.keeper (W.view w.new)) (K.last store.new.keeper) store.new.places T)) }
+    ensures answer { (T : Tree) → Stores (K.holds store.old.keeper (W.view w.old)) (K.last store.old.keeper) store.old.known T
+        → Plans (K.room store.old.keeper) (Does (Stores (K.holds store.new.keeper (W.view w.new)) (K.last store.new.keeper) store.new.known) (((W.view w.old).tells → K.rests (W.view w.old).here) × (K.has_disk ≡ true → (W.view w.new).tells)) T) (outcome T command.now) result }
+    ensures stays { IfErr result (UnlessFault ((T : Tree) → Stores (K.holds store.old.keeper (W.view w.old)) (K.last store.old.keeper) store.old.known T
+        → Stores (K.holds store.new.keeper (W.view w.new)) (K.last store.new.keeper) store.new.known T)) }
     ensures untouched { IfErr result (UnlessFault (Untouched (W.view w.old) (W.view w.new))) }
     ensures cause { IfErr result (IsCaused K.has_disk (W.view w.old).disk_faults (W.view w.new).disk_faults) }
     ensures counts { NeverFall (W.view w.old) (W.view w.new) }

@@ -1,7 +1,7 @@
 -- What stands at an id after changes, and after a command.
 use Rattle.std.proofs.Common.{◌≡◌, ℕ, ◌==◌, Bool, true, false, cond, List, Option, Some, refl, sym, ap, arith, ◌∙◌, inl, inr}
 use Rattle.std.specs.Prelude.{nat_lt}
-use Rattle.std.proofs.lemmas.Bool.{cases_Bool, eq-eqb, eqb-true, le-ltb, ne_eqb}
+use Rattle.std.proofs.lemmas.Bool.{cases_Bool, cases_eq, eq-eqb, eqb-true, le-ltb, ne_eqb}
 use Rattle.std.specs.Cmp.{nat_cmp_total}
 use Rattle.std.specs.Ordering.{nat_cmp, eq_by_cmp}
 use Rattle.std.specs.FinMap as map
@@ -37,6 +37,16 @@ puts_values T D q o old new = record {
   here = rw (now_put T D q q (Some o), tied true q q (eq-eqb q q refl)) refl;
   others = λ x other. rw (now_put T D q x (Some o), tied false x q (ne_eqb x q other)) refl;
 }
+
+-- where what stands there is put as it is, all stands as it stood
+pub same_now : (T : Tree) (D : Changed) (q : ℕ) (o : Object) → now_at T D q ≡ Some o → now_at T (with_object q (Some o) D) ≡ now_at T D
+same_now T D q o at i x = stays x i
+  where
+    stays : (x : ℕ) → now_at T (with_object q (Some o) D) x ≡ now_at T D x
+    stays x = elim (cases_eq x q) [
+      | inl same ↦ ap (now_at T (with_object q (Some o) D)) same ∙ (puts_object T D q (Some o)).here ∙ sym at ∙ ap (now_at T D) (sym same)
+      | inr other ↦ (puts_object T D q (Some o)).others x other
+    ]
 
 -- with no changes stands what stood there
 pub now_nothing : (T : Tree) (crowded : Bool) → now_at T (record nothing { crowded = crowded }) ≡ object_at T

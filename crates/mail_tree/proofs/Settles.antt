@@ -13,12 +13,12 @@ use Rattle.mail_tree.specs.declared.places.FolderPlace.{FolderPlace}
 use Rattle.mail_tree.specs.Places.{ROOT, find_place, is_child, is_plain}
 use Rattle.mail_tree.specs.Tree.{Tree}
 use Rattle.mail_tree.specs.Values.{with_counts}
-use Rattle.mail_tree.specs.Changing.{Changed, contents, hierarchy, now_at, put_shown, shown_row, with_rows}
-use Rattle.mail_tree.specs.Settling.{counted, is_message_row, message_ids, mirrored, settled, unread_among, with_context}
+use Rattle.mail_tree.specs.Changing.{Changed, ◌>>=◌, contents, hierarchy, now_at, put_shown, shown_row, with_rows}
+use Rattle.mail_tree.specs.Settling.{counted, is_message_row, message_ids, above_as_is, context_as_is, mirrored, settled, table_as_is, touched, unread_among, with_context}
 use Rattle.mail_tree.specs.Whole.{AreWhole, Fine, fits_id}
 use Rattle.mail_tree.proofs.KeyedFinds.{kept-put}
-use Rattle.mail_tree.proofs.FineLaws.{fine_then}
-use Rattle.mail_tree.proofs.AfterTree.{puts_object, puts_values}
+use Rattle.mail_tree.proofs.FineLaws.{fine_then, fine_weaker}
+use Rattle.mail_tree.proofs.AfterTree.{puts_object, puts_values, same_now}
 use Rattle.mail_tree.proofs.Nearly.{nearly, table_of, whole}
 use Rattle.mail_tree.proofs.KindsOfPuts.{beside_kind, puts_context, puts_folders, same_table}
 
@@ -66,6 +66,11 @@ pub fine_unread : (T : Tree) (D : Changed) (ms : List ℕ) → EachMessage (now_
 fine_unread T D [] each = tt
 fine_unread T D (m ∷ ms) each = rw each.0.1 (fine_then (λ n. Unit {0}) (λ n. Unit {0}) (unread_among T D ms) _ (fine_unread T D ms each.1) (λ n u. tt))
 
+-- where a table is put as it is, all stands as it stood
+pub fine_same : (T : Tree) (D : Changed) (q : ℕ) (t : Tbl) → now_at T D q ≡ Some (Table t) → Fine (table_as_is T q D) (λ D'. now_at T D' ≡ now_at T D)
+unfolding table_as_is
+fine_same T D q t at = rw at (same_now T D q (Table t) at)
+
 module _ (T : Tree) (places : List FolderPlace) (f : ℕ) (p : FolderPlace) (D : Changed) (w : AreWhole places (now_at T D)) (e : find_place f places ≡ Some p) where
   -- a folder gets other values
   pub other_values : (c : Ctx) (props : List Val) → now_at T D f ≡ Some (Context c) → AreWhole places (now_at T (with_context f c props D))
@@ -85,7 +90,7 @@ module _ (T : Tree) (places : List FolderPlace) (f : ℕ) (p : FolderPlace) (D :
   pub fine_mirrored : Fine (mirrored T f D) (λ D'. AreWhole places (now_at T D'))
   unfolding mirrored put_shown
   fine_mirrored = elim (cases_Bool (f == ROOT)) [
-    | inl t ↦ rw t w
+    | inl t ↦ let root = folders_of w ROOT w.root.0 w.root.1 w.root.2 in rw t (fine_weaker (λ D'. now_at T D' ≡ now_at T D) (λ D'. AreWhole places (now_at T D')) (table_as_is T (hierarchy ROOT) D) (fine_same T D (hierarchy ROOT) root.0 root.1) (λ D' same. subst (AreWhole places) (sym same) w))
     | inr t ↦
         let c = w.contexts f p e in let q = w.parents f p e (eqb-false f ROOT t) in let t' = folders_of w p.parent.bits q.0 q.1 q.2 in
         let ascend = w.rows_ascend (hierarchy p.parent.bits) t'.0 t'.1 in
@@ -95,6 +100,32 @@ module _ (T : Tree) (places : List FolderPlace) (f : ℕ) (p : FolderPlace) (D :
         (λ g r eg free parent has. kept-put (λ r. r.0) g (f, mirror t'.0.table.columns c.0.props) t'.0.table.rows (subst (λ x. IsSome (find_row g x.table.rows)) (same_table has.0 t'.0 (sym has.1 ∙ t'.1)) has.2))
         (puts_object T D (hierarchy p.parent.bits) (Some (with_rows row t'.0)))))
   ]
+
+  fine_above : Fine (above_as_is T f D) (λ D'. now_at T D' ≡ now_at T D)
+  unfolding above_as_is
+  fine_above = elim (cases_Bool (f == ROOT)) [
+    | inl t ↦ let root = folders_of w ROOT w.root.0 w.root.1 w.root.2 in rw t (fine_same T D (hierarchy ROOT) root.0 root.1)
+    | inr t ↦
+        let c = w.contexts f p e in let q = w.parents f p e (eqb-false f ROOT t) in let u = folders_of w p.parent.bits q.0 q.1 q.2 in
+        rw (t, c.1, c.2 (eqb-false f ROOT t)) (fine_same T D (hierarchy p.parent.bits) u.0 u.1)
+  ]
+
+  fine_values : Fine (context_as_is T f D) (λ D'. now_at T D' ≡ now_at T D)
+  unfolding context_as_is
+  fine_values = let c = w.contexts f p e in rw c.1 (same_now T D f (Context c.0) c.1)
+
+-- where a plain folder is put as it is, all stands as it stood
+pub fine_touched : (T : Tree) (places : List FolderPlace) (f : ℕ) (p : FolderPlace) (D : Changed) → AreWhole places (now_at T D) → find_place f places ≡ Some p → is_plain p ≡ true
+    → Fine (touched T f D) (λ D'. now_at T D' ≡ now_at T D)
+unfolding touched
+fine_touched T places f p D w e plain =
+    let Same : Changed → Type 0 = λ D'. now_at T D' ≡ now_at T D in
+    fine_then Same Same (context_as_is T f D >>= table_as_is T (contents f)) (above_as_is T f)
+    (fine_then Same Same (context_as_is T f D) (table_as_is T (contents f)) (fine_values T places f p D w e) (λ D' k.
+    let w' = subst (AreWhole places) (sym k) w in
+    let t = messages_of w' f p e plain in
+    fine_weaker (λ E. now_at T E ≡ now_at T D') Same (table_as_is T (contents f) D') (fine_same T D' (contents f) t.0 t.1) (λ E k'. k' ∙ k)))
+    (λ D' k. fine_weaker (λ E. now_at T E ≡ now_at T D') Same (above_as_is T f D') (fine_above T places f p D' (subst (AreWhole places) (sym k) w) e) (λ E k'. k' ∙ k))
 
 -- a plain folder that is settled leaves the tree whole
 pub fine_settled : (T : Tree) (places : List FolderPlace) (f : ℕ) (p : FolderPlace) (D : Changed) → AreWhole places (now_at T D) → find_place f places ≡ Some p → is_plain p ≡ true

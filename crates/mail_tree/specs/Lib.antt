@@ -14,3 +14,5 @@ pub mod Whole
 pub mod Start
 pub mod Found
 pub mod Standing
+pub mod Flags
+pub mod Knowing

@@ -24,7 +24,7 @@ use Rattle.mail_tree.specs.Places.{find_place, is_plain}
 use Rattle.mail_tree.specs.Tree.{Tree, object_at}
 use Rattle.mail_tree.specs.Values.{bytes_of, crowds, finished, is_set_protected, is_unset_protected, length_of, message_props, number_of, text_of, with_props}
 use Rattle.mail_tree.specs.Changing.{Answer, Changed, ◌>>=◌, add_shown, contents, context_at, drop_shown, found, message_at, nothing, put_shown, refused_if, table_at, with_object, with_values}
-use Rattle.mail_tree.specs.Settling.{settled}
+use Rattle.mail_tree.specs.Settling.{settled, touched}
 use Rattle.mail_tree.specs.Parts.{attachment_props, attachment_tags, data_tag, has_recipient, is_full, is_spent_row, is_too_long, is_wide, lengthened, new_row, next_part, next_row, part_in, part_nid, part_with, plain_part, recipient_props, recipient_tags, room_for, rows_of, with_attachment, with_bytes, with_part, with_recipient, without_attachment, without_recipient}
 use Rattle.mail_tree.specs.Ids.{is_spent, message_kinds, new_id, next_index}
 use Rattle.mail_tree.specs.Names.{unless_nameless}
@@ -140,10 +140,10 @@ is_crowded_message m = is_crowded m.props || list_any (λ (part : Part). is_crow
 abbrev pub copy_of : ℕ → ℕ → Mes → Mes
 copy_of m folder original = record original { nid = m; folder = folder }
 
--- a copy of this index
+-- a copy of this index, where the folder of the original stays as it is
 unfoldable pub copying : Tree → Mes → ℕ → ℕ → Answer Outcome
 copying T M folder index =
-    added_message T (copy_of (new_id 4 index) folder M) (record nothing { crowded = is_crowded_message M }) >>= making T T.places 4 index
+    touched T M.folder (record nothing { crowded = is_crowded_message M }) >>= added_message T (copy_of (new_id 4 index) folder M) >>= making T T.places 4 index
 
 -- `cp`: recipients, attachments and all subnodes are copied
 unfoldable pub copied_message : Tree → ℕ → ℕ → Answer Outcome

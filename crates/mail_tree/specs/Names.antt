@@ -7,6 +7,7 @@ use Rattle.named_props.specs.Entries.{fits_id}
 use Rattle.named_props.specs.Finding.{is_property_named, name_at}
 use Rattle.named_props.specs.Holding.{IsWritable, names_of, written}
 use Rattle.named_props.specs.declared.names.Names.{Names}
+use Rattle.command_text.specs.declared.reply.CommandRefusal.{CommandRefusal}
 use Rattle.command_text.specs.declared.reply.CommandRefusal.TheVariants.{Limit, Line, Property}
 use Rattle.command_text.specs.declared.reply.LastLine.TheVariants.{Named}
 use Rattle.command_text.specs.declared.reply.Limit.TheVariants as limits
@@ -16,7 +17,7 @@ use Rattle.mail_objects.specs.declared.object.Object.TheVariants.{Context}
 use Rattle.mail_tree.specs.Tree.{Tree}
 use Rattle.mail_tree.specs.Changing.{Answer, ◌>>=◌, context_at, known, nothing, refused_if}
 use Rattle.mail_tree.specs.Settling.{with_context}
-use Rattle.mail_tree.specs.Folders.{Outcome, changing, replied, unchanged}
+use Rattle.mail_tree.specs.Folders.{Outcome, replied, replying, unchanged}
 
 -- the node of names
 abbrev pub NAMES : ℕ
@@ -42,11 +43,19 @@ unless_nameless T id = if nat_le 0x8000 id then (names_in T >>= λ n. refused_if
 abbrev pub is_name : List ℕ → ℕ → Bool
 is_name guid number = (length guid == 16) && nat_lt number (2 ^ 32)
 
+-- there is no room for a new name
+abbrev pub no_room : Names → List ℕ → ℕ → Option CommandRefusal
+no_room n guid number = if is_full n guid number then Some (Limit limits.Names) else None
+
+-- the names with a new one; where there is no room for it, changes are planned with the names as they are
+unfoldable pub with_another : Names → List ℕ → ℕ → Names
+with_another n guid number = if is_full n guid number then n else added n guid number
+
 -- the property of a name that is there, or the name is added where there is room for it
 unfoldable pub found_or_added : Tree → Ctx → Names → List ℕ → ℕ → Option ℕ → Answer Outcome
 found_or_added T c n guid number (Some property) = Ok (unchanged T (replied (Named property)))
-found_or_added T c n guid number None = refused_if (is_full n guid number) (Limit limits.Names) >>= λ u.
-    changing T (replied (Named (0x8000 + next_index n.entries))) (with_context NAMES c (written (added n guid number)) nothing)
+found_or_added T c n guid number None =
+    replying T (no_room n guid number) (replied (Named (0x8000 + next_index n.entries))) (with_context NAMES c (written (with_another n guid number)) nothing)
 
 -- `name`
 unfoldable pub named_property : Tree → List ℕ → ℕ → Answer Outcome

@@ -6,7 +6,9 @@
 #![tactic(auto)]
 
 mod columns;
+mod known;
 mod places;
 
 pub use columns::{attachments_table, contents_table, hierarchy_table, recipients_table};
+pub use known::{Flags, Known};
 pub use places::{FolderPlace, Places, ROOT_FOLDER, Sort};

@@ -7,6 +7,9 @@ use Rattle.std.proofs.lemmas.Bool.{and_from, and_parts, cases_Bool, eq-eqb, eqb-
 use Rattle.pst_base.specs.Flat.{Flat}
 use Rattle.pst_base.specs.Subs.{flattened, one_deeper}
 use Rattle.pst_base.specs.declared.subs.Sub.{Sub}
+use Rattle.node_port.specs.Stops.{subs_size}
+use Rattle.property_context.proofs.SpaceLaws.{kept-size}
+use Rattle.message_obj.proofs.SizeLaws.{flattened-size, parts-sizes, sizes-append, sub_sizes, table-sizes}
 use Rattle.mapi_values.specs.declared.part.Part.{Part}
 use Rattle.mapi_values.specs.Keyed.{find_key, keys_ascend}
 use Rattle.mapi_values.specs.Messages.{IsMessage, Mes, are_others, is_other, is_own, part_id, row_ids}
@@ -302,8 +305,9 @@ module _ (recipients attachments : Option Tab) (parts : List Part) (kept first s
 -- what is laid out in order is what a message wants beside its values
 pub lays : (m : Mes) (kept one two three sorted : List Sub) → IsMessage m.attachments m.parts m.kept → flattened kept ≡ m.kept → message_fits m ≡ true → is_formed m ≡ true
     → AddsTable kept 0x692 m.recipients one → AddsTable one 0x671 m.attachments two → AddsParts two m.parts three → rows_ascend m.attachments ≡ true
-    → ((nid : ℕ) → find_key sub_id nid sorted ≡ find_key sub_id nid three) → keys_ascend sub_id 0 sorted ≡ true → length sorted ≤ length three → LaysBelow m (flattened sorted)
-lays m kept one two three sorted message same fits formed first second laid rows found in_order few =
+    → ((nid : ℕ) → find_key sub_id nid sorted ≡ find_key sub_id nid three) → keys_ascend sub_id 0 sorted ≡ true → length sorted ≤ length three → subs_size (flattened sorted) ≤ subs_size (flattened three)
+    → LaysBelow m (flattened sorted)
+lays m kept one two three sorted message same fits formed first second laid rows found in_order few size =
     let form = forming m formed in
     let all : three ≡ ((kept ++ first.0) ++ second.0) ++ laid.0 = laid.1 ∙ ap (λ (ss : List Sub). ss ++ laid.0) (second.1 ∙ ap (λ (ss : List Sub). ss ++ second.0) first.1) in
     let is : IsLaid m.recipients m.attachments m.parts kept first.0 second.0 laid.0 sorted = record {
@@ -335,4 +339,19 @@ lays m kept one two three sorted message same fits formed first second laid rows
       kept = sym same ∙ laid-keeps m.recipients m.attachments m.parts kept first.0 second.0 laid.0 sorted is;
       fit = few-fit m.props (flattened sorted) (own_subnodes m) (fitting m fits).few (omega (arith, direct-flattened sorted, few, long));
       ascend = ids-are-keys 0 sorted ∙ in_order;
+      small = omega (
+        arith,
+        size,
+        flattened-size three,
+        ap sub_sizes all,
+        sizes-append ((kept ++ first.0) ++ second.0) laid.0,
+        sizes-append (kept ++ first.0) second.0,
+        sizes-append kept first.0,
+        flattened-size kept,
+        ap subs_size same,
+        kept-size m.kept,
+        table-sizes 0x692 m.recipients first.0 first.2,
+        table-sizes 0x671 m.attachments second.0 second.2,
+        parts-sizes m.parts laid.0 laid.2,
+      );
     }

@@ -1,14 +1,13 @@
 -- Finding a subnode in a flat list.
-use Rattle.std.proofs.Common.{◌≡◌, ◌∙◌, Bool, ℕ, suc, ◌+◌, ◌-◌, ◌<◌, ◌≤◌, ◌==◌, true, false, List, [], ◌∷◌, ◌++◌, length, map, get_or, Some, None, refl, sym, ap, inl, inr, arith}
+use Rattle.std.proofs.Common.{◌≡◌, ◌∙◌, Bool, ℕ, ◌==◌, true, false, List, [], ◌∷◌, Some, None, refl, ap, inl, inr}
 use Rattle.std.proofs.lemmas.Bool.{cases_Bool, ne_eqb}
-use Rattle.std.proofs.lemmas.List.{append-nil}
 use Rattle.std.specs.Option.{option_map}
 use Rattle.pst_base.specs.Flat.{Flat}
-use Rattle.pst_base.specs.Subs.{flattened, one_deeper}
+use Rattle.pst_base.specs.Subs.{flattened}
 use Rattle.pst_base.specs.declared.subs.Sub.{Sub}
 use Rattle.mapi_values.specs.Keyed.{find_key}
 use Rattle.node_values.proofs.SubLaws.{subnode-first}
-use Rattle.node_values.specs.Subnodes.{below, contents, one_up, place_from, sub_id, subnode, without}
+use Rattle.node_values.specs.Subnodes.{below, contents, one_up, sub_id, subnode, without}
 
 -- a subnode of the flat list is one of those directly in it
 pub subnode-found : (subs : List Sub) (nid : ℕ) → subnode (flattened subs) nid ≡ option_map contents (find_key sub_id nid subs)

@@ -1,9 +1,14 @@
 -- Subnodes that are put in order take no more than before.
-use Rattle.std.proofs.Common.{◌≡◌, ◌≤◌, ◌==◌, ◌&&◌, ◌+◌, inl, inr, nat_le, ℕ, suc, true, List, [], ◌∷◌, ◌++◌, length, map, Option, None, Some, refl, sym, ap, ◌∙◌, if◌then◌else◌, arith}
+use Rattle.std.proofs.Common.{◌≡◌, ◌≤◌, ◌==◌, ◌+◌, inl, inr, nat_le, ℕ, suc, true, List, [], ◌∷◌, ◌++◌, length, map, Option, None, Some, refl, sym, ap, ◌∙◌, arith}
 use Rattle.std.proofs.lemmas.Bool.{and_parts, cases_Bool, eq-eqb, eqb-true, leb-true, ne_eqb}
 use Rattle.pst_base.specs.Flat.{Flat}
 use Rattle.pst_base.specs.Subs.{flattened, one_deeper}
 use Rattle.pst_base.specs.declared.subs.Sub.{Sub}
+use Rattle.mapi_values.specs.declared.part.Part.{Part}
+use Rattle.mapi_values.specs.Tables.{Tab}
+use Rattle.message_obj.specs.Writing.{AreParts, AreTable}
+use Rattle.mapi_values.specs.Messages.{Mes}
+use Rattle.space_bound.specs.Space.{kept_space, message_space, option_space, parts_space, props_space}
 use Rattle.mapi_values.specs.Keyed.{drop_key, find_key, keys_ascend}
 use Rattle.node_port.specs.Stops.{subs_size}
 use Rattle.node_values.specs.Subnodes.{sub_id}
@@ -77,3 +82,26 @@ sorted-size low (y ∷ sorted) subs a same =
 pub order-size : (sorted subs : List Sub) → keys_ascend sub_id 0 sorted ≡ true → ((n : ℕ) → find_key sub_id n sorted ≡ find_key sub_id n subs) → subs_size (flattened sorted) ≤ subs_size (flattened subs)
 order-size sorted subs a same =
     omega (arith, flattened-size sorted, flattened-size subs, sorted-size 0 sorted subs a (λ n x e. sym (same n) ∙ e))
+
+pub sizes-append : (a b : List Sub) → sub_sizes (a ++ b) ≡ sub_sizes a + sub_sizes b
+sizes-append [] b = omega arith
+sizes-append (s ∷ a) b = omega (arith, sizes-append a b)
+
+-- a table takes no more than the room for it
+pub table-sizes : (id : ℕ) (t : Option Tab) (subs : List Sub) → AreTable id t subs → sub_sizes subs ≤ option_space t
+table-sizes id None [] are = omega arith
+table-sizes id None (s ∷ subs) are = absurd are
+table-sizes id (Some t) [] are = absurd are
+table-sizes id (Some t) (s ∷ subs) are = omega (arith, are.0.small, ap sub_sizes are.1)
+
+-- nor do attachments
+pub parts-sizes : (parts : List Part) (subs : List Sub) → AreParts parts subs → sub_sizes subs ≤ parts_space parts
+parts-sizes [] [] are = omega arith
+parts-sizes [] (s ∷ subs) are = absurd are
+parts-sizes (p ∷ parts) [] are = absurd are
+parts-sizes (p ∷ parts) (s ∷ subs) are = omega (arith, are.0.small, parts-sizes parts subs are.1)
+
+-- a message whose values and other subnodes take no more than the room for them
+pub message-small : (m : Mes) (taken below : ℕ) → taken ≤ props_space m.props + below → below ≤ (option_space m.recipients + option_space m.attachments) + (parts_space m.parts + kept_space m.kept) → taken ≤ message_space m
+unfolding message_space
+message-small m taken below a b = omega arith

@@ -7,7 +7,7 @@ use Rattle.mapi_values.specs.Keyed.{keys_ascend}
 use Rattle.mapi_values.specs.Messages.{Mes, is_own, part_id}
 use Rattle.mapi_values.specs.Tables.{Tab}
 use Rattle.write_limits.specs.Limits.{props_fit}
-use Rattle.space_bound.specs.Space.{kept_space, props_space}
+use Rattle.space_bound.specs.Space.{kept_space, option_space, parts_space, props_space, table_space}
 use Rattle.node_port.specs.Stops.{subs_size}
 use Rattle.property_context.specs.Context.{IsPropertyContext}
 use Rattle.node_values.specs.Subnodes.{ids_ascend, without}
@@ -27,10 +27,11 @@ AreParts [] (sub ∷ subs) = ⊥
 AreParts (part ∷ parts) [] = ⊥
 AreParts (part ∷ parts) (sub ∷ subs) = IsPart part sub × AreParts parts subs
 
--- the subnode is that of a table, at this id
+-- the subnode is that of a table, at this id, and takes no more than the room for it
 pub record IsTableAt (id : ℕ) (t : Tab) (sub : Sub) : Type 0 where
   pub id_is : sub.nid.bits ≡ id
   pub table : IsTableContext sub.blocks sub.subs t
+  pub small : length sub.blocks + subs_size sub.subs + 1 ≤ table_space t
 
 -- the subnode of the table, if there is one
 abbrev pub AreTable : ℕ → Option Tab → List Sub → Type 0
@@ -52,9 +53,10 @@ abbrev pub rows_ascend : Option Tab → Bool
 rows_ascend None = true
 rows_ascend (Some t) = keys_ascend (λ r. r.0) 0 t.rows
 
--- the subnodes are what a message wants beside those of its values: its tables, its attachments and what it keeps, few enough and in order
+-- the subnodes are what a message wants beside those of its values: its tables, its attachments and what it keeps, few enough, in order, and no more than the room for them
 pub record LaysBelow (m : Mes) (rest : List Flat) : Type 0 where
   pub shows : ShowsBelow rest m.recipients m.attachments m.parts
   pub kept : m.kept ≡ without (is_own m.parts) false rest
   pub fit : props_fit m.props rest ≡ true
   pub ascend : ids_ascend 0 rest ≡ true
+  pub small : subs_size rest ≤ (option_space m.recipients + option_space m.attachments) + (parts_space m.parts + kept_space m.kept)

@@ -1,6 +1,8 @@
 //! Writing a message.
-ghost use Rattle.std.specs.Prelude.{◌≡◌, true, IfOk, OnOk};
+ghost use Rattle.std.specs.Prelude.{◌≡◌, ◌+◌, ◌≤◌, true, length, IfOk, OnOk};
 ghost use Rattle.std.specs.List.{list_all};
+ghost use Rattle.node_port.specs.Stops.{subs_size};
+ghost use Rattle.space_bound.specs.Space.{message_space};
 ghost use Rattle.write_limits.specs.Limits.{message_fits, option_fits, part_fits};
 ghost use Rattle.message_obj.specs.Writing.{AddsParts, AddsTable, IsPart, LaysBelow, rows_ascend};
 ghost use Rattle.message_obj.specs.Message.{ShowsMessage, is_formed, part_is_formed, table_ascends};
@@ -115,11 +117,12 @@ fn write_below(alloc: Global, message: &Message) -> Result<Subs, AllocError>
     Ok(Subs::from_vec(in_order(alloc, subs)?))
 }
 
-/// The node of a message that is small enough and can be laid out. Its parent is the message's folder. The error: memory ran out.
+/// The node of a message that is small enough and can be laid out. Its parent is the message's folder. It takes no more blocks than there is room for. The error: memory ran out.
 pub fn write_message(alloc: Global, message: &Message) -> Result<NodeRec, AllocError>
     requires fit { message_fits message.now ≡ true }
     requires formed { is_formed message.now ≡ true }
-    ensures { IfOk result (λ node. ShowsMessage message.now.nid node message.now) }
+    ensures shows { IfOk result (λ node. ShowsMessage message.now.nid node message.now) }
+    ensures small { IfOk result (λ node. length node.blocks + subs_size node.subs + 1 ≤ message_space message.now) }
 {
     let rest = write_below(alloc, message)?;
     let (blocks, subs) = write_pc(alloc, &message.props, rest)?;

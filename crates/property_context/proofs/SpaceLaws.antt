@@ -38,7 +38,7 @@ made-few : (n : ℕ) → n ≤ 447 → items_made 2 6 n ≤ 1 + chunks 447 n
 made-few n few = omega (arith, above-none (chunks 447 n) (omega arith))
 
 -- the blocks of a heap whose values have so many bytes, with a tree of n properties
-heap-small : (b b1 s h1 h2 made bytes n : ℕ) → 8160 * b1 ≤ s + 8171 → s ≤ 0 + (2 * bytes + 2 * n) → h1 ≤ 2 * b1 → h2 ≤ h1 + made → 2 * b ≤ h2 + 1
+heap-small : (b b1 s h1 h2 made bytes n : ℕ) → 8160 * b1 ≤ s + 8189 → s ≤ 0 + (2 * bytes + 2 * n) → h1 ≤ 2 * b1 → h2 ≤ h1 + made → 2 * b ≤ h2 + 1
     → made ≤ 2 + chunks 447 n → (n ≤ 447 → made ≤ 1 + chunks 447 n) → b ≤ 3 + (bytes + 8 * n) / 4080
 heap-small b b1 s h1 h2 made bytes n a c d e f g k = elim (cases_lt 447 n) [
   | inl more ↦ omega (arith, a, c, d, e, f, g)

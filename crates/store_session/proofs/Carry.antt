@@ -1,7 +1,7 @@
 -- What carrying out a command comes to.
-use Rattle.std.proofs.Common.{◌≡◌, ◌⊎◌, inl, inr, ◌∙◌, ℕ, ◌≤◌, Bool, List, None, Some, Result, Ok, Err, IfErr, refl, sym, subst, ap, arith}
+use Rattle.std.proofs.Common.{◌≡◌, ◌⊎◌, inl, inr, ◌∙◌, ℕ, ◌≤◌, Bool, false, List, Option, None, Some, Result, Ok, Err, IfErr, refl, sym, subst, ap, arith}
 use Rattle.std.specs.FinMap as map
-use Rattle.pst_outside.specs.World.{Image, World}
+use Rattle.pst_outside.specs.World.{Image, SameDisk, World}
 use Rattle.pst_outside.specs.Calls.{LeavesOnly, NeverFall, Rose, Settled, Untouched}
 use Rattle.pst_outside.proofs.Moments.{continues, quiet, started, stays_settled}
 use Rattle.command_text.specs.declared.command.Command.{Command}
@@ -19,7 +19,7 @@ use Rattle.mail_draft.specs.Answers.{Looks, IsCaused as IsCausedStop}
 use Rattle.mail_draft.specs.declared.stop.Stop.{Stop}
 use Rattle.mail_draft.specs.declared.stop.Stop.TheVariants as stops
 use Rattle.mail_draft.proofs.FitLaws.{no-entries}
-use Rattle.mail_store.specs.Planning.{Plans}
+use Rattle.mail_store.specs.Planning.{Alters, ChangesNodes, Plans, SameKnown}
 use Rattle.mail_store.specs.Space.{HasRoom}
 use Rattle.mail_store.proofs.StoreLaws.{stores_still}
 use Rattle.mail_laws.proofs.Strays.{whole_after}
@@ -28,11 +28,16 @@ use Rattle.mail_tree.specs.Folders.{Outcome, replied, unchanged}
 use Rattle.mail_tree.specs.Step.{after, outcome, stepped, with_changes, without_changed}
 use Rattle.mail_tree.specs.Tree.{Tree}
 use Rattle.mail_tree.specs.Whole.{Fine, IsWhole}
-use Rattle.mail_tree.specs.declared.places.FolderPlace.{FolderPlace}
+use Rattle.mail_tree.specs.declared.known.Known.{Known}
 use Rattle.store_session.specs.Carrying.{CarriesOut, ComesTo, Has, IsCaused, Leaves}
+use Rattle.store_session.specs.Disks.{Commits, Effects, Moves, is_save}
 use Rattle.store_session.specs.Run.{CommandAnswers, Suffices, refused}
 use Rattle.store_session.specs.declared.carrying.StoreStop.{StoreStop}
 use Rattle.store_session.specs.declared.carrying.StoreStop.TheVariants.{Disk, Changed}
+
+-- an image has its own disk
+pub same_as : {c d : Image} → d ≡ c → SameDisk c d
+same_as e = record { main = ap (λ (i : Image). i.main) e; side = ap (λ (i : Image). i.side) e; copy = ap (λ (i : Image). i.copy) e }
 
 -- the text of want of memory
 pub memory_text : no_memory_text ≡ text (replied last.NoMemory)
@@ -40,10 +45,10 @@ unfolding text last_text
 memory_text = refl
 
 -- a call that only looks leaves what a store has
-pub stays_has : {holds holds' : Nodes → Type 0} {last last' : List ℕ} {room room' : Room} {v w : World} (rests : Image → Type 0) (places places' : List FolderPlace) (T : Tree) → Looks holds holds' last last' room room' v w → places' ≡ places
-    → Has holds last places rests v T → Has holds' last' places' rests w T
-stays_has rests places places' T looks same h = record {
-  stores = stores_still places places' T looks same h.stores;
+pub stays_has : {holds holds' : Nodes → Type 0} {last last' : List ℕ} {room room' : Room} {v w : World} (rests : Image → Type 0) (known known' : Known) (T : Tree) → Looks holds holds' last last' room room' v w → SameKnown known known'
+    → Has holds last known rests v T → Has holds' last' known' rests w T
+stays_has rests known known' T looks same h = record {
+  stores = stores_still known known' T looks same h.stores;
   whole = h.whole;
   settled = stays_settled h.settled looks.world;
   at_rest = λ told. subst rests (sym (looks.world.stays.here told)) (h.at_rest (looks.world.stays.told told));
@@ -63,15 +68,30 @@ standing stands v T settled is =
 not_formless : (T : Tree) (c : Command) → IsWhole T → outcome T c ≡ Err None → ⊥
 not_formless T c whole e = subst (λ x. Fine x (λ o. IsWhole (after T o))) e (whole_after T c whole)
 
+module _ (effects : Effects) (T : Tree) (c : Command) where
+  -- what a command other than `save` does to the disk: a refused one nothing
+  moves_refused : (r : CommandRefusal) (here new : Image) → is_save c ≡ false → outcome T c ≡ Err (Some r) → SameDisk here new → Moves effects (is_save c) (outcome T c) here new
+  moves_refused r here new other e same = rw (other, e) same
+
+  moves_made : (o : Outcome) (here new : Image) → is_save c ≡ false → outcome T c ≡ Ok o → Commits effects.applied o here new → Moves effects (is_save c) (outcome T c) here new
+  moves_made o here new other e commits = rw (other, e) commits
+
+-- the disk behind a plan and its commit
+pub commit_makes : {R : Type 0} (applied : Image → Image → Type 0) (o : Outcome) (change : Option R) (here mid new : Image) → mid ≡ here → ChangesNodes o.changed change → Alters applied change mid new → Commits applied o here new
+commit_makes applied o None here mid new same none alters = record { written = λ writes. absurd (writes none); unwritten = λ is. same_as (alters ∙ same) }
+commit_makes applied o (Some ready) here mid new same writes alters = record { written = λ is. (new, subst (λ i. applied i new) same alters, same_as refl); unwritten = λ none. absurd (writes none) }
+
 module _ (room : Room) (T : Tree) (c : Command) (whole : IsWhole T) where
   -- a refused command comes to nothing
   never : (o : Outcome) (r : CommandRefusal) → outcome T c ≡ Ok o → outcome T c ≡ Err (Some r) → ⊥
   never o r done refused_is = cc
 
-  stop_refused : {P : Type 0} (plans : Outcome → P → Type 0) (refusal : CommandRefusal) (t : List ℕ) (x : Answer Outcome) → outcome T c ≡ x → Plans {P = P} room plans x (Err (stops.Refused refusal)) → t ≡ refused refusal → CommandAnswers room T c t T
-  stop_refused plans refusal t (Ok o) e is said = inl (inr (o, e, (refusal, is, said), refl))
-  stop_refused plans refusal t (Err (Some r)) e is said = inl (inl ((replied (last.Refused r), ap (stepped T) e, said ∙ ap refused is), λ o done. absurd (never o r done e)))
-  stop_refused plans refusal t (Err None) e is said = absurd (not_formless T c whole e)
+  stop_refused : {P : Type 0} (plans : Outcome → P → Type 0) (effects : Effects) (told : Type 0) (here new : Image) (same : told → SameDisk here new) (refusal : CommandRefusal) (t : List ℕ) (x : Answer Outcome) → outcome T c ≡ x → is_save c ≡ false
+      → Plans {P = P} room plans x (Err (stops.Refused refusal)) → t ≡ refused refusal → CommandAnswers effects room T here told c t T new
+  stop_refused plans effects told here new same refusal t (Ok o) e other is said = inl (inr ((o, e, (refusal, is, said), refl), same))
+  stop_refused plans effects told here new same refusal t (Err (Some r)) e other is said =
+      inl (inl ((replied (last.Refused r), ap (stepped T) e, said ∙ ap refused is), (λ o done. absurd (never o r done e)), λ tells. moves_refused effects T c r here new other e (same tells)))
+  stop_refused plans effects told here new same refusal t (Err None) e other is said = absurd (not_formless T c whole e)
 
   stop_changed : {P : Type 0} (plans : Outcome → P → Type 0) (ib stored computed : ℕ) (x : Answer Outcome) → outcome T c ≡ x → Plans {P = P} room plans x (Err (stops.Changed ib stored computed)) → ⊥
   stop_changed plans ib stored computed (Ok o) e is = is
@@ -79,13 +99,13 @@ module _ (room : Room) (T : Tree) (c : Command) (whole : IsWhole T) where
   stop_changed plans ib stored computed (Err None) e is = not_formless T c whole e
 
   -- a plan that stopped
-  pub stop_carries : {P : Type 0} (plans : Outcome → P → Type 0) (has : Tree → Type 0) (stands : Image → Tree → Type 0) (v w : World) (stop : Stop) (result : Result Spoken StoreStop) → ComesTo stop result → Plans {P = P} room plans (outcome T c) (Err stop)
-      → has T → Leaves stands v w T T → CarriesOut has stands (CommandAnswers room T c) v w T result
-  stop_carries plans has stands v w stop (Ok spoken) (inl is) answers h leaves =
-      (T, stop_refused plans is.0 (spoken_text spoken) (outcome T c) refl (subst (λ s. Plans room plans (outcome T c) (Err s)) is.1 answers) is.2, h, leaves)
-  stop_carries plans has stands v w stop (Ok spoken) (inr said) answers h leaves = (T, inr (said ∙ memory_text, refl), h, leaves)
-  stop_carries plans has stands v w stop (Err Disk) is answers h leaves = (T, text (replied last.NoMemory), inr (refl, refl), leaves)
-  stop_carries plans has stands v w stop (Err (Changed ib stored computed)) is answers h leaves =
+  pub stop_carries : {P : Type 0} (plans : Outcome → P → Type 0) (effects : Effects) (has : Tree → Type 0) (stands : Image → Tree → Type 0) (v w : World) (same : w.tells → SameDisk v.here w.here) (other : is_save c ≡ false) (stop : Stop) (result : Result Spoken StoreStop)
+      → ComesTo stop result → Plans {P = P} room plans (outcome T c) (Err stop) → has T → Leaves stands v w T T → CarriesOut has stands (λ told. CommandAnswers effects room T v.here told c) v w T result
+  stop_carries plans effects has stands v w same other stop (Ok spoken) (inl is) answers h leaves =
+      (T, stop_refused plans effects w.tells v.here w.here same is.0 (spoken_text spoken) (outcome T c) refl other (subst (λ s. Plans room plans (outcome T c) (Err s)) is.1 answers) is.2, h, leaves)
+  stop_carries plans effects has stands v w same other stop (Ok spoken) (inr said) answers h leaves = (T, inr (said ∙ memory_text, (refl, same)), h, leaves)
+  stop_carries plans effects has stands v w same other stop (Err Disk) is answers h leaves = (T, text (replied last.NoMemory), inr (refl, (refl, λ none. absurd none)), leaves)
+  stop_carries plans effects has stands v w same other stop (Err (Changed ib stored computed)) is answers h leaves =
       stop_changed plans ib stored computed (outcome T c) refl (subst (λ s. Plans room plans (outcome T c) (Err s)) is answers)
 
   -- a plan that was made
@@ -100,8 +120,10 @@ module _ (room : Room) (T : Tree) (c : Command) (whole : IsWhole T) where
   same_outcome : (o p : Outcome) → outcome T c ≡ Ok o → outcome T c ≡ Ok p → o ≡ p
   same_outcome o p e f = cc
 
-  pub made_answers : (o : Outcome) (reply : Reply) (t : List ℕ) → outcome T c ≡ Ok o → HasRoom room o.changed → reply ≡ o.reply → t ≡ text reply → CommandAnswers room T c t (after T o)
-  made_answers o reply t e has is said = inl (inl ((o.reply, ap (stepped T) e, said ∙ ap text is), λ p f. subst (λ (x : Outcome). HasRoom room x.changed) (same_outcome o p e f) has))
+  pub made_answers : (effects : Effects) (told : Type 0) (here new : Image) (o : Outcome) (reply : Reply) (t : List ℕ) → outcome T c ≡ Ok o → is_save c ≡ false → HasRoom room o.changed → reply ≡ o.reply → t ≡ text reply
+      → (told → Commits effects.applied o here new) → CommandAnswers effects room T here told c t (after T o) new
+  made_answers effects told here new o reply t e other has is said commits =
+      inl (inl ((o.reply, ap (stepped T) e, said ∙ ap text is), (λ p f. subst (λ (x : Outcome). HasRoom room x.changed) (same_outcome o p e f) has), λ tells. moves_made effects T c o here new other e (commits tells)))
 
   pub made_whole : (o : Outcome) → outcome T c ≡ Ok o → IsWhole (after T o)
   made_whole o e = subst (λ x. Fine x (λ p. IsWhole (after T p))) e (whole_after T c whole)
@@ -143,9 +165,9 @@ quiet_suffices room T o e none p f writes =
     absurd (writes (sym (ap (λ (x : Outcome). x.changed.objects) same) ∙ none))
 
 -- `save` changes no tree
-pub saves : (room : Room) (T : Tree) (reply : Reply) (t : List ℕ) → reply ≡ replied last.Done → t ≡ text reply → CommandAnswers room T Save t T
+pub saves : (effects : Effects) (told : Type 0) (here new : Image) (room : Room) (T : Tree) (reply : Reply) (t : List ℕ) → reply ≡ replied last.Done → t ≡ text reply → (told → effects.saved here new) → CommandAnswers effects room T here told Save t T new
 unfolding outcome
-saves room T reply t is said =
+saves effects told here new room T reply t is said made =
     let entries = no-entries nothing refl in
     let same : after T (unchanged T (replied last.Done)) ≡ T = λ i. record {
       places = T.places;
@@ -153,4 +175,4 @@ saves room T reply t is said =
       others = without_changed (entries i) T.others;
       last = T.last;
     } in
-    inl (inl ((replied last.Done, ap (λ U. Some (U, replied last.Done)) same, said ∙ ap text is), quiet_suffices room T (unchanged T (replied last.Done)) refl refl))
+    inl (inl ((replied last.Done, ap (λ U. Some (U, replied last.Done)) same, said ∙ ap text is), quiet_suffices room T (unchanged T (replied last.Done)) refl refl, λ tells. (new, made tells, same_as refl)))

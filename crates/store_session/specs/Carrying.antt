@@ -11,14 +11,14 @@ use Rattle.mail_draft.specs.declared.stop.Stop.TheVariants as stops
 use Rattle.mail_store.specs.Planning.{Stores}
 use Rattle.mail_tree.specs.Tree.{Tree}
 use Rattle.mail_tree.specs.Whole.{IsWhole}
-use Rattle.mail_tree.specs.declared.places.FolderPlace.{FolderPlace}
+use Rattle.mail_tree.specs.declared.known.Known.{Known}
 use Rattle.store_session.specs.Run.{refused}
 use Rattle.store_session.specs.declared.carrying.StoreStop.{StoreStop}
 use Rattle.store_session.specs.declared.carrying.StoreStop.TheVariants.{Disk, Changed}
 
 -- A store over a keeper has the tree, which is whole; nothing is pending, and the disk is as a commit needs it.
-pub record Has (holds : Nodes → Type 0) (last : List ℕ) (places : List FolderPlace) (rests : Image → Type 0) (world : World) (T : Tree) : Type 0 where
-  pub stores : Stores holds last places T
+pub record Has (holds : Nodes → Type 0) (last : List ℕ) (known : Known) (rests : Image → Type 0) (world : World) (T : Tree) : Type 0 where
+  pub stores : Stores holds last known T
   pub whole : IsWhole T
   pub settled : Settled world
   pub at_rest : world.tells → rests world.here
@@ -27,10 +27,10 @@ pub record Has (holds : Nodes → Type 0) (last : List ℕ) (places : List Folde
 abbrev pub Leaves : (Image → Tree → Type 0) → World → World → Tree → Tree → Type 0
 Leaves stands old new T U = LeavesOnly old new (λ c. (c.said ≡ old.here.said) × (stands c T ⊎ stands c U))
 
--- What was carried out: the store has the tree after it, or the disk failed on the way to one. That something changed never comes.
-abbrev pub CarriesOut : (Tree → Type 0) → (Image → Tree → Type 0) → (List ℕ → Tree → Type 0) → World → World → Tree → Result Spoken StoreStop → Type 0
-CarriesOut has stands answers old new T (Ok spoken) = (U : Tree) × answers (spoken_text spoken) U × has U × Leaves stands old new T U
-CarriesOut has stands answers old new T (Err Disk) = (U : Tree) × (said : List ℕ) × answers said U × Leaves stands old new T U
+-- What was carried out: the store has the tree after it, or the disk failed on the way to one, and nothing is told of it. That something changed never comes.
+abbrev pub CarriesOut : (Tree → Type 0) → (Image → Tree → Type 0) → (Type 0 → List ℕ → Tree → Image → Type 0) → World → World → Tree → Result Spoken StoreStop → Type 0
+CarriesOut has stands answers old new T (Ok spoken) = (U : Tree) × answers new.tells (spoken_text spoken) U new.here × has U × Leaves stands old new T U
+CarriesOut has stands answers old new T (Err Disk) = (U : Tree) × (said : List ℕ) × answers ⊥ said U new.here × Leaves stands old new T U
 CarriesOut has stands answers old new T (Err (Changed ib stored computed)) = ⊥
 
 -- the count of the disk's faults rose where it failed, and there is a disk

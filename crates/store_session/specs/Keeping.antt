@@ -7,18 +7,20 @@ use Rattle.line_server.specs.Lines.{line}
 use Rattle.node_port.specs.Stops.{Room}
 use Rattle.mail_tree.specs.Tree.{Tree}
 use Rattle.store_session.specs.Carrying.{Leaves}
+use Rattle.store_session.specs.Disks.{Effects}
 use Rattle.store_session.specs.Lines.{StopLeaves}
 use Rattle.store_session.specs.Run.{Answers}
 use Rattle.store_session.specs.declared.carrying.StoreStop.{StoreStop}
 
--- A state over a world has a tree, for which the disk stands; that stays while input is taken and replies are said, and answers go from tree to tree.
-pub record Keeping {S W : Type 0} (view : W → World) (disk : Bool) (has : S → W → Tree → Type 0) (stands : Image → Tree → Type 0) (rests : Image → Type 0) (answers : Answering S W) (stops : Stopping S W StoreStop) : Type 0 where
+-- A state over a world has a tree, for which the disk stands, and the disk has the state's room; that stays while input is taken and replies are said, and answers go from tree to tree, and from disk to disk.
+pub record Keeping {S W : Type 0} (view : W → World) (disk : Bool) (has : S → W → Tree → Type 0) (stands : Image → Tree → Type 0) (rests : Image → Type 0) (effects : Effects) (room : S → Room) (answers : Answering S W) (stops : Stopping S W StoreStop) : Type 0 where
   pub settled : (a : S) (v : W) (T : Tree) → has a v T → Settled (view v)
   pub at_rest : (a : S) (v : W) (T : Tree) → has a v T → (view v).tells → rests (view v).here
   pub here : (a : S) (v : W) (T : Tree) → has a v T → stands (view v).here T
+  pub measured : (a : S) (v : W) (T : Tree) → has a v T → effects.measures (view v).here (room a)
   pub stands_on : (c d : Image) (T : Tree) → SameDisk c d → stands c T → stands d T
   pub has_on : (a : S) (v w : W) (T : Tree) → has a v T → Settled (view w) → ((view w).tells → (view v).tells × SameDisk (view v).here (view w).here) → (disk ≡ true → (view w).tells) → has a w T
   pub answered : (a b : S) (v w : W) (bytes said : List ℕ) (T : Tree) → answers a v bytes said b w → has a v T → (disk ≡ true → (view w).tells)
-      → (room : Room) × (U : Tree) × Answers room T (line bytes) said U × has b w U × Leaves stands (view v) (view w) T U
+      → (U : Tree) × Answers effects (room a) T (view v).here (view w).tells (line bytes) said U (view w).here × has b w U × Leaves stands (view v) (view w) T U
   pub stopped : (a b : S) (v w : W) (bytes : List ℕ) (stop : StoreStop) (T : Tree) → stops a v bytes stop b w → has a v T → (disk ≡ true → (view w).tells)
-      → (room : Room) × StopLeaves stands room (view v) (view w) T bytes stop
+      → StopLeaves stands effects (room a) (view v) (view w) T bytes stop

@@ -1,5 +1,6 @@
--- A run of a session over a store: the replies to lines, one after another, and the trees after them.
+-- A run of a session over a store: the replies to lines, one after another, and the trees and disks after them.
 use Rattle.std.specs.Prelude.{◌≡◌, ◌⊎◌, ℕ, List, [], ◌∷◌, Some, Result, Ok, Err}
+use Rattle.pst_outside.specs.World.{Image, SameDisk}
 use Rattle.command_text.specs.declared.command.Command.{Command}
 use Rattle.command_text.specs.declared.command.LineRefusal.{LineRefusal}
 use Rattle.command_text.specs.declared.reply.CommandRefusal.{CommandRefusal}
@@ -18,6 +19,8 @@ use Rattle.mail_tree.specs.Folders.{Outcome, replied}
 use Rattle.mail_tree.specs.Step.{outcome, step}
 use Rattle.mail_tree.specs.Tree.{Tree}
 use Rattle.line_server.specs.Lines.{Piece, line, too_long, further}
+use Rattle.store_session.specs.Disks.{Effects, Moves, is_save}
+use Rattle.store_session.specs.Turns.{StoreTurn}
 
 -- the text of a refusal
 abbrev pub refused : CommandRefusal → List ℕ
@@ -35,34 +38,48 @@ Suffices room before c = (o : Outcome) → outcome before c ≡ Ok o → HasRoom
 abbrev pub Hinders : Room → Tree → Command → List ℕ → Tree → Type 0
 Hinders room before c said after = (o : Outcome) × (outcome before c ≡ Ok o) × ((refusal : CommandRefusal) × IsHindered room o.changed (stops.Refused refusal) × (said ≡ refused refusal)) × (after ≡ before)
 
--- what a line asks for: its command was carried out, for which there was room, or hindered, or the line refused, which changes nothing
-abbrev pub Carries : Room → Tree → Result Command LineRefusal → List ℕ → Tree → Type 0
-Carries room before (Ok c) said after = (Steps before c said after × Suffices room before c) ⊎ Hinders room before c said after
-Carries room before (Err refusal) said after = (said ≡ refused (refusal_of refusal)) × (after ≡ before)
+-- From the tree `before` and the disk `old` on, over which a keeper has this room: what is said, and the tree and the disk after it. What
+-- becomes of the disk is said where `told`.
+module _ (effects : Effects) (room : Room) (before : Tree) (old : Image) (told : Type 0) where
+  -- nothing changed
+  abbrev pub Stays : Tree → Image → Type 0
+  Stays after new = (after ≡ before) × (told → SameDisk old new)
 
--- what is said to a command, and the tree after it: its step, for which there was room, or that the file has none, or that there was no memory
-abbrev pub CommandAnswers : Room → Tree → Command → List ℕ → Tree → Type 0
-CommandAnswers room before c said after = ((Steps before c said after × Suffices room before c) ⊎ Hinders room before c said after) ⊎ ((said ≡ text (replied NoMemory)) × (after ≡ before))
+  -- a command was carried out, for which there was room, or hindered
+  abbrev pub CarriesCommand : Command → List ℕ → Tree → Image → Type 0
+  CarriesCommand c said after new =
+      (Steps before c said after × Suffices room before c × (told → Moves effects (is_save c) (outcome before c) old new))
+      ⊎ (Hinders room before c said after × (told → SameDisk old new))
 
--- a piece was answered: a line that is too long is answered once
-abbrev pub Replies : Room → Tree → Piece → List ℕ → Tree → Type 0
-Replies room before (line bytes) said after = Carries room before (command bytes) said after
-Replies room before too_long said after = (said ≡ refused (Limit limits.Line)) × (after ≡ before)
-Replies room before further said after = (said ≡ []) × (after ≡ before)
+  -- what a line asks for: its command was carried out or hindered, or the line refused, which changes nothing
+  abbrev pub Carries : Result Command LineRefusal → List ℕ → Tree → Image → Type 0
+  Carries (Ok c) said after new = CarriesCommand c said after new
+  Carries (Err refusal) said after new = (said ≡ refused (refusal_of refusal)) × Stays after new
 
--- want of memory: the line changes nothing
-abbrev pub LacksMemory : Tree → Piece → List ℕ → Tree → Type 0
-LacksMemory before (line bytes) said after = (said ≡ text (replied NoMemory)) × (after ≡ before)
-LacksMemory before too_long said after = ⊥
-LacksMemory before further said after = ⊥
+  -- what is said to a command: its step, or that the file has no room for it, or that there was no memory
+  abbrev pub CommandAnswers : Command → List ℕ → Tree → Image → Type 0
+  CommandAnswers c said after new = CarriesCommand c said after new ⊎ ((said ≡ text (replied NoMemory)) × Stays after new)
 
--- the reply to a piece, and the tree after it
-abbrev pub Answers : Room → Tree → Piece → List ℕ → Tree → Type 0
-Answers room before piece said after = Replies room before piece said after ⊎ LacksMemory before piece said after
+  -- a piece was answered: a line that is too long is answered once
+  abbrev pub Replies : Piece → List ℕ → Tree → Image → Type 0
+  Replies (line bytes) said after new = Carries (command bytes) said after new
+  Replies too_long said after new = (said ≡ refused (Limit limits.Line)) × Stays after new
+  Replies further said after new = (said ≡ []) × Stays after new
 
--- These pieces were answered, one after another; each turn is a reply and the tree after it. What room there was, each turn says for itself.
-abbrev pub Run : Tree → List Piece → List (List ℕ × Tree) → Type 0
-Run before [] [] = Unit {0}
-Run before (piece ∷ pieces) (turn ∷ turns) = ((room : Room) × Answers room before piece turn.0 turn.1) × Run turn.1 pieces turns
-Run before [] (turn ∷ turns) = ⊥
-Run before (piece ∷ pieces) [] = ⊥
+  -- want of memory: the line changes nothing
+  abbrev pub LacksMemory : Piece → List ℕ → Tree → Image → Type 0
+  LacksMemory (line bytes) said after new = (said ≡ text (replied NoMemory)) × Stays after new
+  LacksMemory too_long said after new = ⊥
+  LacksMemory further said after new = ⊥
+
+  -- the reply to a piece, and the tree and the disk after it
+  abbrev pub Answers : Piece → List ℕ → Tree → Image → Type 0
+  Answers piece said after new = Replies piece said after new ⊎ LacksMemory piece said after new
+
+-- These pieces were answered, one after another, from a tree and a disk on: each with the room of the disk before it.
+abbrev pub Run : Effects → Type 0 → Tree → Image → List Piece → List StoreTurn → Type 0
+Run effects told before old [] [] = Unit {0}
+Run effects told before old (piece ∷ pieces) (turn ∷ turns) =
+    ((room : Room) × effects.measures old room × Answers effects room before old told piece turn.said turn.tree turn.disk) × Run effects told turn.tree turn.disk pieces turns
+Run effects told before old [] (turn ∷ turns) = ⊥
+Run effects told before old (piece ∷ pieces) [] = ⊥

@@ -1,15 +1,16 @@
 -- How a session over a store ends.
 use Rattle.std.specs.Prelude.{◌≡◌, ◌⊎◌, ℕ, ◌<◌, ◌≤◌, Bool, true, false, List, [], ◌++◌, length, take}
 use Rattle.std.specs.List.{list_any}
-use Rattle.pst_outside.specs.World.{Image, World}
+use Rattle.pst_outside.specs.World.{Image, SameDisk, World}
 use Rattle.pst_outside.specs.Calls.{LeavesOnly, Rose, Settled}
 use Rattle.line_server.specs.declared.end.ServerEnd.{ServerEnd}
 use Rattle.line_server.specs.declared.end.ServerEnd.TheVariants as server_ends
 use Rattle.line_server.specs.Lines.{Piece, is_quit, lines}
 use Rattle.line_server.specs.Server.{LINES}
 use Rattle.mail_tree.specs.Tree.{Tree}
+use Rattle.store_session.specs.Disks.{Effects}
 use Rattle.store_session.specs.Run.{Run}
-use Rattle.store_session.specs.Turns.{IsReached, texts, tree_after}
+use Rattle.store_session.specs.Turns.{IsReached, StandThrough, StoreTurn, disk_after, texts, tree_after}
 use Rattle.store_session.specs.declared.carrying.StoreStop.{StoreStop}
 use Rattle.store_session.specs.declared.carrying.StoreStop.TheVariants as store_stops
 use Rattle.store_session.specs.declared.session.SessionEnd.{SessionEnd}
@@ -32,9 +33,10 @@ HasCause disk old new Disk = Rose old.disk_faults new.disk_faults × (disk ≡ t
 HasCause disk old new other = Unit {0}
 
 -- How a session over a store ends that had a tree at its start. Its replies are those of a run from that tree over the first of the lines
--- that it has taken. Where the output failed, the last of the answered lines is the one in hand. `stands` says for which trees a disk
--- stands, and `rests` how it is between two commits.
-pub record StoreSessionEnds (stands : Image → Tree → Type 0) (rests : Image → Type 0) (first now : World) (start : Tree) (end : SessionEnd) : Type 0 where
+-- that it has taken. Where the output failed, the last of the answered lines is the one in hand. `effects` says what room a disk has and
+-- what is made of it, `stands` for which trees it stands, and `rests` how it is between two commits. `opened` is the disk that the first
+-- line finds.
+pub record StoreSessionEnds (effects : Effects) (stands : Image → Tree → Type 0) (rests : Image → Type 0) (opened : Image) (first now : World) (start : Tree) (end : SessionEnd) : Type 0 where
   -- what was taken of the input, and whether it was all
   pub taken : List ℕ
   pub input : now.tells → first.input ≡ taken ++ now.input
@@ -47,11 +49,14 @@ pub record StoreSessionEnds (stands : Image → Tree → Type 0) (rests : Image 
   pub one : length hand ≤ 1
   pub cuts : lines all taken ≡ answered ++ (hand ++ left)
   pub none_in_hand : (end ≡ Disk → ⊥) → hand ≡ []
-  -- the replies to them are those of a run, which goes on with the line in hand
-  pub turns : List (List ℕ × Tree)
-  pub last : List (List ℕ × Tree)
-  pub run : Run start answered turns
-  pub in_hand : Run (tree_after start turns) hand last
+  -- the replies to them are those of a run from disk to disk, which goes on with the line in hand, of whose disk nothing is told
+  pub turns : List StoreTurn
+  pub last : List StoreTurn
+  pub run : Run effects now.tells start opened answered turns
+  pub in_hand : Run effects ⊥ (tree_after start turns) (disk_after opened turns) hand last
+  -- each disk of the run stands for the tree of its place, and the last of them is the disk at the end
+  pub stand : StandThrough stands start opened turns
+  pub disk_is : (end ≡ Disk → ⊥) → now.tells → SameDisk (disk_after opened turns) now.here
   -- a front of the replies was said, and all of them, without that in hand, unless the output failed
   pub front : now.tells → (k : ℕ) × (now.here.said ≡ first.here.said ++ take k (texts turns))
   pub whole : (end ≡ Output → ⊥) → now.tells → now.here.said ≡ first.here.said ++ texts turns

@@ -1,26 +1,43 @@
 -- What a stop within a session leaves: the tree after some of the turns, among them each whose reply had begun.
 use Rattle.std.specs.Prelude.{◌≡◌, ℕ, List, [], ◌∷◌, ◌++◌, take}
 use Rattle.pst_outside.specs.World.{Image}
+use Rattle.mail_tree.specs.Tree.{Tree}
 
--- the replies of some turns, each with the tree after it, as one text
-abbrev pub texts : {T : Type 0} → List (List ℕ × T) → List ℕ
+-- One turn: what was said, and the tree and the disk after it.
+pub record StoreTurn : Type 0 where
+  pub said : List ℕ
+  pub tree : Tree
+  pub disk : Image
+
+-- the replies of some turns as one text
+abbrev pub texts : List StoreTurn → List ℕ
 texts [] = []
-texts (turn ∷ turns) = turn.0 ++ texts turns
+texts (turn ∷ turns) = turn.said ++ texts turns
 
 -- the replies alone
-abbrev pub replies_of : {T : Type 0} → List (List ℕ × T) → List (List ℕ)
+abbrev pub replies_of : List StoreTurn → List (List ℕ)
 replies_of [] = []
-replies_of (turn ∷ turns) = turn.0 ∷ replies_of turns
+replies_of (turn ∷ turns) = turn.said ∷ replies_of turns
 
 -- the tree at the end
-abbrev pub tree_after : {T : Type 0} → T → List (List ℕ × T) → T
+abbrev pub tree_after : Tree → List StoreTurn → Tree
 tree_after start [] = start
-tree_after start (turn ∷ turns) = tree_after turn.1 turns
+tree_after start (turn ∷ turns) = tree_after turn.tree turns
+
+-- the disk at the end
+abbrev pub disk_after : Image → List StoreTurn → Image
+disk_after disk [] = disk
+disk_after disk (turn ∷ turns) = disk_after turn.disk turns
+
+-- each disk of a run stands for the tree of its place: the one before it, and that after each turn
+abbrev pub StandThrough : (Image → Tree → Type 0) → Tree → Image → List StoreTurn → Type 0
+StandThrough stands start disk [] = stands disk start
+StandThrough stands start disk (turn ∷ turns) = stands disk start × StandThrough stands turn.tree turn.disk turns
 
 -- The image stands for the tree after the first of the turns, and no more was said than their replies.
-pub record IsReached {T : Type 0} (stands : Image → T → Type 0) (first : List ℕ) (start : T) (turns : List (List ℕ × T)) (c : Image) : Type 0 where
-  pub done : List (List ℕ × T)
-  pub left : List (List ℕ × T)
+pub record IsReached (stands : Image → Tree → Type 0) (first : List ℕ) (start : Tree) (turns : List StoreTurn) (c : Image) : Type 0 where
+  pub done : List StoreTurn
+  pub left : List StoreTurn
   pub are : turns ≡ done ++ left
   pub tree : stands c (tree_after start done)
   pub count : ℕ

@@ -1,18 +1,19 @@
 //! Lines carried out over a store.
-ghost use Rattle.std.specs.Prelude.{◌≡◌, true, IfErr};
+ghost use Rattle.std.specs.Prelude.{◌≡◌, false, true, IfErr};
 ghost use Rattle.command_text.specs.declared.command.Command.TheVariants.{Save};
 ghost use Rattle.mail_store.specs.Planning.{StandsFor};
 ghost use Rattle.mail_tree.specs.Tree.{Tree};
 ghost use Rattle.line_server.specs.Lines.{line};
 ghost use Rattle.line_server.specs.Worlds.{Quiet};
 ghost use Rattle.store_session.specs.Carrying.{CarriesOut, ComesTo, Has, IsCaused, SaysRefusal};
+ghost use Rattle.store_session.specs.Disks.{effects_of, is_save};
 ghost use Rattle.store_session.specs.Run.{Answers, CommandAnswers};
 
 use command_text::{Command, CommandRefusal, LastLine, Reply, read_line, reply_text};
 use line_server::Spoken;
 use mail_draft::Stop;
 use mail_store::{Store, commit, plan, save};
-use node_port::{Keeper, Saver};
+use node_port::Saver;
 use pst_base::MemOr;
 use pst_outside::Outside;
 use std::alloc::{AllocError, Global};
@@ -59,15 +60,16 @@ fn stopped(alloc: Global, stop: Stop) -> Result<Spoken, StoreStop>
     }
 }
 
-/// Carries out a command; its reply is made before anything is changed.
-fn carry_out<W: Outside, K: Keeper<W>>(
+/// Carries out a command other than `save`; its reply is made before anything is changed.
+fn carry_planned<W: Outside, K: Saver<W>>(
     alloc: Global,
     store: &mut Store<K>,
     world: &mut W,
     command: &Command,
 ) -> Result<Spoken, StoreStop>
-    ensures carries { (T : Tree) → Has (K.holds store.old.keeper (W.view world.old)) (K.last store.old.keeper) store.old.places K.rests (W.view world.old) T → (K.has_disk ≡ true → (W.view world.new).tells)
-        → CarriesOut (Has (K.holds store.new.keeper (W.view world.new)) (K.last store.new.keeper) store.new.places K.rests (W.view world.new)) (λ c U. StandsFor (K.stands (K.room store.old.keeper).found c) U) (CommandAnswers (K.room store.old.keeper) T command.now) (W.view world.old) (W.view world.new) T result }
+    requires other { is_save command.now ≡ false }
+    ensures carries { (T : Tree) → Has (K.holds store.old.keeper (W.view world.old)) (K.last store.old.keeper) store.old.known K.rests (W.view world.old) T → (K.has_disk ≡ true → (W.view world.new).tells)
+        → CarriesOut (Has (K.holds store.new.keeper (W.view world.new)) (K.last store.new.keeper) store.new.known K.rests (W.view world.new)) (λ c U. StandsFor (K.stands (K.room store.old.keeper).found c) U) (λ told. CommandAnswers (effects_of K.measures K.applied K.saved) (K.room store.old.keeper) T (W.view world.old).here told command.now) (W.view world.old) (W.view world.new) T result }
     ensures found { (K.room store.new.keeper).found ≡ (K.room store.old.keeper).found }
     ensures cause { IfErr result (IsCaused K.has_disk (W.view world.old) (W.view world.new)) }
     ensures quiet { Quiet (W.view world.old) (W.view world.new) }
@@ -91,8 +93,8 @@ fn carry_save<W: Outside, K: Saver<W>>(
     store: &mut Store<K>,
     world: &mut W,
 ) -> Result<Spoken, StoreStop>
-    ensures carries { (T : Tree) → Has (K.holds store.old.keeper (W.view world.old)) (K.last store.old.keeper) store.old.places K.rests (W.view world.old) T → (K.has_disk ≡ true → (W.view world.new).tells)
-        → CarriesOut (Has (K.holds store.new.keeper (W.view world.new)) (K.last store.new.keeper) store.new.places K.rests (W.view world.new)) (λ c U. StandsFor (K.stands (K.room store.old.keeper).found c) U) (CommandAnswers (K.room store.old.keeper) T Save) (W.view world.old) (W.view world.new) T result }
+    ensures carries { (T : Tree) → Has (K.holds store.old.keeper (W.view world.old)) (K.last store.old.keeper) store.old.known K.rests (W.view world.old) T → (K.has_disk ≡ true → (W.view world.new).tells)
+        → CarriesOut (Has (K.holds store.new.keeper (W.view world.new)) (K.last store.new.keeper) store.new.known K.rests (W.view world.new)) (λ c U. StandsFor (K.stands (K.room store.old.keeper).found c) U) (λ told. CommandAnswers (effects_of K.measures K.applied K.saved) (K.room store.old.keeper) T (W.view world.old).here told Save) (W.view world.old) (W.view world.new) T result }
     ensures found { (K.room store.new.keeper).found ≡ (K.room store.old.keeper).found }
     ensures cause { IfErr result (IsCaused K.has_disk (W.view world.old) (W.view world.new)) }
     ensures quiet { Quiet (W.view world.old) (W.view world.new) }
@@ -106,6 +108,25 @@ fn carry_save<W: Outside, K: Saver<W>>(
     }
 }
 
+/// Carries out a command; its reply is made before anything is changed.
+fn carry_out<W: Outside, K: Saver<W>>(
+    alloc: Global,
+    store: &mut Store<K>,
+    world: &mut W,
+    command: &Command,
+) -> Result<Spoken, StoreStop>
+    ensures carries { (T : Tree) → Has (K.holds store.old.keeper (W.view world.old)) (K.last store.old.keeper) store.old.known K.rests (W.view world.old) T → (K.has_disk ≡ true → (W.view world.new).tells)
+        → CarriesOut (Has (K.holds store.new.keeper (W.view world.new)) (K.last store.new.keeper) store.new.known K.rests (W.view world.new)) (λ c U. StandsFor (K.stands (K.room store.old.keeper).found c) U) (λ told. CommandAnswers (effects_of K.measures K.applied K.saved) (K.room store.old.keeper) T (W.view world.old).here told command.now) (W.view world.old) (W.view world.new) T result }
+    ensures found { (K.room store.new.keeper).found ≡ (K.room store.old.keeper).found }
+    ensures cause { IfErr result (IsCaused K.has_disk (W.view world.old) (W.view world.new)) }
+    ensures quiet { Quiet (W.view world.old) (W.view world.new) }
+{
+    match command {
+        Command::Save => carry_save(alloc, store, world),
+        _ => carry_planned(alloc, store, world, command),
+    }
+}
+
 /// Answers a line: reads it as a command, and carries that out. The reply is made before anything is changed, and says `no memory` where there was none; then nothing is changed.
 ///
 /// An `Err` comes where the disk failed, or something isn't as it was found before; the latter never of a store that has a tree.
@@ -115,14 +136,13 @@ pub fn answer_line<W: Outside, K: Saver<W>>(
     world: &mut W,
     bytes: &[u8],
 ) -> Result<Spoken, StoreStop>
-    ensures carries { (T : Tree) → Has (K.holds store.old.keeper (W.view world.old)) (K.last store.old.keeper) store.old.places K.rests (W.view world.old) T → (K.has_disk ≡ true → (W.view world.new).tells)
-        → CarriesOut (Has (K.holds store.new.keeper (W.view world.new)) (K.last store.new.keeper) store.new.places K.rests (W.view world.new)) (λ c U. StandsFor (K.stands (K.room store.old.keeper).found c) U) (Answers (K.room store.old.keeper) T (line bytes.now)) (W.view world.old) (W.view world.new) T result }
+    ensures carries { (T : Tree) → Has (K.holds store.old.keeper (W.view world.old)) (K.last store.old.keeper) store.old.known K.rests (W.view world.old) T → (K.has_disk ≡ true → (W.view world.new).tells)
+        → CarriesOut (Has (K.holds store.new.keeper (W.view world.new)) (K.last store.new.keeper) store.new.known K.rests (W.view world.new)) (λ c U. StandsFor (K.stands (K.room store.old.keeper).found c) U) (λ told. Answers (effects_of K.measures K.applied K.saved) (K.room store.old.keeper) T (W.view world.old).here told (line bytes.now)) (W.view world.old) (W.view world.new) T result }
     ensures found { (K.room store.new.keeper).found ≡ (K.room store.old.keeper).found }
     ensures cause { IfErr result (IsCaused K.has_disk (W.view world.old) (W.view world.new)) }
     ensures quiet { Quiet (W.view world.old) (W.view world.new) }
 {
     match read_line(alloc, bytes) {
-        Ok(Command::Save) => carry_save(alloc, store, world),
         Ok(command) => carry_out(alloc, store, world, &command),
         Err(MemOr::Refused(refusal)) => Ok(refusal_spoken(alloc, CommandRefusal::from(refusal))),
         Err(MemOr::Memory) => Ok(Spoken::NoMemory),

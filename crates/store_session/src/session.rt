@@ -4,6 +4,7 @@ ghost use Rattle.pst_outside.specs.Calls.{NeverFall};
 ghost use Rattle.mail_store.specs.Planning.{StandsFor};
 ghost use Rattle.mail_tree.specs.Tree.{Tree};
 ghost use Rattle.store_session.specs.Carrying.{Has};
+ghost use Rattle.store_session.specs.Disks.{effects_of};
 ghost use Rattle.store_session.specs.Session.{HasCause, StoreSessionEnds, end_of};
 
 use crate::answerer::StoreAnswerer;
@@ -63,9 +64,9 @@ pub fn run_session<W: Outside, K: Saver<W> + Drop>(
     store: Store<K>,
     world: &mut W,
 ) -> SessionEnd
-    // From a store that has a tree, where the world tells what a disk holds: the replies are those of a run, and a stop at any moment leaves the tree after some of its turns.
-    ensures ends { (T : Tree) → Has (K.holds store.keeper (W.view world.old)) (K.last store.keeper) store.places K.rests (W.view world.old) T → (K.has_disk ≡ true → (W.view world.new).tells)
-        → StoreSessionEnds (λ c U. StandsFor (K.stands (K.room store.keeper).found c) U) K.rests (W.view world.old) (W.view world.new) T result }
+    // From a store that has a tree, where the world tells what a disk holds: the replies are those of a run from disk to disk, and a stop at any moment leaves the tree after some of its turns.
+    ensures ends { (T : Tree) → Has (K.holds store.keeper (W.view world.old)) (K.last store.keeper) store.known K.rests (W.view world.old) T → (K.has_disk ≡ true → (W.view world.new).tells)
+        → StoreSessionEnds (effects_of K.measures K.applied K.saved) (λ c U. StandsFor (K.stands (K.room store.keeper).found c) U) K.rests (W.view world.old).here (W.view world.old) (W.view world.new) T result }
     ensures cause { HasCause K.has_disk (W.view world.old) (W.view world.new) result }
     ensures no_memory { result ≡ SessionEnd.Memory → world.new ≡ world.old }
     ensures told { (W.view world.new).tells → (W.view world.old).tells }

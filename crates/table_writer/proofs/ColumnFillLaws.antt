@@ -13,6 +13,7 @@ use Rattle.mapi_values.specs.declared.column.Column.{Column}
 use Rattle.mapi_values.specs.Columns.{all_apart, cell_width, has_column, in_cell, is_apart, is_column, is_placed, lies, suits_cell}
 use Rattle.mapi_values.specs.Tables.{value_suits}
 use Rattle.mapi_values.specs.Values.{Val, fits, value_fits}
+use Rattle.space_bound.specs.Space.{values_blocks, values_bytes}
 use Rattle.write_limits.specs.Limits.{cells_bytes, long_values}
 use Rattle.table_writer.specs.declared.value.Made.{Made}
 use Rattle.table_writer.specs.Bits.{bits}
@@ -75,6 +76,8 @@ step-skip made third n columns id cells i j front marks s h other small none f =
       names = ap (λ (cs : List Column). row_names third cs (front ++ bits n 0 marks)) whole ∙ names-without third (front ++ bits n 0 marks) (get_or columns i no_column) (drop (i + 1) columns) lacks;
       weighs = omega arith;
       count = omega arith;
+      loads = omega arith;
+      blocks = omega arith;
     }
 
 -- no value is the row id
@@ -149,6 +152,8 @@ step-id made third n columns id cells i j front marks s h t fit f =
       names = ap (λ (cs : List Column). row_names third cs there) whole ∙ names-without third there (get_or columns i no_column) (drop (i + 1) columns) lacks ∙ names-same made made third row there (drop (i + 1) columns) same;
       weighs = omega arith;
       count = omega arith;
+      loads = omega arith;
+      blocks = omega arith;
     }
 
 -- a value that was put into its cell
@@ -220,6 +225,8 @@ step-cell old new third n columns id cells i l front there marks s h lt match fu
           ∙ ap (λ (ns : List ℕ). added ++ ns) (names-same old new third row now (drop (i + 1) columns) same);
       weighs = omega (arith, p.weighs, ap cells_bytes values);
       count = omega (arith, p.count, ap long_values values);
+      loads = omega (arith, p.loads, ap values_bytes values);
+      blocks = omega (arith, p.blocks, ap values_blocks values);
     }
 
 -- the row id has its place in the row

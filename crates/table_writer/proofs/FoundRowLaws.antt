@@ -1,13 +1,12 @@
 -- Rows that are found still where more was added.
-use Rattle.std.proofs.Common.{◌≡◌, ◌∙◌, ◌≤◌, ◌<◌, ◌==◌, ◌||◌, ◌+◌, ◌%◌, ◌++◌, ◌∷◌, [], ℕ, zero, suc, Bool, true, false, not, List, length, get_or, take, Option, Some, None, refl, sym, ap, subst, inl, inr, arith, if◌then◌else◌}
-use Rattle.std.specs.List.{concat, flat_map}
+use Rattle.std.proofs.Common.{◌≡◌, ◌∙◌, ◌≤◌, ◌<◌, ◌==◌, ◌||◌, ◌+◌, ◌++◌, ◌∷◌, [], ℕ, zero, suc, Bool, true, false, List, length, get_or, take, Option, Some, None, refl, sym, ap, subst, inl, inr, arith, if◌then◌else◌}
+use Rattle.std.specs.List.{flat_map}
 use Rattle.std.specs.Option.{option_and_then}
 use Rattle.std.proofs.lemmas.Bool.{cases_Bool}
 use Rattle.std.proofs.lemmas.List.{flat_map_more}
 use Rattle.bth_tree.specs.Making.{Keeps}
 use Rattle.bth_tree.proofs.OptionLaws.{bind-some, none-some}
 use Rattle.pst_base.specs.Fields.{number_at}
-use Rattle.pst_base.specs.Flat.{Flat}
 use Rattle.pst_base.specs.Subs.{flattened}
 use Rattle.mapi_values.specs.declared.column.Column.{Column}
 use Rattle.mapi_values.specs.Columns.{in_cell}
@@ -21,9 +20,10 @@ use Rattle.table_writer.specs.Making.{Grows, IsMade, get_of, sub_of}
 use Rattle.node_values.proofs.NamedLaws.{named-kept}
 use Rattle.node_values.proofs.SubLaws.{without-same}
 use Rattle.table_context.specs.Rows.{cell_of, cells_of, content, has_cell, row_names, row_of, shows_id, value_in}
-use Rattle.table_context.specs.Rows.{is_among, others}
+use Rattle.table_context.specs.Rows.{is_among}
 use Rattle.table_writer.specs.Woven.{all_woven}
-use Rattle.table_writer.specs.Writing.{AreRows, FillsRows, HaveLength}
+use Rattle.space_bound.specs.Space.{cells_blocks, values_blocks, values_bytes}
+use Rattle.table_writer.specs.Writing.{AreRows, FillsRows, HaveLength, cells_short}
 use Rattle.table_context.proofs.StepLaws.{first}
 use Rattle.table_writer.proofs.FillLaws.{grows-more}
 use Rattle.table_writer.proofs.ColumnFillLaws.{grows-none}
@@ -88,6 +88,14 @@ long-push : (rs : List (ℕ × List Val)) (r : ℕ × List Val) → long_cells (
 long-push [] r = omega arith
 long-push (s ∷ rs) r = omega (arith, long-push rs r)
 
+short-push : (rs : List (ℕ × List Val)) (r : ℕ × List Val) → cells_short (rs ++ r ∷ []) ≡ cells_short rs + values_bytes r.1
+short-push [] r = omega arith
+short-push (s ∷ rs) r = omega (arith, short-push rs r)
+
+blocks-push : (rs : List (ℕ × List Val)) (r : ℕ × List Val) → cells_blocks (rs ++ r ∷ []) ≡ cells_blocks rs + values_blocks r.1
+blocks-push [] r = omega arith
+blocks-push (s ∷ rs) r = omega (arith, blocks-push rs r)
+
 -- a row's share, and that of those before it
 pub bytes-left : (rs : List (ℕ × List Val)) (i : ℕ) (d : ℕ × List Val) → i < length rs → rows_bytes (take i rs) + cells_bytes (get_or rs i d).1 ≤ rows_bytes rs
 bytes-left [] i d h = absurd (omega (arith, h))
@@ -134,6 +142,8 @@ rows-start made third size columns m = record {
   sizes = tt;
   weighs = omega arith;
   count = omega arith;
+  loads = omega arith;
+  blocks = omega arith;
 }
 
 pub rows-step : (old mid new : Made) (third size : ℕ) (columns : List Column) (rs : List (ℕ × List Val)) (bs : List (List ℕ)) (r : ℕ × List Val) (b : List ℕ) → FillsRows old mid third size columns rs bs → IsMade new
@@ -147,4 +157,6 @@ rows-step old mid new third size columns rs bs r b f m g a len = record {
   sizes = have-push size bs b f.sizes len;
   weighs = omega (arith, f.weighs, g.weighs, bytes-push rs r);
   count = omega (arith, f.count, g.count, long-push rs r);
+  loads = omega (arith, f.loads, g.loads, short-push rs r);
+  blocks = omega (arith, f.blocks, g.blocks, blocks-push rs r);
 }

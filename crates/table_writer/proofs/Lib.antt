@@ -2,6 +2,7 @@ pub mod FoundLaws
 pub mod WovenLaws
 pub mod PackLaws
 pub mod MakingLaws
+pub mod SinglesLaws
 pub mod PutLaws
 pub mod FillLaws
 pub mod StepFillLaws
@@ -11,3 +12,4 @@ pub mod FoundRowLaws
 pub mod MatrixLaws
 pub mod HeaderLaws
 pub mod TableLaws
+pub mod SpaceLaws

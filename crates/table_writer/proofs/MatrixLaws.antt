@@ -1,28 +1,29 @@
 -- Rows in a matrix: each is read back by its number.
-use Rattle.std.proofs.Common.{◌≡◌, ◌∙◌, ◌≤◌, ◌<◌, ◌+◌, ◌-◌, ◌*◌, ◌/◌, ◌%◌, ◌++◌, ◌∷◌, [], ℕ, zero, suc, true, List, length, get_or, take, drop, Option, Some, Result, Ok, Err, IfOk, refl, sym, ap, inl, inr, arith, length-append, append_assoc, length-drop}
+use Rattle.std.proofs.Common.{◌≡◌, ◌∙◌, ◌≤◌, ◌<◌, ◌+◌, ◌-◌, ◌*◌, ◌/◌, ◌%◌, ◌++◌, ◌∷◌, [], ℕ, zero, suc, List, length, get_or, take, drop, Option, Some, Result, Ok, Err, IfOk, refl, sym, ap, inl, inr, arith, length-append, append_assoc, length-drop}
 use Rattle.std.specs.List.{concat}
 use Rattle.std.specs.Option.{option_and_then}
-use Rattle.std.proofs.lemmas.Bool.{cases_lt, eq-eqb, ne_eqb, le-leb}
+use Rattle.std.proofs.lemmas.Bool.{cases_lt, eq-eqb, ne_eqb, le-leb, le-ltb, lt-ltb}
 use Rattle.std.proofs.lemmas.List.{append-nil, drop_at, drop-drop, get_or_append_left, get_or-drop, get_or-take, take_all, take_at}
-use Rattle.std.proofs.lemmas.Nat.{div-add-mod', div_below, mod_below}
+use Rattle.std.proofs.lemmas.Nat.{div-add-mod', div_below, le-div, mod_below}
 use Rattle.std.proofs.lemmas.Option.{slice_get-get_or}
-use Rattle.heap_on_node.specs.Packing.{Adds, item_in}
+use Rattle.heap_on_node.specs.Packing.{Adds, item_in, spread}
 use Rattle.heap_on_node.proofs.PackingLaws.{kept-by_adds}
+use Rattle.node_port.specs.Stops.{subs_size}
 use Rattle.pst_base.specs.Subs.{flattened}
 use Rattle.pst_base.specs.declared.subs.Sub.{Sub}
 use Rattle.table_writer.specs.declared.value.Made.{Made}
-use Rattle.table_writer.specs.Making.{IsMade, get_of, sub_of, weight}
+use Rattle.table_writer.specs.Making.{IsMade, get_of, missing, sub_of, weight}
 use Rattle.table_context.specs.Rows.{piece, row_in, subnode}
 use Rattle.node_values.specs.Subnodes.{data_of}
 use Rattle.table_context.specs.Rows.{others}
 use Rattle.table_writer.specs.Woven.{Weaves, all_woven}
-use Rattle.table_writer.specs.Writing.{HaveLength, PutsRows, row_among}
+use Rattle.table_writer.specs.Writing.{HaveLength, PutsRows, matrix_blocks, matrix_load, row_among}
 use Rattle.table_writer.proofs.ColumnFillLaws.{grows-none}
-use Rattle.table_writer.proofs.MakingLaws.{grows-along, subnode-none, subnode-one}
+use Rattle.table_writer.proofs.MakingLaws.{grows-along, subnode-none, subnode-one, weave-size}
 use Rattle.table_writer.proofs.PackLaws.{adds-weigh, valid-hid}
 use Rattle.table_writer.proofs.WovenLaws.{weave-here, weave-keeps, weave-left}
 
-suc-times : (j size : ℕ) → suc j * size ≡ size + j * size
+pub suc-times : (j size : ℕ) → suc j * size ≡ size + j * size
 suc-times j size = omega arith
 
 pub length-rows : (size : ℕ) (xs : List (List ℕ)) → HaveLength size xs → length (concat xs) ≡ length xs * size
@@ -70,6 +71,7 @@ Begins per rows blocks k = (z : List ℕ) × (get_or blocks k [] ≡ concat (tak
 pub record Cuts (per : ℕ) (rows blocks rest : List (List ℕ)) : Type 0 where
   pub rest_is : rest ≡ drop (length blocks * per) rows
   pub low : length blocks * per ≤ length rows
+  pub left : length blocks * per ≤ length rows - 1
   pub each : (k : ℕ) → k < length blocks → Begins per rows blocks k
 
 pub cuts-start : (per : ℕ) (rows : List (List ℕ)) → Cuts per rows [] rows
@@ -78,6 +80,7 @@ cuts-start per rows =
     record {
       rest_is = sym (ap (λ (k : ℕ). drop k rows) none);
       low = omega (arith, none);
+      left = omega (arith, none);
       each = λ k lt. absurd (omega (arith, lt));
     }
 
@@ -109,8 +112,13 @@ cuts-step per rows blocks rest some others b z c more s o e =
     record {
       rest_is = o ∙ ap (drop per) c.rest_is ∙ drop-drop per (length blocks * per) rows ∙ ap (λ (n : ℕ). drop n rows) (sym place);
       low = omega (arith, place, left, more);
+      left = omega (arith, place, left, more);
       each = λ k lt. begins-last per rows blocks rest (concat some) z b k c (ap concat s) e lt;
     }
+
+-- no more blocks than the rows need
+pub cuts-count : (per : ℕ) (rows blocks rest : List (List ℕ)) (b : List ℕ) → Cuts per rows blocks rest → 0 < per → length (blocks ++ b ∷ []) ≤ (length rows - 1) / per + 1
+cuts-count per rows blocks rest b c pos = omega (arith, length-append blocks (b ∷ []), le-div (length blocks) (length rows - 1) per pos c.left)
 
 within-take : (per : ℕ) (xs : List (List ℕ)) (j : ℕ) → j < per → j < length xs → j < length (take per xs)
 within-take zero xs j a b = absurd (omega (arith, a))
@@ -151,19 +159,33 @@ sub-row : (get : ℕ → Option (List ℕ)) (sub : ℕ → Option (List (List �
 unfolding row_in
 sub-row get sub size hnid n blocks y e h p = rw (ne_eqb (hnid % 32) 0 (λ z. absurd (omega (arith, e, z))), h) p
 
+load-item : (n size : ℕ) → n * size ≤ 3580 → matrix_load n size ≡ 2 * (n * size) + 4
+load-item n size few = rw (le-ltb 3580 (n * size) few) refl
+
+blocks-item : (n size : ℕ) → n * size ≤ 3580 → matrix_blocks n size ≡ 0
+blocks-item n size few = rw (le-ltb 3580 (n * size) few) refl
+
+load-sub : (n size : ℕ) → 3580 < n * size → matrix_load n size ≡ 0
+load-sub n size many = rw (lt-ltb 3580 (n * size) many) refl
+
+blocks-sub : (n size : ℕ) → 3580 < n * size → matrix_blocks n size ≡ (n - 1) / (8176 / size) + 2
+blocks-sub n size many = rw (lt-ltb 3580 (n * size) many) refl
+
 pub no-rows : (made : Made) (size : ℕ) (rows : List (List ℕ)) → IsMade made → length rows ≡ 0 → PutsRows made made size rows 0
 no-rows made size rows m none = record {
   made = m;
   grows = grows-along made made (subnode 0) [] (subnode-none 0 refl) (grows-none made);
   here = λ n lt. absurd (omega (arith, none, lt));
   weighs = omega arith;
+  loads = omega arith;
+  blocks = omega arith;
 }
 
-pub item-rows : {E : Type 0} (r : Result (Made × ℕ) E) (old : Made) (size : ℕ) (rows : List (List ℕ)) (x z : List ℕ) → HaveLength size rows → x ≡ concat rows ++ z → length x ≤ 3580 → IsMade old
+pub item-rows : {E : Type 0} (r : Result (Made × ℕ) E) (old : Made) (size : ℕ) (rows : List (List ℕ)) (x z : List ℕ) → HaveLength size rows → x ≡ concat rows ++ z → length x ≡ length rows * size → length rows * size ≤ 3580 → IsMade old
     → IfOk r (λ (s : Made × ℕ). IsMade s.0) → IfOk r (λ (s : Made × ℕ). Adds old.maker x s.0.maker s.1) → IfOk r (λ (s : Made × ℕ). all_woven s.0.subs ≡ all_woven old.subs)
-    → IfOk r (λ (s : Made × ℕ). PutsRows old s.0 size rows s.1)
-item-rows (Err e) old size rows x z h is high made a b c = tt
-item-rows (Ok s) old size rows x z h is high made a b c =
+    → IfOk r (λ (s : Made × ℕ). s.0.singles.items ≡ old.singles.items) → IfOk r (λ (s : Made × ℕ). PutsRows old s.0 size rows s.1)
+item-rows (Err e) old size rows x z h is len high made a b c d = tt
+item-rows (Ok s) old size rows x z h is len high made a b c d =
     let v = valid-hid s.0.maker s.1 x b.here in
     record {
       made = a;
@@ -173,14 +195,16 @@ item-rows (Ok s) old size rows x z h is high made a b c =
         left = λ ids. ap (λ (ss : List Sub). others ids (flattened ss)) c;
       });
       here = λ n lt. item-row (get_of s.0) (sub_of s.0) size s.1 n x (get_or rows n []) v.0 b.here (ap (piece size n) is ∙ piece-there size rows z n h lt);
-      weighs = omega (arith, adds-weigh old.maker s.0.maker x s.1 made.packed a.packed b, high);
+      weighs = omega (arith, adds-weigh old.maker s.0.maker x s.1 made.packed a.packed b, len, high);
+      loads = omega (arith, b.spent, ap missing d, len, load-item (length rows) size high);
+      blocks = omega (arith, ap (λ (ss : List Sub). subs_size (flattened ss)) c);
     }
 
 pub sub-rows : {E : Type 0} (r : Result (Made × ℕ) E) (old : Made) (size : ℕ) (rows blocks : List (List ℕ)) → ((n : ℕ) → n < length rows → row_among size (8176 / size) blocks n ≡ Some (get_or rows n []))
-    → IfOk r (λ (s : Made × ℕ). IsMade s.0) → IfOk r (λ (s : Made × ℕ). Weaves (all_woven old.subs) blocks (all_woven s.0.subs) s.1) → IfOk r (λ (s : Made × ℕ). s.0.maker ≡ old.maker)
-    → IfOk r (λ (s : Made × ℕ). PutsRows old s.0 size rows s.1)
-sub-rows (Err e) old size rows blocks each made w m = tt
-sub-rows (Ok s) old size rows blocks each made w m = record {
+    → length blocks ≤ (length rows - 1) / (8176 / size) + 1 → 3580 < length rows * size → IfOk r (λ (s : Made × ℕ). IsMade s.0) → IfOk r (λ (s : Made × ℕ). Weaves (all_woven old.subs) blocks (all_woven s.0.subs) s.1) → IfOk r (λ (s : Made × ℕ). s.0.maker ≡ old.maker)
+    → IfOk r (λ (s : Made × ℕ). s.0.singles.items ≡ old.singles.items) → IfOk r (λ (s : Made × ℕ). PutsRows old s.0 size rows s.1)
+sub-rows (Err e) old size rows blocks each few many made w m d = tt
+sub-rows (Ok s) old size rows blocks each few many made w m d = record {
   made = made;
   grows = grows-along old s.0 (subnode s.1) (s.1 ∷ []) (subnode-one s.1 w.kind) (record {
     items = λ h x e. ap (λ (g : List (List (List ℕ))). item_in g h) m ∙ e;
@@ -189,6 +213,8 @@ sub-rows (Ok s) old size rows blocks each made w m = record {
   });
   here = λ n lt. sub-row (get_of s.0) (sub_of s.0) size s.1 n blocks (get_or rows n []) w.kind (weave-here (all_woven old.subs) (all_woven s.0.subs) blocks s.1 w) (each n lt);
   weighs = omega (arith, ap weight m);
+  loads = omega (arith, ap spread m, ap missing d, load-sub (length rows) size many);
+  blocks = omega (arith, weave-size (all_woven old.subs) (all_woven s.0.subs) blocks s.1 w, few, blocks-sub (length rows) size many);
 }
 
 pub concat-push : (xs : List (List ℕ)) (x : List ℕ) → concat (xs ++ x ∷ []) ≡ concat xs ++ x

@@ -10,9 +10,10 @@ use Rattle.pst_base.proofs.Numbers.{number_at-same}
 use Rattle.mapi_values.specs.Columns.{in_cell, suits_cell}
 use Rattle.mapi_values.specs.Values.{Val}
 use Rattle.write_limits.specs.Limits.{heap_bytes, long_value}
+use Rattle.space_bound.specs.Space.{long_blocks, short_bytes}
 use Rattle.table_writer.specs.declared.value.Made.{Made}
 use Rattle.table_writer.specs.Bits.{bits, digit, octet}
-use Rattle.table_writer.specs.Making.{Grows, PutsCell, PutsValue, cost, get_of, sub_of, subnodes}
+use Rattle.table_writer.specs.Making.{Grows, PutsCell, PutsValue, cost, get_of, in_heap, in_subnode, sub_of, subnodes}
 use Rattle.node_values.specs.Named.{named}
 use Rattle.table_context.specs.Rows.{content, is_set, names, subnode}
 use Rattle.table_context.proofs.LayoutLaws.{width-none, width-some}
@@ -37,6 +38,14 @@ long-count : (v : Val) → long_value v ≡ subnodes (length v.bytes)
 unfolding long_value
 long-count v = refl
 
+short-is : (v : Val) → short_bytes v ≡ in_heap (length v.bytes)
+unfolding short_bytes
+short-is v = refl
+
+long-is : (v : Val) → long_blocks v ≡ in_subnode (length v.bytes)
+unfolding long_blocks
+long-is v = refl
+
 -- a value that stands in its cell
 pub cell-fixed : (made : Made) (row there : List ℕ) (at w : ℕ) (v : Val) → in_cell v.kind ≡ Some w → length v.bytes ≡ w → at + w ≤ length row → there ≡ replaced at v.bytes row → PutsCell made made row there at v
 cell-fixed made row there at w v e len room is =
@@ -47,6 +56,8 @@ cell-fixed made row there at w v e len room is =
       here = ap (content (get_of made) (sub_of made) there at) e ∙ ap Some stands;
       weighs = omega arith;
       count = omega arith;
+      loads = omega arith;
+      blocks = omega arith;
       bytes = v.bytes;
       size = len ∙ sym (width-some v.kind w e);
       row_is = is;
@@ -63,6 +74,8 @@ cell-named old new row there at hnid v e p room fit is =
       here = ap (content (get_of new) (sub_of new) there at) e ∙ ap (named (get_of new) (sub_of new)) number ∙ p.here;
       weighs = omega (arith, p.weighs, heap-cost v e);
       count = omega (arith, p.count, long-count v);
+      loads = omega (arith, p.loads, short-is v);
+      blocks = omega (arith, p.blocks, long-is v);
       bytes = little_bytes 4 hnid;
       size = length-bytes_low_first 0 4 hnid ∙ sym (width-none v.kind e);
       row_is = is;

@@ -43,6 +43,8 @@ filling-start made third n columns id cells front marks m f =
       grows = subst (λ (ids : List ℕ). Grows made made ids) (sym none) (grows-none made);
       weighs = omega arith;
       count = omega arith;
+      loads = omega arith;
+      blocks = omega arith;
     }
 
 pub filling-step : (old mid new : Made) (third n : ℕ) (columns : List Column) (id : ℕ) (cells : List Val) (i j next : ℕ) (front there : List ℕ) (marks now_marks : List Bool)
@@ -55,6 +57,8 @@ filling-step old mid new third n columns id cells i j next front there marks now
   grows = subst (λ (ids : List ℕ). Grows old new ids) (sym s.names) (grows-more old mid new (row_names third (drop (i + 1) columns) (front ++ bits n 0 marks)) s.added f.grows s.grows);
   weighs = omega (arith, s.weighs, f.weighs);
   count = omega (arith, s.count, f.count);
+  loads = omega (arith, s.loads, f.loads);
+  blocks = omega (arith, s.blocks, f.blocks);
 }
 
 pub filling-done : (old new : Made) (third n : ℕ) (columns : List Column) (id : ℕ) (cells : List Val) (i j : ℕ) (front : List ℕ) (marks : List Bool)
@@ -71,6 +75,8 @@ filling-done old new third n columns id cells i j front marks f e =
       shown = g.filled.shown;
       weighs = g.weighs;
       count = g.count;
+      loads = g.loads;
+      blocks = g.blocks;
     }
 
 -- ---- the beginning: an empty row

@@ -13,7 +13,7 @@ use Rattle.heap_on_node.proofs.PackingLaws.{kept-by_adds}
 use Rattle.bth_tree.specs.Making.{AreRecords, Keeps, Makes, chunks, items_above, items_made}
 use Rattle.bth_tree.specs.Records.{within}
 use Rattle.bth_tree.specs.Tree.{bth}
-use Rattle.bth_tree.proofs.MakeLaws.{bth-kept}
+use Rattle.bth_tree.proofs.MakeLaws.{bth-kept, length-spelled}
 use Rattle.bth_tree.proofs.OptionLaws.{bind-some}
 use Rattle.bth_tree.proofs.WholeLaws.{within-first}
 use Rattle.pst_base.specs.Flat.{Flat}
@@ -223,10 +223,12 @@ table-written begun filled made t kept bytes hnid root heap blocks subs kept_is 
       table = table-in (item blocks) subs h.head t.columns (numbered 0 t.rows) t h.header.columns_are table;
     }
 
-pub head-put : (old mid new : List (List (List ℕ))) (t : Tab) (matrix index root : ℕ) (head : List ℕ) (recs : List (ℕ × List ℕ)) (columns : List Column) (ends : List ℕ) → Makes old mid index 4 4 recs → recs ≡ numbered 0 t.rows
+pub head-put : (old mid new : List (List (List ℕ))) (t : Tab) (matrix index root : ℕ) (head : List ℕ) (recs : List (ℕ × List ℕ)) (columns : List Column) (ends : List ℕ) → Makes old mid index 4 4 recs → recs ≡ numbered 0 t.rows → AreRecords 4 4 recs
     → IsHeader head columns ends index matrix → columns ≡ t.columns → ends ≡ t.ends → Adds mid head new root → PutsHead old new t matrix root
-head-put old mid new t matrix index root head recs columns ends m recs_is h columns_is ends_is a =
+head-put old mid new t matrix index root head recs columns ends m recs_is fit h columns_is ends_is a =
     let kept = kept-by_adds mid new head root a in
+    let count : length recs ≡ length t.rows = ap length recs_is ∙ numbered-count 0 t.rows in
+    let chunked : chunks 447 (length recs) ≡ chunks 447 (length t.rows) = ap (chunks 447) count in
     record {
       index = index;
       head = head;
@@ -234,4 +236,5 @@ head-put old mid new t matrix index root head recs columns ends m recs_is h colu
       tree = bth-kept (item_in mid) (item_in new) index 4 4 (numbered 0 t.rows) kept (m.tree ∙ ap Some recs_is);
       here = a.here;
       header = subst (λ (es : List ℕ). IsHeader head t.columns es index matrix) ends_is (subst (λ (cs : List Column). IsHeader head cs ends index matrix) columns_is h);
+      spent = omega (arith, m.spent, a.spent, length-spelled 4 4 recs fit, count, chunked, h.size, ap length columns_is);
     }

@@ -10,7 +10,8 @@ use Rattle.mapi_values.specs.Values.{Val}
 use Rattle.write_limits.specs.Limits.{cells_bytes, long_values}
 use Rattle.table_writer.specs.declared.value.Made.{Made}
 use Rattle.table_writer.specs.Bits.{bits}
-use Rattle.table_writer.specs.Making.{Grows, IsMade, get_of, sub_of, weight}
+use Rattle.space_bound.specs.Space.{values_blocks, values_bytes}
+use Rattle.table_writer.specs.Making.{Grows, IsMade, get_of, load, sub_blocks, sub_of, weight}
 use Rattle.table_context.specs.Rows.{cells_of, row_names, shows_id}
 use Rattle.table_writer.specs.Woven.{all_woven}
 
@@ -48,6 +49,8 @@ pub record Steps (old new : Made) (third n : ℕ) (columns : List Column) (id : 
   pub names : row_names third (drop i columns) (there ++ bits n 0 now_marks) ≡ added ++ row_names third (drop (i + 1) columns) (front ++ bits n 0 marks)
   pub weighs : weight new.maker + cells_bytes (drop j cells) ≤ weight old.maker + cells_bytes (drop next cells)
   pub count : length (all_woven new.subs) + long_values (drop j cells) ≤ length (all_woven old.subs) + long_values (drop next cells)
+  pub loads : load new + 2 * values_bytes (drop j cells) ≤ load old + 2 * values_bytes (drop next cells)
+  pub blocks : sub_blocks new + values_blocks (drop j cells) ≤ sub_blocks old + values_blocks (drop next cells)
 
 -- the columns from i on are filled with the values from j on, with all that this added
 pub record Filling (old new : Made) (third n : ℕ) (columns : List Column) (id : ℕ) (cells : List Val) (i j : ℕ) (front : List ℕ) (marks : List Bool) : Type 0 where
@@ -57,6 +60,8 @@ pub record Filling (old new : Made) (third n : ℕ) (columns : List Column) (id 
   pub grows : Grows old new (row_names third (drop i columns) (front ++ bits n 0 marks))
   pub weighs : weight new.maker ≤ weight old.maker + cells_bytes (drop j cells)
   pub count : length (all_woven new.subs) ≤ length (all_woven old.subs) + long_values (drop j cells)
+  pub loads : load new ≤ load old + 2 * values_bytes (drop j cells)
+  pub blocks : sub_blocks new ≤ sub_blocks old + values_blocks (drop j cells)
 
 -- the row has this id and these cells, with all that they added
 pub record Fills (old new : Made) (third : ℕ) (columns : List Column) (id : ℕ) (cells : List Val) (row : List ℕ) : Type 0 where
@@ -65,3 +70,5 @@ pub record Fills (old new : Made) (third : ℕ) (columns : List Column) (id : �
   pub shown : shows_id columns id row ≡ true
   pub weighs : weight new.maker ≤ weight old.maker + cells_bytes cells
   pub count : length (all_woven new.subs) ≤ length (all_woven old.subs) + long_values cells
+  pub loads : load new ≤ load old + 2 * values_bytes cells
+  pub blocks : sub_blocks new ≤ sub_blocks old + values_blocks cells

@@ -1,9 +1,9 @@
 -- What the writer of a table leaves: its rows, their matrix, their index, and the header.
-use Rattle.std.specs.Prelude.{ℕ, suc, ◌≡◌, ◌≤◌, ◌<◌, ◌+◌, ◌*◌, ◌/◌, ◌%◌, ◌^◌, ◌++◌, List, [], ◌∷◌, length, get_or, slice_get, true, Option, Some}
+use Rattle.std.specs.Prelude.{ℕ, suc, ◌≡◌, ◌≤◌, ◌<◌, ◌+◌, ◌-◌, ◌*◌, ◌/◌, ◌%◌, ◌^◌, ◌++◌, List, [], ◌∷◌, length, get_or, slice_get, nat_lt, if◌then◌else◌, true, Option, Some}
 use Rattle.std.specs.List.{flat_map}
 use Rattle.std.specs.Option.{option_and_then}
-use Rattle.heap_on_node.specs.Packing.{item_in}
-use Rattle.bth_tree.specs.Making.{Keeps}
+use Rattle.heap_on_node.specs.Packing.{item_in, spread}
+use Rattle.bth_tree.specs.Making.{Keeps, chunks}
 use Rattle.bth_tree.specs.Tree.{bth}
 use Rattle.byteorder.specs.Endian.{little_bytes}
 use Rattle.mapi_values.specs.declared.column.Column.{Column}
@@ -12,7 +12,8 @@ use Rattle.mapi_values.specs.Values.{Val}
 use Rattle.write_limits.specs.Limits.{long_cells, rows_bytes}
 use Rattle.table_writer.specs.declared.value.Made.{Made}
 use Rattle.table_context.specs.Header.{columns_of, ends_in, index_in, matrix_in, names_index}
-use Rattle.table_writer.specs.Making.{Grows, IsMade, get_of, sub_of, weight}
+use Rattle.space_bound.specs.Space.{cells_blocks, values_bytes}
+use Rattle.table_writer.specs.Making.{Grows, IsMade, get_of, load, sub_blocks, sub_of, weight}
 use Rattle.table_context.specs.Rows.{piece, row_in, row_names, row_of, subnode}
 use Rattle.table_writer.specs.Woven.{all_woven}
 
@@ -32,6 +33,11 @@ abbrev pub HaveLength : ℕ → List (List ℕ) → Type 0
 HaveLength size [] = Unit {0}
 HaveLength size (b ∷ bs) = (length b ≡ size) × HaveLength size bs
 
+-- the bytes in the cells of these rows that a bound counts
+abbrev pub cells_short : List (ℕ × List Val) → ℕ
+cells_short [] = 0
+cells_short (r ∷ rs) = values_bytes r.1 + cells_short rs
+
 -- rows were made, with all that their cells added
 pub record FillsRows (old new : Made) (third size : ℕ) (columns : List Column) (rows : List (ℕ × List Val)) (bytes : List (List ℕ)) : Type 0 where
   pub made : IsMade new
@@ -40,6 +46,16 @@ pub record FillsRows (old new : Made) (third size : ℕ) (columns : List Column)
   pub sizes : HaveLength size bytes
   pub weighs : weight new.maker ≤ weight old.maker + rows_bytes rows
   pub count : length (all_woven new.subs) ≤ length (all_woven old.subs) + long_cells rows
+  pub loads : load new ≤ load old + 2 * cells_short rows
+  pub blocks : sub_blocks new ≤ sub_blocks old + cells_blocks rows
+
+-- what the matrix of so many rows counts for in a heap, if it stands there
+abbrev pub matrix_load : ℕ → ℕ → ℕ
+matrix_load count size = if nat_lt 3580 (count * size) then 0 else 2 * (count * size) + 4
+
+-- its subnode, with the blocks in it, if it stands there
+abbrev pub matrix_blocks : ℕ → ℕ → ℕ
+matrix_blocks count size = if nat_lt 3580 (count * size) then (count - 1) / (8176 / size) + 2 else 0
 
 -- the matrix of rows was put where an id names it
 pub record PutsRows (old new : Made) (size : ℕ) (rows : List (List ℕ)) (hnid : ℕ) : Type 0 where
@@ -47,6 +63,8 @@ pub record PutsRows (old new : Made) (size : ℕ) (rows : List (List ℕ)) (hnid
   pub grows : Grows old new (subnode hnid)
   pub here : (n : ℕ) → n < length rows → row_in (get_of new) (sub_of new) size hnid n ≡ Some (get_or rows n [])
   pub weighs : weight new.maker ≤ weight old.maker + 3584
+  pub loads : load new ≤ load old + matrix_load (length rows) size
+  pub blocks : sub_blocks new ≤ sub_blocks old + matrix_blocks (length rows) size
 
 -- row n stands in the blocks, each of which has so many rows
 abbrev pub row_among : ℕ → ℕ → List (List ℕ) → ℕ → Option (List ℕ)
@@ -103,6 +121,10 @@ pub record IsHeader (x : List ℕ) (columns : List Column) (ends : List ℕ) (in
   pub matrix_is : matrix_in x ≡ matrix
   pub start : names_index x ≡ true
 
+-- what the row index and the header count for: 8 bytes for each row and each column, the levels of the index, and what begins the two
+abbrev pub head_load : ℕ → ℕ → ℕ
+head_load rows columns = 16 * rows + 48 * chunks 447 rows + 16 * columns + 60
+
 -- the row index and the header were added, and all other items stay
 pub record PutsHead (old new : List (List (List ℕ))) (t : Tab) (matrix root : ℕ) : Type 0 where
   pub index : ℕ
@@ -111,3 +133,4 @@ pub record PutsHead (old new : List (List (List ℕ))) (t : Tab) (matrix root : 
   pub tree : bth (item_in new) index 4 4 ≡ Some (numbered 0 t.rows)
   pub here : item_in new root ≡ Some head
   pub header : IsHeader head t.columns t.ends index matrix
+  pub spent : spread new ≤ spread old + head_load (length t.rows) (length t.columns)

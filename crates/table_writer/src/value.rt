@@ -1,5 +1,5 @@
 //! Putting a value where a cell can name it.
-ghost use Rattle.std.specs.Prelude.{◌≡◌, ◌≤◌, ◌<◌, ◌+◌, ◌^◌, ◌++◌, ℕ, List, length, IfOk};
+ghost use Rattle.std.specs.Prelude.{◌≡◌, ◌≤◌, ◌<◌, ◌+◌, ◌^◌, ◌++◌, ◌∷◌, [], ℕ, List, length, IfOk};
 ghost use Rattle.std.specs.List.{concat};
 ghost use Rattle.heap_on_node.specs.Packing.{Adds, IsPacked};
 ghost use Rattle.table_writer.specs.Making.{IsMade, PutsValue};
@@ -11,10 +11,11 @@ use node_values::cut;
 use pst_base::{Blocks, Bytes};
 use std::alloc::{AllocError, Global};
 
-/// What is made of a table so far: its heap, and the subnodes.
+/// What is made of a table so far: its heap, for each byte the id of the item that has just this byte or 0, and the subnodes.
 #[derive(Debug, Drop)]
 pub struct Made<'a> {
     pub maker: HeapMaker,
+    pub singles: Vec<u32>,
     pub subs: Woven<'a>,
 }
 
@@ -26,12 +27,36 @@ pub fn put_item<'a>(made: Made<'a>, item: &[u8]) -> Result<(Made<'a>, u32), Allo
     ensures made { IfOk result (λ r. IsMade r.0) }
     ensures adds { IfOk result (λ r. Adds made.entry.maker item.now r.0.maker r.1) }
     ensures subs { IfOk result (λ r. all_woven r.0.subs ≡ all_woven made.entry.subs) }
+    ensures singles { IfOk result (λ r. r.0.singles.items ≡ made.entry.singles.items) }
     ensures fits { IfOk result (λ r. r.1 < 2 ^ 32) }
 {
     let mut maker = made.maker;
     let hid = maker.add(item)?;
     let new = Made {
         maker,
+        singles: made.singles,
+        subs: made.subs,
+    };
+    Ok((new, hid))
+}
+
+/// Puts a value of one byte into the heap, where it stands once however often it is put: items of one byte would take far more blocks than their bytes.
+fn put_byte<'a>(made: Made<'a>, byte: u8) -> Result<(Made<'a>, u32), AllocError>
+    requires made { IsMade made }
+    requires blocks { length made.maker < 65536 }
+    ensures made { IfOk result (λ r. IsMade r.0) }
+    ensures puts { IfOk result (λ r. PutsValue made.entry r.0 (byte ∷ []) r.1) }
+{
+    let known = made.singles[usize::from(byte)];
+    if known != 0 {
+        return Ok((made, known));
+    }
+    let (made, hid) = put_item(made, &[byte])?;
+    let mut singles = made.singles;
+    singles[usize::from(byte)] = hid;
+    let new = Made {
+        maker: made.maker,
+        singles,
         subs: made.subs,
     };
     Ok((new, hid))
@@ -48,17 +73,19 @@ pub fn put_sub<'a>(
     ensures made { IfOk result (λ r. IsMade r.0) }
     ensures adds { IfOk result (λ r. Weaves (all_woven made.entry.subs) blocks (all_woven r.0.subs) r.1) }
     ensures maker { IfOk result (λ r. r.0.maker ≡ made.entry.maker) }
+    ensures singles { IfOk result (λ r. r.0.singles.items ≡ made.entry.singles.items) }
     ensures fits { IfOk result (λ r. r.1 < 2 ^ 32) }
 {
     let (subs, nid) = made.subs.add(alloc, blocks)?;
     let new = Made {
         maker: made.maker,
+        singles: made.singles,
         subs,
     };
     Ok((new, nid))
 }
 
-/// Puts bytes into the heap, or into a subnode where they are more than 3580, and gives what names them: 0 where there are none.
+/// Puts bytes into the heap, or into a subnode where they are more than 3580, and gives what names them: 0 where there are none. One byte shares the item of those before it that are the same.
 pub fn put_value<'a>(
     alloc: Global,
     made: Made<'a>,
@@ -73,6 +100,9 @@ pub fn put_value<'a>(
 {
     if bytes.len() == 0 {
         return Ok((made, 0));
+    }
+    if bytes.len() == 1 {
+        return put_byte(made, bytes[0]);
     }
     if bytes.len() <= 3580 {
         return put_item(made, bytes);

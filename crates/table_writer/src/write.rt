@@ -2,14 +2,16 @@
 ghost use Rattle.std.specs.Prelude.{◌≡◌, ◌≤◌, ◌<◌, ◌+◌, ◌-◌, ◌*◌, ◌/◌, ◌^◌, ◌++◌, ◌∷◌, [], ℕ, List, length, get_or, take, replicate, IfOk, OnOk, true, Some};
 ghost use Rattle.std.specs.List.{concat, list_all};
 ghost use Rattle.bth_tree.specs.Making.{AreRecords};
-ghost use Rattle.heap_on_node.specs.Packing.{IsPlain, PacksTight};
+ghost use Rattle.heap_on_node.specs.Packing.{IsPacked, IsPlain, PacksTight};
 ghost use Rattle.mapi_values.specs.Columns.{is_layout};
 ghost use Rattle.mapi_values.specs.Keyed.{keys_ascend};
 ghost use Rattle.mapi_values.specs.Tables.{row_suits};
+ghost use Rattle.node_port.specs.Stops.{subs_size};
+ghost use Rattle.space_bound.specs.Space.{table_space};
 ghost use Rattle.write_limits.specs.Limits.{long_cells, rows_bytes, table_fits};
 ghost use Rattle.table_context.specs.Context.{IsTableContext};
 ghost use Rattle.table_writer.specs.Writing.{ColumnFits, EndsFit, column_bytes, front_of};
-ghost use Rattle.table_writer.specs.Making.{IsMade, weight};
+ghost use Rattle.table_writer.specs.Making.{IsMade, load, weight};
 ghost use Rattle.node_values.specs.Subnodes.{ids_ascend, sub_id};
 ghost use Rattle.table_writer.specs.Woven.{all_woven};
 ghost use Rattle.table_writer.specs.Writing.{FillsRows, HaveLength, IsHeader, PutsHead, PutsRows, numbered, row_among};
@@ -72,7 +74,8 @@ fn packed(alloc: Global, rows: &[Bytes], size: usize) -> Result<Bytes, AllocErro
 /// The blocks of a row matrix ([MS-PST] 2.3.4.4), each with so many rows but the last, and all but the last of 8176 bytes.
 fn matrix_blocks(alloc: Global, rows: &[Bytes], per: usize) -> Result<Blocks, AllocError>
     requires { 0 < per }
-    ensures { IfOk result (λ blocks. (size : ℕ) → HaveLength size rows.now → (n : ℕ) → n < length rows.now → row_among size per blocks n ≡ Some (get_or rows.now n [])) }
+    ensures rows { IfOk result (λ blocks. (size : ℕ) → HaveLength size rows.now → (n : ℕ) → n < length rows.now → row_among size per blocks n ≡ Some (get_or rows.now n [])) }
+    ensures count { IfOk result (λ blocks. length blocks ≤ (length rows.now - 1) / per + 1) }
 {
     let mut blocks = Blocks::new(alloc);
     let mut rest = rows;
@@ -198,7 +201,8 @@ fn put_head(
 ) -> Result<(HeapMaker, u32), AllocError>
     requires fit { table_fits t.now ≡ true }
     requires blocks { length maker ≤ 60000 }
-    ensures { IfOk result (λ r. PutsHead maker r.0 t.now matrix r.1) }
+    ensures puts { IfOk result (λ r. PutsHead maker r.0 t.now matrix r.1) }
+    ensures packed { IfOk result (λ r. IsPacked r.0) }
 {
     let records = index_records(alloc, t.rows())?;
     let mut maker = maker;
@@ -209,19 +213,23 @@ fn put_head(
 }
 
 /// The beginning: an empty heap, and the subnodes that are kept.
-fn begin<'a>(alloc: Global, kept: &'a [Sub]) -> Made<'a>
+fn begin<'a>(alloc: Global, kept: &'a [Sub]) -> Result<Made<'a>, AllocError>
     requires { keys_ascend sub_id 0 kept.now ≡ true }
-    ensures made { IsMade result }
-    ensures none { result.maker ≡ [] ∷ [] }
-    ensures subs { all_woven result.subs ≡ kept.now }
+    ensures made { IfOk result (λ made. IsMade made) }
+    ensures none { IfOk result (λ made. made.maker ≡ [] ∷ []) }
+    ensures load { IfOk result (λ made. load made ≡ 1024) }
+    ensures subs { IfOk result (λ made. all_woven made.subs ≡ kept.now) }
 {
-    Made {
+    let mut singles = Vec::with_capacity(alloc, 256)?;
+    singles.resize(256, 0u32)?;
+    Ok(Made {
         maker: HeapMaker::new(alloc),
+        singles,
         subs: Woven::new(alloc, kept),
-    }
+    })
 }
 
-/// The data blocks and the subnodes of a table ([MS-PST] 2.3.4) that is small enough and keeps subnodes by ascending ids. The error: memory ran out. The rows stand in the order of their ids; a value of more than 3580 bytes, and the rows where they have more than that, get subnodes of kind 1Fh beside those that the table keeps.
+/// The data blocks and the subnodes of a table ([MS-PST] 2.3.4) that is small enough and keeps subnodes by ascending ids. The error: memory ran out. The rows stand in the order of their ids; a value of more than 3580 bytes, and the rows where they have more than that, get subnodes of kind 1Fh beside those that the table keeps. Equal values of one byte share an item of the heap.
 pub fn write_tc(alloc: Global, t: &Table) -> Result<(Blocks, Subs), AllocError>
     requires fit { table_fits t.now ≡ true }
     requires ascend { ids_ascend 0 t.now.kept ≡ true }
@@ -229,9 +237,10 @@ pub fn write_tc(alloc: Global, t: &Table) -> Result<(Blocks, Subs), AllocError>
     ensures ascend { IfOk result (λ made. ids_ascend 0 made.1 ≡ true) }
     ensures plain { IfOk result (λ made. (k : ℕ) → k < length made.0 → IsPlain k (get_or made.0 k [])) }
     ensures tight { IfOk result (λ made. PacksTight made.0) }
+    ensures small { IfOk result (λ made. length made.0 + subs_size made.1 + 1 ≤ table_space t.now) }
 {
     let ends = t.ends();
-    let begun = begin(alloc, t.kept().as_slice());
+    let begun = begin(alloc, t.kept().as_slice())?;
     let (filled, bytes) = rows_bytes(alloc, begun, t.columns(), &ends, t.rows())?;
     let (made, matrix) = put_matrix(alloc, filled, bytes.as_slice(), usize::from(ends[3]))?;
     let (maker, root) = put_head(alloc, made.maker, t, matrix)?;

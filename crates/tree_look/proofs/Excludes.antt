@@ -27,7 +27,7 @@ use Rattle.tree_look.specs.declared.stops.TreeFault.TheVariants.{Missing, Table,
 use Rattle.tree_look.proofs.Found.{one_depth, plain_kind}
 
 -- each folder that rows lead to stands in the tree, as deep
-reached_placed : (N : Nodes) (places : List FolderPlace) → HasTree N places → (n f : ℕ) → IsReached N n f → (p : FolderPlace) × (find_place f places ≡ Some p) × StandsBelow places n f
+pub reached_placed : (N : Nodes) (places : List FolderPlace) → HasTree N places → (n f : ℕ) → IsReached N n f → (p : FolderPlace) × (find_place f places ≡ Some p) × StandsBelow places n f
 reached_placed N places tree zero f is = (place ROOT ROOT, subst (λ q. find_place q places ≡ Some (place ROOT ROOT)) (sym is) tree.root, is)
 reached_placed N places tree (suc n) f is =
     let above = reached_placed N places tree n is.0 is.1 in

@@ -1,3 +1,4 @@
 pub mod Excludes
 pub mod Found
 pub mod Steps
+pub mod Learning

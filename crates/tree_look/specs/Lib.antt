@@ -2,3 +2,4 @@ pub mod Forms
 pub mod Faults
 pub mod Walk
 pub mod Stops
+pub mod Seeing

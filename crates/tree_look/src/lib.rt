@@ -1,10 +1,11 @@
 //! Finding the tree that nodes have: the folders from the root down, with their tables and messages.
 //!
-//! Promises: `look_folders` gives the places of the folders exactly where the nodes have a tree (`HasTree`), and else what is wrong (`HasFault`), which excludes every tree (`fault_excludes`). It only looks (`Looks`), over any reader of nodes.
+//! Promises: `look_folders` gives the places of the folders exactly where the nodes have a tree (`HasTree`), and beside them which messages are unread (`AreListed`), and else what is wrong (`HasFault`), which excludes every tree (`fault_excludes`). It only looks (`Looks`), over any reader of nodes.
 //!
 //! Leaves to others: where nodes come from, and what the commands make of a tree.
 #![tactic(auto)]
 
+mod flags;
 mod forms;
 mod look;
 mod nodes;

@@ -1,5 +1,5 @@
 //! Single nodes.
-ghost use Rattle.std.specs.Prelude.{◌≡◌, ◌⊎◌, ◌%◌, ◌+◌, ◌<◌, ℕ, IsSome, None, Some, Option, IfErr, IfOk, map};
+ghost use Rattle.std.specs.Prelude.{◌≡◌, ◌⊎◌, ◌%◌, ◌+◌, ◌<◌, ℕ, IsSome, None, Some, Option, IfErr, IfOk, OnOk, map};
 ghost use Rattle.std.specs.Bool.{OnTrue, OnFalse};
 ghost use Rattle.pst_base.specs.Ids.{index_of, nid_of};
 ghost use Rattle.pst_base.specs.declared.ids.Nid.{Nid as Id};
@@ -13,13 +13,16 @@ ghost use Rattle.mail_tree.specs.Folders.{nid as nid_with};
 ghost use Rattle.node_port.specs.Nodes.{Nodes, node_at};
 ghost use Rattle.tree_look.specs.Faults.{Finds, IsFixed, IsOpened, IsReached};
 ghost use Rattle.mail_tree.specs.Standing.{HasContext, HasMail, HasTable, HasTables, ListsMessage};
+ghost use Rattle.tree_look.specs.Seeing.{Learns};
 ghost use Rattle.tree_look.specs.Stops.{missed, sort_with};
 ghost use Rattle.tree_look.specs.Walk.{Checked, Comes, IsCaused, Looks};
 
+use crate::flags::keep_flag;
 use crate::forms::{context_of, mail_of, table_of};
 use crate::stops::{LookStop, TreeFault};
+use mail_draft::is_read;
 use mail_objects::{Context, TableNode};
-use mail_tree::{ROOT_FOLDER, Sort};
+use mail_tree::{Flags, ROOT_FOLDER, Sort};
 use node_port::{NodeReader, NodeRec};
 use pst_base::Nid;
 use pst_outside::Outside;
@@ -101,15 +104,17 @@ fn look_associated<W: Outside, K: NodeReader<W>>(
     }
 }
 
-/// Looks at a message that a folder lists.
+/// Looks at a message that a folder lists, and keeps whether it is unread.
 fn look_message<W: Outside, K: NodeReader<W>>(
     alloc: Global,
     keeper: &mut K,
     w: &mut W,
     folder: Nid,
     nid: Nid,
+    flags: &mut Flags,
 ) -> Result<(), LookStop>
     ensures found { (N : Nodes) → K.holds keeper.old (W.view w.old) N → IsOpened N folder.bits → ListsMessage N folder.bits nid.bits → Finds N (λ u. (M : Mes) × HasMail N nid.bits M × (M.folder ≡ folder.bits)) result }
+    ensures flags { (N : Nodes) → K.holds keeper.old (W.view w.old) N → IsOpened N folder.bits → ListsMessage N folder.bits nid.bits → OnOk result (Learns N flags.old flags.new) }
     ensures looks { Looks (K.holds keeper.old (W.view w.old)) (K.holds keeper.new (W.view w.new)) (K.last keeper.old) (K.last keeper.new) (K.room keeper.old) (K.room keeper.new) (W.view w.old) (W.view w.new) }
     ensures cause { IfErr result (IsCaused K.has_disk (W.view w.old).disk_faults (W.view w.new).disk_faults) }
 {
@@ -120,7 +125,10 @@ fn look_message<W: Outside, K: NodeReader<W>>(
         return Err(LookStop::unfit(nid, TreeFault::Parent));
     }
     match mail_of(alloc, nid, &node) {
-        Ok(_) => Ok(()),
+        Ok(mail) => {
+            let unread = !is_read(&mail.message().props);
+            Ok(keep_flag(flags, nid.bits, unread)?)
+        }
         Err(why) => Err(LookStop::formless(nid, why)),
     }
 }
@@ -132,33 +140,37 @@ fn look_row<W: Outside, K: NodeReader<W>>(
     w: &mut W,
     folder: Nid,
     row: Nid,
+    flags: &mut Flags,
 ) -> Result<(), LookStop>
     ensures found { (N : Nodes) → K.holds keeper.old (W.view w.old) N → IsOpened N folder.bits → (t : Tbl) → HasTable N (contents folder.bits) t → IsSome (find_row row.bits t.table.rows)
         → Finds N (λ u. row.bits % 32 ≡ 4 → (M : Mes) × HasMail N row.bits M × (M.folder ≡ folder.bits)) result }
+    ensures flags { (N : Nodes) → K.holds keeper.old (W.view w.old) N → IsOpened N folder.bits → (t : Tbl) → HasTable N (contents folder.bits) t → IsSome (find_row row.bits t.table.rows) → OnOk result (Learns N flags.old flags.new) }
     ensures looks { Looks (K.holds keeper.old (W.view w.old)) (K.holds keeper.new (W.view w.new)) (K.last keeper.old) (K.last keeper.new) (K.room keeper.old) (K.room keeper.new) (W.view w.old) (W.view w.new) }
     ensures cause { IfErr result (IsCaused K.has_disk (W.view w.old).disk_faults (W.view w.new).disk_faults) }
 {
     if row.bits % 32 != 4 {
         return Ok(());
     }
-    look_message(alloc, keeper, w, folder, row)
+    look_message(alloc, keeper, w, folder, row, flags)
 }
 
-/// Looks at the messages that a folder lists.
+/// Looks at the messages that a folder lists, and keeps which are unread.
 fn look_messages<W: Outside, K: NodeReader<W>>(
     alloc: Global,
     keeper: &mut K,
     w: &mut W,
     folder: Nid,
     table: &TableNode,
+    flags: &mut Flags,
 ) -> Result<(), LookStop>
     ensures found { (N : Nodes) → K.holds keeper.old (W.view w.old) N → IsOpened N folder.bits → HasTable N (contents folder.bits) table.now
         → Finds N (λ u. (m : ℕ) → IsSome (find_row m table.now.table.rows) → m % 32 ≡ 4 → (M : Mes) × HasMail N m M × (M.folder ≡ folder.bits)) result }
+    ensures flags { (N : Nodes) → K.holds keeper.old (W.view w.old) N → IsOpened N folder.bits → HasTable N (contents folder.bits) table.now → OnOk result (Learns N flags.old flags.new) }
     ensures looks { Looks (K.holds keeper.old (W.view w.old)) (K.holds keeper.new (W.view w.new)) (K.last keeper.old) (K.last keeper.new) (K.room keeper.old) (K.room keeper.new) (W.view w.old) (W.view w.new) }
     ensures cause { IfErr result (IsCaused K.has_disk (W.view w.old).disk_faults (W.view w.new).disk_faults) }
 {
     for row in table.table().rows() {
-        look_row(alloc, keeper, w, folder, Nid { bits: row.0 })?;
+        look_row(alloc, keeper, w, folder, Nid { bits: row.0 }, flags)?;
     }
     Ok(())
 }
@@ -191,16 +203,18 @@ pub(crate) fn look_tables<W: Outside, K: NodeReader<W>>(
     keeper: &mut K,
     w: &mut W,
     folder: Nid,
+    flags: &mut Flags,
 ) -> Result<Vec<Nid>, LookStop>
     ensures found { (N : Nodes) → K.holds keeper.old (W.view w.old) N → IsOpened N folder.bits
         → Finds N (λ ids. HasTables N folder.bits × ((t : Tbl) × HasTable N (hierarchy folder.bits) t × (keys_ascend (λ r. r.0) 0 t.table.rows ≡ true) × (ids.items ≡ map (λ r. nid_with r.0) t.table.rows))) result }
+    ensures flags { (N : Nodes) → K.holds keeper.old (W.view w.old) N → IsOpened N folder.bits → OnOk result (Learns N flags.old flags.new) }
     ensures looks { Looks (K.holds keeper.old (W.view w.old)) (K.holds keeper.new (W.view w.new)) (K.last keeper.old) (K.last keeper.new) (K.room keeper.old) (K.room keeper.new) (W.view w.old) (W.view w.new) }
     ensures cause { IfErr result (IsCaused K.has_disk (W.view w.old).disk_faults (W.view w.new).disk_faults) }
 {
     let folders = need_table(alloc, keeper, w, folder, beside(folder, 0x0D))?;
     let messages = need_table(alloc, keeper, w, folder, beside(folder, 0x0E))?;
     look_associated(alloc, keeper, w, folder)?;
-    look_messages(alloc, keeper, w, folder, &messages)?;
+    look_messages(alloc, keeper, w, folder, &messages, flags)?;
     Ok(row_ids(alloc, &folders)?)
 }
 

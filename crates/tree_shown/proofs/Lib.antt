@@ -5,3 +5,4 @@ pub mod Owned
 pub mod Made
 pub mod One
 pub mod Again
+pub mod Known

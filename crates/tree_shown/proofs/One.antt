@@ -60,7 +60,7 @@ one_object N q (Message a) (Context b) s t = let low = context_low q b t.1 in le
 one_object N q (Message a) (Table b) s t = let high = table_id q b t.1 in let four = (message_id q a s.1).0 in absurd (omega arith)
 one_object N q (Message a) (Message b) s t = ap (λ (x : Mes). Message x) (one_mail_at N q a b s.0 t.0)
 
-is_at : (N : Nodes) (T : Tree) → Shows N T → (q : ℕ) (o : Object) → object_at T q ≡ Some o → IsAt N q o
+pub is_at : (N : Nodes) (T : Tree) → Shows N T → (q : ℕ) (o : Object) → object_at T q ≡ Some o → IsAt N q o
 is_at N T s q o e = (there (object_at T q) e (s.at q), s.typed q o e)
   where
     there : (x : Option Object) → x ≡ Some o → StandsAt q (node_at N q) x (node_at T.others q) → (node : NodeRec) × (node_at N q ≡ Some node) × ShowsObject q node o

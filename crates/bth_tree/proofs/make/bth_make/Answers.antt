@@ -14,10 +14,10 @@ none-made new old x h = omega arith
 all-made : (new mid old x : ℕ) → new ≤ mid + 1 → mid + 1 ≤ old + x → new ≤ old + x
 all-made new mid old x a b = omega arith
 
-none-spent : (new old x len q : ℕ) → new ≡ old + x → x ≡ 18 → new ≤ old + (2 * len + 48 * q + 18)
+none-spent : (new old x len q : ℕ) → new ≡ old + x → x ≡ 16 → new ≤ old + (2 * len + 48 * q + 16)
 none-spent new old x len q a b = omega arith
 
-all-spent : (new mid old x bound : ℕ) → new ≡ mid + x → x ≡ 18 → mid + 18 ≤ old + bound → new ≤ old + bound
+all-spent : (new mid old x bound : ℕ) → new ≡ mid + x → x ≡ 16 → mid + 16 ≤ old + bound → new ≤ old + bound
 all-spent new mid old x bound a b c = omega arith
 
 pub returns-then-recs-eq0 : goal.returns-then-recs-eq0
@@ -46,7 +46,7 @@ returns c =
     rw (← c.from.ensures, ← c.from-2.ensures) m.blocks in
     let half : halves c.put_levels.new.h + 1 ≤ halves c.args.h.now + items_made c.args.key_len c.args.ent_len (length c.args.recs.now) =
     rw (← c.from.ensures, ← c.from-2.ensures) m.half in
-    let spent : spread c.put_levels.new.h + 18 ≤ spread c.args.h.now + tree_spend c.args.key_len c.args.ent_len c.args.recs.now =
+    let spent : spread c.put_levels.new.h + 16 ≤ spread c.args.h.now + tree_spend c.args.key_len c.args.ent_len c.args.recs.now =
     rw (← c.from.ensures, ← c.from-2.ensures) m.spent in
     IfOk-weaker c.put_header-2.result (λ (hid : ℕ). Adds c.put_levels.new.h (header_of c.args.key_len c.args.ent_len c.in_ok-level.level c.in_ok-level.root) c.put_header-2.new.h hid)
     (λ (hid : ℕ). Makes c.args.h.now c.put_header-2.new.h hid c.args.key_len c.args.ent_len c.args.recs.now)

@@ -1,5 +1,6 @@
 use Rattle.std.proofs.Common.{◌∙◌, refl, sym, subst}
 use Rattle.pst_outside.specs.World.{Image}
+use Rattle.mail_tree.specs.declared.known.Known.{Known}
 use Rattle.file_open.specs.Opening.{IsOpened, ReadsFresh, StopsOpening}
 use Rattle.file_open.specs.Stops.{of_look, of_scan}
 use Rattle.file_open.specs.declared.stops.FileRefusal.TheVariants.{Ids}
@@ -26,19 +27,22 @@ returns-in_err-places-clause-refused g c =
 
 pub returns-then-spent-clause-refused : goal.returns-then-spent-clause-refused
 returns-then-spent-clause-refused g c = λ told.
+    let known : Known = record { places = c.in_ok-places.places; flags = c.in_ok-places.flags } in
     let s = scanned c.scan_file.ensures.same c.keep.ensures.same c.in_ok-found.ensures.found c.in_ok-keeper.ensures.kept (c.look_folders.ensures.looks.world.stays.told told) in
     subst (λ (i : Image). StopsOpening i (Refused Ids)) s.here
-    (spent_stops s.is s.made c.in_ok-places.places (opened s.is s.made c.in_ok-places.places c.look_folders.ensures.looks refl refl c.in_ok-places.ensures.found) (sym c.is_spent-spent.ensures ∙ c.if-spent.true))
+    (spent_stops s.is s.made known (opened s.is s.made known c.look_folders.ensures.looks refl refl c.in_ok-places.ensures.found c.in_ok-places.ensures.flags) (sym c.is_spent-spent.ensures ∙ c.if-spent.true))
 
 pub returns-clause-reads : goal.returns-clause-reads
 returns-clause-reads g c = λ told.
+    let known : Known = record { places = c.in_ok-places.places; flags = c.in_ok-places.flags } in
     let s = scanned c.scan_file.ensures.same c.keep.ensures.same c.in_ok-found.ensures.found c.in_ok-keeper.ensures.kept (c.look_folders.ensures.looks.world.stays.told told) in
     subst (λ (i : Image). ReadsFresh i c.in_ok-places.places) s.here
-    (fresh s.is s.made (opened s.is s.made c.in_ok-places.places c.look_folders.ensures.looks refl refl c.in_ok-places.ensures.found) (sym c.is_spent-spent.ensures ∙ c.if-spent.false))
+    (fresh s.is s.made (opened s.is s.made known c.look_folders.ensures.looks refl refl c.in_ok-places.ensures.found c.in_ok-places.ensures.flags) (sym c.is_spent-spent.ensures ∙ c.if-spent.false))
 
 pub returns-clause-opened : goal.returns-clause-opened
 returns-clause-opened g c = λ told.
+    let known : Known = record { places = c.in_ok-places.places; flags = c.in_ok-places.flags } in
     let s = scanned c.scan_file.ensures.same c.keep.ensures.same c.in_ok-found.ensures.found c.in_ok-keeper.ensures.kept (c.look_folders.ensures.looks.world.stays.told told) in
     let k = c.look_folders.new.keeper in
-    subst (λ (i : Image). IsOpened (g.S.NodeStore.knows k.store) k.found k.header i (g.W.Outside.view c.look_folders.new.w) c.in_ok-places.places) s.here
-    (opened s.is s.made c.in_ok-places.places c.look_folders.ensures.looks refl refl c.in_ok-places.ensures.found)
+    subst (λ (i : Image). IsOpened (g.S.NodeStore.knows k.store) k.found k.header i (g.W.Outside.view c.look_folders.new.w) known) s.here
+    (opened s.is s.made known c.look_folders.ensures.looks refl refl c.in_ok-places.ensures.found c.in_ok-places.ensures.flags)

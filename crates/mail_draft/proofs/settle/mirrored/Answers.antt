@@ -7,7 +7,7 @@ use Rattle.mail_draft.proofs.SettleLaws.{mirrors_other, mirrors_root, puts_same}
 use Rattle.mail_draft.proofs.settle.mirrored.Goals as goal
 
 pub returns-then-folder-eq-ROOT_FOLDER-clause-answer : goal.returns-then-folder-eq-ROOT_FOLDER-clause-answer
-returns-then-folder-eq-ROOT_FOLDER-clause-answer g c = λ T s. mirrors_root T c.args.folder.bits c.args.draft c.if-folder-eq-ROOT_FOLDER.true
+returns-then-folder-eq-ROOT_FOLDER-clause-answer g c = λ T s. mirrors_root T c.args.folder.bits _ _ _ c.if-folder-eq-ROOT_FOLDER.true c.hierarchy-table.ensures (c.table_as_is.ensures.answer T s)
 
 pub returns-in_err-context-clause-answer : goal.returns-in_err-context-clause-answer
 returns-in_err-context-clause-answer g c =
@@ -17,4 +17,4 @@ returns-in_err-context-clause-answer g c =
 pub returns-clause-answer : goal.returns-clause-answer
 returns-clause-answer g c = λ T s.
     mirrors_other T c.args.folder.bits _ _ c.if-folder-eq-ROOT_FOLDER.false (then_says _ _ _ _ _ _ (c.in_ok-context.ensures.answer T s)
-    (puts_same T _ _ _ _ _ _ _ (c.hierarchy-table.ensures ∙ ap hierarchy c.parent.ensures) c.props.ensures (c.put_shown.ensures.answer T (shown_still T c.in_ok-context.ensures.looks s))))
+    (puts_same T _ _ _ _ _ _ _ (c.hierarchy-table-2.ensures ∙ ap hierarchy c.parent.ensures) c.props.ensures (c.put_shown.ensures.answer T (shown_still T c.in_ok-context.ensures.looks s))))

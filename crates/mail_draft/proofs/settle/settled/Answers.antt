@@ -8,8 +8,8 @@ pub returns-in_err-draft-clause-answer : goal.returns-in_err-draft-clause-answer
 unfolding settled
 returns-in_err-draft-clause-answer g c =
     let p = err_from_is_err_and c.from_residual.result c.from_residual.ensures.1 in
-    rw (p.1, p.2) (λ T s. stop_says _ _ _ _ _ (c.in_err-draft.ensures.answer T s))
+    rw (p.1, p.2) (λ T s flags. stop_says _ _ _ _ _ (c.in_err-draft.ensures.answer T s flags))
 
 pub returns-clause-answer : goal.returns-clause-answer
 unfolding settled
-returns-clause-answer g c = λ T s. then_says _ _ _ _ _ _ (c.in_ok-draft.ensures.answer T s) (c.mirrored.ensures.answer T (shown_still T c.in_ok-draft.ensures.looks s))
+returns-clause-answer g c = λ T s flags. then_says _ _ _ _ _ _ (c.in_ok-draft.ensures.answer T s flags) (c.mirrored.ensures.answer T (shown_still T c.in_ok-draft.ensures.looks s))

@@ -16,39 +16,39 @@ use Rattle.mail_folders.proofs.moving.move_folder.Goals as goal
 
 pub returns-in_err-place-clause-answer : goal.returns-in_err-place-clause-answer
 unfolding moved_folder
-returns-in_err-place-clause-answer g c = λ T s e.
-    stopped _ _ _ _ c.from_residual.ensures.1 (from_both _ T _ _ _ _ (stop_says _ _ _ _ _ (c.in_err-place.ensures.answer T e)))
+returns-in_err-place-clause-answer g c = λ T s k.
+    stopped _ _ _ _ c.from_residual.ensures.1 (from_both _ T _ _ _ _ (stop_says _ _ _ _ _ (c.in_err-place.ensures.answer T k.places)))
 
 pub returns-in_err-unless_protected-clause-answer : goal.returns-in_err-unless_protected-clause-answer
 unfolding moved_folder
-returns-in_err-unless_protected-clause-answer g c = λ T s e.
+returns-in_err-unless_protected-clause-answer g c = λ T s k.
     stopped _ _ _ _ c.from_residual-in_err-unless_protected.ensures.1
-    (from_both _ T _ _ _ _ (then_says _ _ _ _ _ _ (c.in_ok-place.ensures.answer T e) (stop_says _ _ _ _ _ (c.in_err-unless_protected.ensures.answer T s))))
+    (from_both _ T _ _ _ _ (then_says _ _ _ _ _ _ (c.in_ok-place.ensures.answer T k.places) (stop_says _ _ _ _ _ (c.in_err-unless_protected.ensures.answer T s))))
 
 pub returns-in_err-unless_within-clause-answer : goal.returns-in_err-unless_within-clause-answer
 unfolding moved_folder
-returns-in_err-unless_within-clause-answer g c = λ T s e.
+returns-in_err-unless_within-clause-answer g c = λ T s k.
     stopped _ _ _ _ c.from_residual-in_err-unless_within.ensures.1
     (from_both _ T _ _ _ _
-    (then_says _ _ _ _ _ _ (c.in_ok-place.ensures.answer T e)
-    (then_says _ _ _ _ _ _ (c.in_ok-unless_protected.ensures.answer T s) (stop_says _ _ _ _ _ (rw (← e) at c.in_err-unless_within.ensures.answer)))))
+    (then_says _ _ _ _ _ _ (c.in_ok-place.ensures.answer T k.places)
+    (then_says _ _ _ _ _ _ (c.in_ok-unless_protected.ensures.answer T s) (stop_says _ _ _ _ _ (rw (← k.places) at c.in_err-unless_within.ensures.answer)))))
 
 pub returns-then-place-parent-clause-answer : goal.returns-then-place-parent-clause-answer
 unfolding moved_folder
-returns-then-place-parent-clause-answer g c = λ T s e.
+returns-then-place-parent-clause-answer g c = λ T s k.
     from_both _ T _ _ _ _
-    (then_says _ _ _ _ _ _ (c.in_ok-place.ensures.answer T e)
+    (then_says _ _ _ _ _ _ (c.in_ok-place.ensures.answer T k.places)
     (then_says _ _ _ _ _ _ (c.in_ok-unless_protected.ensures.answer T s)
-    (then_says _ _ _ _ _ _ (rw (← e) at c.in_ok-unless_within.ensures.answer) (this_way _ _ _ _ _ _ c.if-place-parent.true (c.unchanged.ensures T ∙ ap (unchanged T) (reply_is _ Done c.without_data-reply.ensures.lines c.without_data-reply.ensures.last))))))
+    (then_says _ _ _ _ _ _ (rw (← k.places) at c.in_ok-unless_within.ensures.answer) (this_way _ _ _ _ _ _ c.if-place-parent.true (c.unchanged.ensures T ∙ ap (unchanged T) (reply_is _ Done c.without_data-reply.ensures.lines c.without_data-reply.ensures.last))))))
 
 pub returns-clause-answer : goal.returns-clause-answer
 unfolding moved_folder moving_folder unless_crowds_name placing_folder
-returns-clause-answer g c = λ T s e.
+returns-clause-answer g c = λ T s k.
     from_both _ T _ _ _ _
-    (then_says _ _ _ _ _ _ (c.in_ok-place.ensures.answer T e)
+    (then_says _ _ _ _ _ _ (c.in_ok-place.ensures.answer T k.places)
     (then_says _ _ _ _ _ _ (c.in_ok-unless_protected.ensures.answer T s)
-    (then_says _ _ _ _ _ _ (rw (← e) at c.in_ok-unless_within.ensures.answer)
+    (then_says _ _ _ _ _ _ (rw (← k.places) at c.in_ok-unless_within.ensures.answer)
     (otherwise _ _ _ _ _ _ c.if-place-parent.false
     (regroup (outcome_of T) (context_at T nothing c.args.folder.bits) (λ x. unless_named T (folded false (name_of x.props)) (children c.args.parent.bits T.places))
     (λ y. refused_if (moves_deep T.places c.args.folder.bits c.args.parent.bits) (Limit Depth) >>= λ z. placing_folder T c.args.folder.bits c.in_ok-place.place.parent.bits c.args.parent.bits)
-    c.moving_folder.result (c.moving_folder.ensures.answer T (shown_still T c.in_ok-unless_protected.ensures.looks s) e))))))
+    c.moving_folder.result (c.moving_folder.ensures.answer T (shown_still T c.in_ok-unless_protected.ensures.looks s) k))))))

@@ -11,22 +11,22 @@ use Rattle.mail_folders.proofs.removing.remove_folder.Goals as goal
 
 pub returns-in_err-place-clause-answer : goal.returns-in_err-place-clause-answer
 unfolding removed_folder
-returns-in_err-place-clause-answer g c = λ T s e.
-    stopped _ _ _ _ c.from_residual.ensures.1 (from_plain _ T _ _ _ (stop_says _ _ _ _ _ (c.in_err-place.ensures.answer T e)))
+returns-in_err-place-clause-answer g c = λ T s k.
+    stopped _ _ _ _ c.from_residual.ensures.1 (from_plain _ T _ _ _ (stop_says _ _ _ _ _ (c.in_err-place.ensures.answer T k.places)))
 
 pub returns-in_err-unless_protected-clause-answer : goal.returns-in_err-unless_protected-clause-answer
 unfolding removed_folder
-returns-in_err-unless_protected-clause-answer g c = λ T s e.
+returns-in_err-unless_protected-clause-answer g c = λ T s k.
     stopped _ _ _ _ c.from_residual-in_err-unless_protected.ensures.1
-    (from_plain _ T _ _ _ (then_says _ _ _ _ _ _ (c.in_ok-place.ensures.answer T e) (stop_says _ _ _ _ _ (c.in_err-unless_protected.ensures.answer T s))))
+    (from_plain _ T _ _ _ (then_says _ _ _ _ _ _ (c.in_ok-place.ensures.answer T k.places) (stop_says _ _ _ _ _ (c.in_err-unless_protected.ensures.answer T s))))
 
 pub returns-in_err-unless_filled-clause-answer : goal.returns-in_err-unless_filled-clause-answer
 unfolding removed_folder unless_filled removing_folder
-returns-in_err-unless_filled-clause-answer g c = λ T s e.
+returns-in_err-unless_filled-clause-answer g c = λ T s k.
     let f = c.args.folder.bits in
     stopped _ _ _ _ c.from_residual-in_err-unless_filled.ensures.1
     (from_plain _ T _ _ _
-    (then_says _ _ _ _ _ _ (c.in_ok-place.ensures.answer T e)
+    (then_says _ _ _ _ _ _ (c.in_ok-place.ensures.answer T k.places)
     (then_says _ _ _ _ _ _ (c.in_ok-unless_protected.ensures.answer T s)
     (regroup_four (outcome_of T) (table_at T nothing (hierarchy f)) (table_at T nothing (contents f)) (associated_in T f)
     (λ x y z. refused_if (has_rows x || (has_rows y || has_associated z)) NotEmpty) (λ w. removing_folder T f c.in_ok-place.place.parent.bits) _
@@ -35,13 +35,13 @@ returns-in_err-unless_filled-clause-answer g c = λ T s e.
 
 pub returns-clause-answer : goal.returns-clause-answer
 unfolding removed_folder unless_filled removing_folder
-returns-clause-answer g c = λ T s e.
+returns-clause-answer g c = λ T s k.
     let f = c.args.folder.bits in
     let L = looks_then c.in_ok-unless_protected.ensures.looks c.in_ok-unless_filled.ensures.looks in
     from_plain _ T _ _ _
-    (then_says _ _ _ _ _ _ (c.in_ok-place.ensures.answer T e)
+    (then_says _ _ _ _ _ _ (c.in_ok-place.ensures.answer T k.places)
     (then_says _ _ _ _ _ _ (c.in_ok-unless_protected.ensures.answer T s)
     (regroup_four (outcome_of T) (table_at T nothing (hierarchy f)) (table_at T nothing (contents f)) (associated_in T f)
     (λ x y z. refused_if (has_rows x || (has_rows y || has_associated z)) NotEmpty) (λ w. removing_folder T f c.in_ok-place.place.parent.bits) c.removing_folder.result
     (then_says (λ u. u) (outcome_of T) (unless_filled T f) (λ w. removing_folder T f c.in_ok-place.place.parent.bits) _ c.removing_folder.result
-    (c.in_ok-unless_filled.ensures.answer T (shown_still T c.in_ok-unless_protected.ensures.looks s)) (c.removing_folder.ensures.answer T (shown_still T L s) e)))))
+    (c.in_ok-unless_filled.ensures.answer T (shown_still T c.in_ok-unless_protected.ensures.looks s)) (c.removing_folder.ensures.answer T (shown_still T L s) k)))))

@@ -13,4 +13,4 @@ returns-clause-answer g c = λ T s p.
     let f = c.args.folder.bits in let m = c.args.message.bits in let props = c.args.props.now in let D = changed_of c.args.draft in
     then_says changed_of changed_of (add_shown T (contents f) m props D) (settled T T.places f) _ _
     (as_at changed_of (λ (q : ℕ). add_shown T q m props D) _ c.contents.ensures (c.in_ok-draft.ensures.answer T s))
-    (as_at changed_of (λ (places : List FolderPlace). settled T places f (changed_of c.in_ok-draft.draft)) _ (sym p) (c.settled.ensures.answer T (shown_still T c.in_ok-draft.ensures.looks s)))
+    (as_at changed_of (λ (places : List FolderPlace). settled T places f (changed_of c.in_ok-draft.draft)) _ (sym p.places) (c.settled.ensures.answer T (shown_still T c.in_ok-draft.ensures.looks s) p.flags))

@@ -18,7 +18,7 @@ returns-in_err-mail-clause-answer g c = λ T s p.
     let f = c.args.folder.bits in
     exits (λ (m : Mes). m) (outcome_of T) (message_in T c.args.message.bits)
     (λ M. folder_in T f >>= λ q. unless_plain q >>= λ u. refused_if (is_overfull M.recipients || is_overfull M.attachments) (Limit Rows) >>= λ v. copying_in T f M) _ _
-    (c.in_err-mail.ensures.answer T s p) c.from_residual.ensures.1
+    (c.in_err-mail.ensures.answer T s p.places) c.from_residual.ensures.1
 
 pub returns-clause-answer : goal.returns-clause-answer
 unfolding copied_message
@@ -26,6 +26,6 @@ returns-clause-answer g c = λ T s p.
     let f = c.args.folder.bits in let N = c.in_ok-mail.mail in
     then_says (λ (m : Mes). m) (outcome_of T) (message_in T c.args.message.bits)
     (λ M. folder_in T f >>= λ q. unless_plain q >>= λ u. refused_if (is_overfull M.recipients || is_overfull M.attachments) (Limit Rows) >>= λ v. copying_in T f M) _ _
-    (c.in_ok-mail.ensures.answer T s p)
+    (c.in_ok-mail.ensures.answer T s p.places)
     (regroup (outcome_of T) (folder_in T f) unless_plain (λ u. may_copy N >>= λ v. copying_in T f N) _
     (c.copy_into.ensures.answer T (shown_still T c.in_ok-mail.ensures.looks s) p))

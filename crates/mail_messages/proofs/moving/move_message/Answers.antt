@@ -17,7 +17,7 @@ returns-in_err-mail-clause-answer g c = λ T s p.
     let m = c.args.message.bits in let to = c.args.folder.bits in
     exits (λ (m : Mes). m) (outcome_of T) (message_in T m)
     (λ M. folder_in T to >>= λ q. unless_plain q >>= λ u. if M.folder == to then Ok (unchanged T (replied Done)) else moving_message T m to M) _ _
-    (c.in_err-mail.ensures.answer T s p) c.from_residual.ensures.1
+    (c.in_err-mail.ensures.answer T s p.places) c.from_residual.ensures.1
 
 pub returns-clause-answer : goal.returns-clause-answer
 unfolding moved_message moving_message
@@ -25,6 +25,6 @@ returns-clause-answer g c = λ T s p.
     let m = c.args.message.bits in let to = c.args.folder.bits in let N = c.in_ok-mail.mail in
     then_is (λ (m : Mes). m) (outcome_of T) (message_in T m)
     (λ M. folder_in T to >>= λ q. unless_plain q >>= λ u. if M.folder == to then Ok (unchanged T (replied Done)) else moving_message T m to M) _ _
-    (c.in_ok-mail.ensures.answer T s p)
+    (c.in_ok-mail.ensures.answer T s p.places)
     (λ is. regroup (outcome_of T) (folder_in T to) unless_plain (λ u. if N.folder == to then Ok (unchanged T (replied Done)) else moving_message T m to N) _
     (c.move_into.ensures.answer T (shown_still T c.in_ok-mail.ensures.looks s) p (its_id T m N s is)))

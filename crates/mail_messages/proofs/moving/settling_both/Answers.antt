@@ -13,5 +13,5 @@ pub returns-clause-answer : goal.returns-clause-answer
 returns-clause-answer g c = λ T s p.
     let f = c.args.from.bits in let D = changed_of c.args.draft in
     then_says changed_of (outcome_of T) (settled T T.places f D) (settling T c.args.to.bits) _ _
-    (as_at changed_of (λ (places : List FolderPlace). settled T places f D) _ (sym p) (c.in_ok-draft.ensures.answer T s))
+    (as_at changed_of (λ (places : List FolderPlace). settled T places f D) _ (sym p.places) (c.in_ok-draft.ensures.answer T s p.flags))
     (c.settling.ensures.answer T (shown_still T c.in_ok-draft.ensures.looks s) p)

@@ -12,14 +12,14 @@ pub returns-in_err-mail-clause-answer : goal.returns-in_err-mail-clause-answer
 unfolding removed_message removing_message
 returns-in_err-mail-clause-answer g c = λ T s p.
     let m = c.args.message.bits in
-    exits (λ (m : Mes). m) (outcome_of T) (message_in T m) (λ M. removing_message T m M.folder) _ _ (c.in_err-mail.ensures.answer T s p) c.from_residual.ensures.1
+    exits (λ (m : Mes). m) (outcome_of T) (message_in T m) (λ M. removing_message T m M.folder) _ _ (c.in_err-mail.ensures.answer T s p.places) c.from_residual.ensures.1
 
 pub returns-clause-answer : goal.returns-clause-answer
 unfolding removed_message removing_message
 returns-clause-answer g c = λ T s p.
     let m = c.args.message.bits in
     let folder = ap (λ (m : Mes). m.folder) (c.behind-mail.view_is ∙ c.message.ensures.message) in
-    then_says (λ (m : Mes). m) (outcome_of T) (message_in T m) (λ M. removing_message T m M.folder) _ _ (c.in_ok-mail.ensures.answer T s p)
+    then_says (λ (m : Mes). m) (outcome_of T) (message_in T m) (λ M. removing_message T m M.folder) _ _ (c.in_ok-mail.ensures.answer T s p.places)
     (as_at (outcome_of T) (removing_message T m) _ folder (c.take_out.ensures.answer T (shown_still T c.in_ok-mail.ensures.looks s) p))
 
 pub returns-clause-looks : goal.returns-clause-looks

@@ -17,7 +17,7 @@ returns-in_err-mail-clause-answer g c = λ T s p.
     let t = c.args.tag in
     exits (λ (m : Mes). m) (outcome_of T) (message_in T c.args.message.bits)
     (λ M. refused_if (is_unset_protected t.id t.kind M.props) Protected >>= λ u. refused_if (not (is_some (bytes_of t.id t.kind M.props))) Property >>= λ w. changed_message T M (remove_id t.id M.props)) _ _
-    (c.in_err-mail.ensures.answer T s p) c.from_residual.ensures.1
+    (c.in_err-mail.ensures.answer T s p.places) c.from_residual.ensures.1
 
 pub returns-clause-answer : goal.returns-clause-answer
 unfolding unset_value
@@ -25,6 +25,6 @@ returns-clause-answer g c = λ T s p.
     let t = c.args.tag in let N = c.in_ok-mail.mail in
     then_says (λ (m : Mes). m) (outcome_of T) (message_in T c.args.message.bits)
     (λ M. refused_if (is_unset_protected t.id t.kind M.props) Protected >>= λ u. refused_if (not (is_some (bytes_of t.id t.kind M.props))) Property >>= λ w. changed_message T M (remove_id t.id M.props)) _ _
-    (c.in_ok-mail.ensures.answer T s p)
+    (c.in_ok-mail.ensures.answer T s p.places)
     (regroup (outcome_of T) (refused_if (is_unset_protected t.id t.kind N.props) Protected) (λ u. refused_if (not (is_some (bytes_of t.id t.kind N.props))) Property) (λ w. changed_message T N (remove_id t.id N.props)) _
     (c.remove_value.ensures.answer T (shown_still T c.in_ok-mail.ensures.looks s) p))

@@ -1,29 +1,38 @@
-use Rattle.std.proofs.Common.{◌∙◌, ℕ, None, ap, subst}
+use Rattle.std.proofs.Common.{◌∙◌, None, Some, Err, ap, refl, subst, sym}
+use Rattle.command_text.specs.declared.reply.CommandRefusal.TheVariants.{Limit}
 use Rattle.command_text.specs.declared.reply.LastLine.TheVariants.{Named}
+use Rattle.command_text.specs.declared.reply.Limit.TheVariants as limits
 use Rattle.mail_draft.proofs.Passes.{then_says}
 use Rattle.mail_draft.specs.Answers.{Says}
 use Rattle.mail_draft.specs.Outcomes.{outcome_of}
-use Rattle.mail_tree.specs.Changing.{Changed, nothing}
-use Rattle.mail_tree.specs.Folders.{changing, replied, replying}
-use Rattle.mail_tree.specs.Names.{NAMES}
+use Rattle.mail_tree.specs.Changing.{Changed, nothing, within_limits}
+use Rattle.mail_tree.specs.Folders.{replied, replying}
+use Rattle.mail_tree.specs.Names.{NAMES, with_another}
 use Rattle.mail_tree.specs.Settling.{with_context}
 use Rattle.named_props.specs.Holding.{written}
-use Rattle.named_props.specs.declared.names.Names.{Names}
-use Rattle.mail_names.specs.Parts.{with_another}
-use Rattle.mail_names.proofs.Calls.{exits}
-use Rattle.mail_names.proofs.Names.{adds_says}
+use Rattle.mail_names.proofs.Calls.{as_at, exits}
+use Rattle.mail_names.proofs.Names.{adds_says, full_says}
 use Rattle.mail_names.proofs.adding.add_name.Goals as goal
 
-pub returns-in_err-names-clause-answer : goal.returns-in_err-names-clause-answer
-returns-in_err-names-clause-answer c = λ T.
+pub returns-in-Some-clause-answer : goal.returns-in-Some-clause-answer
+returns-in-Some-clause-answer c = λ T.
     let x = c.args.context in let n = c.args.names in let guid = c.args.guid in let number = c.args.number in
-    adds_says (outcome_of T) T x n guid number _
-    (exits (λ (p : Names × ℕ). p) (outcome_of T) (with_another n guid number) (λ p. changing T (replied (Named p.1)) (with_context NAMES x (written p.0) nothing)) _ _ c.in_err-names.ensures.answer c.from_residual.ensures.1)
+    let draft = (rw c.in_ok-props.ensures.values at c.in_ok-draft.ensures) ∙ ap (with_context NAMES x (written c.in_ok-names.names)) c.new.ensures ∙ ap (λ m. with_context NAMES x (written m) nothing) c.in_ok-names.ensures.names in
+    adds_says (outcome_of T) T x n guid number c.in-Some.property _ (sym c.in-Some.is ∙ c.in_ok-names.ensures.property)
+    (subst (λ (D : Changed). Says (outcome_of T) (replying T None (replied (Named c.in-Some.property)) D) c.replying.result) draft (c.replying.ensures.answer T))
+
+pub returns-in_err-within_limits-in-None-clause-answer : goal.returns-in_err-within_limits-in-None-clause-answer
+returns-in_err-within_limits-in-None-clause-answer c = λ T.
+    let x = c.args.context in let n = c.args.names in let guid = c.args.guid in let number = c.args.number in
+    let draft = (rw c.in_ok-props.ensures.values at c.in_ok-draft.ensures) ∙ ap (with_context NAMES x (written c.in_ok-names.names)) c.new.ensures ∙ ap (λ m. with_context NAMES x (written m) nothing) c.in_ok-names.ensures.names in
+    full_says (outcome_of T) T x n guid number _ (sym c.in-None.is ∙ c.in_ok-names.ensures.property)
+    (exits (λ (u : Unit {0}). u) (outcome_of T) (within_limits (with_context NAMES x (written (with_another n guid number)) nothing)) (λ u. Err (Some (Limit limits.Names))) _ _
+    (as_at (λ (u : Unit {0}). u) within_limits _ draft c.in_err-within_limits-in-None.ensures.answer) c.from_residual-in_err-within_limits-in-None.ensures.1)
 
 pub returns-clause-answer : goal.returns-clause-answer
 returns-clause-answer c = λ T.
     let x = c.args.context in let n = c.args.names in let guid = c.args.guid in let number = c.args.number in
-    let draft = (rw c.in_ok-props.ensures.values at c.in_ok-draft.ensures) ∙ ap (with_context NAMES x (written c.in_ok-names.names)) c.new.ensures in
-    adds_says (outcome_of T) T x n guid number _
-    (then_says (λ (p : Names × ℕ). p) (outcome_of T) (with_another n guid number) (λ p. changing T (replied (Named p.1)) (with_context NAMES x (written p.0) nothing)) _ _ c.in_ok-names.ensures.answer
-    (subst (λ (D : Changed). Says (outcome_of T) (replying T None (replied (Named c.in_ok-names.property)) D) c.replying.result) draft (c.replying.ensures.answer T)))
+    let draft = (rw c.in_ok-props.ensures.values at c.in_ok-draft.ensures) ∙ ap (with_context NAMES x (written c.in_ok-names.names)) c.new.ensures ∙ ap (λ m. with_context NAMES x (written m) nothing) c.in_ok-names.ensures.names in
+    full_says (outcome_of T) T x n guid number _ (sym c.in-None.is ∙ c.in_ok-names.ensures.property)
+    (then_says (λ (u : Unit {0}). u) (outcome_of T) (within_limits (with_context NAMES x (written (with_another n guid number)) nothing)) (λ u. Err (Some (Limit limits.Names))) _ _
+    (as_at (λ (u : Unit {0}). u) within_limits _ draft c.in_ok-within_limits-in-None.ensures.answer) refl)

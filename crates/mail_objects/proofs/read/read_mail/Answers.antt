@@ -1,4 +1,4 @@
-use Rattle.std.proofs.Common.{◌≡◌, ◌∙◌, false, sym, ap}
+use Rattle.std.proofs.Common.{ap}
 use Rattle.message_obj.specs.Message.{is_formed}
 use Rattle.message_obj.proofs.OneLaws.{same-message}
 use Rattle.mail_objects.proofs.read.read_mail.Goals as goal

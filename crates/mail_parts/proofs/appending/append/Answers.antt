@@ -10,10 +10,10 @@ use Rattle.mail_parts.proofs.appending.append.Goals as goal
 pub returns-in_err-mail-clause-answer : goal.returns-in_err-mail-clause-answer
 unfolding appended_data
 returns-in_err-mail-clause-answer g c = λ T s p.
-    exits (λ (m : Mes). m) (outcome_of T) (message_in T c.args.message.bits) (appending_in T c.args.attachment.bits c.args.more.now) _ _ (c.in_err-mail.ensures.answer T s p) c.from_residual.ensures.1
+    exits (λ (m : Mes). m) (outcome_of T) (message_in T c.args.message.bits) (appending_in T c.args.attachment.bits c.args.more.now) _ _ (c.in_err-mail.ensures.answer T s p.places) c.from_residual.ensures.1
 
 pub returns-clause-answer : goal.returns-clause-answer
 unfolding appended_data
 returns-clause-answer g c = λ T s p.
     then_says (λ (m : Mes). m) (outcome_of T) (message_in T c.args.message.bits) (appending_in T c.args.attachment.bits c.args.more.now) _ _
-    (c.in_ok-mail.ensures.answer T s p) (c.append_in.ensures.answer T (shown_still T c.in_ok-mail.ensures.looks s) p)
+    (c.in_ok-mail.ensures.answer T s p.places) (c.append_in.ensures.answer T (shown_still T c.in_ok-mail.ensures.looks s) p)

@@ -10,10 +10,10 @@ use Rattle.mail_parts.proofs.attachments.detach.Goals as goal
 pub returns-in_err-mail-clause-answer : goal.returns-in_err-mail-clause-answer
 unfolding removed_attachment
 returns-in_err-mail-clause-answer g c = λ T s p.
-    exits (λ (m : Mes). m) (outcome_of T) (message_in T c.args.message.bits) (detaching T c.args.attachment.bits) _ _ (c.in_err-mail.ensures.answer T s p) c.from_residual.ensures.1
+    exits (λ (m : Mes). m) (outcome_of T) (message_in T c.args.message.bits) (detaching T c.args.attachment.bits) _ _ (c.in_err-mail.ensures.answer T s p.places) c.from_residual.ensures.1
 
 pub returns-clause-answer : goal.returns-clause-answer
 unfolding removed_attachment
 returns-clause-answer g c = λ T s p.
     then_says (λ (m : Mes). m) (outcome_of T) (message_in T c.args.message.bits) (detaching T c.args.attachment.bits) _ _
-    (c.in_ok-mail.ensures.answer T s p) (c.detach_one.ensures.answer T (shown_still T c.in_ok-mail.ensures.looks s) p)
+    (c.in_ok-mail.ensures.answer T s p.places) (c.detach_one.ensures.answer T (shown_still T c.in_ok-mail.ensures.looks s) p)

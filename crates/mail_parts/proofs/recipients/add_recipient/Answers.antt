@@ -15,12 +15,12 @@ unfolding added_recipient
 returns-in_err-mail-clause-answer g c = λ T s p.
     exits (λ (m : Mes). m) (outcome_of T) (message_in T c.args.message.bits)
     (λ M. adding_one T M (recipient_props c.args.kind c.args.address.now c.args.name.now)) _ _
-    (c.in_err-mail.ensures.answer T s p) c.from_residual.ensures.1
+    (c.in_err-mail.ensures.answer T s p.places) c.from_residual.ensures.1
 
 pub returns-clause-answer : goal.returns-clause-answer
 unfolding added_recipient
 returns-clause-answer g c = λ T s p.
     then_says (λ (m : Mes). m) (outcome_of T) (message_in T c.args.message.bits)
     (λ M. adding_one T M (recipient_props c.args.kind c.args.address.now c.args.name.now)) _ _
-    (c.in_ok-mail.ensures.answer T s p)
+    (c.in_ok-mail.ensures.answer T s p.places)
     (as_at (outcome_of T) (λ (ps : List Val). adding_one T c.in_ok-mail.mail ps) _ c.in_ok-props.ensures (c.add_one.ensures.answer T (shown_still T c.in_ok-mail.ensures.looks s) p))

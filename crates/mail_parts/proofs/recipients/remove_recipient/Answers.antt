@@ -10,10 +10,10 @@ use Rattle.mail_parts.proofs.recipients.remove_recipient.Goals as goal
 pub returns-in_err-mail-clause-answer : goal.returns-in_err-mail-clause-answer
 unfolding removed_recipient
 returns-in_err-mail-clause-answer g c = λ T s p.
-    exits (λ (m : Mes). m) (outcome_of T) (message_in T c.args.message.bits) (removing_one T c.args.row) _ _ (c.in_err-mail.ensures.answer T s p) c.from_residual.ensures.1
+    exits (λ (m : Mes). m) (outcome_of T) (message_in T c.args.message.bits) (removing_one T c.args.row) _ _ (c.in_err-mail.ensures.answer T s p.places) c.from_residual.ensures.1
 
 pub returns-clause-answer : goal.returns-clause-answer
 unfolding removed_recipient
 returns-clause-answer g c = λ T s p.
     then_says (λ (m : Mes). m) (outcome_of T) (message_in T c.args.message.bits) (removing_one T c.args.row) _ _
-    (c.in_ok-mail.ensures.answer T s p) (c.remove_one.ensures.answer T (shown_still T c.in_ok-mail.ensures.looks s) p)
+    (c.in_ok-mail.ensures.answer T s p.places) (c.remove_one.ensures.answer T (shown_still T c.in_ok-mail.ensures.looks s) p)

@@ -14,7 +14,7 @@ returns-clause-same g c = on_ok c.save.result c.save.ensures.same (λ keeps T s 
     at = s.shown.at;
     counters = s.shown.counters ∙ sym c.save.ensures.last;
   };
-  where_is = s.where_is;
+  knows = s.knows;
 })
 
 pub returns-clause-saved : goal.returns-clause-saved

@@ -35,4 +35,4 @@ returns c =
     (subst (λ (m : Mes). message_fits m ≡ true) (sym c.message.view_is) c.requires.fit)
     (subst (λ (m : Mes). is_formed m ≡ true) (sym c.message.view_is) c.requires.formed)
     c.in_ok-push_table.ensures.adds c.in_ok-push_table-2.ensures.adds (rw c.as_slice.ensures.value at c.in_ok-push_parts.ensures) c.in_ok-push_table-2.ensures.rows
-    c.in_ok-in_order.ensures.found c.in_ok-in_order.ensures.ascend c.in_ok-in_order.ensures.len))
+    c.in_ok-in_order.ensures.found c.in_ok-in_order.ensures.ascend c.in_ok-in_order.ensures.len c.in_ok-in_order.ensures.size))

@@ -1,4 +1,5 @@
 use Rattle.std.proofs.Common.{refl, subst, sym}
+use Rattle.store_session.specs.Disks.{effects_of}
 use Rattle.store_session.specs.Session.{HasCause, StoreSessionEnds}
 use Rattle.store_session.specs.declared.session.SessionEnd.TheVariants.{Memory}
 use Rattle.store_session.proofs.Ending.{ends_by_memory, has_cause, session_ends}
@@ -14,11 +15,12 @@ returns-in-Ok-clause-ends g c = λ T h tells.
     let disk = g.K.NodeReader.has_disk in
     let stands = g.K.Keeper.stands in
     let rests = g.K.Keeper.rests in
+    let effects = effects_of g.K.Keeper.measures g.K.Keeper.applied g.K.Saver.saved in
     let found = (room c.args.store.keeper).found in
-    subst (λ e. StoreSessionEnds (stands_for view holds last room disk stands rests found) rests (view c.args.world.now) (view c.serve.new.world) T e) (sym c.end_of.ensures)
-    (session_ends view disk (has_tree view holds last room disk stands rests found) (stands_for view holds last room disk stands rests found) rests
-    (line_answers view holds last room disk stands rests) (line_stops view holds last room disk stands rests)
-    (store_keeps view holds last room disk stands rests g.met.K.NodeReader.holds_on g.met.K.Keeper.held_stands g.met.K.Keeper.stands_on g.met.K.Keeper.rests_on found)
+    subst (λ e. StoreSessionEnds effects (stands_for view holds last room disk stands rests effects found) rests (view c.args.world.now).here (view c.args.world.now) (view c.serve.new.world) T e) (sym c.end_of.ensures)
+    (session_ends view disk (has_tree view holds last room disk stands rests effects found) (stands_for view holds last room disk stands rests effects found) rests effects (λ a. room a.store.keeper)
+    (line_answers view holds last room disk stands rests effects) (line_stops view holds last room disk stands rests effects)
+    (store_keeps view holds last room disk stands rests effects g.met.K.NodeReader.holds_on g.met.K.Keeper.held_stands g.met.K.Keeper.held_measures g.met.K.Keeper.stands_on g.met.K.Keeper.rests_on found)
     (record { store = c.args.store }) c.serve.new.answerer c.args.world.now c.serve.new.world T (h, refl) tells c.in-Ok.end c.in-Ok.ensures.ends)
 
 pub returns-in-Ok-clause-cause : goal.returns-in-Ok-clause-cause
@@ -30,8 +32,9 @@ returns-in-Ok-clause-cause g c =
     let disk = g.K.NodeReader.has_disk in
     let stands = g.K.Keeper.stands in
     let rests = g.K.Keeper.rests in
+    let effects = effects_of g.K.Keeper.measures g.K.Keeper.applied g.K.Saver.saved in
     subst (λ e. HasCause disk (view c.args.world.now) (view c.serve.new.world) e) (sym c.end_of.ensures)
-    (has_cause view disk (line_answers view holds last room disk stands rests) (line_stops view holds last room disk stands rests) (λ a b v w bytes stop is. is.cause)
+    (has_cause view disk (line_answers view holds last room disk stands rests effects) (line_stops view holds last room disk stands rests effects) (λ a b v w bytes stop is. is.cause)
     (record { store = c.args.store }) c.serve.new.answerer c.args.world.now c.serve.new.world c.in-Ok.end c.in-Ok.ensures.ends)
 
 pub returns-clause-ends : goal.returns-clause-ends
@@ -43,7 +46,8 @@ returns-clause-ends g c = λ T h tells.
     let disk = g.K.NodeReader.has_disk in
     let stands = g.K.Keeper.stands in
     let rests = g.K.Keeper.rests in
+    let effects = effects_of g.K.Keeper.measures g.K.Keeper.applied g.K.Saver.saved in
     let found = (room c.args.store.keeper).found in
-    subst (λ w. StoreSessionEnds (stands_for view holds last room disk stands rests found) rests (view c.args.world.now) (view w) T Memory) (sym c.in-Err.ensures.no_memory.1)
-    (ends_by_memory (stands_for view holds last room disk stands rests found) rests (view c.args.world.now) T h.settled h.at_rest
-    (has_stands view holds last room disk stands rests g.met.K.Keeper.held_stands found (record { store = c.args.store }) c.args.world.now T (h, refl)))
+    subst (λ w. StoreSessionEnds effects (stands_for view holds last room disk stands rests effects found) rests (view c.args.world.now).here (view c.args.world.now) (view w) T Memory) (sym c.in-Err.ensures.no_memory.1)
+    (ends_by_memory effects (stands_for view holds last room disk stands rests effects found) rests (view c.args.world.now) T h.settled h.at_rest
+    (has_stands view holds last room disk stands rests effects g.met.K.Keeper.held_stands found (record { store = c.args.store }) c.args.world.now T (h, refl)))

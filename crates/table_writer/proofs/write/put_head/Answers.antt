@@ -43,8 +43,9 @@ add-requires-clause-blocks c =
     let count : length c.as_slice.result.now ≤ 500000 = omega (arith, ap length recs, numbered-count 0 c.rows.result.now, c.rows.ensures.len, (limits c.args.t.now c.requires.fit).rows) in
     omega (arith, index-room (length c.as_slice.result.now) count, c.requires.blocks, c.in_ok-index.ensures.blocks)
 
-pub returns : goal.returns
-returns c =
+pub returns-clause-puts : goal.returns-clause-puts
+returns-clause-puts c =
     head-put c.args.maker c.bth_make.new.h c.add.new.self c.args.t.now c.args.matrix c.in_ok-index.index c.in_ok-root.root c.as_slice-2.result.now c.as_slice.result.now c.columns.result.now c.ends.result c.in_ok-index.ensures
     (c.as_slice.ensures.value ∙ c.in_ok-records.ensures.all ∙ ap (numbered 0) c.rows.ensures.value)
+    (rw c.as_slice.ensures.value c.in_ok-records.ensures.fit)
     (rw c.as_slice-2.ensures.value c.in_ok-head.ensures) c.columns.ensures.value c.ends.ensures c.in_ok-root.ensures.ok

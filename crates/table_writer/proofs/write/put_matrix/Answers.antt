@@ -36,10 +36,10 @@ returns-then-rows-size-le3580-clause-puts c =
       length-append (concat c.args.rows.now) (replicate (0 - length (concat c.args.rows.now)) 0),
       length-replicate {A = ℕ} (0 - length (concat c.args.rows.now)) 0,
       length-rows c.args.size c.args.rows.now c.requires.sizes,
-      c.if-rows-size-le3580.true,
     ))
-    c.requires.made c.put_item.ensures.made c.put_item.ensures.adds c.put_item.ensures.subs
+    c.if-rows-size-le3580.true c.requires.made c.put_item.ensures.made c.put_item.ensures.adds c.put_item.ensures.subs c.put_item.ensures.singles
 
 pub returns-clause-puts : goal.returns-clause-puts
 returns-clause-puts c =
-    sub-rows c.put_sub.result c.args.made c.args.size c.args.rows.now c.in_ok-matrix_blocks.field-0 (λ n lt. c.in_ok-matrix_blocks.ensures c.args.size c.requires.sizes n lt) c.put_sub.ensures.made c.put_sub.ensures.adds c.put_sub.ensures.maker
+    sub-rows c.put_sub.result c.args.made c.args.size c.args.rows.now c.in_ok-matrix_blocks.field-0 (λ n lt. c.in_ok-matrix_blocks.ensures.rows c.args.size c.requires.sizes n lt) c.in_ok-matrix_blocks.ensures.count c.if-rows-size-le3580.false
+    c.put_sub.ensures.made c.put_sub.ensures.adds c.put_sub.ensures.maker c.put_sub.ensures.singles

@@ -40,6 +40,12 @@ loop-child-preserved g t c = record {
       let some : 0 < c.args.left = c.in_ok-sort.ensures.left (rw c.in-Some.is refl) in
       next_child c.loop-child.child-index so_far
       (c.in_ok-follow.ensures.found N (I.looks.stays N held) (suc n) (omega (arith, sum, some)) (comes_next c.loop-child.child-index begin c.loop-child-test.true) (awaits_next c.loop-child.child-index begin so_far c.loop-child-test.true) so_far.part);
+  learns = λ N held n sum begin seen.
+      let I = c.loop-child.invariant in
+      let so_far = I.so_far N held n sum begin in
+      let some : 0 < c.args.left = c.in_ok-sort.ensures.left (rw c.in-Some.is refl) in
+      c.in_ok-follow.ensures.flags N (I.looks.stays N held) (suc n) (omega (arith, sum, some)) (comes_next c.loop-child.child-index begin c.loop-child-test.true) (awaits_next c.loop-child.child-index begin so_far c.loop-child-test.true) so_far.part
+      (I.learns N held n sum begin seen);
 }
 
 pub returns-clause-found : goal.returns-clause-found
@@ -55,3 +61,17 @@ returns-clause-found g t c = λ N held n sum comes awaits part.
     let I = c.loop-child.invariant in
     let so_far = I.so_far N held3 n sum begin in
     plain_follows N c.args.above n c.args.row.bits c.in-Some.sort c.args.places.now c.put.new.self c.loop-child.places c.as_slice-child-items.result.now c.loop-child.child-index k plain tables.0 begin so_far c.loop-child-test.false
+
+pub returns-clause-flags : goal.returns-clause-flags
+returns-clause-flags g t c = λ N held n sum comes awaits part seen.
+    let k = known N c.args.above n c.args.row.bits c.args.left c.in_ok-sort.field-0 c.in-Some.sort c.args.places.now c.put.new.self part comes awaits sum c.in_ok-sort.ensures.left c.in-Some.is (c.in_ok-sort.ensures.found N held n sum comes)
+    (put_is c.args.row c.parent_of.result _ c.in-Some.sort c.args.places.now c.put.new.self c.parent_of.ensures c.in_ok-put.ensures.ok) in
+    let plain = sym c.is_plain.ensures ∙ c.if-not-is_plain.false in
+    let held2 = c.in_ok-sort.ensures.looks.stays N held in
+    let tables = c.in_ok-rows.ensures.found N held2 (plain_opened N c.args.above n c.args.row.bits c.in-Some.sort c.args.places.now c.put.new.self k plain) in
+    let begin : Begins N c.args.row.bits n c.put.new.self c.as_slice-child-items.result.now = plain_begins N c.args.above n c.args.row.bits c.in-Some.sort c.args.places.now c.put.new.self c.as_slice-child-items.result.now k plain
+    (tables.1.0, tables.1.1, tables.1.2, c.as_slice-child-items.ensures.value ∙ tables.1.3) in
+    let held3 = c.in_ok-rows.ensures.looks.stays N held2 in
+    let I = c.loop-child.invariant in
+    I.learns N held3 n sum begin
+    (c.in_ok-rows.ensures.flags N held2 (plain_opened N c.args.above n c.args.row.bits c.in-Some.sort c.args.places.now c.put.new.self k plain) seen)

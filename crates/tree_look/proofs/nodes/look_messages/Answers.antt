@@ -30,4 +30,9 @@ loop-row-preserved g c =
           (c.in_ok-look_row.ensures.found N (I.looks.stays N held) opened c.args.table.now has
           (subst (λ (x : ℕ × List Val). IsSome (find_row x.0 c.args.table.now.table.rows)) (sym c.row-item.is)
           (subst (λ (x : List (ℕ × List Val)). IsSome (find_row ((get_or rows c.loop-row.row-index c.row-item.result).0) x)) rows_are (row_here rows c.loop-row.row-index c.row-item.result c.loop-row-test.true)))));
+      learns = λ N held opened has seen.
+          c.in_ok-look_row.ensures.flags N (I.looks.stays N held) opened c.args.table.now has
+          (subst (λ (x : ℕ × List Val). IsSome (find_row x.0 c.args.table.now.table.rows)) (sym c.row-item.is)
+          (subst (λ (x : List (ℕ × List Val)). IsSome (find_row ((get_or rows c.loop-row.row-index c.row-item.result).0) x)) rows_are (row_here rows c.loop-row.row-index c.row-item.result c.loop-row-test.true)))
+          (I.learns N held opened has seen);
     }

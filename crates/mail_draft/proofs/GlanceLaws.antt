@@ -1,0 +1,79 @@
+-- What a message's node tells, and what the tree has.
+use Rattle.std.proofs.Common.{◌≡◌, ℕ, List, [], ◌∷◌, Option, None, Some, Result, refl, sym, ap, ◌∙◌, subst}
+use Rattle.std.proofs.lemmas.Option.{same_Some}
+use Rattle.std.proofs.lemmas.Bool.{ne_eqb}
+use Rattle.std.specs.Option.{option_and_then, unwrap_or}
+use Rattle.pst_base.specs.Fields.{number_at}
+use Rattle.value_text.specs.UnitBytes.{units_in}
+use Rattle.mapi_values.specs.Messages.{Mes}
+use Rattle.mapi_values.specs.Values.{Val, in_field}
+use Rattle.node_port.specs.Nodes.{content_of}
+use Rattle.node_port.specs.declared.node.NodeRec.{NodeRec}
+use Rattle.content_glance.specs.declared.content.Glance.{Glance}
+use Rattle.content_glance.specs.declared.content.Glance.TheVariants.{Held, Absent, Below}
+use Rattle.content_glance.specs.Glances.{IsTold, Tells}
+use Rattle.mail_objects.specs.Objects.{ShowsMail}
+use Rattle.mail_objects.specs.declared.object.Object.{Object}
+use Rattle.mail_objects.specs.declared.object.Object.TheVariants.{Context, Table, Message}
+use Rattle.mail_tree.specs.Changing.{Answer, ◌>>=◌, as_message, known}
+use Rattle.mail_tree.specs.Tree.{StandsAt}
+use Rattle.mail_tree.specs.Values.{bytes_of, number_of, of_kind, text_of}
+use Rattle.mail_draft.specs.declared.stop.Stop.{Stop}
+use Rattle.mail_draft.specs.Answers.{Says}
+use Rattle.mail_draft.specs.Glancing.{IsContent, told_bytes}
+
+-- the content of a node that stands where the tree has a message
+pub content-message : (q : ℕ) (node : NodeRec) (whole : Option NodeRec) (object : Option Object) (other : Option NodeRec) (m : Mes) → Some node ≡ content_of whole → StandsAt q whole object other
+    → as_message object ≡ Some m → IsContent node m
+content-message q node whole None other m is stands here = cc
+content-message q node whole (Some (Context c)) other m is stands here = cc
+content-message q node whole (Some (Table t)) other m is stands here = cc
+content-message q node whole (Some (Message n)) other m is stands here =
+    let same : n ≡ m = same_Some n m here in
+    let e : Some node ≡ content_of (Some stands.1.0) = is ∙ ap content_of stands.1.1 in
+    record {
+      nid = q;
+      whole = stands.1.0;
+      shows = subst (λ (k : Mes). ShowsMail q stands.1.0 k) same stands.1.2;
+      blocks = ap (λ (rec : NodeRec). rec.blocks) (same_Some node (record { parent = (stands.1.0).parent; blocks = (stands.1.0).blocks; subs = [] }) e);
+    }
+
+-- there is a node where the tree has a message
+pub content-some : (q : ℕ) (whole : Option NodeRec) (object : Option Object) (other : Option NodeRec) (m : Mes) → None ≡ content_of whole → StandsAt q whole object other → as_message object ≡ Some m → ⊥
+content-some q whole None other m is stands here = cc
+content-some q whole (Some (Context c)) other m is stands here = cc
+content-some q whole (Some (Table t)) other m is stands here = cc
+content-some q whole (Some (Message n)) other m is stands here = let e : None ≡ content_of (Some stands.1.0) = is ∙ ap content_of stands.1.1 in cc
+
+-- what is told by the data of a message's node is so of the message
+pub told-content : (node : NodeRec) (m : Mes) (id : ℕ) (told : Option Glance) → Tells node.blocks id told → IsContent node m → IsTold id m.props told
+told-content node m id told tells c =
+    let there : Tells c.whole.blocks id told = subst (λ (blocks : List (List ℕ)). Tells blocks id told) c.blocks tells in
+    there c.whole.subs m.props c.shows.message.rest c.shows.message.context
+
+-- what is known goes into the next step, wherever it is
+pub says-where : {A C D : Type 0} (view : D → C) (o : Option A) (f : A → Answer C) (result : Result D Stop) → ((a : A) → o ≡ Some a → Says view (f a) result) → Says view (known o >>= f) result
+says-where view None f result h = tt
+says-where view (Some a) f result h = h a refl
+
+-- the bytes that are told are those of the value, if one of its kind can't stand in a subnode unseen
+pub told-bytes : (id kind : ℕ) (props : List Val) (glance : Glance) → IsTold id props (Some glance) → (glance ≡ Below → in_field kind ≡ None → ⊥) → told_bytes kind glance ≡ bytes_of id kind props
+told-bytes id kind props (Held v) told out = sym (ap (option_and_then (of_kind kind)) told)
+told-bytes id kind props Absent told out = sym (ap (option_and_then (of_kind kind)) told)
+told-bytes id kind props Below told out =
+    let other : (told.0).kind ≡ kind → ⊥ = λ same. out refl (ap in_field (sym same) ∙ told.2) in
+    sym (ap (option_and_then (of_kind kind)) told.1 ∙ rw (ne_eqb (told.0).kind kind other) refl)
+
+number-kind : in_field 0x0003 ≡ None → ⊥
+unfolding in_field
+number-kind none = cc
+
+pub number-bytes : (id : ℕ) (props : List Val) (glance : Glance) → IsTold id props (Some glance) → told_bytes 0x0003 glance ≡ bytes_of id 0x0003 props
+number-bytes id props glance told = told-bytes id 0x0003 props glance told (λ below. number-kind)
+
+pub number-told : (id : ℕ) (props : List Val) (glance : Glance) (bytes : List ℕ) → Some bytes ≡ told_bytes 0x0003 glance → IsTold id props (Some glance) → number_at 4 0 bytes ≡ number_of id props
+number-told id props glance bytes is told =
+    ap (λ (o : Option (List ℕ)). number_at 4 0 (unwrap_or o (0 ∷ 0 ∷ 0 ∷ 0 ∷ []))) (is ∙ number-bytes id props glance told)
+
+pub text-told : (id : ℕ) (props : List Val) (glance : Glance) → (glance ≡ Below → ⊥) → IsTold id props (Some glance) → units_in (unwrap_or (told_bytes 0x001F glance) []) ≡ text_of id props
+text-told id props glance out told = ap (λ (o : Option (List ℕ)). units_in (unwrap_or o [])) (told-bytes id 0x001F props glance told (λ below none. out below))

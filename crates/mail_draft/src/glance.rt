@@ -1,0 +1,125 @@
+//! What a message's node tells of the message without its subnodes.
+ghost use Rattle.std.specs.Prelude.{◌≡◌, ℕ, List, Bool, IfErr, IfOk, IfSome, IsTrue, Some, [], length, option_copied};
+ghost use Rattle.std.specs.Option.{unwrap_or};
+ghost use Rattle.value_text.specs.UnitBytes.{units_in};
+ghost use Rattle.mapi_values.specs.Messages.{Mes};
+ghost use Rattle.mapi_values.specs.Values.{Val, fits};
+ghost use Rattle.content_glance.specs.Glances.{IsTold};
+ghost use Rattle.mail_tree.specs.Tree.{Shown, Tree, object_at};
+ghost use Rattle.mail_tree.specs.Values.{number_of, text_of};
+ghost use Rattle.mail_draft.specs.Answers.{IsCaused, Looks, Says};
+ghost use Rattle.mail_draft.specs.Glancing.{HasContent, HoldsMessage, IsContent, TellsText, TellsValue, told_bytes};
+ghost use Rattle.mail_draft.specs.Unread.{unread_of};
+
+use crate::stop::Stop;
+use content_glance::{Glance, glance_at};
+use mapi_values::Units;
+use mapi_values::tags::{PID_TAG_MESSAGE_FLAGS, PTYP_INTEGER_32, PTYP_STRING};
+use node_port::{NodeReader, NodeRec};
+use pst_base::{Nid, u32_at};
+use pst_outside::Outside;
+use std::alloc::{AllocError, Global};
+use value_text::units_of_bytes;
+
+/// The node at an id without its subnodes, `None` where there is none.
+fn content_at<W: Outside, K: NodeReader<W>>(
+    alloc: Global,
+    keeper: &mut K,
+    w: &mut W,
+    nid: Nid,
+) -> Result<Option<NodeRec>, Stop>
+    ensures answer { (T : Tree) → Shown (K.holds keeper.old (W.view w.old)) (K.last keeper.old) T → HasContent T nid.bits result }
+    ensures looks { Looks (K.holds keeper.old (W.view w.old)) (K.holds keeper.new (W.view w.new)) (K.last keeper.old) (K.last keeper.new) (K.room keeper.old) (K.room keeper.new) (W.view w.old) (W.view w.new) }
+    ensures cause { IfErr result (IsCaused K.has_disk (W.view w.old).disk_faults (W.view w.new).disk_faults) }
+{
+    Ok(keeper.get_content(alloc, w, nid)?)
+}
+
+/// The node of the message at an id, without its subnodes, for `glance_of`.
+pub fn message_content<W: Outside, K: NodeReader<W>>(
+    alloc: Global,
+    keeper: &mut K,
+    w: &mut W,
+    nid: Nid,
+) -> Result<NodeRec, Stop>
+    ensures answer { (T : Tree) → Shown (K.holds keeper.old (W.view w.old)) (K.last keeper.old) T → HoldsMessage T nid.bits result }
+    ensures looks { Looks (K.holds keeper.old (W.view w.old)) (K.holds keeper.new (W.view w.new)) (K.last keeper.old) (K.last keeper.new) (K.room keeper.old) (K.room keeper.new) (W.view w.old) (W.view w.new) }
+    ensures cause { IfErr result (IsCaused K.has_disk (W.view w.old).disk_faults (W.view w.new).disk_faults) }
+{
+    match content_at(alloc, keeper, w, nid)? {
+        Some(node) => Ok(node),
+        None => Err(Stop::formless()),
+    }
+}
+
+/// What a message's node tells of the value with an id.
+pub fn glance_of(alloc: Global, node: &NodeRec, id: u16) -> Result<Glance, Stop>
+    ensures told { (M : Mes) → IsContent node.now M → TellsValue id M.props result }
+    ensures cause { (disk : Bool) (before after : ℕ) → IfErr result (IsCaused disk before after) }
+{
+    match glance_at(alloc, node.blocks.as_slice(), id)? {
+        Some(glance) => Ok(glance),
+        None => Err(Stop::formless()),
+    }
+}
+
+/// The bytes of the value that is told, if it is of this kind.
+fn bytes_told(glance: &Glance, kind: u16) -> Option<&[u8]>
+    ensures bytes { option_copied result ≡ told_bytes kind glance.now }
+    ensures fit { IfSome result (λ bytes. IsTrue (fits kind (length bytes.now))) }
+{
+    let Glance::Held(value) = glance else {
+        return None;
+    };
+    if value.kind() == kind {
+        Some(value.bytes())
+    } else {
+        None
+    }
+}
+
+/// The number that a value is, 0 where there is none: a number never stands in a subnode.
+pub fn number_told(glance: &Glance) -> u32
+    ensures { (id : ℕ) (props : List Val) → IsTold id props (Some glance.now) → result ≡ number_of id props }
+{
+    match bytes_told(glance, PTYP_INTEGER_32) {
+        Some(bytes) => u32_at(bytes, 0),
+        None => 0,
+    }
+}
+
+/// The text that is told, empty where there is none.
+fn text_in(alloc: Global, glance: &Glance) -> Result<Units, AllocError>
+    ensures { IfOk result (λ units. units ≡ units_in (unwrap_or (told_bytes 0x001F glance.now) [])) }
+{
+    match bytes_told(glance, PTYP_STRING) {
+        Some(bytes) => units_of_bytes(alloc, bytes),
+        None => Ok(Units::from_vec(Vec::new(alloc))),
+    }
+}
+
+/// The text that a value is, empty where there is none, or `None` where it stands in a subnode.
+pub fn text_told(alloc: Global, glance: &Glance) -> Result<Option<Units>, AllocError>
+    ensures { IfOk result (λ told. (id : ℕ) (props : List Val) → IsTold id props (Some glance.now) → TellsText glance.now (text_of id props) told) }
+{
+    match glance {
+        Glance::Below => Ok(None),
+        _ => Ok(Some(text_in(alloc, glance)?)),
+    }
+}
+
+/// Whether the message at an id is unread. Its subnodes aren't looked at.
+pub fn unread_at<W: Outside, K: NodeReader<W>>(
+    alloc: Global,
+    keeper: &mut K,
+    w: &mut W,
+    nid: Nid,
+) -> Result<bool, Stop>
+    ensures answer { (T : Tree) → Shown (K.holds keeper.old (W.view w.old)) (K.last keeper.old) T → Says (λ b. b) (unread_of (object_at T nid.bits)) result }
+    ensures looks { Looks (K.holds keeper.old (W.view w.old)) (K.holds keeper.new (W.view w.new)) (K.last keeper.old) (K.last keeper.new) (K.room keeper.old) (K.room keeper.new) (W.view w.old) (W.view w.new) }
+    ensures cause { IfErr result (IsCaused K.has_disk (W.view w.old).disk_faults (W.view w.new).disk_faults) }
+{
+    let node = message_content(alloc, keeper, w, nid)?;
+    let flags = glance_of(alloc, &node, PID_TAG_MESSAGE_FLAGS.id)?;
+    Ok(number_told(&flags) % 2 != 1)
+}

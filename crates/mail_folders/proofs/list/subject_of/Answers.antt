@@ -1,0 +1,6 @@
+use Rattle.mail_folders.proofs.list.subject_of.Goals as goal
+
+pub returns-in-Some-clause-answer : goal.returns-in-Some-clause-answer
+returns-in-Some-clause-answer g c = λ T s m here told.
+    let tells = rw c.in-Some.is at c.in_ok-told.ensures in
+    tells 0x0037 m.props told

@@ -1,0 +1,15 @@
+pub mod RowLaws
+pub mod ListLaws
+pub mod FollowLaws
+pub mod ScopeLaws
+pub mod BelowLaws
+pub mod TouchLaws
+pub mod SettleLaws
+pub mod FreshLaws
+pub mod LeaveLaws
+pub mod CommandLaws
+pub mod PathWalks
+pub mod SearchOrder
+pub mod AskLaws
+pub mod ThereLaws
+pub mod CountLaws

@@ -1,0 +1,35 @@
+-- What is known of the messages of nodes is so of the tree that they show.
+use Rattle.std.proofs.Common.{◌≡◌, inr, ◌∙◌, ℕ, ◌%◌, Option, None, Some, IsSome, is_some, arith, refl, sym, ap}
+use Rattle.std.proofs.lemmas.Bool.{false≢true}
+use Rattle.mapi_values.specs.Messages.{Mes}
+use Rattle.mail_objects.specs.declared.object.Object.{Object}
+use Rattle.mail_objects.specs.declared.object.Object.TheVariants.{Context, Table, Message}
+use Rattle.mail_tree.specs.Flags.{AreFlags, FlagList}
+use Rattle.mail_tree.specs.Standing.{HasMail}
+use Rattle.mail_tree.specs.Tree.{Tree, object_at}
+use Rattle.node_port.specs.Nodes.{Nodes}
+use Rattle.tree_look.specs.Seeing.{AreListed}
+use Rattle.tree_shown.specs.Shows.{Shows}
+use Rattle.tree_shown.proofs.Made.{context_low, table_id}
+use Rattle.tree_shown.proofs.One.{is_at}
+use Rattle.tree_shown.proofs.Owned.{IsAt, one_mail_at}
+
+-- what stands at the id of a message that the nodes have is that message
+message_at : (N : Nodes) (q : ℕ) (o : Object) (M : Mes) → IsAt N q o → q % 32 ≡ 4 → HasMail N q M → o ≡ Message M
+message_at N q (Context c) M at four has = let low = context_low q c at.1 in absurd (omega arith)
+message_at N q (Table t) M at four has = let high = table_id q t at.1 in absurd (omega arith)
+message_at N q (Message m) M at four has = ap (λ (x : Mes). Message x) (one_mail_at N q m M at.0 has)
+
+-- a message that a plain folder lists belongs to the tree
+owned_message : (N : Nodes) (T : Tree) (q : ℕ) (M : Mes) → Shows N T → q % 32 ≡ 4 → HasMail N q M → IsSome (object_at T q) → object_at T q ≡ Some (Message M)
+owned_message N T q M s four has some = go (object_at T q) refl
+  where
+    go : (x : Option Object) → object_at T q ≡ x → object_at T q ≡ Some (Message M)
+    go None e = absurd (false≢true (sym (ap is_some e) ∙ some))
+    go (Some o) e = e ∙ ap Some (message_at N q o M (is_at N T s q o e) four has)
+
+pub shows_flags : (N : Nodes) (T : Tree) (flags : FlagList) → Shows N T → AreListed N T.places flags → AreFlags (object_at T) flags
+shows_flags N T flags s listed = λ m unread known.
+    let l = listed m unread known in
+    let some : IsSome (object_at T m) = (s.owned m).1 (inr (inr (l.0, l.1, inr (inr (inr l.2))))) in
+    (l.3.0, owned_message N T m l.3.0 s l.2.3 l.3.1 some, l.3.2)
