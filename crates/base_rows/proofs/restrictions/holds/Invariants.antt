@@ -1,4 +1,4 @@
-use Rattle.base_tests.proofs.restr_eval_test.holds.Given as goal
+use Rattle.base_rows.proofs.restrictions.holds.Given as goal
 
 -- the ledger of the steps is the one that is opened here
 abbrev pub ghosts-holds_over : goal.ghosts-holds_over
