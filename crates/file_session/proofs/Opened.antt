@@ -25,15 +25,16 @@ use Rattle.tree_look.specs.Seeing.{AreListed}
 use Rattle.tree_shown.proofs.Known.{shows_flags}
 use Rattle.tree_shown.proofs.Made.{shows_tree}
 use Rattle.store_session.specs.Carrying.{Has}
+use Rattle.store_session.specs.Disks.{Effects}
 use Rattle.store_session.specs.Session.{StoreSessionEnds}
-use Rattle.store_session.specs.Turns.{IsReached, texts, tree_after}
+use Rattle.store_session.specs.Turns.{IsReached, StoreTurn, disk_after, texts, tree_after}
 use Rattle.store_session.specs.declared.session.SessionEnd.{SessionEnd}
 use Rattle.store_session.specs.declared.session.SessionEnd.TheVariants.{Disk, Changed, Memory}
-use Rattle.file_session.specs.FileRun.{EndsOpened, EndsUnopened, FileRunEnds, ReadsAs, front_of}
+use Rattle.file_session.specs.FileRun.{EndsOpened, EndsUnopened, FileRunEnds, ReadsAs, file_effects, front_of}
 use Rattle.file_session.specs.Stops.{unopened}
 use Rattle.file_session.specs.declared.run.FileRun.{FileRun}
 use Rattle.file_session.specs.declared.run.FileRun.TheVariants.{Refused, Ended}
-use Rattle.file_session.proofs.Good.{AllGood, IsGood, good_after, good_both, reached_good, run_good}
+use Rattle.file_session.proofs.Good.{AllGood, IsGood, good_after, good_both, reached_good, run_good, through_good}
 
 -- a file that stands for a good tree is read as it
 pub reads_good : (found : List ℕ) (c : Image) (T : Tree) → StandsFor (Stands found c) T → IsGood T → ReadsAs found c T
@@ -41,7 +42,7 @@ reads_good found c T stands h = record { stands = stands; whole = h.whole; is_fo
 
 -- ---- a session that began behind an opening
 
-module _ (found : List ℕ) (rests : Image → Type 0) (first mid now : World) (T : Tree) (end : SessionEnd) (good : IsGood T)
+module _ (effects : Effects) (found : List ℕ) (rests : Image → Type 0) (opened : Image) (first mid now : World) (T : Tree) (end : SessionEnd) (good : IsGood T)
     (told : now.tells → mid.tells)
     (input : mid.tells → mid.input ≡ first.input)
     (said : mid.tells → mid.here.said ≡ first.here.said)
@@ -50,7 +51,7 @@ module _ (found : List ℕ) (rests : Image → Type 0) (first mid now : World) (
   stands c U = StandsFor (Stands found c) U
 
   -- before the first line
-  at_start : (turns : List (List ℕ × Tree)) (c : Image) → (c.said ≡ first.here.said) × ReadsAs found c T → IsReached (ReadsAs found) first.here.said T turns c
+  at_start : (turns : List StoreTurn) (c : Image) → (c.said ≡ first.here.said) × ReadsAs found c T → IsReached (ReadsAs found) first.here.said T turns c
   at_start turns c is = record {
     done = [];
     left = turns;
@@ -60,11 +61,11 @@ module _ (found : List ℕ) (rests : Image → Type 0) (first mid now : World) (
     said = is.0 ∙ sym (append-nil first.here.said);
   }
 
-  pub session_behind : StoreSessionEnds (λ c U. StandsFor (Stands found c) U) rests mid now T end → StoreSessionEnds (ReadsAs found) rests first now T end
+  pub session_behind : StoreSessionEnds effects (λ c U. StandsFor (Stands found c) U) rests opened mid now T end → StoreSessionEnds effects (ReadsAs found) rests opened first now T end
   session_behind s =
-      let turns_good : AllGood s.turns = run_good T s.answered s.turns good s.run in
+      let turns_good : AllGood s.turns = run_good effects now.tells T opened s.answered s.turns good s.run in
       let after_good : IsGood (tree_after T s.turns) = good_after T s.turns good turns_good in
-      let last_good : AllGood s.last = run_good (tree_after T s.turns) s.hand s.last after_good s.in_hand in
+      let last_good : AllGood s.last = run_good effects ⊥ (tree_after T s.turns) (disk_after opened s.turns) s.hand s.last after_good s.in_hand in
       let all_good : AllGood (s.turns ++ s.last) = good_both s.turns s.last turns_good last_good in
       let begins : LeavesOnly first mid (IsReached (ReadsAs found) first.here.said T (s.turns ++ s.last)) =
       weaker (IsReached (ReadsAs found) first.here.said T (s.turns ++ s.last)) opening (λ c t is. at_start (s.turns ++ s.last) c is) in
@@ -83,6 +84,8 @@ module _ (found : List ℕ) (rests : Image → Type 0) (first mid now : World) (
         last = s.last;
         run = s.run;
         in_hand = s.in_hand;
+        stand = through_good (λ c U. StandsFor (Stands found c) U) (ReadsAs found) (λ c U. reads_good found c U) T opened s.turns good turns_good s.stand;
+        disk_is = s.disk_is;
         front = λ t. let f = s.front t in (f.0, f.1 ∙ ap (λ l. l ++ take f.0 (texts s.turns)) (said (told t)));
         whole = λ no t. s.whole no t ∙ ap (λ l. l ++ texts s.turns) (said (told t));
         images = continues begins s.images
@@ -113,16 +116,16 @@ Leaving first mid = (found : List ℕ) (N : Nodes) (last : List ℕ) → (first.
 
 -- ---- an opening that gave a keeper
 
-pub ends_opened : (knows : Header → List ℕ → Type 0) (bytes : List ℕ) (header : Header) (known : Known) (first mid now : World) (end : SessionEnd)
+pub ends_opened : (knows : Header → List ℕ → Type 0) (becomes : List ℕ → List ℕ → Type 0) (bytes : List ℕ) (header : Header) (known : Known) (first mid now : World) (end : SessionEnd)
     → IsOpened knows bytes header first.here mid known
     → now.tells → (now.tells → mid.tells)
-    → (mid.tells → mid.input ≡ first.input)
+    → (mid.tells → mid.input ≡ first.input) → SameStore first.here mid.here
     → Settled mid → (mid.tells → IsShut mid.here.side)
     → Leaving first mid
     → ((T : Tree) → Has (Holds knows bytes header mid) header.indexes known (λ image. IsShut image.side) mid T → (true ≡ true → now.tells)
-    → StoreSessionEnds (λ c U. StandsFor (Stands bytes c) U) (λ image. IsShut image.side) mid now T end)
-    → EndsOpened first now end
-ends_opened knows bytes header known first mid now end o tells told input settled shut leaving session =
+    → StoreSessionEnds (file_effects becomes) (λ c U. StandsFor (Stands bytes c) U) (λ image. IsShut image.side) mid.here mid now T end)
+    → EndsOpened becomes first now end
+ends_opened knows becomes bytes header known first mid now end o tells told input store settled shut leaving session =
     let got = shows_tree o.nodes known.places header.indexes o.tree in
     let T : Tree = got.0 in
     let same_last : T.last ≡ header.indexes = got.2 in
@@ -137,12 +140,14 @@ ends_opened knows bytes header known first mid now end o tells told input settle
       settled = settled;
       at_rest = shut;
     } in
-    let ends : StoreSessionEnds (ReadsAs bytes) (λ image. IsShut image.side) first now T end =
-    session_behind bytes (λ image. IsShut image.side) first mid now T end good told input (λ t. (opening.here t).0) opening (session T has (λ e. tells)) in
+    let ends : StoreSessionEnds (file_effects becomes) (ReadsAs bytes) (λ image. IsShut image.side) mid.here first now T end =
+    session_behind (file_effects becomes) bytes (λ image. IsShut image.side) mid.here first mid now T end good told input (λ t. (opening.here t).0) opening (session T has (λ e. tells)) in
     record {
       start = T;
       reads = subst (λ f. ReadsAs f first.here T) o.front (reads_good bytes first.here T (shows first.here stands) good);
-      session = subst (λ f. StoreSessionEnds (ReadsAs f) (λ image. IsShut image.side) first now T end) o.front ends;
+      opened = mid.here;
+      store = store;
+      session = subst (λ f. StoreSessionEnds (file_effects becomes) (ReadsAs f) (λ image. IsShut image.side) mid.here first now T end) o.front ends;
     }
 
 -- ---- one that gave none

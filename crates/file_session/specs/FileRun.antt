@@ -2,13 +2,15 @@
 use Rattle.std.specs.Prelude.{◌≡◌, ◌⊎◌, List, ℕ, take}
 use Rattle.pst_outside.specs.World.{Image, World}
 use Rattle.pst_outside.specs.Calls.{LeavesOnly}
-use Rattle.gate_file.specs.Gate.{IsShut}
+use Rattle.gate_file.specs.Gate.{IsShut, SameStore}
 use Rattle.file_blocks.specs.Blocks.{file_of}
 use Rattle.lays_kept.specs.Stands.{Stands}
+use Rattle.pst_commit.specs.Keeping.{HasRoom, IsSaved}
 use Rattle.mail_tree.specs.Found.{IsFound}
 use Rattle.mail_tree.specs.Tree.{Tree}
 use Rattle.mail_tree.specs.Whole.{IsWhole}
 use Rattle.mail_store.specs.Planning.{StandsFor}
+use Rattle.store_session.specs.Disks.{Effects, effects_of}
 use Rattle.store_session.specs.Session.{StoreSessionEnds}
 use Rattle.store_session.specs.declared.session.SessionEnd.{SessionEnd}
 use Rattle.store_session.specs.declared.session.SessionEnd.TheVariants.{Disk, Memory}
@@ -30,12 +32,19 @@ pub record EndsUnopened (first now : World) (end : SessionEnd) : Type 0 where
   pub said : now.tells → now.here.said ≡ first.here.said
   pub images : (T : Tree) → ReadsAs (front_of first.here) first.here T → LeavesOnly first now (λ c. (c.said ≡ first.here.said) × ReadsAs (front_of first.here) c T)
 
--- The files were opened as a tree, and this is how the session over it ended: its replies are those of a run from the tree, and a stop at any moment leaves files that are read as the tree after some of its turns, among them each whose reply had begun.
-pub record EndsOpened (first now : World) (end : SessionEnd) : Type 0 where
+-- What is told of files from turn to turn: their room, what a commit makes of their bytes, and what a save does.
+abbrev pub file_effects : (List ℕ → List ℕ → Type 0) → Effects
+file_effects becomes = effects_of HasRoom (λ old new. becomes (file_of old) (file_of new)) IsSaved
+
+-- The files were opened as a tree, and this is how the session over it ended: its replies are those of a run from the tree, each turn of which takes the files from what they were to what they are, and a stop at any moment leaves files that are read as the tree after some of its turns, among them each whose reply had begun. `becomes` says what a commit makes of a file.
+pub record EndsOpened (becomes : List ℕ → List ℕ → Type 0) (first now : World) (end : SessionEnd) : Type 0 where
   pub start : Tree
   pub reads : ReadsAs (front_of first.here) first.here start
-  pub session : StoreSessionEnds (ReadsAs (front_of first.here)) (λ image. IsShut image.side) first now start end
+  -- the disk that the first line finds: the store is as it was
+  pub opened : Image
+  pub store : SameStore first.here opened
+  pub session : StoreSessionEnds (file_effects becomes) (ReadsAs (front_of first.here)) (λ image. IsShut image.side) opened first now start end
 
 -- how a session over a file ends that wasn't refused
-abbrev pub FileRunEnds : World → World → SessionEnd → Type 0
-FileRunEnds first now end = EndsUnopened first now end ⊎ EndsOpened first now end
+abbrev pub FileRunEnds : (List ℕ → List ℕ → Type 0) → World → World → SessionEnd → Type 0
+FileRunEnds becomes first now end = EndsUnopened first now end ⊎ EndsOpened becomes first now end

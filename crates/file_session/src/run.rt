@@ -48,8 +48,8 @@ fn unopened(stop: FileStop) -> FileRun
 pub fn run_file<W: Outside, S: FoundStore<W> + Drop>(alloc: Global, world: &mut W) -> FileRun
     ensures refused { (refusal : Refusals) → result ≡ FileRun.Refused refusal → Untouched (W.view world.old) (W.view world.new)
         × ((W.view world.new).tells → IsFileRefused (W.view world.old).here refusal × ((places : List FolderPlace) → ReadsFresh (W.view world.old).here places → ⊥)) }
-    // The replies are those of a run, and a stop at any moment leaves the tree after some of its turns.
-    ensures ends { (end : End) → result ≡ FileRun.Ended end → Settled (W.view world.old) → (W.view world.new).tells → FileRunEnds (W.view world.old) (W.view world.new) end }
+    // The replies are those of a run from the file as it was, and a stop at any moment leaves the tree after some of its turns.
+    ensures ends { (end : End) → result ≡ FileRun.Ended end → Settled (W.view world.old) → (W.view world.new).tells → FileRunEnds S.becomes (W.view world.old) (W.view world.new) end }
     ensures cause { (end : End) → result ≡ FileRun.Ended end → HasCause true (W.view world.old) (W.view world.new) end }
     ensures told { (W.view world.new).tells → (W.view world.old).tells }
     ensures counts { NeverFall (W.view world.old) (W.view world.new) }
