@@ -1,5 +1,5 @@
 -- Every tree of a run over a file is whole, and an opening finds it.
-use Rattle.std.proofs.Common.{◌≡◌, ℕ, List, [], ◌∷◌, ◌++◌, Option, None, Some, Result, Ok, Err, IfOk, inl, inr, refl, subst, sym, ap}
+use Rattle.std.proofs.Common.{◌≡◌, ℕ, List, [], ◌∷◌, ◌++◌, None, Some, Result, Ok, Err, IfOk, inl, inr, refl, subst, sym}
 use Rattle.std.proofs.lemmas.Option.{same_Some}
 use Rattle.pst_outside.specs.World.{Image}
 use Rattle.command_text.specs.declared.command.Command.{Command}
@@ -17,7 +17,7 @@ use Rattle.mail_laws.proofs.FoundCommands.{stays_found}
 use Rattle.mail_laws.proofs.Strays.{whole_after}
 use Rattle.line_server.specs.Lines.{Piece, further, line, too_long}
 use Rattle.store_session.specs.Disks.{Effects}
-use Rattle.store_session.specs.Run.{Answers, Carries, Hinders, Run, Steps}
+use Rattle.store_session.specs.Run.{Answers, Carries, Run, Steps}
 use Rattle.store_session.specs.Turns.{IsReached, StandThrough, StoreTurn, tree_after}
 
 -- the tree is whole, and an opening finds it

@@ -1,5 +1,5 @@
 -- What the files of a new store stand for.
-use Rattle.std.proofs.Common.{◌≡◌, ◌∙◌, ℕ, Bool, List, [], length, ◌+◌, ◌≤◌, ◌^◌, ◌-◌, min, take, arith, inl, inr, refl, sym, ap, subst}
+use Rattle.std.proofs.Common.{◌≡◌, ◌∙◌, ℕ, Bool, List, length, ◌≤◌, arith, inl, inr, refl, sym, ap, subst}
 use Rattle.std.specs.FinMap as map
 use Rattle.std.specs.Ordering.{nat_cmp}
 use Rattle.pst_outside.specs.World.{Image, World}

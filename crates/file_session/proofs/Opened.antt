@@ -1,18 +1,17 @@
 -- From the opening to the end of a session over a file.
-use Rattle.std.proofs.Common.{◌≡◌, ◌∙◌, ℕ, Bool, true, List, [], ◌∷◌, ◌++◌, length, take, refl, sym, ap, subst, inl, inr}
+use Rattle.std.proofs.Common.{◌≡◌, ◌∙◌, ℕ, true, List, [], ◌++◌, take, refl, sym, ap, subst, inl, inr}
 use Rattle.std.proofs.lemmas.List.{append-nil}
 use Rattle.pst_outside.specs.World.{Image, World}
 use Rattle.pst_outside.specs.Calls.{LeavesOnly, Settled, Untouched}
 use Rattle.pst_outside.proofs.Moments.{continues, weaker}
 use Rattle.pst_header.specs.declared.header.Header.{Header}
 use Rattle.gate_file.specs.Gate.{IsShut, SameStore}
-use Rattle.file_blocks.specs.Blocks.{file_of}
 use Rattle.lays_kept.specs.Stands.{Stands}
 use Rattle.node_port.specs.Nodes.{Nodes}
 use Rattle.pst_commit.specs.Commit.{LeavesNodes}
 use Rattle.pst_commit.specs.Keeping.{Holds}
-use Rattle.mail_store.specs.Planning.{StandsFor, Stores}
-use Rattle.mail_tree.specs.Tree.{Shown, Tree, object_at}
+use Rattle.mail_store.specs.Planning.{StandsFor}
+use Rattle.mail_tree.specs.Tree.{Tree, object_at}
 use Rattle.mail_tree.specs.Flags.{AreFlags}
 use Rattle.mail_tree.specs.declared.known.Known.{Known}
 use Rattle.mail_tree.specs.declared.places.FolderPlace.{FolderPlace}
@@ -30,7 +29,7 @@ use Rattle.store_session.specs.Session.{StoreSessionEnds}
 use Rattle.store_session.specs.Turns.{IsReached, StoreTurn, disk_after, texts, tree_after}
 use Rattle.store_session.specs.declared.session.SessionEnd.{SessionEnd}
 use Rattle.store_session.specs.declared.session.SessionEnd.TheVariants.{Disk, Changed, Memory}
-use Rattle.file_session.specs.FileRun.{EndsOpened, EndsUnopened, FileRunEnds, ReadsAs, file_effects, front_of}
+use Rattle.file_session.specs.FileRun.{EndsOpened, EndsUnopened, ReadsAs, file_effects, front_of}
 use Rattle.file_session.specs.Stops.{unopened}
 use Rattle.file_session.specs.declared.run.FileRun.{FileRun}
 use Rattle.file_session.specs.declared.run.FileRun.TheVariants.{Refused, Ended}

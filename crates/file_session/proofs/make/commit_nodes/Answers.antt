@@ -1,4 +1,4 @@
-use Rattle.std.proofs.Common.{◌≡◌, ◌∙◌, true, ap, sym, subst}
+use Rattle.std.proofs.Common.{◌∙◌, true, ap, sym, subst}
 use Rattle.pst_outside.proofs.Moments.{stays_settled}
 use Rattle.gate_file.specs.Gate.{IsShut}
 use Rattle.node_port.specs.Nodes.{changed, no_nodes}

@@ -1,4 +1,4 @@
-use Rattle.std.proofs.Common.{◌≡◌, ◌∙◌, inl, inr}
+use Rattle.std.proofs.Common.{◌∙◌}
 use Rattle.node_port.specs.Nodes.{changed, no_nodes}
 use Rattle.file_session.proofs.Making.{made_reads, none_there, rose_since}
 use Rattle.file_session.proofs.make.make_file.Goals as goal

@@ -1,5 +1,4 @@
-use Rattle.std.proofs.Common.{◌≡◌, ap, sym, subst, inl, inr, ◌∙◌}
-use Rattle.store_session.specs.declared.session.SessionEnd.{SessionEnd as End}
+use Rattle.std.proofs.Common.{sym, subst, inl, inr, ◌∙◌}
 use Rattle.file_session.specs.FileRun.{FileRunEnds}
 use Rattle.file_session.proofs.Opened.{ends_opened, ends_unopened, refused_is, same_end}
 use Rattle.file_session.proofs.run.run_file.Goals as goal
