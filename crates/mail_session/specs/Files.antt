@@ -11,6 +11,7 @@ use Rattle.file_open.specs.declared.stops.FileRefusal.{FileRefusal}
 use Rattle.store_session.specs.Session.{HasCause}
 use Rattle.store_session.specs.declared.session.SessionEnd.{SessionEnd}
 use Rattle.store_session.specs.declared.session.SessionEnd.TheVariants as ends
+use Rattle.file_planner.specs.Becomes.{IsMade}
 use Rattle.file_session.specs.FileRun.{FileRunEnds, ReadsAs, front_of}
 use Rattle.mail_session.specs.Texts.{file_line, made_line, not_empty_line}
 use Rattle.mail_session.specs.Worlds.{KeepsDisk}
@@ -41,9 +42,19 @@ pub record EndsRefused (old new : World) (status : Status) : Type 0 where
   pub whole : status ≡ Refused → new.tells → new.here.said ≡ old.here.said ++ file_line refusal
   pub silent : status ≡ Memory → new.tells → new.here.said ≡ old.here.said
 
--- How a call of `run FILE` ends, over any world: the files were refused; or else the status has its cause, and where the world tells and nothing was pending at the start, the session over them ended as `FileRunEnds` says.
+-- How a call of `run FILE` ends, over any world: the files were refused; or else the status has its cause, and where the world tells and nothing was pending at the start, the session over them ended as `FileRunEnds` says, each of its commits making of the file what `IsMade` says.
 abbrev pub RunEnds : World → World → Status → Type 0
-RunEnds old new status = EndsRefused old new status ⊎ ((end : SessionEnd) × (status ≡ status_of_end end) × HasCause true old new end × (Settled old → new.tells → FileRunEnds old new end))
+RunEnds old new status = EndsRefused old new status ⊎ ((end : SessionEnd) × (status ≡ status_of_end end) × HasCause true old new end × (Settled old → new.tells → FileRunEnds IsMade old new end))
+
+-- no count of faults rose
+pub record NoneFailed (old new : World) : Type 0 where
+  pub input : Rose old.in_faults new.in_faults → ⊥
+  pub output : Rose old.out_faults new.out_faults → ⊥
+  pub disk : Rose old.disk_faults new.disk_faults → ⊥
+
+-- Over files that are read as a tree with numbers left, while no device fails, a call of `run FILE` is done, or has answered as many lines as a session takes, or found no memory before it took one.
+abbrev pub EndsWell : World → World → Status → Type 0
+EndsWell old new status = Settled old → new.tells → (places : List FolderPlace) → ReadsFresh old.here places → NoneFailed old new → (status ≡ Done) ⊎ ((status ≡ Lines) ⊎ (status ≡ Memory))
 
 -- ---- new
 
