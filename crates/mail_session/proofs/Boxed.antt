@@ -1,34 +1,31 @@
 -- What plans and commits do to a store in memory.
-use Rattle.std.proofs.Common.{arith, IfOk, OnOk, OnErr, ◌≡◌, ◌<◌, ◌^◌, ℕ, List, [], Bool, Option, None, Some, Result, Ok, Err, false, true, refl, sym, subst, ap, ◌∙◌}
+use Rattle.std.proofs.Common.{IfOk, OnOk, OnErr, ◌≡◌, ℕ, List, [], Option, None, Some, Result, Ok, Err, false, true, refl, sym, ap, ◌∙◌}
 use Rattle.std.proofs.lemmas.Bool.{false≢true}
 use Rattle.command_text.specs.declared.command.Command.{Command}
 use Rattle.command_text.specs.declared.reply.CommandRefusal.{CommandRefusal}
 use Rattle.command_text.specs.declared.reply.CommandRefusal.TheVariants.{Full, Ids}
 use Rattle.command_text.specs.declared.reply.LastLine.TheVariants as last
 use Rattle.command_text.specs.Replies.{text}
-use Rattle.node_port.specs.Nodes.{Nodes, changed, no_nodes, node_at}
+use Rattle.node_port.specs.Nodes.{changed, no_nodes, node_at}
 use Rattle.node_port.specs.Slots.{Keeps}
-use Rattle.node_port.specs.Stops.{Room, ample}
+use Rattle.node_port.specs.Stops.{ample}
 use Rattle.node_port.specs.declared.map_keeper.MapKeeper.{MapKeeper}
 use Rattle.pst_base.specs.declared.ids.Nid.{Nid}
 use Rattle.pst_outside.specs.World.{World}
 use Rattle.node_port.specs.declared.node.NodeRec.{NodeRec}
-use Rattle.mail_draft.proofs.Looking.{shown_still}
-use Rattle.mail_draft.specs.Answers.{IsRefusal, Looks}
-use Rattle.mail_draft.specs.declared.stop.Stop.{Stop}
+use Rattle.mail_draft.specs.Answers.{Looks}
 use Rattle.mail_draft.specs.declared.stop.Stop.TheVariants.{Refused}
 use Rattle.mail_store.proofs.FlagLaws.{nothing_known}
 use Rattle.mail_store.proofs.StoreLaws.{stores_still}
-use Rattle.mail_store.specs.Planning.{IsHindered, Plans, PlansTo, SameKnown, Stores}
+use Rattle.mail_store.specs.Planning.{IsHindered, Plans, SameKnown, Stores}
 use Rattle.mail_store.specs.declared.store.Store.{Store}
 use Rattle.mail_laws.proofs.Starting.{starts_whole}
 use Rattle.mail_laws.proofs.Strays.{whole_after}
-use Rattle.mail_tree.specs.declared.places.FolderPlace.{FolderPlace}
 use Rattle.mail_tree.specs.Changing.{Answer, Changed as Changes}
 use Rattle.mail_tree.specs.Folders.{Outcome, replied}
 use Rattle.mail_tree.specs.Start.{IsStart, start_last, start_places}
-use Rattle.mail_tree.specs.Step.{after, outcome, step, stepped}
-use Rattle.mail_tree.specs.Tree.{Shown, StandsAt, Tree, object_at}
+use Rattle.mail_tree.specs.Step.{after, outcome, stepped}
+use Rattle.mail_tree.specs.Tree.{StandsAt, Tree, object_at}
 use Rattle.mail_tree.specs.Whole.{Fine, IsWhole}
 use Rattle.mail_session.specs.Boxes.{DoesStep, Holds, NAME, StaysAs, is_full}
 use Rattle.mail_session.specs.Run.{Steps, refused}

@@ -1,7 +1,7 @@
 -- How a session goes on from call to call without touching the disk.
-use Rattle.std.proofs.Common.{List, ◌≡◌, ◌⊎◌, ◌∙◌, ◌≤◌, ℕ, inl, inr, refl, arith, subst, sym}
+use Rattle.std.proofs.Common.{List, ◌∙◌, ℕ, inl, inr, refl, arith, subst, sym}
 use Rattle.pst_outside.specs.World.{Image, World, SameDisk}
-use Rattle.pst_outside.specs.Calls.{NeverFall, NoMore, Elapses, LeavesOnly, StaysButInput, StaysButSaid, SaysSome, Untouched}
+use Rattle.pst_outside.specs.Calls.{NeverFall, LeavesOnly, StaysButSaid, SaysSome, Untouched}
 use Rattle.pst_outside.proofs.Moments.{goes_on, continues, at_end, started}
 use Rattle.line_server.proofs.Hearing.{falls_along}
 use Rattle.line_server.specs.Worlds.{Listens, SaysFront}

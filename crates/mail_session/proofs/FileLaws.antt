@@ -1,5 +1,5 @@
 -- How `run` and `new` over a file end, put together from their calls and from what they say.
-use Rattle.std.proofs.Common.{◌≡◌, ◌⊎◌, ◌∙◌, ◌++◌, ◌≤◌, ℕ, List, take, inl, inr, refl, sym, ap, subst, arith}
+use Rattle.std.proofs.Common.{◌≡◌, ◌⊎◌, ◌∙◌, ◌++◌, ◌≤◌, ℕ, true, List, take, inl, inr, refl, sym, ap, subst, arith}
 use Rattle.std.proofs.lemmas.List.{append-nil}
 use Rattle.pst_outside.specs.World.{Image, SameDisk, World}
 use Rattle.pst_outside.specs.Calls.{NeverFall, Rose, Settled, Untouched}
@@ -7,22 +7,26 @@ use Rattle.pst_commit.specs.Laws.{stands_on}
 use Rattle.lays_kept.specs.Stands.{Stands}
 use Rattle.line_server.proofs.Hearing.{falls_along}
 use Rattle.empty_file.specs.Empty.{HasBytes}
-use Rattle.mail_store.specs.Planning.{StandsFor}
 use Rattle.mail_tree.specs.Start.{IsStart}
 use Rattle.mail_tree.specs.Tree.{Tree}
 use Rattle.mail_tree.specs.declared.places.FolderPlace.{FolderPlace}
 use Rattle.file_open.specs.Opening.{IsFileRefused, ReadsFresh}
 use Rattle.file_open.specs.declared.stops.FileRefusal.{FileRefusal}
-use Rattle.file_session.specs.FileRun.{ReadsAs, front_of}
+use Rattle.file_planner.specs.Becomes.{IsMade}
+use Rattle.store_session.specs.Session.{HasCause}
+use Rattle.store_session.specs.declared.session.SessionEnd.{SessionEnd}
+use Rattle.store_session.specs.declared.session.SessionEnd.TheVariants as ends
+use Rattle.file_session.specs.FileRun.{FileRunEnds, ReadsAs, front_of}
 use Rattle.file_session.specs.declared.make.FileMade.{FileMade}
 use Rattle.file_session.specs.declared.make.FileMade.TheVariants as made
-use Rattle.mail_session.specs.Files.{EndsRefused, NewEnds}
+use Rattle.mail_session.specs.Files.{EndsRefused, EndsWell, NewEnds, NoneFailed, RunEnds, status_of_end}
 use Rattle.mail_session.specs.Info.{Says}
+use Rattle.mail_session.specs.Statuses.{EndsAs}
 use Rattle.mail_session.specs.Texts.{file_line, made_line, not_empty_line}
 use Rattle.mail_session.specs.Worlds.{KeepsDisk}
 use Rattle.mail_session.specs.declared.exit.ChangedAt.{ChangedAt}
 use Rattle.mail_session.specs.declared.exit.Status.{Status}
-use Rattle.mail_session.specs.declared.exit.Status.TheVariants.{Done, Refused, Disk, Output, Memory, Changed}
+use Rattle.mail_session.specs.declared.exit.Status.TheVariants.{Done, Refused, Disk, Output, Memory, Lines, Changed}
 use Rattle.mail_session.proofs.Disks.{keeps_along, keeps_started, keeps_untouched}
 
 -- ---- statuses that differ
@@ -245,3 +249,35 @@ pub none_changed : (r : FileMade) (ib stored computed : ℕ) → (r ≡ made.Not
 none_changed r ib stored computed (inl n) is = changed_not_empty ib stored computed (sym n ∙ is)
 none_changed r ib stored computed (inr (inl d)) is = changed_disk ib stored computed (sym d ∙ is)
 none_changed r ib stored computed (inr (inr m)) is = changed_memory ib stored computed (sym m ∙ is)
+
+-- ---- `run` comes to its end
+
+end_not_disk : (ib stored computed : ℕ) → ends.Changed ib stored computed ≡ ends.Disk → ⊥
+end_not_disk ib stored computed is = cc
+
+end_not_memory : (ib stored computed : ℕ) → ends.Changed ib stored computed ≡ ends.Memory → ⊥
+end_not_memory ib stored computed is = cc
+
+-- nothing changes under a session
+end_unchanged : (old new : World) (ib stored computed : ℕ) → FileRunEnds IsMade old new (ends.Changed ib stored computed) → ⊥
+end_unchanged old new ib stored computed (inl unopened) = elim unopened.ends [ inl e ↦ end_not_disk ib stored computed e | inr e ↦ end_not_memory ib stored computed e ]
+end_unchanged old new ib stored computed (inr opened) = opened.session.not_changed ib stored computed refl
+
+-- a session that ended so while no device failed is done, or it is at the last line, or found no memory
+ends_calmly : (old new : World) (end : SessionEnd) (status : Status) → status ≡ status_of_end end → HasCause true old new end → FileRunEnds IsMade old new end → NoneFailed old new
+    → (status ≡ Done) ⊎ ((status ≡ Lines) ⊎ (status ≡ Memory))
+ends_calmly old new ends.Done status is cause runs none = inl is
+ends_calmly old new ends.Input status is cause runs none = absurd (none.input cause)
+ends_calmly old new ends.Output status is cause runs none = absurd (none.output cause)
+ends_calmly old new ends.Lines status is cause runs none = inr (inl is)
+ends_calmly old new ends.Disk status is cause runs none = absurd (none.disk cause.0)
+ends_calmly old new (ends.Changed ib stored computed) status is cause runs none = absurd (end_unchanged old new ib stored computed runs)
+ends_calmly old new ends.Memory status is cause runs none = inr (inr is)
+
+ends_well : (old new : World) (status : Status) → RunEnds old new status → EndsWell old new status
+ends_well old new status (inl refused) = λ settled tells places fresh none. absurd ((refused.holds tells).1 places fresh)
+ends_well old new status (inr ended) = λ settled tells places fresh none. ends_calmly old new ended.0 status ended.1 ended.2 (ended.3 settled tells) none
+
+-- the number of a status with which it comes to its end
+pub well_as : (old new : World) (number : ℕ) → EndsAs (RunEnds old new) number → EndsAs (EndsWell old new) number
+well_as old new number is = (is.0, is.1, ends_well old new is.0 is.2)

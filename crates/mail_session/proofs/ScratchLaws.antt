@@ -1,12 +1,12 @@
 -- What the turns of a server over a mailbox are: a run of a plain tree, which leaves the disk as it was.
-use Rattle.std.proofs.Common.{◌≡◌, ◌⊎◌, ℕ, inl, inr, ap, sym, subst, refl, false, List, [], ◌∷◌, ◌++◌, arith}
+use Rattle.std.proofs.Common.{◌≡◌, ◌⊎◌, ℕ, inl, inr, ap, sym, subst, refl, false, List, [], ◌∷◌, arith}
 use Rattle.std.proofs.lemmas.Bool.{true≢false}
 use Rattle.std.proofs.lemmas.List.{append-nil}
 use Rattle.pst_outside.specs.World.{World}
 use Rattle.line_server.specs.declared.end.ServerEnd.{ServerEnd}
 use Rattle.line_server.specs.declared.end.ServerEnd.TheVariants as server_ends
 use Rattle.line_server.proofs.PieceLaws.{nothing_cuts}
-use Rattle.line_server.specs.History.{Hushes, Turn, Turns}
+use Rattle.line_server.specs.History.{Hushes, Turns}
 use Rattle.line_server.specs.Lines.{Piece, up_to_quit}
 use Rattle.line_server.specs.Server.{ServerEnds}
 use Rattle.mail_session.specs.declared.answers.NoStop.{NoStop}

@@ -46,6 +46,16 @@ pub record EndsRefused (old new : World) (status : Status) : Type 0 where
 abbrev pub RunEnds : World → World → Status → Type 0
 RunEnds old new status = EndsRefused old new status ⊎ ((end : SessionEnd) × (status ≡ status_of_end end) × HasCause true old new end × (Settled old → new.tells → FileRunEnds IsMade old new end))
 
+-- no count of faults rose
+pub record NoneFailed (old new : World) : Type 0 where
+  pub input : Rose old.in_faults new.in_faults → ⊥
+  pub output : Rose old.out_faults new.out_faults → ⊥
+  pub disk : Rose old.disk_faults new.disk_faults → ⊥
+
+-- Over files that are read as a tree with numbers left, while no device fails, a call of `run FILE` is done, or has answered as many lines as a session takes, or found no memory before it took one.
+abbrev pub EndsWell : World → World → Status → Type 0
+EndsWell old new status = Settled old → new.tells → (places : List FolderPlace) → ReadsFresh old.here places → NoneFailed old new → (status ≡ Done) ⊎ ((status ≡ Lines) ⊎ (status ≡ Memory))
+
 -- ---- new
 
 -- How a call of `new FILE NAME` ends, over any world. What is made is read as the tree of a new store of that name. Files that have bytes stay as they are, and only they are refused.

@@ -2,7 +2,7 @@
 ghost use Rattle.std.specs.Prelude.{◌≡◌, ◌↔◌, ◌⊎◌, ℕ, true, List, None, Some, IsSome};
 ghost use Rattle.mail_session.specs.Asking.{is_naming};
 ghost use Rattle.mail_session.specs.Ends.{EndsFor};
-ghost use Rattle.mail_session.specs.Files.{NewEnds, RunEnds};
+ghost use Rattle.mail_session.specs.Files.{EndsWell, NewEnds, RunEnds};
 ghost use Rattle.mail_session.specs.Words.{form_of, spelled, third_name};
 ghost use Rattle.mail_session.specs.Statuses.{EndsAs};
 ghost use Rattle.mail_session.specs.Info.{InfoEnds};
@@ -51,6 +51,8 @@ pub fn run<W: Outside, L: Ledger>(
     ensures nodes { form_of (spelled words.now) ≡ Some Form.Nodes → EndsAs (NodesEnds (W.view world.old) (W.view world.new)) result.status }
     // `run`: the replies are those of the tree that the files are read as, and a stop at any moment since the call's start leaves files that are read as the tree after some of them, among them each whose reply had begun.
     ensures run { form_of (spelled words.now) ≡ Some Form.Run → EndsAs (RunEnds (W.view world.old) (W.view world.new)) result.status }
+    // Where the files are read as a tree and no device fails, it comes to its end: each reply is then that of the tree, or says that there was no memory, no room or no number.
+    ensures complete { form_of (spelled words.now) ≡ Some Form.Run → EndsAs (EndsWell (W.view world.old) (W.view world.new)) result.status }
     // `new`: what is made is read as the tree of a new store of that name.
     ensures new { (name : List ℕ) → form_of (spelled words.now) ≡ Some Form.New → third_name (spelled words.now) ≡ Some name → EndsAs (NewEnds name (W.view world.old) (W.view world.new)) result.status }
     // `scratch`: the replies are those of a plain tree.

@@ -1,7 +1,13 @@
-use Rattle.std.proofs.Common.{◌≡◌}
+use Rattle.std.proofs.Common.{inr, refl, rules}
 use Rattle.mail_session.specs.declared.exit.Status.TheVariants.{Memory}
-use Rattle.mail_session.proofs.FileLaws.{new_unread}
+use Rattle.mail_session.proofs.FileLaws.{new_unread, well_as}
 use Rattle.mail_session.proofs.call.run.Goals as goal
 
 pub returns-in_default-clause-new : goal.returns-in_default-clause-new
 returns-in_default-clause-new g c = λ name is third. (Memory, c.exit.ensures.status, new_unread name (g.W.Outside.view c.args.world.now))
+
+pub returns-in_default-clause-complete : goal.returns-in_default-clause-complete
+returns-in_default-clause-complete g c = λ form. (Memory, c.exit.ensures.status, λ settled tells places fresh none. inr (inr refl))
+
+pub returns-clause-complete : goal.returns-clause-complete
+returns-clause-complete g c = λ form. well_as (g.W.Outside.view c.args.world.now) (g.W.Outside.view c.answer.new.world) c.exit-2.result.status (search (rules, form))

@@ -1,4 +1,3 @@
-use Rattle.std.proofs.Common.{◌≡◌}
 use Rattle.mail_session.proofs.Disks.{keeps_started, keeps_untouched}
 use Rattle.mail_session.proofs.FileLaws.{new_changed, new_failed, new_lacks, new_made, new_refused, none_changed, none_made}
 use Rattle.mail_session.proofs.files.make.Goals as goal

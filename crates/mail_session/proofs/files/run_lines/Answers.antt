@@ -1,4 +1,4 @@
-use Rattle.std.proofs.Common.{◌≡◌, ◌∙◌, inl}
+use Rattle.std.proofs.Common.{◌∙◌, inl}
 use Rattle.mail_session.proofs.FileLaws.{refused_says, refused_silent}
 use Rattle.mail_session.proofs.files.run_lines.Goals as goal
 
