@@ -168,9 +168,11 @@ REGION = 253952
 
 def room(file, size):
     """Fills the file up to where so many bytes lie within one region, behind its maps."""
-    end = 0x4400 + ((len(file) - 0x4400) // REGION + 1) * REGION
-    if len(file) + size > end:
-        file += bytes(end + 2048 - len(file))
+    begin = 0x4400 + (len(file) - 0x4400) // REGION * REGION
+    if len(file) + size > begin + REGION:
+        begin += REGION
+    if len(file) < begin + 2048:
+        file += bytes(begin + 2048 - len(file))
 
 
 class Store:

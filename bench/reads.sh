@@ -42,7 +42,7 @@ def session(folder, lines):
     return calls, took
 
 
-for size in 100, 2_000, 20_000:
+for size in 100, 2_000, 10_000:
     with tempfile.TemporaryDirectory() as folder:
         with open(f"{folder}/laid", "wb") as file:
             file.write(store({}, {FIRST + 32 * it: message(it) for it in range(size)}))
