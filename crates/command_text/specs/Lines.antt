@@ -5,10 +5,10 @@ use Rattle.value_text.specs.Forms.{value_said}
 use Rattle.value_text.specs.Hex.{hex_bytes}
 use Rattle.value_text.specs.Numbers.{magnitude}
 use Rattle.command_text.specs.declared.command.Command.{Command}
-use Rattle.command_text.specs.declared.command.Command.TheVariants.{MakeFolder, RenameFolder, MoveFolder, RemoveFolder, ListFolder, NewMessage, SetProperty, UnsetProperty, GetProperty, ListProperties, MoveMessage, CopyMessage, RemoveMessage, AddRecipient, RemoveRecipient, AddAttachment, AppendData, RemoveAttachment, FetchData, Save, Quit, NameProperty}
+use Rattle.command_text.specs.declared.command.Command.TheVariants.{MakeFolder, RenameFolder, MoveFolder, RemoveFolder, ListFolder, NewMessage, SetProperty, UnsetProperty, GetProperty, ListProperties, MoveMessage, CopyMessage, RemoveMessage, AddRecipient, RemoveRecipient, AddAttachment, AppendData, RemoveAttachment, FetchData, Save, Quit, NameProperty, MakeSearch, SetCriteria, GetCriteria}
 use Rattle.command_text.specs.declared.command.LineRefusal.{LineRefusal}
 use Rattle.command_text.specs.declared.command.LineRefusal.TheVariants.{Line, Value}
-use Rattle.command_text.specs.Words.{cut, guid_of, name_of, recipient_type, row_of, tag_of}
+use Rattle.command_text.specs.Words.{cut, guid_of, name_of, recipient_type, restriction_of, row_of, scope_of, tag_of}
 use Rattle.command_text.specs.Arguments.{◌>>=◌, one_id, two_ids, id_and_tag, id_and_name}
 
 -- mkdir: the parent's id, and the name, spaces and all
@@ -157,6 +157,30 @@ name_property rest = do
   number ← one_id words.1
   Ok (NameProperty guid number.bits)
 
+-- mksearch: the parent's id, and the name, spaces and all
+unfoldable pub make_search : List ℕ → Result Command LineRefusal
+make_search rest = do
+  given ← id_and_name rest
+  Ok (MakeSearch given.0 given.1)
+
+-- criteria: the search's id, the flags, which are written as an id is, the folders' ids, and the restriction in hex; a minus in place of one of these two keeps what stands
+unfoldable pub set_criteria : List ℕ → Result Command LineRefusal
+set_criteria rest = do
+  words ← ok_or (cut rest) Line
+  search ← one_id words.0
+  others ← ok_or (cut words.1) Line
+  flags ← one_id others.0
+  given ← ok_or (cut others.1) Line
+  scope ← ok_or (scope_of given.0) Line
+  restriction ← ok_or (restriction_of given.1) Line
+  Ok (SetCriteria search flags.bits scope restriction)
+
+-- getcriteria: the search's id
+unfoldable pub get_criteria : List ℕ → Result Command LineRefusal
+get_criteria rest = do
+  search ← one_id rest
+  Ok (GetCriteria search)
+
 -- a line without a space
 unfoldable pub one_word : List ℕ → Result Command LineRefusal
 one_word word =
@@ -187,7 +211,10 @@ with_arguments word rest =
     else (if bytes_eq word (codes "detach") then remove_attachment rest
     else (if bytes_eq word (codes "fetch") then fetch_data rest
     else (if bytes_eq word (codes "name") then name_property rest
-    else Err Line)))))))))))))))))))
+    else (if bytes_eq word (codes "mksearch") then make_search rest
+    else (if bytes_eq word (codes "criteria") then set_criteria rest
+    else (if bytes_eq word (codes "getcriteria") then get_criteria rest
+    else Err Line))))))))))))))))))))))
 
 -- the line is cut at its first space, if it has one
 abbrev pub cut_line : List ℕ → Option (List ℕ × List ℕ) → Result Command LineRefusal

@@ -2,7 +2,7 @@
 use Rattle.std.specs.Prelude.{ℕ, List, ◌++◌, codes}
 use Rattle.std.specs.Fmt.{decimal}
 use Rattle.command_text.specs.declared.reply.CommandRefusal.{CommandRefusal}
-use Rattle.command_text.specs.declared.reply.CommandRefusal.TheVariants.{Object, NameTaken, NotEmpty, Cycle, Reserved, Property, Value, Line, Protected, Restriction, Scope, Flags, Limit, Ids, Full}
+use Rattle.command_text.specs.declared.reply.CommandRefusal.TheVariants.{Object, NameTaken, NotEmpty, Cycle, Reserved, Property, Value, Line, Protected, Restriction, Scope, Flags, Criteria, Limit, Ids, Full}
 use Rattle.command_text.specs.Limits.{limit_word}
 
 -- the words of a refusal; offsets and counts of cells are in decimal
@@ -19,6 +19,7 @@ refusal_words Protected = codes "protected"
 refusal_words (Restriction at) = codes "restriction " ++ decimal at
 refusal_words Scope = codes "scope"
 refusal_words Flags = codes "flags"
+refusal_words Criteria = codes "criteria"
 refusal_words (Limit limit) = codes "limit " ++ limit_word limit
 refusal_words Ids = codes "ids"
 refusal_words (Full free need) = codes "full " ++ decimal free ++ codes " " ++ decimal need

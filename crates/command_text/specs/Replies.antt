@@ -4,12 +4,15 @@ use Rattle.std.specs.List.{flat_map}
 use Rattle.std.specs.Fmt.{decimal, digits, padded_integral, format_spec}
 use Rattle.mapi_values.specs.Spelling.{quoted}
 use Rattle.mapi_values.specs.declared.value.Tag.{Tag}
+use Rattle.search_obj.specs.declared.flags.SearchState.{SearchState}
+use Rattle.search_obj.specs.declared.flags.SearchState.TheVariants.{Running, Static, Stopped}
 use Rattle.value_text.specs.Forms.{value_text}
+use Rattle.value_text.specs.Hex.{hex_text}
 use Rattle.value_text.specs.Numbers.{signed_text}
 use Rattle.command_text.specs.declared.reply.DataLine.{DataLine}
 use Rattle.command_text.specs.declared.reply.DataLine.TheVariants.{Folder, Search, Foreign, Message, Property, Recipient, Attachment}
 use Rattle.command_text.specs.declared.reply.LastLine.{LastLine}
-use Rattle.command_text.specs.declared.reply.LastLine.TheVariants.{Done, Made, Count, Row, Attached, Value, Refused, NoMemory, Named}
+use Rattle.command_text.specs.declared.reply.LastLine.TheVariants.{Done, Made, Count, Row, Attached, Value, Criteria, NoCriteria, Refused, NoMemory, Named}
 use Rattle.command_text.specs.declared.reply.Reply.{Reply}
 use Rattle.command_text.specs.Refusals.{refusal_words}
 
@@ -64,6 +67,27 @@ data_text (Property tag len) = property_text tag len
 data_text (Recipient row kind address name) = recipient_text row kind address name
 data_text (Attachment id len name) = attachment_text id.bits len name
 
+-- ids, each behind a comma
+abbrev pub more_ids_text : List ℕ → List ℕ
+more_ids_text [] = []
+more_ids_text (id ∷ ids) = codes "," ++ (id_text id ++ more_ids_text ids)
+
+-- the ids of folders with commas between them, a lone minus for none
+unfoldable pub scope_text : List ℕ → List ℕ
+scope_text [] = codes "-"
+scope_text (id ∷ ids) = id_text id ++ more_ids_text ids
+
+-- what a search does as messages change, as a word
+unfoldable pub state_word : SearchState → List ℕ
+state_word Running = codes "running"
+state_word Static = codes "static"
+state_word Stopped = codes "stopped"
+
+-- what was set of a search: its flags as an id, its folders, its restriction in hex, what it does, and how often its list was built
+unfoldable pub criteria_text : ℕ → List ℕ → List ℕ → SearchState → ℕ → List ℕ
+criteria_text flags scope restriction state builds =
+    id_text flags ++ codes " " ++ scope_text scope ++ codes " " ++ hex_text restriction ++ codes " " ++ state_word state ++ codes " " ++ decimal builds
+
 -- the last line
 unfoldable pub last_text : LastLine → List ℕ
 last_text Done = codes "ok" ++ 10 ∷ []
@@ -73,6 +97,8 @@ last_text (Row row) = codes "ok " ++ decimal row ++ 10 ∷ []
 last_text (Attached id) = codes "ok " ++ id_text id.bits ++ 10 ∷ []
 last_text (Named property) = codes "ok " ++ id_text property ++ 10 ∷ []
 last_text (Value value) = codes "ok " ++ value_text value ++ 10 ∷ []
+last_text (Criteria flags scope restriction state builds) = codes "ok " ++ criteria_text flags scope restriction state builds ++ 10 ∷ []
+last_text NoCriteria = codes "ok none" ++ 10 ∷ []
 last_text (Refused refusal) = codes "no " ++ refusal_words refusal ++ 10 ∷ []
 last_text NoMemory = codes "no memory" ++ 10 ∷ []
 

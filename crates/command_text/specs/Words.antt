@@ -1,6 +1,6 @@
 -- The words of a line, and what stands in them.
-use Rattle.std.specs.Prelude.{ℕ, ◌/◌, ◌%◌, ◌&&◌, ◌==◌, nat_le, List, ◌∷◌, length, chars, Option, None, Some, option_and_then, option_map, if◌then◌else◌}
-use Rattle.std.specs.List.{position_or_len, before_first, after_first, list_all}
+use Rattle.std.specs.Prelude.{ℕ, ◌/◌, ◌%◌, ◌&&◌, ◌==◌, nat_le, List, [], ◌∷◌, bytes_eq, codes, length, chars, Option, None, Some, option_and_then, option_map, if◌then◌else◌}
+use Rattle.std.specs.List.{position_or_len, before_first, after_first, list_all, slice_split}
 use Rattle.std.specs.Char.{is_digit}
 use Rattle.std.specs.Str.Parse.{digits_value}
 use Rattle.mapi_values.specs.Spelling.{units_of}
@@ -59,3 +59,24 @@ guid_of word = option_and_then guid_bytes (hex_bytes word)
 -- the units of a name: a text with good escapes, of 1 to 255 units
 unfoldable pub name_of : List ℕ → Option (List ℕ)
 name_of text = option_and_then (λ us. if nat_le 1 (length us) && nat_le (length us) 255 then Some us else None) (units_of (chars text))
+
+-- what a word says, or nothing for a lone minus; none where the word doesn't say it
+unfoldable pub unless_minus : {A : Type 0} → (List ℕ → Option A) → List ℕ → Option (Option A)
+unless_minus said word = if bytes_eq word (codes "-") then Some None else option_map Some (said word)
+
+-- the ids that all these words write
+abbrev pub all_ids : List (List ℕ) → Option (List ℕ)
+all_ids [] = Some []
+all_ids (word ∷ words) = option_and_then (λ id. option_map (λ ids. id ∷ ids) (all_ids words)) (id_of word)
+
+-- the ids that a word writes with commas between them, one or more
+unfoldable pub ids_of : List ℕ → Option (List ℕ)
+ids_of word = all_ids (slice_split (λ b. b == 44) word)
+
+-- the folders that a word gives, or nothing where those that stand are kept
+unfoldable pub scope_of : List ℕ → Option (Option (List ℕ))
+scope_of word = unless_minus ids_of word
+
+-- the bytes of a restriction that a word gives, or nothing where that which stands is kept
+unfoldable pub restriction_of : List ℕ → Option (Option (List ℕ))
+restriction_of word = unless_minus hex_bytes word

@@ -1,4 +1,5 @@
 //! What a line asks for.
+use crate::scope::Scope;
 use mapi_values::{Tag, Units, Value};
 use pst_base::{Bytes, Nid};
 
@@ -105,6 +106,22 @@ pub enum Command {
     NameProperty {
         guid: [u8; 16],
         number: u32,
+    },
+    /// `mksearch P NAME`: a new search folder without criteria in P.
+    MakeSearch {
+        parent: Nid,
+        name: Units,
+    },
+    /// `criteria S FLAGS SCOPE HEX`: the search folder S gets flags, folders to look in and a restriction. Of the last two, what isn't given is kept.
+    SetCriteria {
+        search: Nid,
+        flags: u32,
+        scope: Option<Scope>,
+        restriction: Option<Bytes>,
+    },
+    /// `getcriteria S`: what was set of the search folder S.
+    GetCriteria {
+        search: Nid,
     },
     /// `save`: what is known of the file is written down in full.
     Save,

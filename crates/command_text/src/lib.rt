@@ -10,10 +10,12 @@ mod command;
 mod printing;
 mod reading;
 mod reply;
+mod scope;
 mod words;
 
 pub use command::{Command, LineRefusal};
 pub use printing::reply_text;
 pub use reading::read_line;
 pub use reply::{CommandRefusal, DataLine, DataLines, LastLine, Limit, Reply};
+pub use scope::Scope;
 pub use words::read_name;

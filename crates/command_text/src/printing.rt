@@ -1,15 +1,17 @@
 //! A reply as text.
-ghost use Rattle.std.specs.Prelude.{◌≡◌, ◌++◌, IfOk, OnOk, string_bytes};
+ghost use Rattle.std.specs.Prelude.{◌≡◌, ◌++◌, IfOk, OnOk, map, string_bytes};
 ghost use Rattle.command_text.specs.Limits.{limit_word};
 ghost use Rattle.command_text.specs.Refusals.{refusal_words};
-ghost use Rattle.command_text.specs.Replies.{id_text, name_end, listed, message_text, property_text, recipient_text, attachment_text, data_text, last_text, text};
+ghost use Rattle.command_text.specs.Replies.{criteria_text, more_ids_text, scope_text, state_word, id_text, name_end, listed, message_text, property_text, recipient_text, attachment_text, data_text, last_text, text};
 
 use crate::reply::{CommandRefusal, DataLine, LastLine, Limit, Reply};
+use crate::scope::Scope;
 use mapi_values::{Tag, Units, push_quoted};
 use pst_base::{Bytes, Nid};
+use search_obj::SearchState;
 use std::alloc::{AllocError, Global};
 use std::fmt::Write;
-use value_text::{push_signed, value_text};
+use value_text::{push_hex, push_signed, value_text};
 
 /// Puts an id at the end of a text.
 #[tactic(auto, unfolding(crate::specs::Replies::id_text))]
@@ -144,10 +146,68 @@ fn push_refusal(text: &mut String, refusal: CommandRefusal) -> Result<(), AllocE
         CommandRefusal::Restriction { at } => write!(text, "restriction {at}"),
         CommandRefusal::Scope => text.push_str("scope"),
         CommandRefusal::Flags => text.push_str("flags"),
+        CommandRefusal::Criteria => text.push_str("criteria"),
         CommandRefusal::Limit(limit) => write!(text, "limit {}", limit_word(limit)),
         CommandRefusal::Ids => text.push_str("ids"),
         CommandRefusal::Full { free, need } => write!(text, "full {free} {need}"),
     }
+}
+
+/// Puts ids at the end of a text, each behind a comma.
+fn push_more_ids(text: &mut String, ids: &[Nid]) -> Result<(), AllocError>
+    ensures { OnOk result (string_bytes text.new ≡ string_bytes text.old ++ more_ids_text (map (λ n. n.bits) ids.now)) }
+{
+    for id in ids {
+        text.push(',')?;
+        push_id(text, *id)?;
+    }
+    Ok(())
+}
+
+/// Puts the ids of folders with commas between them at the end of a text, a `-` for none.
+#[tactic(auto, unfolding(crate::specs::Replies::scope_text))]
+fn push_scope(text: &mut String, scope: &Scope) -> Result<(), AllocError>
+    ensures { OnOk result (string_bytes text.new ≡ string_bytes text.old ++ scope_text scope.now) }
+{
+    match scope.as_slice() {
+        [] => text.push('-'),
+        [first, others @ ..] => {
+            push_id(text, *first)?;
+            push_more_ids(text, others)
+        }
+    }
+}
+
+/// What a search does as messages change, as a word.
+#[tactic(auto, unfolding(crate::specs::Replies::state_word))]
+fn state_word(state: SearchState) -> &'static str
+    ensures { result.now ≡ state_word state }
+{
+    match state {
+        SearchState::Running => "running",
+        SearchState::Static => "static",
+        SearchState::Stopped => "stopped",
+    }
+}
+
+/// Puts what was set of a search at the end of a text.
+#[tactic(auto, unfolding(crate::specs::Replies::criteria_text))]
+fn push_criteria(
+    text: &mut String,
+    flags: u32,
+    scope: &Scope,
+    restriction: &Bytes,
+    state: SearchState,
+    builds: u32,
+) -> Result<(), AllocError>
+    ensures { OnOk result (string_bytes text.new ≡ string_bytes text.old ++ criteria_text flags scope.now restriction.now state builds) }
+{
+    push_id(text, Nid { bits: flags })?;
+    text.push(' ')?;
+    push_scope(text, scope)?;
+    text.push(' ')?;
+    push_hex(text, restriction.as_slice())?;
+    write!(text, " {} {builds}", state_word(state))
 }
 
 /// Puts the last line of a reply at the end of a text.
@@ -176,6 +236,17 @@ fn push_last(alloc: Global, text: &mut String, last: &LastLine) -> Result<(), Al
             text.push_str("ok ")?;
             text.push_str(value_text(alloc, value)?.as_str())?;
         }
+        LastLine::Criteria {
+            flags,
+            scope,
+            restriction,
+            state,
+            builds,
+        } => {
+            text.push_str("ok ")?;
+            push_criteria(text, *flags, scope, restriction, *state, *builds)?;
+        }
+        LastLine::NoCriteria => text.push_str("ok none")?,
         LastLine::Refused(refusal) => {
             text.push_str("no ")?;
             push_refusal(text, *refusal)?;

@@ -1,11 +1,12 @@
 //! A line read as a command.
 ghost use Rattle.pst_base.specs.Stops.{Gives};
-ghost use Rattle.command_text.specs.Lines.{make_folder, rename_folder, move_folder, remove_folder, list_folder, new_message, set_property, unset_property, get_property, list_properties, move_message, copy_message, remove_message, add_recipient, remove_recipient, add_attachment, append_data, remove_attachment, fetch_data, one_word, with_arguments, command, name_property};
+ghost use Rattle.command_text.specs.Lines.{make_folder, rename_folder, move_folder, remove_folder, list_folder, new_message, set_property, unset_property, get_property, list_properties, move_message, copy_message, remove_message, add_recipient, remove_recipient, add_attachment, append_data, remove_attachment, fetch_data, one_word, with_arguments, command, name_property, make_search, set_criteria, get_criteria};
 
 use crate::arguments::{id_and_name, id_and_tag, one_id, two_ids};
 use crate::command::{Command, LineRefusal};
 use crate::words::{
-    as_text, cut, read_data, read_guid, read_name, read_recipient_type, read_row, read_tag,
+    as_text, cut, read_data, read_guid, read_name, read_recipient_type, read_restriction, read_row,
+    read_scope, read_tag,
 };
 use pst_base::MemOr;
 use std::alloc::Global;
@@ -277,6 +278,50 @@ fn name_property(alloc: Global, rest: &str) -> Result<Command, MemOr<LineRefusal
     Ok(Command::NameProperty { guid, number })
 }
 
+/// What stands behind `mksearch `: the parent's id, and the name.
+#[tactic(auto, unfolding(crate::specs::Lines::make_search))]
+fn make_search(alloc: Global, rest: &str) -> Result<Command, MemOr<LineRefusal>>
+    ensures { Gives (λ c. c) result (make_search rest.now) }
+{
+    let (parent, name) = id_and_name(alloc, rest)?;
+    Ok(Command::MakeSearch { parent, name })
+}
+
+/// What stands behind `criteria `: the search's id, the flags, which are written as an id is, the folders' ids with commas between them, and the restriction in hex. A `-` in place of one of these two keeps what stands.
+#[tactic(auto, unfolding(crate::specs::Lines::set_criteria))]
+fn set_criteria(alloc: Global, rest: &str) -> Result<Command, MemOr<LineRefusal>>
+    ensures { Gives (λ c. c) result (set_criteria rest.now) }
+{
+    let Some((search, rest)) = cut(rest) else {
+        return Err(MemOr::Refused(LineRefusal::Line));
+    };
+    let search = one_id(search)?;
+    let Some((flags, rest)) = cut(rest) else {
+        return Err(MemOr::Refused(LineRefusal::Line));
+    };
+    let flags = one_id(flags)?.bits;
+    let Some((scope, restriction)) = cut(rest) else {
+        return Err(MemOr::Refused(LineRefusal::Line));
+    };
+    let scope = read_scope(alloc, scope)?;
+    let restriction = read_restriction(alloc, restriction)?;
+    Ok(Command::SetCriteria {
+        search,
+        flags,
+        scope,
+        restriction,
+    })
+}
+
+/// What stands behind `getcriteria `: the search's id.
+#[tactic(auto, unfolding(crate::specs::Lines::get_criteria))]
+fn get_criteria(rest: &str) -> Result<Command, MemOr<LineRefusal>>
+    ensures { Gives (λ c. c) result (get_criteria rest.now) }
+{
+    let search = one_id(rest)?;
+    Ok(Command::GetCriteria { search })
+}
+
 /// A line without a space.
 #[tactic(auto, unfolding(crate::specs::Lines::one_word))]
 fn one_word(word: &str) -> Result<Command, MemOr<LineRefusal>>
@@ -315,6 +360,9 @@ fn with_arguments(alloc: Global, word: &str, rest: &str) -> Result<Command, MemO
         "detach" => remove_attachment(rest),
         "fetch" => fetch_data(rest),
         "name" => name_property(alloc, rest),
+        "mksearch" => make_search(alloc, rest),
+        "criteria" => set_criteria(alloc, rest),
+        "getcriteria" => get_criteria(rest),
         _ => Err(MemOr::Refused(LineRefusal::Line)),
     }
 }

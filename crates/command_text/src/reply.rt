@@ -2,8 +2,10 @@
 ghost use Rattle.std.specs.Prelude.{◌≡◌, [], length};
 
 use crate::command::LineRefusal;
+use crate::scope::Scope;
 use mapi_values::{Tag, Units, Value};
-use pst_base::Nid;
+use pst_base::{Bytes, Nid};
+use search_obj::SearchState;
 use std::alloc::Global;
 use std::marker::Model;
 
@@ -129,6 +131,8 @@ pub enum CommandRefusal {
     Scope,
     /// The flags hold unknown bits, or bits that exclude each other.
     Flags,
+    /// The line keeps criteria of a search that has none.
+    Criteria,
     /// A limit would be passed.
     Limit(Limit),
     /// No number is left for a new object.
@@ -168,6 +172,16 @@ pub enum LastLine {
     Named(u16),
     /// `ok` and a value.
     Value(Value),
+    /// `ok` and what was set of a search: its flags, the folders that it is given, its restriction, what it does as messages change, and how often its list was built.
+    Criteria {
+        flags: u32,
+        scope: Scope,
+        restriction: Bytes,
+        state: SearchState,
+        builds: u32,
+    },
+    /// `ok none`: nothing was set of a search.
+    NoCriteria,
     /// `no` and the refusal.
     Refused(CommandRefusal),
     /// `no memory`

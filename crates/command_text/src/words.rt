@@ -4,9 +4,10 @@ ghost use Rattle.std.specs.Str.{is_utf8};
 ghost use Rattle.pst_base.specs.Stops.{Gives};
 ghost use Rattle.value_text.specs.Hex.{hex_bytes};
 ghost use Rattle.command_text.specs.declared.command.LineRefusal.{LineRefusal};
-ghost use Rattle.command_text.specs.Words.{cut, hex_value, hex_number, id_of, tag_digits, tag_of, name_of, number_to, recipient_type, row_of, guid_of};
+ghost use Rattle.command_text.specs.Words.{cut, hex_value, hex_number, id_of, tag_digits, tag_of, name_of, number_to, recipient_type, row_of, guid_of, ids_of, scope_of, restriction_of};
 
 use crate::command::LineRefusal;
+use crate::scope::Scope;
 use mapi_values::{Tag, Units, parse_units};
 use pst_base::{Bytes, MemOr, Nid};
 use std::alloc::Global;
@@ -58,11 +59,18 @@ fn hex_number(digits: &[u8]) -> Option<u32>
 }
 
 /// The id that a word writes: `0x` and 1 to 8 hex digits.
-#[tactic(auto, unfolding(crate::specs::Words::id_of))]
 pub fn read_id(word: &str) -> Option<Nid>
     ensures { option_map (λ nid. nid.bits) result ≡ id_of word.now }
 {
-    match word.as_bytes() {
+    id_in(word.as_bytes())
+}
+
+/// The same of a word that may be no text.
+#[tactic(auto, unfolding(crate::specs::Words::id_of))]
+fn id_in(word: &[u8]) -> Option<Nid>
+    ensures { option_map (λ nid. nid.bits) result ≡ id_of word.now }
+{
+    match word {
         [b'0', b'x', digits @ ..] => match hex_number(digits) {
             Some(bits) => Some(Nid { bits }),
             None => None,
@@ -175,4 +183,41 @@ pub fn read_name(alloc: Global, text: &str) -> Result<Units, MemOr<LineRefusal>>
         Err(MemOr::Refused(_)) => Err(MemOr::Refused(LineRefusal::Value)),
         Err(MemOr::Memory) => Err(MemOr::Memory),
     }
+}
+
+/// The ids that a word writes with commas between them, one or more.
+#[tactic(auto, unfolding(crate::specs::Words::ids_of))]
+fn read_ids(alloc: Global, word: &str) -> Result<Scope, MemOr<LineRefusal>>
+    ensures { Gives (λ ids. ids) result (ok_or (ids_of word.now) LineRefusal.Line) }
+{
+    let mut ids = Vec::new(alloc);
+    for piece in word.as_bytes().split(|byte| *byte == b',') {
+        match id_in(piece) {
+            Some(id) => ids.push(id)?,
+            None => return Err(MemOr::Refused(LineRefusal::Line)),
+        }
+    }
+    Ok(Scope::from_vec(ids))
+}
+
+/// The folders that a word gives, or nothing for a `-`.
+#[tactic(auto, unfolding(crate::specs::Words::scope_of, crate::specs::Words::unless_minus))]
+pub fn read_scope(alloc: Global, word: &str) -> Result<Option<Scope>, MemOr<LineRefusal>>
+    ensures { Gives (λ scope. scope) result (ok_or (scope_of word.now) LineRefusal.Line) }
+{
+    if word == "-" {
+        return Ok(None);
+    }
+    Ok(Some(read_ids(alloc, word)?))
+}
+
+/// The bytes of a restriction that a word gives in hex, or nothing for a `-`.
+#[tactic(auto, unfolding(crate::specs::Words::restriction_of, crate::specs::Words::unless_minus))]
+pub fn read_restriction(alloc: Global, word: &str) -> Result<Option<Bytes>, MemOr<LineRefusal>>
+    ensures { Gives (λ bytes. bytes) result (ok_or (restriction_of word.now) LineRefusal.Line) }
+{
+    if word == "-" {
+        return Ok(None);
+    }
+    Ok(Some(read_data(alloc, word)?))
 }
