@@ -14,7 +14,7 @@ use Rattle.content_glance.specs.declared.content.Glance.TheVariants.{Held, Absen
 use Rattle.content_glance.specs.Glances.{IsTold, Tells}
 use Rattle.mail_objects.specs.Objects.{ShowsMail}
 use Rattle.mail_objects.specs.declared.object.Object.{Object}
-use Rattle.mail_objects.specs.declared.object.Object.TheVariants.{Context, Table, Message}
+use Rattle.mail_objects.specs.declared.object.Object.TheVariants.{Context, Table, Message, Bare}
 use Rattle.mail_tree.specs.Changing.{Answer, ◌>>=◌, as_message, known}
 use Rattle.mail_tree.specs.Tree.{StandsAt}
 use Rattle.mail_tree.specs.Values.{bytes_of, number_of, of_kind, text_of}
@@ -28,6 +28,7 @@ pub content-message : (q : ℕ) (node : NodeRec) (whole : Option NodeRec) (objec
 content-message q node whole None other m is stands here = cc
 content-message q node whole (Some (Context c)) other m is stands here = cc
 content-message q node whole (Some (Table t)) other m is stands here = cc
+content-message q node whole (Some (Bare above)) other m is stands here = cc
 content-message q node whole (Some (Message n)) other m is stands here =
     let same : n ≡ m = same_Some n m here in
     let e : Some node ≡ content_of (Some stands.1.0) = is ∙ ap content_of stands.1.1 in
@@ -43,6 +44,7 @@ pub content-some : (q : ℕ) (whole : Option NodeRec) (object : Option Object) (
 content-some q whole None other m is stands here = cc
 content-some q whole (Some (Context c)) other m is stands here = cc
 content-some q whole (Some (Table t)) other m is stands here = cc
+content-some q whole (Some (Bare above)) other m is stands here = cc
 content-some q whole (Some (Message n)) other m is stands here = let e : None ≡ content_of (Some stands.1.0) = is ∙ ap content_of stands.1.1 in cc
 
 -- what is told by the data of a message's node is so of the message

@@ -10,7 +10,7 @@ use mail_objects::Object;
 use std::alloc::{AllocError, Global};
 
 /// Whether an object that is put is an unread message, or nothing where it is no message, or goes.
-fn flag_of(object: &Option<Object>) -> Option<bool>
+pub fn flag_of(object: &Option<Object>) -> Option<bool>
     ensures { result ≡ flag_of object.now }
 {
     match as_message(object) {

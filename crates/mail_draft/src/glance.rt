@@ -22,7 +22,7 @@ use std::alloc::{AllocError, Global};
 use value_text::units_of_bytes;
 
 /// The node at an id without its subnodes, `None` where there is none.
-fn content_at<W: Outside, K: NodeReader<W>>(
+pub fn content_at<W: Outside, K: NodeReader<W>>(
     alloc: Global,
     keeper: &mut K,
     w: &mut W,

@@ -19,6 +19,7 @@ fn object_space(object: &Option<Object>) -> u64
         ),
         Some(Object::Table(table)) => table_space(table.table()),
         Some(Object::Message(mail)) => message_space(mail.message()),
+        Some(Object::Bare(_)) => 1,
         None => 3,
     }
 }

@@ -11,7 +11,7 @@ use mail_tree::{FolderPlace, Places, Sort};
 use pst_base::Nid;
 
 /// Where a folder stands. Refused where it isn't there.
-pub(crate) fn folder_in(places: &Places, folder: Nid) -> Result<FolderPlace, Stop>
+pub fn folder_in(places: &Places, folder: Nid) -> Result<FolderPlace, Stop>
     ensures answer { (T : Tree) → T.places ≡ places.now → Says (λ p. p) (folder_in T folder.bits) result }
     ensures calm { IfErr result IsCalm }
 {
@@ -34,7 +34,7 @@ pub(crate) fn unless_plain(place: FolderPlace) -> Result<(), Stop>
 
 /// Where a plain folder stands.
 #[tactic(auto, unfolding(crate::specs::Pieces::plain_in))]
-pub(crate) fn plain_in(places: &Places, folder: Nid) -> Result<FolderPlace, Stop>
+pub fn plain_in(places: &Places, folder: Nid) -> Result<FolderPlace, Stop>
     ensures answer { (T : Tree) → T.places ≡ places.now → Says (λ p. p) (plain_in T folder.bits) result }
     ensures calm { IfErr result IsCalm }
 {

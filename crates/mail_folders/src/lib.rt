@@ -16,8 +16,13 @@ mod removing;
 mod renaming;
 mod standing;
 
-pub use list::list_folder;
-pub use making::make_folder;
-pub use moving::move_folder;
+pub use finding::{folder_in, plain_in};
+pub use list::{line_of_message, list_folder, listed, message_ids};
+pub use making::{folder_props, make_folder, unless_full};
+pub use moving::{move_folder, moved_between, unless_crowds_name};
+pub use names::unless_child_named;
+pub use protecting::unless_protected;
+pub use reading::{context_in, is_taken, message_in, table_in};
 pub use removing::remove_folder;
-pub use renaming::rename_folder;
+pub use renaming::{named_anew, rename_folder, unless_beside};
+pub use standing::{unless_deep, unless_moves_deep, unless_within, without_place};

@@ -49,7 +49,7 @@ pub fn list_folder<W: Outside, K: NodeReader<W>>(
 }
 
 /// A reply of lines of data and their number.
-fn listed(lines: Vec<DataLine>) -> Reply
+pub fn listed(lines: Vec<DataLine>) -> Reply
     ensures { result ≡ listed lines.items }
 {
     let count = lines.len() as u64;
@@ -111,7 +111,7 @@ fn places_in(alloc: Global, places: &Places, folder: Nid) -> Result<Vec<FolderPl
 }
 
 /// The ids of the messages that a folder's table lists.
-fn message_ids(alloc: Global, table: &Table) -> Result<Vec<u32>, AllocError>
+pub fn message_ids(alloc: Global, table: &Table) -> Result<Vec<u32>, AllocError>
     ensures { IfOk result (λ ids. ids.items ≡ message_ids table.now) }
 {
     let mut ids = Vec::new(alloc);
@@ -165,7 +165,7 @@ fn subject_of<W: Outside, K: NodeReader<W>>(
 
 /// The line of a message: what it tells of its size, and its subject.
 #[tactic(auto, unfolding(crate::specs::Pieces::line_of_message))]
-fn line_of_message<W: Outside, K: NodeReader<W>>(
+pub fn line_of_message<W: Outside, K: NodeReader<W>>(
     alloc: Global,
     keeper: &mut K,
     w: &mut W,

@@ -60,7 +60,7 @@ pub fn make_folder<W: Outside, K: Keeper<W>>(
 
 /// Refused where a table has 100,000 rows or more.
 #[tactic(auto, unfolding(mail_tree::specs::Folders::unless_full))]
-fn unless_full<W: Outside, K: NodeReader<W>>(
+pub fn unless_full<W: Outside, K: NodeReader<W>>(
     alloc: Global,
     keeper: &mut K,
     w: &mut W,
@@ -78,7 +78,7 @@ fn unless_full<W: Outside, K: NodeReader<W>>(
 }
 
 /// The values of a new folder.
-fn folder_props(alloc: Global, name: &Units) -> Result<Props, AllocError>
+pub fn folder_props(alloc: Global, name: &Units) -> Result<Props, AllocError>
     ensures { IfOk result (λ p. p ≡ folder_props name.now) }
 {
     let mut props = Props::new(alloc);

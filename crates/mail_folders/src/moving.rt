@@ -54,7 +54,7 @@ pub fn move_folder<W: Outside, K: NodeReader<W>>(
 
 /// Refused where a folder in a parent has the name that this one has.
 #[tactic(auto, unfolding(crate::specs::Pieces::unless_crowds_name))]
-fn unless_crowds_name<W: Outside, K: NodeReader<W>>(
+pub fn unless_crowds_name<W: Outside, K: NodeReader<W>>(
     alloc: Global,
     keeper: &mut K,
     w: &mut W,
@@ -125,7 +125,7 @@ fn with_parent(
 
 /// Moves a folder from one parent to another: its parent, its rows, and the counts of both.
 #[tactic(auto, unfolding(mail_tree::specs::Folders::moved_between))]
-fn moved_between<W: Outside, K: NodeReader<W>>(
+pub fn moved_between<W: Outside, K: NodeReader<W>>(
     alloc: Global,
     keeper: &mut K,
     w: &mut W,

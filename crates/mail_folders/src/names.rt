@@ -105,7 +105,7 @@ pub(crate) fn unless_named<W: Outside, K: NodeReader<W>>(
 }
 
 /// Refused where a folder in a parent has this name.
-pub(crate) fn unless_child_named<W: Outside, K: NodeReader<W>>(
+pub fn unless_child_named<W: Outside, K: NodeReader<W>>(
     alloc: Global,
     keeper: &mut K,
     w: &mut W,

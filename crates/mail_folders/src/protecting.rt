@@ -43,7 +43,7 @@ fn is_special(folder: Nid, store: &Props) -> bool
 
 /// Refused where a folder is the root, or one that the store names.
 #[tactic(auto, unfolding(mail_tree::specs::Folders::unless_protected))]
-pub(crate) fn unless_protected<W: Outside, K: NodeReader<W>>(
+pub fn unless_protected<W: Outside, K: NodeReader<W>>(
     alloc: Global,
     keeper: &mut K,
     w: &mut W,

@@ -13,7 +13,7 @@ use pst_outside::Outside;
 use std::alloc::Global;
 
 /// The properties at an id, as a folder's.
-pub(crate) fn context_in<W: Outside, K: NodeReader<W>>(
+pub fn context_in<W: Outside, K: NodeReader<W>>(
     alloc: Global,
     keeper: &mut K,
     w: &mut W,
@@ -27,7 +27,7 @@ pub(crate) fn context_in<W: Outside, K: NodeReader<W>>(
 }
 
 /// The table at an id.
-pub(crate) fn table_in<W: Outside, K: NodeReader<W>>(
+pub fn table_in<W: Outside, K: NodeReader<W>>(
     alloc: Global,
     keeper: &mut K,
     w: &mut W,
@@ -41,7 +41,7 @@ pub(crate) fn table_in<W: Outside, K: NodeReader<W>>(
 }
 
 /// The message at an id.
-pub(crate) fn message_in<W: Outside, K: NodeReader<W>>(
+pub fn message_in<W: Outside, K: NodeReader<W>>(
     alloc: Global,
     keeper: &mut K,
     w: &mut W,
@@ -55,7 +55,7 @@ pub(crate) fn message_in<W: Outside, K: NodeReader<W>>(
 }
 
 /// Whether a node stands at an id.
-pub(crate) fn is_taken<W: Outside, K: NodeReader<W>>(
+pub fn is_taken<W: Outside, K: NodeReader<W>>(
     alloc: Global,
     keeper: &mut K,
     w: &mut W,

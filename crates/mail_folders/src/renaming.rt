@@ -45,7 +45,7 @@ pub fn rename_folder<W: Outside, K: NodeReader<W>>(
 }
 
 /// Refused where another folder in a folder's parent has this name.
-fn unless_beside<W: Outside, K: NodeReader<W>>(
+pub fn unless_beside<W: Outside, K: NodeReader<W>>(
     alloc: Global,
     keeper: &mut K,
     w: &mut W,
@@ -74,7 +74,7 @@ fn with_name(alloc: Global, props: &Props, name: &Units) -> Result<Props, AllocE
 
 /// Gives a folder another name, which its row shows.
 #[tactic(auto, unfolding(crate::specs::Pieces::named_anew))]
-fn named_anew<W: Outside, K: NodeReader<W>>(
+pub fn named_anew<W: Outside, K: NodeReader<W>>(
     alloc: Global,
     keeper: &mut K,
     w: &mut W,

@@ -33,11 +33,7 @@ pub(crate) fn with_place(
 }
 
 /// The places without a folder.
-pub(crate) fn without_place(
-    alloc: Global,
-    places: &Places,
-    folder: Nid,
-) -> Result<Places, AllocError>
+pub fn without_place(alloc: Global, places: &Places, folder: Nid) -> Result<Places, AllocError>
     ensures { IfOk result (λ p. p ≡ drop_key place_id folder.bits places.now) }
 {
     let mut after = places.copy(alloc)?;
@@ -46,7 +42,7 @@ pub(crate) fn without_place(
 }
 
 /// Refused where a new folder in a parent would stand below more than 64 others.
-pub(crate) fn unless_deep(alloc: Global, places: &Places, parent: Nid) -> Result<(), Stop>
+pub fn unless_deep(alloc: Global, places: &Places, parent: Nid) -> Result<(), Stop>
     ensures answer { Says (λ u. u) (refused_if (is_deep places.now parent.bits) (Passes Depth)) result }
     ensures calm { IfErr result IsCalm }
 {
@@ -57,7 +53,7 @@ pub(crate) fn unless_deep(alloc: Global, places: &Places, parent: Nid) -> Result
 }
 
 /// Refused where a folder, moved into a parent, would put some folder below more than 64 others.
-pub(crate) fn unless_moves_deep(
+pub fn unless_moves_deep(
     alloc: Global,
     places: &Places,
     folder: Nid,
@@ -73,12 +69,7 @@ pub(crate) fn unless_moves_deep(
 }
 
 /// Refused where a parent is the folder itself, or stands below it.
-pub(crate) fn unless_within(
-    alloc: Global,
-    places: &Places,
-    folder: Nid,
-    parent: Nid,
-) -> Result<(), Stop>
+pub fn unless_within(alloc: Global, places: &Places, folder: Nid, parent: Nid) -> Result<(), Stop>
     ensures answer { Says (λ u. u) (refused_if (is_within places.now folder.bits parent.bits) Cycle) result }
     ensures calm { IfErr result IsCalm }
 {

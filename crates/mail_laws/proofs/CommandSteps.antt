@@ -1,6 +1,6 @@
 -- Each command leaves a tree whole.
 use Rattle.command_text.specs.declared.command.Command.{Command}
-use Rattle.command_text.specs.declared.command.Command.TheVariants.{MakeFolder, RenameFolder, MoveFolder, RemoveFolder, ListFolder, NewMessage, SetProperty, UnsetProperty, GetProperty, ListProperties, MoveMessage, CopyMessage, RemoveMessage, AddRecipient, RemoveRecipient, AddAttachment, AppendData, RemoveAttachment, FetchData, Save, Quit, NameProperty}
+use Rattle.command_text.specs.declared.command.Command.TheVariants.{MakeFolder, RenameFolder, MoveFolder, RemoveFolder, ListFolder, NewMessage, SetProperty, UnsetProperty, GetProperty, ListProperties, MoveMessage, CopyMessage, RemoveMessage, AddRecipient, RemoveRecipient, AddAttachment, AppendData, RemoveAttachment, FetchData, Save, Quit, NameProperty, MakeSearch, SetCriteria, GetCriteria}
 use Rattle.mail_tree.specs.Step.{outcome}
 use Rattle.mail_tree.specs.Tree.{Tree}
 use Rattle.mail_tree.specs.Whole.{Fine, HasNoStray}
@@ -30,5 +30,8 @@ keeps_whole T (AppendData message attachment bytes) w clear = fine_appended_data
 keeps_whole T (RemoveAttachment message attachment) w clear = fine_removed_attachment T message.bits attachment.bits w
 keeps_whole T (FetchData message attachment) w clear = fine_fetched_data T message.bits attachment.bits w
 keeps_whole T (NameProperty guid number) w clear = fine_named T guid number w
+keeps_whole T (MakeSearch parent name) w clear = tt
+keeps_whole T (SetCriteria folder flags scope restriction) w clear = tt
+keeps_whole T (GetCriteria folder) w clear = tt
 keeps_whole T Save w clear = w
 keeps_whole T Quit w clear = w

@@ -10,7 +10,7 @@ use Rattle.mapi_values.specs.Tables.{drop_row, find_row}
 use Rattle.mapi_values.specs.Values.{Val}
 use Rattle.mail_objects.specs.Forms.{Ctx, Tbl}
 use Rattle.mail_objects.specs.declared.object.Object.{Object}
-use Rattle.mail_objects.specs.declared.object.Object.TheVariants.{Context, Table, Message}
+use Rattle.mail_objects.specs.declared.object.Object.TheVariants.{Context, Table, Message, Bare}
 use Rattle.mail_tree.specs.declared.places.FolderPlace.{FolderPlace}
 use Rattle.mail_tree.specs.Places.{ROOT, find_place, is_child, is_plain}
 use Rattle.mail_tree.specs.Tree.{Tree}
@@ -127,6 +127,7 @@ if_message T D m = go (now_at T D m)
     go None = tt
     go (Some (Context c)) = tt
     go (Some (Table t)) = tt
+    go (Some (Bare parent)) = tt
     go (Some (Message M)) = refl
 
 if_unread : (T : Tree) (D : Changed) (ms : List ℕ) → IfOk (unread_among T D ms) (λ n. n ≡ length (filter (λ m. is_unread (now_at T D m)) ms))

@@ -44,21 +44,27 @@ still places places' same zero f b = b
 still places places' same (suc n) f b = (b.0, (b.1.0, same f b.1.0 b.1.1 b.0, still places places' same n b.1.0.parent.bits b.1.2))
 
 -- a new folder stands one below its parent
-pub made_reached : (places : List FolderPlace) (f parent : ℕ) (q : FolderPlace) → AreReached places → find_place f places ≡ None → (f ≡ ROOT → ⊥) → find_place parent places ≡ Some q → is_deep places parent ≡ false → AreReached (put_key place_id (place f parent) places)
-made_reached places f parent q reached none no_root found deep g p e =
-    let places' = put_key place_id (place f parent) places in
+pub put_reached : (places : List FolderPlace) (new q : FolderPlace) → AreReached places → find_place (place_id new) places ≡ None → (place_id new ≡ ROOT → ⊥) → find_place new.parent.bits places ≡ Some q → is_deep places new.parent.bits ≡ false
+    → AreReached (put_key place_id new places)
+put_reached places new q reached none no_root found deep g p e =
+    let f = place_id new in
+    let parent = new.parent.bits in
+    let places' = put_key place_id new places in
     let same : (x : ℕ) (r : FolderPlace) → find_place x places ≡ Some r → (x ≡ ROOT → ⊥) → find_place x places' ≡ Some r = λ x r is other.
-    find-put_other place_id x (place f parent) places (λ one. none-some r (sym none ∙ ap (λ y. find_place y places) (sym one) ∙ is)) ∙ is in
+    find-put_other place_id x new places (λ one. none-some r (sym none ∙ ap (λ y. find_place y places) (sym one) ∙ is)) ∙ is in
     elim (cases_eq g f) [
       | inl one ↦
           let l = reached parent q found in
           let few = ltb-false 64 (length (path places parent)) deep in
           let ids = path_length places l.0 64 parent l.2 l.1 in
-          (suc l.0, omega arith, subst (StandsBelow places' (suc l.0)) (sym one) (no_root, (place f parent, find-put_same place_id (place f parent) places, still places places' same l.0 parent l.2)))
+          (suc l.0, omega arith, subst (StandsBelow places' (suc l.0)) (sym one) (no_root, (new, find-put_same place_id new places, still places places' same l.0 parent l.2)))
       | inr other ↦
-          let n = reached g p (sym (find-put_other place_id g (place f parent) places other) ∙ e) in
+          let n = reached g p (sym (find-put_other place_id g new places other) ∙ e) in
           (n.0, n.1, still places places' same n.0 g n.2)
     ]
+
+pub made_reached : (places : List FolderPlace) (f parent : ℕ) (q : FolderPlace) → AreReached places → find_place f places ≡ None → (f ≡ ROOT → ⊥) → find_place parent places ≡ Some q → is_deep places parent ≡ false → AreReached (put_key place_id (place f parent) places)
+made_reached places f parent q = put_reached places (place f parent) q
 
 -- folders stay where they stood when one goes in which none stands
 childless : (places places' : List FolderPlace) (f : ℕ) → SameBut f places places' → ((g : ℕ) (p : FolderPlace) → find_place g places ≡ Some p → (g ≡ ROOT → ⊥) → p.parent.bits ≡ f → ⊥) → (n g : ℕ) → (g ≡ f → ⊥) → StandsBelow places n g → StandsBelow places' n g
@@ -104,7 +110,7 @@ module _ (places places' : List FolderPlace) (f : ℕ) (same : SameBut f places 
     ]
 
 -- no place fails a test that all pass
-none_passes : (test : FolderPlace → Bool) (ps : List FolderPlace) (g : ℕ) (p : FolderPlace) → find_place g ps ≡ Some p → list_any test ps ≡ false → test p ≡ false
+pub none_passes : (test : FolderPlace → Bool) (ps : List FolderPlace) (g : ℕ) (p : FolderPlace) → find_place g ps ≡ Some p → list_any test ps ≡ false → test p ≡ false
 none_passes test [] g p e none = absurd (none-some p e)
 none_passes test (q ∷ qs) g p e none =
     let parts = or_parts (test q) (list_any test qs) none in

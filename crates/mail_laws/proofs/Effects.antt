@@ -13,7 +13,7 @@ use Rattle.mapi_values.specs.declared.value.Tag.{Tag}
 use Rattle.command_text.specs.declared.reply.LastLine.TheVariants.{Attached, Done, Made, Row}
 use Rattle.mail_objects.specs.Forms.{Ctx}
 use Rattle.mail_objects.specs.declared.object.Object.{Object}
-use Rattle.mail_objects.specs.declared.object.Object.TheVariants.{Context, Table, Message}
+use Rattle.mail_objects.specs.declared.object.Object.TheVariants.{Context, Table, Message, Bare}
 use Rattle.mail_tree.specs.declared.places.FolderPlace.{FolderPlace}
 use Rattle.mail_tree.specs.Places.{find_place, is_plain}
 use Rattle.mail_tree.specs.Tree.{Tree, object_at}
@@ -59,6 +59,7 @@ pub no_message : (q : ℕ) (o : Option Object) → ((x : Object) → o ≡ Some 
 no_message q None fits other = refl
 no_message q (Some (Context c)) fits other = refl
 no_message q (Some (Table t)) fits other = refl
+no_message q (Some (Bare parent)) fits other = refl
 no_message q (Some (Message m)) fits other = absurd (other (message_id q m (fits (Message m) refl)).0)
 
 -- the same in the words of mail

@@ -76,10 +76,10 @@ context_of {places} w f is = elim (cases_Option (find_place f places)) [
   | inr p ↦ let c = w.contexts f p.0 p.1 in (c.0, c.1)
 ]
 
-children_of : {places : List FolderPlace} {at : ℕ → Option Object} → AreWhole places at → (f : ℕ) → EachContext at (children f places)
+pub children_of : {places : List FolderPlace} {at : ℕ → Option Object} → AreWhole places at → (f : ℕ) → EachContext at (children f places)
 children_of {places} {at} w f = each_context at (is_child f) places (context_of w)
 
-fine_named : (T : Tree) (name : List ℕ) (fs : List ℕ) → EachContext (now_at T nothing) fs → Fine (unless_named T name fs) (λ u. Unit {0})
+pub fine_named : (T : Tree) (name : List ℕ) (fs : List ℕ) → EachContext (now_at T nothing) fs → Fine (unless_named T name fs) (λ u. Unit {0})
 fine_named T name [] each = tt
 fine_named T name (f ∷ fs) each = rw each.0.1 (elim (cases_Bool (pointwise nat_eq (folded false (name_of each.0.0.props)) name)) [ inl b ↦ rw b tt | inr b ↦ rw b (fine_named T name fs each.1) ])
 
@@ -132,15 +132,15 @@ fine_moving : (T : Tree) (places : List FolderPlace) (D : Changed) → LeavesIn 
 fine_moving T places D w = after_limits (Keeps T) D (λ u. Ok (record { changed = D; places = places; last = T.last; reply = replied Done })) w
 
 -- the rows of a plain folder's table change
-record RowsChange (E : ℕ → Type 0) (places : List FolderPlace) (parent : ℕ) (at at' : ℕ → Option Object) : Type 0 where
-  nearly_whole : AreNearly E places at'
-  others : (x : ℕ) → (x ≡ hierarchy parent → ⊥) → at' x ≡ at x
+pub record RowsChange (E : ℕ → Type 0) (places : List FolderPlace) (parent : ℕ) (at at' : ℕ → Option Object) : Type 0 where
+  pub nearly_whole : AreNearly E places at'
+  pub others : (x : ℕ) → (x ≡ hierarchy parent → ⊥) → at' x ≡ at x
 
 table_now : {E : ℕ → Type 0} {places : List FolderPlace} {at : ℕ → Option Object} → AreNearly E places at → (f : ℕ) (p : FolderPlace) → find_place f places ≡ Some p → is_plain p ≡ true → (t : Tbl) × (at (hierarchy f) ≡ Some (Table t))
 table_now {at = at} n f p e plain = table_of (hierarchy f) (at (hierarchy f)) (n.typed (hierarchy f)) (inl (beside_kind f 13 (omega arith))) (n.tables f p e plain).0
 
 -- a row of a folder is added
-added_folder : (E : ℕ → Type 0) (places : List FolderPlace) (T : Tree) (D : Changed) (parent : ℕ) (q : FolderPlace) (f : ℕ) (props : List Val) → AreNearly E places (now_at T D) → find_place parent places ≡ Some q → is_plain q ≡ true
+pub added_folder : (E : ℕ → Type 0) (places : List FolderPlace) (T : Tree) (D : Changed) (parent : ℕ) (q : FolderPlace) (f : ℕ) (props : List Val) → AreNearly E places (now_at T D) → find_place parent places ≡ Some q → is_plain q ≡ true
     → Fine (add_shown T (hierarchy parent) f props D) (λ D'. RowsChange E places parent (now_at T D) (now_at T D') × HasRow (now_at T D' (hierarchy parent)) f)
 unfolding add_shown
 added_folder E places T D parent q f props n found plain =
@@ -194,7 +194,7 @@ table_fits_id f kind t is x e = subst (λ z. fits_id (beside f kind) z ≡ true)
   | inl k ↦ or_left (beside f kind % 32 == 13) _ (eq-eqb (beside f kind % 32) 13 (omega arith))
   | inr k ↦ or_right (beside f kind % 32 == 13) _ (elim k [
     | inl l ↦ or_left (beside f kind % 32 == 14) _ (eq-eqb (beside f kind % 32) 14 (omega arith))
-    | inr l ↦ or_right (beside f kind % 32 == 14) _ (eq-eqb (beside f kind % 32) 15 (omega arith))
+    | inr l ↦ or_right (beside f kind % 32 == 14) _ (or_left (beside f kind % 32 == 15) _ (eq-eqb (beside f kind % 32) 15 (omega arith)))
   ])
 ])
 

@@ -16,12 +16,12 @@ use Rattle.mapi_values.specs.Tables.{drop_row, find_row}
 use Rattle.mapi_values.specs.Values.{Val}
 use Rattle.mapi_values.specs.declared.value.Tag.{Tag}
 use Rattle.command_text.specs.declared.command.Command.{Command}
-use Rattle.command_text.specs.declared.command.Command.TheVariants.{MakeFolder, RenameFolder, MoveFolder, RemoveFolder, ListFolder, NewMessage, SetProperty, UnsetProperty, GetProperty, ListProperties, MoveMessage, CopyMessage, RemoveMessage, AddRecipient, RemoveRecipient, AddAttachment, AppendData, RemoveAttachment, FetchData, Save, Quit, NameProperty}
+use Rattle.command_text.specs.declared.command.Command.TheVariants.{MakeFolder, RenameFolder, MoveFolder, RemoveFolder, ListFolder, NewMessage, SetProperty, UnsetProperty, GetProperty, ListProperties, MoveMessage, CopyMessage, RemoveMessage, AddRecipient, RemoveRecipient, AddAttachment, AppendData, RemoveAttachment, FetchData, Save, Quit, NameProperty, MakeSearch, SetCriteria, GetCriteria}
 use Rattle.command_text.specs.declared.reply.LastLine.TheVariants.{Attached, Done, Row}
 use Rattle.command_text.specs.declared.reply.Reply.{Reply}
 use Rattle.mail_objects.specs.Forms.{Ctx, Tbl}
 use Rattle.mail_objects.specs.declared.object.Object.{Object}
-use Rattle.mail_objects.specs.declared.object.Object.TheVariants.{Context, Message, Table}
+use Rattle.mail_objects.specs.declared.object.Object.TheVariants.{Context, Message, Table, Bare}
 use Rattle.mail_tree.specs.declared.places.FolderPlace.{FolderPlace}
 use Rattle.mail_tree.specs.Places.{ROOT, children, find_place, is_deep, is_plain, is_within, moves_deep, place_id}
 use Rattle.mail_tree.specs.Tree.{Tree, object_at}
@@ -38,14 +38,16 @@ use Rattle.mail_tree.specs.Messages.{added_attachment, added_message, added_reci
 use Rattle.mail_tree.specs.Parts.{attachment_props, attachment_tags, has_recipient, is_full, is_wide, lengthened, new_row, next_part, next_row, part_in, part_nid, part_with, plain_part, recipient_props, recipient_tags, room_for, rows_of, with_attachment, with_bytes, with_part, with_recipient, without_attachment, without_recipient}
 use Rattle.mail_tree.specs.Step.{after, outcome}
 use Rattle.mail_tree.specs.Whole.{IsWhole}
-use Rattle.mail_tree.specs.Found.{AreOwned, BelongsAt, IsFound}
+use Rattle.mail_tree.specs.Found.{BelongsAt, BelongsOr, IsFound, IsFoundBeside}
 use Rattle.mail_tree.proofs.AfterTree.{now_nothing, puts_object, puts_values}
 use Rattle.mail_laws.proofs.Closing.{plain_still}
 use Rattle.mail_laws.proofs.Depths.{AreReached, SameBut, made_reached, moved_reached, removed_reached}
 use Rattle.mail_tree.proofs.FineLaws.{cases_Option}
 use Rattle.mail_laws.proofs.FolderSteps.{fine_protected, no_rows, not_placed, with_new_folder}
-use Rattle.mail_laws.proofs.FoundSteps.{Finds, PlainIds, finds_add, finds_add_message, finds_drop_message, finds_elsewhere, finds_mirrored, finds_put_message, finds_values, found_after, get_other, kind_apart, named_place, owned_put, some_belongs, then_finds, finds_same}
-use Rattle.mail_laws.proofs.Keeping.{from_fine, if_any, if_found, if_test, if_then, if_weaker, never_made, if_replying}
+use Rattle.mail_laws.proofs.FoundSteps.{Finds, PlainIds, StandRightly, finds_add, finds_add_message, finds_drop_message, finds_elsewhere, finds_mirrored, finds_put_message, finds_values, found_after, found_alone, found_beside, get_other, kind_apart, named_place, owned_put, some_belongs, then_finds, finds_same}
+use Rattle.mail_laws.proofs.KeptCommands.{kept_after, scope_of}
+use Rattle.mail_laws.proofs.KeptObjects.{KeepsObjects, is_usual}
+use Rattle.mail_laws.proofs.Keeping.{both, from_fine, if_any, if_found, if_test, if_then, if_weaker, never_made, if_replying}
 use Rattle.mail_tree.proofs.KeyedFinds.{find-drop_other, find-drop_same, find-put_other, find-put_same, kept-put}
 use Rattle.mail_tree.proofs.KindsOfPuts.{beside_kind, same_folder, same_table}
 use Rattle.mail_laws.proofs.LawSteps.{before, reads_only}
@@ -71,9 +73,6 @@ table_elsewhere f g two_f two_g other =
       kind_apart (hierarchy g) f 15 (omega arith) (λ e. omega arith),
     )
 
-search_elsewhere : (f k : ℕ) → f % 32 ≡ 2 → k % 32 ≡ 3 → Elsewhere f k
-search_elsewhere f k two three = (λ e. omega arith, kind_apart k f 13 (omega arith) (λ e. omega arith), kind_apart k f 14 (omega arith) (λ e. omega arith), kind_apart k f 15 (omega arith) (λ e. omega arith))
-
 -- elsewhere nothing changed where a folder's nodes are put or go
 three_puts : (f x : ℕ) (a b c : Option Object) → Elsewhere f x → map.get (with_object (contents f) c (with_object (hierarchy f) b (with_object f a nothing))).objects x ≡ None
 three_puts f x a b c e =
@@ -97,9 +96,9 @@ without_untouched T f x e = node_untouched f x _ (is_taken T (associated f)) e (
 now_still : (T : Tree) (D : Changed) (x : ℕ) → map.get D.objects x ≡ None → now_at T D x ≡ now_at T nothing x
 now_still T D x none = ap (λ r. newest r (object_at T x)) (none ∙ sym (map.get-empty nat_cmp x))
 
-module _ (T : Tree) (w : Before T) (h : IsFound T) where
+module _ (aside : ℕ → Type 0) (T : Tree) (w : Before T) (h : IsFoundBeside aside T) where
   abbrev After : Outcome → Type 0
-  After o = Finds T o.places o.changed × AreReached o.places
+  After o = Finds aside T o.places o.changed × AreReached o.places
 
   two_of : (f : ℕ) (p : FolderPlace) → find_place f T.places ≡ Some p → is_plain p ≡ true → f % 32 ≡ 2
   two_of f p e plain = plain_id (nearly (λ x. ⊥) T.places (now_at T nothing) w) f p e plain
@@ -116,30 +115,28 @@ module _ (T : Tree) (w : Before T) (h : IsFound T) where
   )
 
   -- before the command
-  start : Finds T T.places nothing
+  start : Finds aside T T.places nothing
   start = record {
     listed = λ f p t r e plain is row s named. h.listed f p t r s e plain (sym (ap (λ g. g (hierarchy f)) (now_nothing T false)) ∙ is) row named;
     told = λ f p c e plain no_root is. let d = w.contexts f p e in let same : d.0 ≡ c = cc in ap (λ (x : Ctx). x.parent) (sym same) ∙ d.2 no_root;
-    apart = λ k three. map.get-empty nat_cmp k;
     owned = λ q o e. h.owned q o (sym (ap (λ g. g q) (now_nothing T false)) ∙ e);
   }
 
   limited : {B : Type 0} (Q : B → Type 0) (D : Changed) (f : Unit {0} → Answer B) → IfOk (f tt) Q → IfOk (within_limits D >>= f) Q
   limited Q D f k = if_then (λ u. Unit {0}) Q (within_limits D) f (if_any (within_limits D)) (λ u v. k)
 
-  then_changing : (a : Answer Changed) (reply : Reply) → IfOk a (Finds T T.places) → IfOk (a >>= changing T reply) After
-  then_changing a reply k = if_then (Finds T T.places) After a (changing T reply) k (λ D s. limited After D _ (s, h.reached))
+  then_changing : (a : Answer Changed) (reply : Reply) → IfOk a (Finds aside T T.places) → IfOk (a >>= changing T reply) After
+  then_changing a reply k = if_then (Finds aside T T.places) After a (changing T reply) k (λ D s. limited After D _ (s, h.reached))
 
-  then_moving : (places : List FolderPlace) → AreReached places → (a : Answer Changed) (reply : Reply) → IfOk a (Finds T places) → IfOk (a >>= moving T places reply) After
-  then_moving places reached a reply k = if_then (Finds T places) After a (moving T places reply) k (λ D s. limited After D _ (s, reached))
+  then_moving : (places : List FolderPlace) → AreReached places → (a : Answer Changed) (reply : Reply) → IfOk a (Finds aside T places) → IfOk (a >>= moving T places reply) After
+  then_moving places reached a reply k = if_then (Finds aside T places) After a (moving T places reply) k (λ D s. limited After D _ (s, reached))
 
-  then_making : (places : List FolderPlace) → AreReached places → (a : Answer Changed) (kind index : ℕ) → IfOk a (Finds T places) → IfOk (a >>= making T places kind index) After
-  then_making places reached a kind index k = if_then (Finds T places) After a (making T places kind index) k (λ D s. limited After D _ (if_test After (is_spent index) Ids _ (s, reached)))
+  then_making : (places : List FolderPlace) → AreReached places → (a : Answer Changed) (kind index : ℕ) → IfOk a (Finds aside T places) → IfOk (a >>= making T places kind index) After
+  then_making places reached a kind index k = if_then (Finds aside T places) After a (making T places kind index) k (λ D s. limited After D _ (if_test After (is_spent index) Ids _ (s, reached)))
 
   -- a message is put, or goes
-  message_changes : (D D' : Changed) (m : ℕ) (o : Option Object) → m % 32 ≡ 4 → Finds T T.places D → Puts (now_at T D) (now_at T D') m o → ((k : ℕ) → (k ≡ m → ⊥) → map.get D'.objects k ≡ map.get D.objects k)
-      → ((x : Object) → o ≡ Some x → BelongsAt T.places m x) → Finds T T.places D'
-  message_changes D D' m o four s puts gets fits = finds_elsewhere T T.places ids D D' m o s puts gets (λ e. omega arith) (λ e. omega arith) (λ e. omega arith) fits
+  message_changes : (D D' : Changed) (m : ℕ) (o : Option Object) → m % 32 ≡ 4 → Finds aside T T.places D → Puts (now_at T D) (now_at T D') m o → ((x : Object) → o ≡ Some x → BelongsOr aside T.places m x) → Finds aside T T.places D'
+  message_changes D D' m o four s puts fits = finds_elsewhere aside T T.places ids D D' m o s puts (λ e. omega arith) (λ e. omega arith) fits
 
   -- `rm`
   removes : (m : ℕ) → IfOk (removed_message T m) After
@@ -147,8 +144,8 @@ module _ (T : Tree) (w : Before T) (h : IsFound T) where
   removes m = if_then _ After (message_in T m) _ (from_fine _ (message_in T m) (fine_message_in T m w)) (λ M k.
       let D = with_object m None nothing in let v = home_of T w m M k.0 in
       let a = drop_shown T (contents M.folder) m D in
-      then_changing (a >>= settled T T.places M.folder) (replied Done) (then_finds T T.places ids a M.folder v.1 v.2 v.3
-      (finds_drop_message T T.places ids D M.folder m (message_changes nothing D m None k.1 start (puts_object T nothing m None) (λ x other. get_other nothing m x None other) (λ x e. absurd (none-some x e))))))
+      then_changing (a >>= settled T T.places M.folder) (replied Done) (then_finds aside T T.places ids a M.folder v.1 v.2 v.3
+      (finds_drop_message aside T T.places ids D M.folder m (message_changes nothing D m None k.1 start (puts_object T nothing m None) (λ x e. absurd (none-some x e))))))
 
   -- `mv`
   moves : (m folder : ℕ) → IfOk (moved_message T m folder) After
@@ -161,27 +158,27 @@ module _ (T : Tree) (w : Before T) (h : IsFound T) where
         | inl b ↦ rw b (start, h.reached)
         | inr b ↦
             let o = Some (Message (in_folder folder M)) in let D = with_object m o nothing in let v = home_of T w m M k.0 in
-            let s = message_changes nothing D m o k.1 start (puts_object T nothing m o) (λ x other. get_other nothing m x o other) (some_belongs T.places m (Message (in_folder folder M)) tt) in
-            rw b (if_then (Finds T T.places) After (drop_shown T (contents M.folder) m D) _ (finds_drop_message T T.places ids D M.folder m s) (λ D' s'.
+            let s = message_changes nothing D m o k.1 start (puts_object T nothing m o) (some_belongs aside T.places m (Message (in_folder folder M)) (inr tt)) in
+            rw b (if_then (Finds aside T T.places) After (drop_shown T (contents M.folder) m D) _ (finds_drop_message aside T T.places ids D M.folder m s) (λ D' s'.
             let a = add_shown T (contents folder) m M.props D' in
             then_changing (a >>= settled T T.places M.folder >>= settled T T.places folder) (replied Done)
-            (then_finds T T.places ids (a >>= settled T T.places M.folder) folder p.0 p.1 plain (then_finds T T.places ids a M.folder v.1 v.2 v.3
-            (finds_add_message T T.places ids D' folder m M.props s')))))
+            (then_finds aside T T.places ids (a >>= settled T T.places M.folder) folder p.0 p.1 plain (then_finds aside T T.places ids a M.folder v.1 v.2 v.3
+            (finds_add_message aside T T.places ids D' folder m M.props s')))))
       ])
     ])
   ])
 
   -- a new message is listed
-  adds : (a : Answer Changed) → IfOk a (Finds T T.places) → (M : Mes) (p : FolderPlace) (index : ℕ) → M.nid % 32 ≡ 4 → find_place M.folder T.places ≡ Some p → is_plain p ≡ true → IfOk (a >>= added_message T M >>= making T T.places 4 index) After
-  adds a k M p index four found plain = then_making T.places h.reached (a >>= added_message T M) 4 index (if_then (Finds T T.places) (Finds T T.places) a (added_message T M) k (λ D0 s0.
+  adds : (a : Answer Changed) → IfOk a (Finds aside T T.places) → (M : Mes) (p : FolderPlace) (index : ℕ) → M.nid % 32 ≡ 4 → find_place M.folder T.places ≡ Some p → is_plain p ≡ true → IfOk (a >>= added_message T M >>= making T T.places 4 index) After
+  adds a k M p index four found plain = then_making T.places h.reached (a >>= added_message T M) 4 index (if_then (Finds aside T T.places) (Finds aside T T.places) a (added_message T M) k (λ D0 s0.
       let o = Some (Message M) in
       let D = with_object M.nid o D0 in
-      then_finds T T.places ids (add_shown T (contents M.folder) M.nid M.props D) M.folder p found plain
-      (finds_add_message T T.places ids D M.folder M.nid M.props (message_changes D0 D M.nid o four s0 (puts_object T D0 M.nid o) (λ x other. get_other D0 M.nid x o other) (some_belongs T.places M.nid (Message M) tt)))))
+      then_finds aside T T.places ids (add_shown T (contents M.folder) M.nid M.props D) M.folder p found plain
+      (finds_add_message aside T T.places ids D M.folder M.nid M.props (message_changes D0 D M.nid o four s0 (puts_object T D0 M.nid o) (some_belongs aside T.places M.nid (Message M) (inr tt))))))
 
   -- the folder of a message, put as it is before other changes
-  touches : (m : ℕ) (M : Mes) → now_at T nothing m ≡ Some (Message M) → (crowded : Bool) → IfOk (touched T M.folder (record nothing { crowded = crowded })) (Finds T T.places)
-  touches m M is crowded = touched_stays T (Finds T T.places) (finds_same T T.places ids) M.folder (record nothing { crowded = crowded }) (home_kind T w m M is) (record { listed = start.listed; told = start.told; apart = start.apart; owned = start.owned })
+  touches : (m : ℕ) (M : Mes) → now_at T nothing m ≡ Some (Message M) → (crowded : Bool) → IfOk (touched T M.folder (record nothing { crowded = crowded })) (Finds aside T T.places)
+  touches m M is crowded = touched_stays T (Finds aside T T.places) (finds_same aside T T.places ids) M.folder (record nothing { crowded = crowded }) (home_kind T w m M is) (record { listed = start.listed; told = start.told; owned = start.owned })
 
   -- `cp`
   copies : (m folder : ℕ) → IfOk (copied_message T m folder) After
@@ -231,12 +228,12 @@ module _ (T : Tree) (w : Before T) (h : IsFound T) where
       let D = with_message M N D0 in let v = home_of T w m M is in
       let four' : N.nid % 32 ≡ 4 = ap (λ x. x % 32) (finished_id new ∙ same ∙ v.0) ∙ four in
       let folder : N.folder ≡ M.folder = finished_folder new ∙ there in
-      let s0 : Finds T T.places D0 = record { listed = start.listed; told = start.told; apart = start.apart; owned = start.owned } in
-      let s = message_changes D0 D N.nid (Some (Message N)) four' s0 (puts_values T D0 N.nid (Message N) M.props N.props) (λ x other. get_other D0 N.nid x (Some (Message N)) other) (some_belongs T.places N.nid (Message N) tt) in
+      let s0 : Finds aside T T.places D0 = record { listed = start.listed; told = start.told; owned = start.owned } in
+      let s = message_changes D0 D N.nid (Some (Message N)) four' s0 (puts_values T D0 N.nid (Message N) M.props N.props) (some_belongs aside T.places N.nid (Message N) (inr tt)) in
       let a = put_shown T (contents N.folder) N.nid N.props D in
       if_replying T (a >>= settled T T.places N.folder) reason (replied last) After
-      (then_changing (a >>= settled T T.places N.folder) (replied last) (then_finds T T.places ids a N.folder v.1 (ap (λ x. find_place x T.places) folder ∙ v.2) v.3
-      (finds_put_message T T.places ids D N.folder N.nid N.props s)))
+      (then_changing (a >>= settled T T.places N.folder) (replied last) (then_finds aside T T.places ids a N.folder v.1 (ap (λ x. find_place x T.places) folder ∙ v.2) v.3
+      (finds_put_message aside T T.places ids D N.folder N.nid N.props s)))
 
   -- a message gets other values
   changes : (m : ℕ) (M : Mes) (props : List Val) → now_at T nothing m ≡ Some (Message M) → m % 32 ≡ 4 → IfOk (changed_message T M props) After
@@ -303,7 +300,7 @@ module _ (T : Tree) (w : Before T) (h : IsFound T) where
           if_then (λ u. Unit {0}) After (unless_named T (folded false name) (siblings T p.0.parent.bits f)) _ (if_any (unless_named T (folded false name) (siblings T p.0.parent.bits f))) (λ u v.
           if_then (λ c. now_at T nothing f ≡ Some (Context c)) After (context_at T nothing f) _ (if_context T nothing f) (λ c is.
           let D = with_context f c (put (text 0x3001 name) c.props) nothing in
-          then_changing (mirrored T f D) (replied Done) (finds_mirrored T T.places ids D f p.0 p.1 plain (finds_values T T.places ids nothing f c (put (text 0x3001 name) c.props) (two_of f p.0 p.1 plain) start is))))))
+          then_changing (mirrored T f D) (replied Done) (finds_mirrored aside T T.places ids D f p.0 p.1 plain (finds_values aside T T.places ids nothing f c (put (text 0x3001 name) c.props) (two_of f p.0 p.1 plain) start is))))))
     ])
   ]
 
@@ -329,12 +326,13 @@ module _ (T : Tree) (w : Before T) (h : IsFound T) where
   belongs_more f parent k (Context c) (inr (inr is)) = inr (inr (kept-put place_id k (place f parent) T.places is))
   belongs_more f parent k (Table t) x = (x.0, plain_still T.places f parent x.0 x.1.0 x.1.1 x.1.2, x.2)
   belongs_more f parent k (Message m) x = tt
+  belongs_more f parent k (Bare above) x = absurd x
 
-  owned_more : (f parent : ℕ) → AreOwned (put_key place_id (place f parent) T.places) (now_at T nothing)
-  owned_more f parent q o e = belongs_more f parent q o (start.owned q o e)
+  owned_more : (f parent : ℕ) → StandRightly aside (put_key place_id (place f parent) T.places) (now_at T nothing)
+  owned_more f parent q o e = elim (start.owned q o e) [ inl b ↦ inl b | inr b ↦ inr (belongs_more f parent q o b) ]
 
   -- the nodes of a new folder belong to it
-  owned_new : (f parent : ℕ) (name : List ℕ) → AreOwned (put_key place_id (place f parent) T.places) (now_at T (with_folder f parent name nothing))
+  owned_new : (f parent : ℕ) (name : List ℕ) → StandRightly aside (put_key place_id (place f parent) T.places) (now_at T (with_folder f parent name nothing))
   owned_new f parent name =
       let Q = put_key place_id (place f parent) T.places in
       let is = find-put_same place_id (place f parent) T.places in
@@ -343,10 +341,10 @@ module _ (T : Tree) (w : Before T) (h : IsFound T) where
       let D2 = with_object (hierarchy f) (Some (Table hierarchy_table)) D1 in
       let D3 = with_object (contents f) (Some (Table contents_table)) D2 in
       let D4 = with_object (associated f) (Some (Table contents_table)) D3 in
-      let own1 = owned_put Q (now_at T nothing) (now_at T D1) f (Some c) (puts_object T nothing f (Some c)) (some_belongs Q f c (inr (inr (subst IsSome (sym is) refl)))) (owned_more f parent) in
-      let own2 = owned_put Q (now_at T D1) (now_at T D2) (hierarchy f) (Some (Table hierarchy_table)) (puts_object T D1 (hierarchy f) (Some (Table hierarchy_table))) (some_belongs Q (hierarchy f) (Table hierarchy_table) (f, (place f parent, is, refl), inl refl)) own1 in
-      let own3 = owned_put Q (now_at T D2) (now_at T D3) (contents f) (Some (Table contents_table)) (puts_object T D2 (contents f) (Some (Table contents_table))) (some_belongs Q (contents f) (Table contents_table) (f, (place f parent, is, refl), inr (inl refl))) own2 in
-      owned_put Q (now_at T D3) (now_at T D4) (associated f) (Some (Table contents_table)) (puts_object T D3 (associated f) (Some (Table contents_table))) (some_belongs Q (associated f) (Table contents_table) (f, (place f parent, is, refl), inr (inr refl))) own3
+      let own1 = owned_put aside Q (now_at T nothing) (now_at T D1) f (Some c) (puts_object T nothing f (Some c)) (some_belongs aside Q f c (inr (inr (inr (subst IsSome (sym is) refl))))) (owned_more f parent) in
+      let own2 = owned_put aside Q (now_at T D1) (now_at T D2) (hierarchy f) (Some (Table hierarchy_table)) (puts_object T D1 (hierarchy f) (Some (Table hierarchy_table))) (some_belongs aside Q (hierarchy f) (Table hierarchy_table) (inr (f, (place f parent, is, refl), inl refl))) own1 in
+      let own3 = owned_put aside Q (now_at T D2) (now_at T D3) (contents f) (Some (Table contents_table)) (puts_object T D2 (contents f) (Some (Table contents_table))) (some_belongs aside Q (contents f) (Table contents_table) (inr (f, (place f parent, is, refl), inr (inl refl)))) own2 in
+      owned_put aside Q (now_at T D3) (now_at T D4) (associated f) (Some (Table contents_table)) (puts_object T D3 (associated f) (Some (Table contents_table))) (some_belongs aside Q (associated f) (Table contents_table) (inr (f, (place f parent, is, refl), inr (inr refl)))) own3
 
   -- where nodes of a folder went, none of them stands
   left_of : (D : Changed) (q x : ℕ) (o : Object) → now_at T (with_object q None D) x ≡ Some o → (x ≡ q → ⊥) × (now_at T D x ≡ Some o)
@@ -385,15 +383,16 @@ module _ (T : Tree) (w : Before T) (h : IsFound T) where
       ] in
       (x.0, (x.1.0, find-drop_other place_id x.0 f T.places other ∙ x.1.1, x.1.2), x.2)
   belongs_less f q (Message m) away x = tt
+  belongs_less f q (Bare above) away x = absurd x
 
-  owned_less : (f : ℕ) → AreOwned (drop_key place_id f T.places) (now_at T (without_folder T f nothing))
-  owned_less f q o e = let x = folder_left f q o (is_taken T (associated f)) refl e in belongs_less f q o x.0 (start.owned q o x.1)
+  owned_less : (f : ℕ) → StandRightly aside (drop_key place_id f T.places) (now_at T (without_folder T f nothing))
+  owned_less f q o e = let x = folder_left f q o (is_taken T (associated f)) refl e in elim (start.owned q o x.1) [ inl b ↦ inl b | inr b ↦ inr (belongs_less f q o x.0 b) ]
 
   same_context : (a b : Ctx) → ◌≡◌ {A = Option Object} (Some (Context a)) (Some (Context b)) → a ≡ b
   same_context a b e = cc
 
   -- the nodes of a new folder
-  new_finds : (f parent : ℕ) (name : List ℕ) → f % 32 ≡ 2 → find_place f T.places ≡ None → Finds T (put_key place_id (place f parent) T.places) (with_folder f parent name nothing)
+  new_finds : (f parent : ℕ) (name : List ℕ) → f % 32 ≡ 2 → find_place f T.places ≡ None → Finds aside T (put_key place_id (place f parent) T.places) (with_folder f parent name nothing)
   new_finds f parent name two none =
       let D = with_folder f parent name nothing in
       let new = with_new_folder T f parent name w two none in record {
@@ -414,7 +413,6 @@ module _ (T : Tree) (w : Before T) (h : IsFound T) where
               let was = put_was f parent g p other e in
               start.told g p c was plain no_root (sym (now_still T D g (with_untouched f parent g name (folder_elsewhere f g (two_of g p was plain) other))) ∙ is)
         ];
-        apart = λ k three. with_untouched f parent k name (search_elsewhere f k two three);
         owned = owned_new f parent name;
       }
 
@@ -445,8 +443,8 @@ module _ (T : Tree) (w : Before T) (h : IsFound T) where
                   let D = with_folder f parent name nothing in
                   let a = add_shown T (hierarchy parent) f (folder_props name) D in
                   (then_making places (made_reached T.places f parent p.0 h.reached none no_root p.1 b) (a >>= settled T places parent) 2 index
-                  (then_finds T places places_ids a parent still.0 still.1 still.2
-                  (finds_add T places places_ids D parent f (folder_props name) two_parent (new_finds f parent name new.0 none)
+                  (then_finds aside T places places_ids a parent still.0 still.1 still.2
+                  (finds_add aside T places places_ids D parent f (folder_props name) two_parent (new_finds f parent name new.0 none)
                   (named_place T places f parent (place f parent) (find-put_same place_id (place f parent) T.places) refl refl new.0 no_root))))
             ]))
           ]))
@@ -457,11 +455,11 @@ module _ (T : Tree) (w : Before T) (h : IsFound T) where
   dropped : (places : List FolderPlace) (places_ids : PlainIds places) (f : ℕ) (p : FolderPlace) (D : Changed) → find_place f T.places ≡ Some p → SameBut f T.places places
       → ((g : ℕ) (q : FolderPlace) → find_place g places ≡ Some q → is_plain q ≡ true → ((r : FolderPlace) × (find_place g T.places ≡ Some r) × (is_plain r ≡ true)) × (now_at T D (hierarchy g) ≡ now_at T nothing (hierarchy g)))
       → ((g : ℕ) (q : FolderPlace) (c : Ctx) → find_place g places ≡ Some q → is_plain q ≡ true → (g ≡ ROOT → ⊥) → now_at T D g ≡ Some (Context c) → c.parent ≡ q.parent.bits)
-      → ((k : ℕ) → k % 32 ≡ 3 → map.get D.objects k ≡ None) → AreOwned places (now_at T D) → IfOk (drop_shown T (hierarchy p.parent.bits) f D) (Finds T places)
+      → StandRightly aside places (now_at T D) → IfOk (drop_shown T (hierarchy p.parent.bits) f D) (Finds aside T places)
   unfolding drop_shown
-  dropped places places_ids f p D found same_but was told apart owned =
+  dropped places places_ids f p D found same_but was told owned =
       let from = p.parent.bits in
-      if_then (λ t. now_at T D (hierarchy from) ≡ Some (Table t)) (Finds T places) (table_at T D (hierarchy from)) _ (if_table T D (hierarchy from)) (λ t is_t.
+      if_then (λ t. now_at T D (hierarchy from) ≡ Some (Table t)) (Finds aside T places) (table_at T D (hierarchy from)) _ (if_table T D (hierarchy from)) (λ t is_t.
       let t' : Tbl = record { parent = t.parent; table = record t.table { rows = drop_row f t.table.rows } } in
       let o = Some (with_rows (drop_row f t.table.rows) t) in
       let D' = with_object (hierarchy from) o D in
@@ -485,8 +483,7 @@ module _ (T : Tree) (w : Before T) (h : IsFound T) where
                   (k.0, same_but r other ∙ k.1)
             ];
         told = λ g q c e plain no_root is. told g q c e plain no_root (sym (puts.others g (kind_apart g from 13 (omega arith) (λ k. let two = (places_ids g q e plain).0 in omega arith))) ∙ is);
-        apart = λ k three. get_other D (hierarchy from) k o (kind_apart k from 13 (omega arith) (λ e. omega arith)) ∙ apart k three;
-        owned = owned_put places (now_at T D) (now_at T D') (hierarchy from) o puts (some_belongs places (hierarchy from) (Table t') (owned (hierarchy from) (Table t) is_t)) owned;
+        owned = owned_put aside places (now_at T D) (now_at T D') (hierarchy from) o puts (some_belongs aside places (hierarchy from) (Table t') (owned (hierarchy from) (Table t) is_t)) owned;
       })
 
   -- `mvdir`
@@ -518,11 +515,11 @@ module _ (T : Tree) (w : Before T) (h : IsFound T) where
                   elim (cases_Bool (moves_deep T.places f parent)) [
                     | inl b ↦ rw b tt
                     | inr deep ↦ rw deep (then_moving places (moved_reached T.places f parent p.0 q.0 h.reached p.1 no_root q.1 out deep) _ (replied Done)
-                        (if_then (Finds T places) (Finds T places) a _ (move_drops f parent p.0 c.0 p.1 plain_p two places_ids) (λ D1 s.
+                        (if_then (Finds aside T places) (Finds aside T places) a _ (move_drops f parent p.0 c.0 p.1 plain_p two places_ids) (λ D1 s.
                         let a' = add_shown T (hierarchy parent) f c.0.props D1 in
-                        then_finds T places places_ids (a' >>= settled T places from) parent to_still.0 to_still.1 to_still.2
-                        (then_finds T places places_ids a' from from_still.0 from_still.1 from_still.2
-                        (finds_add T places places_ids D1 parent f c.0.props two_parent s (named_place T places f parent (place f parent) (find-put_same place_id (place f parent) T.places) refl refl two no_root))))))
+                        then_finds aside T places places_ids (a' >>= settled T places from) parent to_still.0 to_still.1 to_still.2
+                        (then_finds aside T places places_ids a' from from_still.0 from_still.1 from_still.2
+                        (finds_add aside T places places_ids D1 parent f c.0.props two_parent s (named_place T places f parent (place f parent) (find-put_same place_id (place f parent) T.places) refl refl two no_root))))))
                   ]))
             ])
           ]))
@@ -533,7 +530,7 @@ module _ (T : Tree) (w : Before T) (h : IsFound T) where
     where
       -- the folder leaves its parent's table, and its values tell the new one
       move_drops : (f parent : ℕ) (p : FolderPlace) (c : Ctx) → find_place f T.places ≡ Some p → is_plain p ≡ true → f % 32 ≡ 2 → PlainIds (put_key place_id (place f parent) T.places)
-          → IfOk (drop_shown T (hierarchy p.parent.bits) f (with_object f (Some (Context (record c { parent = parent }))) nothing)) (Finds T (put_key place_id (place f parent) T.places))
+          → IfOk (drop_shown T (hierarchy p.parent.bits) f (with_object f (Some (Context (record c { parent = parent }))) nothing)) (Finds aside T (put_key place_id (place f parent) T.places))
       move_drops f parent p c e plain two places_ids =
           let o = Some (Context (record c { parent = parent })) in
           let D = with_object f o nothing in
@@ -549,9 +546,8 @@ module _ (T : Tree) (w : Before T) (h : IsFound T) where
                 ap (λ (x : Ctx). x.parent) (sym values) ∙ ap (λ (x : FolderPlace). x.parent.bits) (put_is f parent g q same is)
             | inr other ↦ start.told g q d (put_was f parent g q other is) plain_q other_root (sym (puts.others g other) ∙ at_g)
           ])
-          (λ k three. get_other nothing f k o (λ same. omega arith) ∙ map.get-empty nat_cmp k)
-          (owned_put (put_key place_id (place f parent) T.places) (now_at T nothing) (now_at T D) f o puts
-          (some_belongs (put_key place_id (place f parent) T.places) f (Context (record c { parent = parent })) (inr (inr (subst IsSome (sym (find-put_same place_id (place f parent) T.places)) refl)))) (owned_more f parent))
+          (owned_put aside (put_key place_id (place f parent) T.places) (now_at T nothing) (now_at T D) f o puts
+          (some_belongs aside (put_key place_id (place f parent) T.places) f (Context (record c { parent = parent })) (inr (inr (inr (subst IsSome (sym (find-put_same place_id (place f parent) T.places)) refl))))) (owned_more f parent))
 
   -- `rmdir`
   removes_folder : (f : ℕ) → IfOk (removed_folder T f) After
@@ -582,11 +578,11 @@ module _ (T : Tree) (w : Before T) (h : IsFound T) where
                 let from_still : find_place from places ≡ Some v.0 = find-drop_other place_id from f T.places (childless f p.0 p.1 no_root) ∙ v.1 in
                 let D = without_folder T f nothing in
                 let a' = drop_shown T (hierarchy from) f D in
-                rw none (then_moving places (removed_reached T.places f h.reached w.ascend childless) (a' >>= settled T places from) (replied Done) (then_finds T places places_ids a' from v.0 from_still v.2
+                rw none (then_moving places (removed_reached T.places f h.reached w.ascend childless) (a' >>= settled T places from) (replied Done) (then_finds aside T places places_ids a' from v.0 from_still v.2
                 (dropped places places_ids f p.0 D p.1 (λ x other. find-drop_other place_id x f T.places other)
                 (λ g q e plain. ((q, was g q e, plain), now_still T D (hierarchy g) (without_untouched T f (hierarchy g) (table_elsewhere f g two (places_ids g q e plain).0 (apart g q e)))))
                 (λ g q d e plain other_root is. start.told g q d (was g q e) plain other_root (sym (now_still T D g (without_untouched T f g (folder_elsewhere f g (places_ids g q e plain).0 (apart g q e)))) ∙ is))
-                (λ k three. without_untouched T f k (search_elsewhere f k two three)) (owned_less f))))
+                (owned_less f))))
           ])))))
     ])
   ]
@@ -617,10 +613,20 @@ module _ (T : Tree) (w : Before T) (h : IsFound T) where
   finds_after (RemoveAttachment message attachment) = removes_attachment message.bits attachment.bits
   finds_after (FetchData message attachment) = if_weaker (λ o. o ≡ unchanged T o.reply) After (outcome T (FetchData message attachment)) (reads_only T (FetchData message attachment) refl) looks
   finds_after (NameProperty guid number) = if_weaker (PutsNames T) After (named_property T guid number) (puts_names_after T guid number w) (λ o k.
-      subst (λ places. Finds T places o.changed × AreReached places) (sym k.places_are)
-      (finds_elsewhere T T.places ids nothing o.changed NAMES (Some (Context k.new)) start k.puts k.gets (λ e. omega arith) (λ e. omega arith) (λ e. omega arith) (some_belongs T.places NAMES (Context k.new) (inr (inl refl))), h.reached))
+      subst (λ places. Finds aside T places o.changed × AreReached places) (sym k.places_are)
+      (finds_elsewhere aside T T.places ids nothing o.changed NAMES (Some (Context k.new)) start k.puts (λ e. omega arith) (λ e. omega arith) (some_belongs aside T.places NAMES (Context k.new) (inr (inr (inl refl)))), h.reached))
+  finds_after (MakeSearch parent name) = tt
+  finds_after (SetCriteria folder flags scope restriction) = tt
+  finds_after (GetCriteria folder) = tt
   finds_after Save = (start, h.reached)
   finds_after Quit = (start, h.reached)
 
+-- an opening finds the tree after each command, where it found it before with these beside
+pub stays_beside : (aside : ℕ → Type 0) (T : Tree) (c : Command) → IsWhole T → IsFoundBeside aside T → IfOk (outcome T c) (λ o. IsFoundBeside aside (after T o))
+stays_beside aside T c w h =
+    both (λ o. Finds aside T o.places o.changed × AreReached o.places) (λ o. KeepsObjects T (scope_of T c) o.changed.objects) (λ o. IsFoundBeside aside (after T o)) (outcome T c) (finds_after aside T (before T w) h c) (kept_after T w c)
+    (λ o k kept. found_after aside T o (λ q three. kept.apart q (ap is_usual three) (λ e. omega arith)) k.0 k.1)
+
+-- the same where nothing stands beside
 pub stays_found : (T : Tree) (c : Command) → IsWhole T → IsFound T → IfOk (outcome T c) (λ o. IsFound (after T o))
-stays_found T c w h = if_weaker (λ o. Finds T o.places o.changed × AreReached o.places) (λ o. IsFound (after T o)) (outcome T c) (finds_after T (before T w) h c) (λ o k. found_after T o k.0 k.1)
+stays_found T c w h = if_weaker (λ o. IsFoundBeside (λ q. ⊥) (after T o)) (λ o. IsFound (after T o)) (outcome T c) (stays_beside (λ q. ⊥) T c w (found_beside (λ q. ⊥) T h)) (λ o k. found_alone (after T o) k)

@@ -8,7 +8,7 @@ use Rattle.std.specs.FinMap as map
 use Rattle.mapi_values.specs.Tables.{find_row}
 use Rattle.mail_objects.specs.Forms.{Tbl}
 use Rattle.mail_objects.specs.declared.object.Object.{Object}
-use Rattle.mail_objects.specs.declared.object.Object.TheVariants.{Context, Message, Table}
+use Rattle.mail_objects.specs.declared.object.Object.TheVariants.{Context, Message, Table, Bare}
 use Rattle.mail_tree.specs.declared.places.FolderPlace.{FolderPlace}
 use Rattle.mail_tree.specs.declared.places.Sort.{Sort}
 use Rattle.mail_tree.specs.declared.places.Sort.TheVariants.{Plain}
@@ -53,6 +53,7 @@ belongs : ℕ → Object → Bool
 belongs q (Context c) = (q == 0x21) || ((q == 0x61) || is_some (find_place q start_places))
 belongs q (Table t) = is_plain_one (find_place (beside q 2) start_places) && ((q % 32 == 13) || ((q % 32 == 14) || (q % 32 == 15)))
 belongs q (Message m) = true
+belongs q (Bare parent) = false
 
 belongs_is : (q : ℕ) (o : Object) → belongs q o ≡ true → BelongsAt start_places q o
 unfolding belongs is_plain_one
@@ -61,6 +62,7 @@ belongs_is q (Context c) e = elim (or_cases (q == 0x21) ((q == 0x61) || is_some 
   | inr u ↦ inr (elim (or_cases (q == 0x61) (is_some (find_place q start_places)) u) [ inl t ↦ inl (eqb-true q 0x61 t) | inr is ↦ inr is ])
 ]
 belongs_is q (Message m) e = tt
+belongs_is q (Bare parent) e = absurd (false≢true e)
 belongs_is q (Table t) e =
     let p = and_parts (is_plain_one (find_place (beside q 2) start_places)) ((q % 32 == 13) || ((q % 32 == 14) || (q % 32 == 15))) e in
     elim (cases_Option (find_place (beside q 2) start_places)) [

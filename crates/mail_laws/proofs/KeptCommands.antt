@@ -15,7 +15,7 @@ use Rattle.mapi_values.specs.Properties.{put, remove_id}
 use Rattle.mapi_values.specs.Values.{Val}
 use Rattle.mapi_values.specs.declared.value.Tag.{Tag}
 use Rattle.command_text.specs.declared.command.Command.{Command}
-use Rattle.command_text.specs.declared.command.Command.TheVariants.{MakeFolder, RenameFolder, MoveFolder, RemoveFolder, ListFolder, NewMessage, SetProperty, UnsetProperty, GetProperty, ListProperties, MoveMessage, CopyMessage, RemoveMessage, AddRecipient, RemoveRecipient, AddAttachment, AppendData, RemoveAttachment, FetchData, Save, Quit, NameProperty}
+use Rattle.command_text.specs.declared.command.Command.TheVariants.{MakeFolder, RenameFolder, MoveFolder, RemoveFolder, ListFolder, NewMessage, SetProperty, UnsetProperty, GetProperty, ListProperties, MoveMessage, CopyMessage, RemoveMessage, AddRecipient, RemoveRecipient, AddAttachment, AppendData, RemoveAttachment, FetchData, Save, Quit, NameProperty, MakeSearch, SetCriteria, GetCriteria}
 use Rattle.command_text.specs.declared.reply.LastLine.TheVariants.{Attached, Done, Row}
 use Rattle.command_text.specs.declared.reply.Reply.{Reply}
 use Rattle.mail_objects.specs.Forms.{Ctx}
@@ -44,13 +44,12 @@ use Rattle.mail_tree.proofs.AfterTree.{now_nothing}
 use Rattle.mail_tree.proofs.FineLaws.{cases_Option}
 use Rattle.mail_laws.proofs.FolderSteps.{fine_protected}
 use Rattle.mail_laws.proofs.Keeping.{from_fine, if_any, if_found, if_test, if_then, if_weaker, never_made, if_replying}
-use Rattle.mail_laws.proofs.KeptObjects.{KeepsObjects, Scope, fits_context, fits_gone, fits_message, fits_new, keeps_all, keeps_more, touched_here, touched_still, keeps_names}
-use Rattle.mail_laws.proofs.KeptSteps.{add_good, context_good, drop_good, mirrored_good, put_good, stood, table_elsewhere, then_good, good_same}
+use Rattle.mail_laws.proofs.KeptObjects.{KeepsObjects, Scope, fits_context, fits_gone, fits_message, fits_new, is_usual, keeps_all, keeps_more, touched_here, touched_still, keeps_names}
+use Rattle.mail_laws.proofs.KeptSteps.{add_good, context_good, drop_good, mirrored_good, put_good, stood, table_usual, then_good, good_same}
 use Rattle.mail_tree.proofs.KeyedFinds.{find-put_other}
-use Rattle.mail_tree.proofs.KindsOfPuts.{low}
 use Rattle.mail_laws.proofs.LawSteps.{before, reads_only}
 use Rattle.mail_laws.proofs.MessageSteps.{Before, fine_message_in, finished_folder, finished_id, home_of, home_kind}
-use Rattle.mail_tree.proofs.Nearly.{folder_kind}
+use Rattle.mail_tree.proofs.Nearly.{nearly, plain_id}
 use Rattle.mail_laws.proofs.NewIds.{new_id_is, next_is_free}
 use Rattle.mail_tree.proofs.Settles.{store_of}
 
@@ -125,12 +124,12 @@ module _ (T : Tree) (whole : IsWhole T) (scope : Scope) where
   in_tree : (q : ℕ) (x : Object) → now_at T nothing q ≡ Some x → object_at T q ≡ Some x
   in_tree q x is = sym (ap (λ g. g q) (now_nothing T false)) ∙ is
 
-  -- a folder isn't the store's values or the names
-  place_elsewhere : (f : ℕ) (p : FolderPlace) → find_place f T.places ≡ Some p → f % 32 ≡ 1 → ⊥
-  place_elsewhere f p e same = let (above, below) = low f (folder_kind p.sort f (whole.objects.kinds f p e)) in omega arith
+  -- a plain folder stands at an id of its kind
+  place_usual : (f : ℕ) (p : FolderPlace) → find_place f T.places ≡ Some p → is_plain p ≡ true → is_usual (f % 32) ≡ true
+  place_usual f p e plain = ap is_usual (plain_id (nearly (λ x. ⊥) T.places (now_at T nothing) w) f p e plain)
 
-  then_settled : (places : List FolderPlace) (a : Answer Changed) (f : ℕ) (p : FolderPlace) → find_place f T.places ≡ Some p → IfOk a Kept → IfOk (a >>= settled T places f) Kept
-  then_settled places a f p e h = let c = whole.objects.contexts f p e in then_good T scope places a f (Context c.0) (place_elsewhere f p e) c.1 h
+  then_settled : (places : List FolderPlace) (a : Answer Changed) (f : ℕ) (p : FolderPlace) → find_place f T.places ≡ Some p → is_plain p ≡ true → IfOk a Kept → IfOk (a >>= settled T places f) Kept
+  then_settled places a f p e plain h = let c = whole.objects.contexts f p e in then_good T scope places a f (Context c.0) (place_usual f p e plain) c.1 h
 
   limited : {B : Type 0} (Q : B → Type 0) (D : Changed) (f : Unit {0} → Answer B) → IfOk (f tt) Q → IfOk (within_limits D >>= f) Q
   limited Q D f h = if_then (λ u. Unit {0}) Q (within_limits D) f (if_any (within_limits D)) (λ u v. h)
@@ -157,8 +156,8 @@ module _ (T : Tree) (whole : IsWhole T) (scope : Scope) where
       let is = in_tree m (Message M) h.0 in
       let D = with_object m None nothing in let v = home_of T w m M h.0 in
       let a = drop_shown T (contents M.folder) m D in
-      then_changing (a >>= settled T T.places M.folder) (replied Done) (then_settled T.places a M.folder v.1 v.2
-      (drop_good T scope (contents M.folder) m D (table_elsewhere M.folder 14 (omega arith) (omega arith)) (stood T D.objects m (Message M) is) (message_changes m M None is h.1 (λ e. takes)))))
+      then_changing (a >>= settled T T.places M.folder) (replied Done) (then_settled T.places a M.folder v.1 v.2 v.3
+      (drop_good T scope (contents M.folder) m D (table_usual M.folder 14 (omega arith) refl) (stood T D.objects m (Message M) is) (message_changes m M None is h.1 (λ e. takes)))))
 
   moves : (m folder : ℕ) → IfOk (moved_message T m folder) After
   unfolding moved_message
@@ -172,20 +171,20 @@ module _ (T : Tree) (whole : IsWhole T) (scope : Scope) where
             let is = in_tree m (Message M) h.0 in
             let N = in_folder folder M in let D = with_object m (Some (Message N)) nothing in let v = home_of T w m M h.0 in
             rw t (if_then Kept After (drop_shown T (contents M.folder) m D) _
-            (drop_good T scope (contents M.folder) m D (table_elsewhere M.folder 14 (omega arith) (omega arith)) (stood T D.objects m (Message M) is) (message_changes m M (Some (Message N)) is h.1 (λ e. absurd (none-some (Message N) (sym e))))) (λ D' k.
+            (drop_good T scope (contents M.folder) m D (table_usual M.folder 14 (omega arith) refl) (stood T D.objects m (Message M) is) (message_changes m M (Some (Message N)) is h.1 (λ e. absurd (none-some (Message N) (sym e))))) (λ D' k.
             let a = add_shown T (contents folder) m M.props D' in
             then_changing (a >>= settled T T.places M.folder >>= settled T T.places folder) (replied Done)
-            (then_settled T.places (a >>= settled T T.places M.folder) folder p.0 p.1 (then_settled T.places a M.folder v.1 v.2
-            (add_good T scope (contents folder) m M.props D' (table_elsewhere folder 14 (omega arith) (omega arith)) (stood T D'.objects m (Message M) is) k)))))
+            (then_settled T.places (a >>= settled T T.places M.folder) folder p.0 p.1 plain (then_settled T.places a M.folder v.1 v.2 v.3
+            (add_good T scope (contents folder) m M.props D' (table_usual folder 14 (omega arith) refl) (stood T D'.objects m (Message M) is) k)))))
       ])
     ])
   ])
 
-  adds : (a : Answer Changed) → IfOk a Kept → (M : Mes) (p : FolderPlace) (index : ℕ) → M.nid % 32 ≡ 4 → Free T M.nid → scope.brings M.nid ≡ true → find_place M.folder T.places ≡ Some p → IfOk (a >>= added_message T M >>= making T T.places 4 index) After
-  adds a k M p index four free brings found = then_making T.places (a >>= added_message T M) 4 index (if_then Kept Kept a (added_message T M) k (λ D0 k0.
+  adds : (a : Answer Changed) → IfOk a Kept → (M : Mes) (p : FolderPlace) (index : ℕ) → M.nid % 32 ≡ 4 → Free T M.nid → scope.brings M.nid ≡ true → find_place M.folder T.places ≡ Some p → is_plain p ≡ true → IfOk (a >>= added_message T M >>= making T T.places 4 index) After
+  adds a k M p index four free brings found plain = then_making T.places (a >>= added_message T M) 4 index (if_then Kept Kept a (added_message T M) k (λ D0 k0.
       let D = with_object M.nid (Some (Message M)) D0 in
-      then_settled T.places (add_shown T (contents M.folder) M.nid M.props D) M.folder p found
-      (add_good T scope (contents M.folder) M.nid M.props D (table_elsewhere M.folder 14 (omega arith) (omega arith)) (touched_here T D0.objects M.nid (Some (Message M)))
+      then_settled T.places (add_shown T (contents M.folder) M.nid M.props D) M.folder p found plain
+      (add_good T scope (contents M.folder) M.nid M.props D (table_usual M.folder 14 (omega arith) refl) (touched_here T D0.objects M.nid (Some (Message M)))
       (keeps_more T scope D0.objects M.nid (Some (Message M)) k0 (fits_message T scope D0.objects M.nid (Some (Message M)) (whole.objects.typed M.nid) four (λ none. (refl, free.1)) (λ e. absurd (none-some (Message M) (sym e))) (λ none. brings))))))
 
   -- the folder of a message, put as it is before other changes
@@ -202,7 +201,7 @@ module _ (T : Tree) (whole : IsWhole T) (scope : Scope) where
         | inl t ↦ rw t tt
         | inr t ↦ rw t (if_then (λ u. Unit {0}) After (unless_full T (contents folder)) _ (if_any (unless_full T (contents folder))) (λ u v. elim (cases_Bool (is_spent (next_index T 4 message_kinds))) [
           | inl t ↦ never_made T T.places 4 (next_index T 4 message_kinds) After (touched T M.folder (record nothing { crowded = is_crowded_message M }) >>= added_message T (copy_of (new_id 4 (next_index T 4 message_kinds)) folder M)) t
-          | inr t ↦ let id = new_message_free T t in (adds (touched T M.folder (record nothing { crowded = is_crowded_message M })) (touches m M h.0 (is_crowded_message M)) (copy_of (new_id 4 (next_index T 4 message_kinds)) folder M) p.0 (next_index T 4 message_kinds) id.0 id.1 brings p.1)
+          | inr t ↦ let id = new_message_free T t in (adds (touched T M.folder (record nothing { crowded = is_crowded_message M })) (touches m M h.0 (is_crowded_message M)) (copy_of (new_id 4 (next_index T 4 message_kinds)) folder M) p.0 (next_index T 4 message_kinds) id.0 id.1 brings p.1 plain)
         ]))
       ])
     ])
@@ -225,7 +224,7 @@ module _ (T : Tree) (whole : IsWhole T) (scope : Scope) where
                 let index = next_index T 4 message_kinds in
                 let N = plain_message (new_id 4 index) folder (message_props (new_id 4 index) class time store.0.props) in
                 let id = new_message_free T t in
-                (adds (Ok nothing) none_yet (finished N) p.0 index (ap (λ x. x % 32) (finished_id N) ∙ id.0) (subst (Free T) (sym (finished_id N)) id.1) (subst (λ x. scope.brings x ≡ true) (sym (finished_id N)) brings) (ap (λ x. find_place x T.places) (finished_folder N) ∙ p.1))
+                (adds (Ok nothing) none_yet (finished N) p.0 index (ap (λ x. x % 32) (finished_id N) ∙ id.0) (subst (Free T) (sym (finished_id N)) id.1) (subst (λ x. scope.brings x ≡ true) (sym (finished_id N)) brings) (ap (λ x. find_place x T.places) (finished_folder N) ∙ p.1) plain)
           ]))
     ])
   ]
@@ -240,8 +239,8 @@ module _ (T : Tree) (whole : IsWhole T) (scope : Scope) where
       let folder : N.folder ≡ M.folder = finished_folder new ∙ there in
       let a = put_shown T (contents N.folder) N.nid N.props D in
       if_replying T (a >>= settled T T.places N.folder) reason (replied last) After
-      (then_changing (a >>= settled T T.places N.folder) (replied last) (then_settled T.places a N.folder v.1 (ap (λ x. find_place x T.places) folder ∙ v.2)
-      (put_good T scope (contents N.folder) N.nid N.props D (table_elsewhere N.folder 14 (omega arith) (omega arith)) (stood T D.objects N.nid (Message M) is)
+      (then_changing (a >>= settled T T.places N.folder) (replied last) (then_settled T.places a N.folder v.1 (ap (λ x. find_place x T.places) folder ∙ v.2) v.3
+      (put_good T scope (contents N.folder) N.nid N.props D (table_usual N.folder 14 (omega arith) refl) (stood T D.objects N.nid (Message M) is)
       (message_changes N.nid M (Some (Message N)) is (ap (λ x. x % 32) nid ∙ four) (λ e. absurd (none-some (Message N) (sym e)))))))
 
   changes : (m : ℕ) (M : Mes) (props : List Val) → now_at T nothing m ≡ Some (Message M) → m % 32 ≡ 4 → IfOk (changed_message T M props) After
@@ -319,7 +318,7 @@ module _ (T : Tree) (whole : IsWhole T) (scope : Scope) where
           if_then (λ u. Unit {0}) After (unless_named T (folded false name) (siblings T p.0.parent.bits f)) _ (if_any (unless_named T (folded false name) (siblings T p.0.parent.bits f))) (λ u v.
           rw c.1 (then_changing (mirrored T f (with_context f c.0 props nothing)) (replied Done)
           (mirrored_good T scope f (with_context f c.0 props nothing) (touched_here T nothing.objects f (Some (Context (record c.0 { props = props }))))
-          (context_good T scope f c.0 props nothing (place_elsewhere f p.0 p.1) c.1 stays none_yet))))))
+          (context_good T scope f c.0 props nothing (place_usual f p.0 p.1 plain) c.1 stays none_yet))))))
     ])
   ]
 
@@ -331,8 +330,8 @@ module _ (T : Tree) (whole : IsWhole T) (scope : Scope) where
   ])
 
   -- an object comes where nothing stood
-  new_good : (q : ℕ) (x : Object) (D : Changed) → Free T q → (q % 32 ≡ 1 → ⊥) → scope.brings q ≡ true → Kept D → Kept (with_object q (Some x) D)
-  new_good q x D free other brings k = keeps_more T scope D.objects q (Some x) k (fits_new T scope D.objects q x free.0 free.1 other brings)
+  new_good : (q : ℕ) (x : Object) (D : Changed) → Free T q → is_usual (q % 32) ≡ true → scope.brings q ≡ true → Kept D → Kept (with_object q (Some x) D)
+  new_good q x D free usual brings k = keeps_more T scope D.objects q (Some x) k (fits_new T scope D.objects q x free.0 free.1 usual brings)
 
   -- `mkdir`
   makes_folder : (parent : ℕ) (name : List ℕ) → ((q : ℕ) → q / 32 ≡ new_id 2 (next_index T 2 folder_kinds) / 32 → scope.brings q ≡ true) → IfOk (made_folder T parent name) After
@@ -359,17 +358,17 @@ module _ (T : Tree) (whole : IsWhole T) (scope : Scope) where
                   let D2 = with_object (hierarchy f) (Some (Table hierarchy_table)) D1 in
                   let D3 = with_object (contents f) (Some (Table contents_table)) D2 in
                   let D4 = with_object (associated f) (Some (Table contents_table)) D3 in
-                  let k1 = new_good f c nothing new.1 (λ e. omega arith) (brings f refl) none_yet in
-                  let k2 = new_good (hierarchy f) (Table hierarchy_table) D1 new.2 (table_elsewhere f 13 (omega arith) (omega arith)) (brings (hierarchy f) (same_index f 13 (omega arith))) k1 in
-                  let k3 = new_good (contents f) (Table contents_table) D2 new.3 (table_elsewhere f 14 (omega arith) (omega arith)) (brings (contents f) (same_index f 14 (omega arith))) k2 in
-                  let k4 = new_good (associated f) (Table contents_table) D3 new.4 (table_elsewhere f 15 (omega arith) (omega arith)) (brings (associated f) (same_index f 15 (omega arith))) k3 in
+                  let k1 = new_good f c nothing new.1 (ap is_usual two) (brings f refl) none_yet in
+                  let k2 = new_good (hierarchy f) (Table hierarchy_table) D1 new.2 (table_usual f 13 (omega arith) refl) (brings (hierarchy f) (same_index f 13 (omega arith))) k1 in
+                  let k3 = new_good (contents f) (Table contents_table) D2 new.3 (table_usual f 14 (omega arith) refl) (brings (contents f) (same_index f 14 (omega arith))) k2 in
+                  let k4 = new_good (associated f) (Table contents_table) D3 new.4 (table_usual f 15 (omega arith) refl) (brings (associated f) (same_index f 15 (omega arith))) k3 in
                   let touched1 = touched_here T nothing.objects f (Some c) in
                   let touched2 = touched_still T D1.objects (hierarchy f) (Some (Table hierarchy_table)) f touched1 in
                   let touched3 = touched_still T D2.objects (contents f) (Some (Table contents_table)) f touched2 in
                   let touched4 = touched_still T D3.objects (associated f) (Some (Table contents_table)) f touched3 in
                   let a = add_shown T (hierarchy parent) f (folder_props name) D4 in
-                  (then_making places (a >>= settled T places parent) 2 index (then_settled places a parent p.0 p.1
-                  (add_good T scope (hierarchy parent) f (folder_props name) D4 (table_elsewhere parent 13 (omega arith) (omega arith)) touched4 k4)))
+                  (then_making places (a >>= settled T places parent) 2 index (then_settled places a parent p.0 p.1 plain
+                  (add_good T scope (hierarchy parent) f (folder_props name) D4 (table_usual parent 13 (omega arith) refl) touched4 k4)))
             ]))
           ]))
     ])
@@ -398,17 +397,17 @@ module _ (T : Tree) (whole : IsWhole T) (scope : Scope) where
                   let new : Ctx = record c.0 { parent = parent } in
                   let D = with_object f (Some (Context new)) nothing in
                   let k = keeps_more T scope nothing.objects f (Some (Context new)) none_yet
-                  (fits_context T scope nothing.objects f c.0 new none_yet c.1 (place_elsewhere f p.0 p.1) (record { kept = refl; values = λ id count no_name. refl })) in
+                  (fits_context T scope nothing.objects f c.0 new none_yet c.1 (place_usual f p.0 p.1 plain_p) (record { kept = refl; values = λ id count no_name. refl })) in
                   let a = drop_shown T (hierarchy from) f D in
                   rw (t, c.1) (if_then (λ u. Unit {0}) After (unless_named T (folded false (name_of c.0.props)) (children parent T.places)) _ (if_any (unless_named T (folded false (name_of c.0.props)) (children parent T.places))) (λ u u'.
                   elim (cases_Bool (moves_deep T.places f parent)) [
                     | inl t ↦ rw t tt
                     | inr t ↦ rw t (then_moving places _ (replied Done)
-                        (if_then Kept Kept a _ (drop_good T scope (hierarchy from) f D (table_elsewhere from 13 (omega arith) (omega arith)) (stood T D.objects f (Context c.0) is) k) (λ D1 k1.
+                        (if_then Kept Kept a _ (drop_good T scope (hierarchy from) f D (table_usual from 13 (omega arith) refl) (stood T D.objects f (Context c.0) is) k) (λ D1 k1.
                         let a' = add_shown T (hierarchy parent) f c.0.props D1 in
-                        then_settled places (a' >>= settled T places from) parent q.0 q.1
-                        (then_settled places a' from v.0 v.1
-                        (add_good T scope (hierarchy parent) f c.0.props D1 (table_elsewhere parent 13 (omega arith) (omega arith)) (stood T D1.objects f (Context c.0) is) k1)))))
+                        then_settled places (a' >>= settled T places from) parent q.0 q.1 plain_q
+                        (then_settled places a' from v.0 v.1 v.2
+                        (add_good T scope (hierarchy parent) f c.0.props D1 (table_usual parent 13 (omega arith) refl) (stood T D1.objects f (Context c.0) is) k1)))))
                   ]))
             ])
           ]))
@@ -418,12 +417,12 @@ module _ (T : Tree) (whole : IsWhole T) (scope : Scope) where
   ]
 
   -- an object that stood there goes
-  gone_good : (q : ℕ) (D : Changed) → (object_at T q ≡ None → ⊥) → (q % 32 ≡ 1 → ⊥) → scope.takes q ≡ true → Kept D → Kept (with_object q None D)
-  gone_good q D there other takes k = keeps_more T scope D.objects q None k (fits_gone T scope D.objects q there other takes)
+  gone_good : (q : ℕ) (D : Changed) → (object_at T q ≡ None → ⊥) → is_usual (q % 32) ≡ true → scope.takes q ≡ true → Kept D → Kept (with_object q None D)
+  gone_good q D there usual takes k = keeps_more T scope D.objects q None k (fits_gone T scope D.objects q there usual takes)
 
-  node_good : (q : ℕ) (taken : Bool) (D : Changed) → (taken ≡ true → object_at T q ≡ None → ⊥) → (q % 32 ≡ 1 → ⊥) → scope.takes q ≡ true → Kept D → Kept (without_node q taken D)
-  node_good q false D there other takes k = k
-  node_good q true D there other takes k = gone_good q D (there refl) other takes k
+  node_good : (q : ℕ) (taken : Bool) (D : Changed) → (taken ≡ true → object_at T q ≡ None → ⊥) → is_usual (q % 32) ≡ true → scope.takes q ≡ true → Kept D → Kept (without_node q taken D)
+  node_good q false D there usual takes k = k
+  node_good q true D there usual takes k = gone_good q D (there refl) usual takes k
 
   -- `rmdir`
   removes_folder : (f : ℕ) → ((q : ℕ) → q / 32 ≡ f / 32 → scope.takes q ≡ true) → IfOk (removed_folder T f) After
@@ -446,13 +445,13 @@ module _ (T : Tree) (whole : IsWhole T) (scope : Scope) where
                 let tables = whole.objects.tables f p.0 p.1 plain in
                 let D1 = with_object f None nothing in let D2 = with_object (hierarchy f) None D1 in let D3 = with_object (contents f) None D2 in
                 let D = without_folder T f nothing in
-                let k1 = gone_good f nothing (λ e. none-some (Context c.0) (sym e ∙ c.1)) (place_elsewhere f p.0 p.1) (takes f refl) none_yet in
-                let k2 = gone_good (hierarchy f) D1 (λ e. false≢true (sym (ap is_some e) ∙ tables.0)) (table_elsewhere f 13 (omega arith) (omega arith)) (takes (hierarchy f) (same_index f 13 (omega arith))) k1 in
-                let k3 = gone_good (contents f) D2 (λ e. false≢true (sym (ap is_some e) ∙ tables.1)) (table_elsewhere f 14 (omega arith) (omega arith)) (takes (contents f) (same_index f 14 (omega arith))) k2 in
-                let k4 = node_good (associated f) (is_taken T (associated f)) D3 (taken_object T (associated f) (whole.no_stray f p.0 p.1 plain)) (table_elsewhere f 15 (omega arith) (omega arith)) (takes (associated f) (same_index f 15 (omega arith))) k3 in
+                let k1 = gone_good f nothing (λ e. none-some (Context c.0) (sym e ∙ c.1)) (place_usual f p.0 p.1 plain) (takes f refl) none_yet in
+                let k2 = gone_good (hierarchy f) D1 (λ e. false≢true (sym (ap is_some e) ∙ tables.0)) (table_usual f 13 (omega arith) refl) (takes (hierarchy f) (same_index f 13 (omega arith))) k1 in
+                let k3 = gone_good (contents f) D2 (λ e. false≢true (sym (ap is_some e) ∙ tables.1)) (table_usual f 14 (omega arith) refl) (takes (contents f) (same_index f 14 (omega arith))) k2 in
+                let k4 = node_good (associated f) (is_taken T (associated f)) D3 (taken_object T (associated f) (whole.no_stray f p.0 p.1 plain)) (table_usual f 15 (omega arith) refl) (takes (associated f) (same_index f 15 (omega arith))) k3 in
                 let a = drop_shown T (hierarchy from) f D in
-                rw none (then_moving places (a >>= settled T places from) (replied Done) (then_settled places a from v.0 v.1
-                (drop_good T scope (hierarchy from) f D (table_elsewhere from 13 (omega arith) (omega arith)) (stood T D.objects f (Context c.0) c.1) k4)))
+                rw none (then_moving places (a >>= settled T places from) (replied Done) (then_settled places a from v.0 v.1 v.2
+                (drop_good T scope (hierarchy from) f D (table_usual from 13 (omega arith) refl) (stood T D.objects f (Context c.0) c.1) k4)))
           ])))))
     ])
   ]
@@ -491,5 +490,8 @@ kept_after T w (AppendData message attachment bytes) = appends_data T w (scope_o
 kept_after T w (RemoveAttachment message attachment) = removes_attachment T w (scope_of T (RemoveAttachment message attachment)) message.bits attachment.bits
 kept_after T w (FetchData message attachment) = if_weaker _ _ (outcome T (FetchData message attachment)) (reads_only T (FetchData message attachment) refl) (looks T w (scope_of T (FetchData message attachment)))
 kept_after T w (NameProperty guid number) = names_property T w (scope_of T (NameProperty guid number)) guid number refl
+kept_after T w (MakeSearch parent name) = tt
+kept_after T w (SetCriteria folder flags scope restriction) = tt
+kept_after T w (GetCriteria folder) = tt
 kept_after T w Save = keeps_all T (scope_of T Save)
 kept_after T w Quit = keeps_all T (scope_of T Quit)

@@ -1,5 +1,5 @@
 -- In the words of mail: which nodes, values and tables are as they were after each command.
-use Rattle.std.proofs.Common.{◌≡◌, ℕ, true, false, cond, Option, None, Some, IfOk, IsSome, is_some, refl, sym, subst, ap, ◌∙◌, inl, inr, arith}
+use Rattle.std.proofs.Common.{◌≡◌, ◌%◌, ℕ, true, false, cond, Option, None, Some, IfOk, IsSome, is_some, refl, sym, subst, ap, ◌∙◌, inl, inr, arith}
 use Rattle.std.proofs.lemmas.Bool.{eqb-true, false≢true}
 use Rattle.std.proofs.lemmas.Option.{none-some}
 use Rattle.std.specs.FinMap as map
@@ -7,7 +7,7 @@ use Rattle.node_port.specs.Nodes.{node_at}
 use Rattle.pst_base.specs.Ids.{index_of}
 use Rattle.mapi_values.specs.Messages.{Mes}
 use Rattle.command_text.specs.declared.command.Command.{Command}
-use Rattle.command_text.specs.declared.command.Command.TheVariants.{MakeFolder, RenameFolder, MoveFolder, RemoveFolder, ListFolder, NewMessage, SetProperty, UnsetProperty, GetProperty, ListProperties, MoveMessage, CopyMessage, RemoveMessage, AddRecipient, RemoveRecipient, AddAttachment, AppendData, RemoveAttachment, FetchData, Save, Quit, NameProperty}
+use Rattle.command_text.specs.declared.command.Command.TheVariants.{MakeFolder, RenameFolder, MoveFolder, RemoveFolder, ListFolder, NewMessage, SetProperty, UnsetProperty, GetProperty, ListProperties, MoveMessage, CopyMessage, RemoveMessage, AddRecipient, RemoveRecipient, AddAttachment, AppendData, RemoveAttachment, FetchData, Save, Quit, NameProperty, MakeSearch, SetCriteria, GetCriteria}
 use Rattle.command_text.specs.declared.reply.LastLine.TheVariants.{Made}
 use Rattle.command_text.specs.declared.reply.Reply.{Reply}
 use Rattle.mail_objects.specs.Forms.{Ctx, Tbl}
@@ -23,7 +23,7 @@ use Rattle.mail_laws.specs.ComesAndGoes.{Brings, ComesAndGoes}
 use Rattle.mail_tree.specs.Folders.{Outcome, made_folder, nid, replied}
 use Rattle.mail_tree.specs.Ids.{folder_kinds, message_kinds, new_id, next_index}
 use Rattle.mail_tree.specs.Messages.{copied_message, copy_of, new_message}
-use Rattle.mail_laws.specs.Stays.{KeepsNodes, KeepsTables, KeepsValues, StaysFolder, StaysTable}
+use Rattle.mail_laws.specs.Stays.{IsSearchId, KeepsNodes, KeepsTables, KeepsValues, Leaves, LeavesSearches, StaysFolder, StaysTable}
 use Rattle.mail_tree.specs.Step.{after, outcome}
 use Rattle.mail_tree.specs.Whole.{IsWhole}
 use Rattle.mail_tree.proofs.AfterLaws.{get-without_changed}
@@ -33,7 +33,8 @@ use Rattle.mail_laws.proofs.Effects.{Adds, Copied, MadeNew, copies, makes}
 use Rattle.mail_tree.proofs.FineLaws.{cases_Option}
 use Rattle.mail_laws.proofs.Keeping.{both, from_fine, if_weaker}
 use Rattle.mail_laws.proofs.KeptCommands.{brings_of, kept_after, scope_of}
-use Rattle.mail_laws.proofs.KeptObjects.{KeepsFolder, KeepsObjects, KeepsTable, SameTable, Scope, Untouched, now}
+use Rattle.mail_laws.proofs.KeptObjects.{KeepsFolder, KeepsObjects, KeepsTable, SameTable, Scope, Untouched, is_usual, now}
+use Rattle.mail_laws.proofs.Strays.{Clear, stays_clear}
 use Rattle.mail_laws.proofs.LawSteps.{before, was_nothing}
 use Rattle.mail_laws.proofs.MessageSteps.{Keeps}
 use Rattle.mail_laws.proofs.PlaceEffects.{MadeFolder, makes_folder}
@@ -91,7 +92,7 @@ module _ (T : Tree) (o : Outcome) where
         (c.0, after_is f ∙ c.1, subst (KeepsFolder (scope.names f) old) c.1 (k.folders f old names_apart is))
 
     same_store : object_at (after T o) 0x21 ≡ object_at T 0x21
-    same_store = after_is 0x21 ∙ ap (λ r. newest r (object_at T 0x21)) k.store
+    same_store = after_is 0x21 ∙ ap (λ r. newest r (object_at T 0x21)) (k.apart 0x21 refl (λ e. omega arith))
 
     -- the names stay where none is added
     same_names : scope.adds_name ≡ false → object_at (after T o) 0x61 ≡ object_at T 0x61
@@ -122,6 +123,17 @@ keeps_values = record {
   store = λ T c w. if_weaker _ _ (outcome T c) (kept_after T w c) (λ o k. same_store T o (scope_of T c) k);
   names = λ T c w none. if_weaker _ _ (outcome T c) (kept_after T w c) (λ o k. same_names T o (scope_of T c) k none);
 }
+
+-- what searches have stands at ids of other kinds than what folders and messages have
+search_id_apart : (q : ℕ) → IsSearchId q → (is_usual (q % 32) ≡ false) × (q ≡ 0x61 → ⊥)
+search_id_apart q (inl e) = (ap is_usual e, λ same. omega arith)
+search_id_apart q (inr (inl e)) = (ap is_usual e, λ same. omega arith)
+search_id_apart q (inr (inr (inl e))) = (ap is_usual e, λ same. omega arith)
+search_id_apart q (inr (inr (inr e))) = (ap is_usual e, λ same. omega arith)
+
+pub leaves_searches : LeavesSearches
+leaves_searches T c w = both (Clear T) (λ o. KeepsObjects T (scope_of T c) o.changed.objects) (Leaves T) (outcome T c) (stays_clear T (before T w) w.no_stray c) (kept_after T w c)
+    (λ o clear k. record { nodes = λ q of_search. let s = search_id_apart q of_search in k.apart q s.0 s.1; places = clear.searches })
 
 pub keeps_tables : KeepsTables
 keeps_tables T c w = if_weaker _ _ (outcome T c) (kept_after T w c) (λ o k. same_table T o (scope_of T c) k)
@@ -185,6 +197,9 @@ module _ (T : Tree) (w : IsWhole T) where
   brings (RemoveAttachment message attachment) = nothing_comes (RemoveAttachment message attachment) (λ q. refl)
   brings (FetchData message attachment) = nothing_comes (FetchData message attachment) (λ q. refl)
   brings (NameProperty guid number) = nothing_comes (NameProperty guid number) (λ q. refl)
+  brings (MakeSearch parent name) = tt
+  brings (SetCriteria folder flags scope restriction) = tt
+  brings (GetCriteria folder) = tt
   brings Save = nothing_comes Save (λ q. refl)
   brings Quit = nothing_comes Quit (λ q. refl)
 

@@ -5,10 +5,10 @@ use Rattle.mapi_values.specs.Messages.{Mes}
 use Rattle.mapi_values.specs.Properties.{find}
 use Rattle.mapi_values.specs.Values.{Val}
 use Rattle.command_text.specs.declared.command.Command.{Command}
-use Rattle.command_text.specs.declared.command.Command.TheVariants.{MakeFolder, RenameFolder, MoveFolder, RemoveFolder, ListFolder, NewMessage, SetProperty, UnsetProperty, GetProperty, ListProperties, MoveMessage, CopyMessage, RemoveMessage, AddRecipient, RemoveRecipient, AddAttachment, AppendData, RemoveAttachment, FetchData, Save, Quit, NameProperty}
+use Rattle.command_text.specs.declared.command.Command.TheVariants.{MakeFolder, RenameFolder, MoveFolder, RemoveFolder, ListFolder, NewMessage, SetProperty, UnsetProperty, GetProperty, ListProperties, MoveMessage, CopyMessage, RemoveMessage, AddRecipient, RemoveRecipient, AddAttachment, AppendData, RemoveAttachment, FetchData, Save, Quit, NameProperty, MakeSearch, SetCriteria, GetCriteria}
 use Rattle.command_text.specs.declared.reply.LastLine.TheVariants.{Value}
 use Rattle.mail_objects.specs.declared.object.Object.{Object}
-use Rattle.mail_objects.specs.declared.object.Object.TheVariants.{Context, Table, Message}
+use Rattle.mail_objects.specs.declared.object.Object.TheVariants.{Context, Table, Message, Bare}
 use Rattle.mail_tree.specs.Tree.{Tree, object_at}
 use Rattle.mail_tree.specs.Changing.{as_message, contents, nothing, now_at, table_at}
 use Rattle.mail_tree.specs.Places.{find_place, is_child, is_plain}
@@ -46,6 +46,7 @@ pub is_message : (o : Option Object) (M : Mes) → as_message o ≡ Some M → o
 is_message None M e = cc
 is_message (Some (Context c)) M e = cc
 is_message (Some (Table t)) M e = cc
+is_message (Some (Bare parent)) M e = cc
 is_message (Some (Message N)) M e = cc
 
 -- `get` replies what a message has
@@ -84,6 +85,9 @@ reads_only T (GetProperty message tag) e = if_then (λ M. Unit {0}) _ (message_i
 reads_only T (ListProperties message) e = if_then (λ M. Unit {0}) _ (message_in T message.bits) _ (if_any (message_in T message.bits)) (λ M u. refl)
 reads_only T (FetchData message attachment) e = if_then (λ M. Unit {0}) _ (message_in T message.bits) _ (if_any (message_in T message.bits)) (λ M u.
     if_found _ NoObject (part_in attachment.bits M) _ (λ part is. if_found _ NoProperty (value_of data_tag part.props) _ (λ v is'. refl)))
+reads_only T (MakeSearch parent name) e = tt
+reads_only T (SetCriteria folder flags scope restriction) e = tt
+reads_only T (GetCriteria folder) e = tt
 reads_only T Save e = refl
 reads_only T Quit e = refl
 reads_only T (MakeFolder parent name) e = cc

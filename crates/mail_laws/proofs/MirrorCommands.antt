@@ -13,7 +13,7 @@ use Rattle.mapi_values.specs.Tables.{find_row}
 use Rattle.mapi_values.specs.Values.{Val}
 use Rattle.mapi_values.specs.declared.value.Tag.{Tag}
 use Rattle.command_text.specs.declared.command.Command.{Command}
-use Rattle.command_text.specs.declared.command.Command.TheVariants.{MakeFolder, RenameFolder, MoveFolder, RemoveFolder, ListFolder, NewMessage, SetProperty, UnsetProperty, GetProperty, ListProperties, MoveMessage, CopyMessage, RemoveMessage, AddRecipient, RemoveRecipient, AddAttachment, AppendData, RemoveAttachment, FetchData, Save, Quit, NameProperty}
+use Rattle.command_text.specs.declared.command.Command.TheVariants.{MakeFolder, RenameFolder, MoveFolder, RemoveFolder, ListFolder, NewMessage, SetProperty, UnsetProperty, GetProperty, ListProperties, MoveMessage, CopyMessage, RemoveMessage, AddRecipient, RemoveRecipient, AddAttachment, AppendData, RemoveAttachment, FetchData, Save, Quit, NameProperty, MakeSearch, SetCriteria, GetCriteria}
 use Rattle.command_text.specs.declared.reply.LastLine.TheVariants.{Attached, Done, Row}
 use Rattle.command_text.specs.declared.reply.Reply.{Reply}
 use Rattle.mail_objects.specs.Forms.{Ctx, Tbl}
@@ -483,5 +483,8 @@ module _ (T : Tree) (w : Before T) (s : AreShownBut (λ x. ⊥) T.places (now_at
   mirrored_after (NameProperty guid number) = if_weaker (PutsNames T) After (named_property T guid number) (puts_names_after T guid number w) (λ o k.
       subst (λ places. AreShownBut (λ x. ⊥) places (now_at T o.changed)) (sym k.places_are)
       (shown_put (λ x. ⊥) (λ x. ⊥) T.places (now_at T nothing) (now_at T o.changed) NAMES (Some (Context k.new)) s (λ x e. e) k.puts (λ e. omega arith) (λ e. omega arith) (λ p e. elim (ids NAMES p e) [ inl x ↦ omega arith | inr x ↦ omega arith ]) (λ M e. cc e)))
+  mirrored_after (MakeSearch parent name) = tt
+  mirrored_after (SetCriteria folder flags scope restriction) = tt
+  mirrored_after (GetCriteria folder) = tt
   mirrored_after Save = s
   mirrored_after Quit = s

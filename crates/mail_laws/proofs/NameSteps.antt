@@ -2,8 +2,7 @@
 use Rattle.std.proofs.Common.{◌≡◌, ℕ, ◌^◌, ◌==◌, true, false, nat_lt, length, List, Option, None, Some, IfOk, refl, sym, subst, ◌⊎◌, inl, inr}
 use Rattle.std.specs.FinMap as map
 use Rattle.std.specs.List.{list_all}
-use Rattle.std.proofs.lemmas.Bool.{and_parts, cases_Bool, eqb-true, ltb-true, ne_eqb}
-use Rattle.std.specs.Cmp.{nat_cmp_total}
+use Rattle.std.proofs.lemmas.Bool.{and_parts, cases_Bool, eqb-true, ltb-true}
 use Rattle.named_props.specs.Adding as adding
 use Rattle.named_props.specs.Entries.{fits_id}
 use Rattle.named_props.specs.Finding.{name_at}
@@ -19,7 +18,7 @@ use Rattle.mail_tree.specs.Folders.{Outcome, replied, unchanged}
 use Rattle.mail_tree.specs.Names.{AreNames, NAMES, found_or_added, is_name, named_property, with_another}
 use Rattle.mail_tree.specs.Settling.{with_context}
 use Rattle.mail_tree.specs.Whole.{AreWhole, Fine}
-use Rattle.mail_tree.proofs.AfterTree.{puts_values, tied}
+use Rattle.mail_tree.proofs.AfterTree.{puts_values}
 use Rattle.mail_tree.proofs.FineLaws.{after_limits, fine_weaker}
 use Rattle.mail_tree.proofs.KindsOfPuts.{puts_names}
 use Rattle.mail_tree.proofs.Nearly.{Puts, nearly, whole}
@@ -33,7 +32,6 @@ pub record PutsNames (T : Tree) (o : Outcome) : Type 0 where
   pub was : now_at T nothing NAMES ≡ Some (Context old)
   pub names : AreNames new.props
   pub puts : Puts (now_at T nothing) (now_at T o.changed) NAMES (Some (Context new))
-  pub gets : (k : ℕ) → (k ≡ NAMES → ⊥) → map.get o.changed.objects k ≡ map.get nothing.objects k
   pub objects_are : (o.changed.objects ≡ map.empty) ⊎ (o.changed.objects ≡ map.insert map.empty NAMES (Some (Context new)))
   pub places_are : o.places ≡ T.places
 
@@ -51,7 +49,6 @@ module _ (T : Tree) (guid : List ℕ) (number : ℕ) (is : is_name guid number �
     was = at;
     names = (n, reads, writes, numbers);
     puts = record { here = at; others = λ x other. refl };
-    gets = λ k other. refl;
     objects_are = inl refl;
     places_are = refl;
   }
@@ -68,7 +65,6 @@ module _ (T : Tree) (guid : List ℕ) (number : ℕ) (is : is_name guid number �
         was = at;
         names = (adding.added n guid number, w.0, w.1, w.2);
         puts = subst (λ D. Puts (now_at T nothing) (now_at T D) NAMES (Some (Context new))) (sym changed) (puts_values T nothing NAMES (Context new) c.props props);
-        gets = λ k other. subst (λ D. map.get D.objects k ≡ map.get nothing.objects k) (sym changed) (rw (map.get-insert nat_cmp_total nothing.objects NAMES (Some (Context new)) k, tied false k NAMES (ne_eqb k NAMES other)) refl);
         objects_are = inr (subst (λ D. D.objects ≡ map.insert map.empty NAMES (Some (Context new))) (sym changed) refl);
         places_are = places;
       }

@@ -10,7 +10,7 @@ use Rattle.mail_tree.proofs.AfterTree.{now_nothing}
 use Rattle.mail_tree.specs.Ids.{LAST_INDEX, folder_kinds, greatest, is_spent, is_taken, is_used, message_kinds, new_id, next_index}
 
 -- a number above the greatest that passes fails
-above_fails : (test : ℕ → Bool) (n k : ℕ) → greatest test n < k → k ≤ n → test k ≡ false
+pub above_fails : (test : ℕ → Bool) (n k : ℕ) → greatest test n < k → k ≤ n → test k ≡ false
 unfolding greatest
 above_fails test zero k more less = absurd (omega arith)
 above_fails test (suc n) k more less = elim (cases_Bool (test (suc n))) [
@@ -22,7 +22,7 @@ above_fails test (suc n) k more less = elim (cases_Bool (test (suc n))) [
 ]
 
 -- the next index isn't used, where one is left
-next_above : (counter g last : ℕ) → nat_lt last (suc (max counter g)) ≡ false → (g < suc (max counter g)) × (suc (max counter g) ≤ last)
+pub next_above : (counter g last : ℕ) → nat_lt last (suc (max counter g)) ≡ false → (g < suc (max counter g)) × (suc (max counter g) ≤ last)
 next_above counter g last e = let le = ltb-false last (suc (max counter g)) e in (omega arith, le)
 
 pub next_is_free : (T : Tree) (kind : ℕ) (kinds : List ℕ) → is_spent (next_index T kind kinds) ≡ false → (is_used T kinds (next_index T kind kinds) ≡ false) × (next_index T kind kinds ≤ LAST_INDEX)
@@ -34,7 +34,7 @@ next_is_free T kind kinds e =
 pub new_id_is : (kind index : ℕ) → index ≤ LAST_INDEX → new_id kind index ≡ nid_of kind index
 new_id_is kind index le = let m : min index LAST_INDEX ≡ index = omega arith in rw m refl
 
-not_there : {A : Type 0} (o : Option A) → is_some o ≡ false → o ≡ None
+pub not_there : {A : Type 0} (o : Option A) → is_some o ≡ false → o ≡ None
 not_there None e = refl
 not_there (Some x) e = cc
 

@@ -6,7 +6,7 @@ use Rattle.mapi_values.specs.Messages.{Mes}
 use Rattle.mapi_values.specs.Properties.{put, remove_id}
 use Rattle.mapi_values.specs.Values.{Val}
 use Rattle.command_text.specs.declared.command.Command.{Command}
-use Rattle.command_text.specs.declared.command.Command.TheVariants.{MakeFolder, RenameFolder, MoveFolder, RemoveFolder, ListFolder, NewMessage, SetProperty, UnsetProperty, GetProperty, ListProperties, MoveMessage, CopyMessage, RemoveMessage, AddRecipient, RemoveRecipient, AddAttachment, AppendData, RemoveAttachment, FetchData, Save, Quit, NameProperty}
+use Rattle.command_text.specs.declared.command.Command.TheVariants.{MakeFolder, RenameFolder, MoveFolder, RemoveFolder, ListFolder, NewMessage, SetProperty, UnsetProperty, GetProperty, ListProperties, MoveMessage, CopyMessage, RemoveMessage, AddRecipient, RemoveRecipient, AddAttachment, AppendData, RemoveAttachment, FetchData, Save, Quit, NameProperty, MakeSearch, SetCriteria, GetCriteria}
 use Rattle.mail_tree.specs.declared.places.FolderPlace.{FolderPlace}
 use Rattle.mail_tree.specs.Changing.{as_message, now_at}
 use Rattle.mail_tree.specs.Folders.{Outcome, place, unchanged}
@@ -102,5 +102,8 @@ module _ (T : Tree) (w : IsWhole T) (D : ℕ → Type 0) (shown : (k : ℕ) (M :
   mirror_after (GetProperty message tag) = reads (GetProperty message tag) refl
   mirror_after (ListProperties message) = reads (ListProperties message) refl
   mirror_after (FetchData message attachment) = reads (FetchData message attachment) refl
+  mirror_after (MakeSearch parent name) = tt
+  mirror_after (SetCriteria folder flags scope restriction) = tt
+  mirror_after (GetCriteria folder) = tt
   mirror_after Save = reads Save refl
   mirror_after Quit = reads Quit refl

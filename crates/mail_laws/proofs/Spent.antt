@@ -35,18 +35,18 @@ pub refused_later : (T : Tree) (places : List FolderPlace) (kind index : ℕ) (Q
 refused_later T places kind index Q a spent fine = fine_then (λ D. Unit {0}) Q a (making T places kind index) fine (λ D u. after_limits Q D _ (rw spent tt))
 
 -- the root's table of folders is there
-abbrev HasRootTable : (ℕ → Option Object) → Type 0
+abbrev pub HasRootTable : (ℕ → Option Object) → Type 0
 HasRootTable at = (u : Tbl) × (at (hierarchy ROOT) ≡ Some (Table u))
 
 -- a folder's values are there, and the table that lists it, but for the root
-abbrev Lists : (ℕ → Option Object) → ℕ → Type 0
+abbrev pub Lists : (ℕ → Option Object) → ℕ → Type 0
 Lists at f = (c : Ctx) × (at f ≡ Some (Context c)) × ((f ≡ ROOT → ⊥) → (u : Tbl) × (at (hierarchy c.parent) ≡ Some (Table u)))
 
 -- what counting a folder anew and showing it asks for
-record IsReadable (at : ℕ → Option Object) (f : ℕ) : Type 0 where
-  root : HasRootTable at
-  context : Lists at f
-  table : (t : Tbl) × (at (contents f) ≡ Some (Table t)) × EachMessage at (message_ids t.table)
+pub record IsReadable (at : ℕ → Option Object) (f : ℕ) : Type 0 where
+  pub root : HasRootTable at
+  pub context : Lists at f
+  pub table : (t : Tbl) × (at (contents f) ≡ Some (Table t)) × EachMessage at (message_ids t.table)
 
 abbrev CanMirror : (ℕ → Option Object) → ℕ → Type 0
 CanMirror at f = HasRootTable at × Lists at f
@@ -72,7 +72,7 @@ fine_shows T f D c = elim (cases_Bool (f == ROOT)) [
   | inr t ↦ let u = c.1.2 (eqb-false f ROOT t) in rw (t, c.1.1, u.1) tt
 ]
 
-fine_read : (T : Tree) (places : List FolderPlace) (f : ℕ) (D : Changed) → f % 32 ≡ 2 → IsReadable (now_at T D) f → Fine (settled T places f D) (λ D'. Unit {0})
+pub fine_read : (T : Tree) (places : List FolderPlace) (f : ℕ) (D : Changed) → f % 32 ≡ 2 → IsReadable (now_at T D) f → Fine (settled T places f D) (λ D'. Unit {0})
 unfolding settled
 fine_read T places f D two r = fine_then (λ D'. CanMirror (now_at T D') f) (λ D'. Unit {0}) (counted T places f D) (mirrored T f) (fine_counts T places f D two r) (λ D' c. fine_shows T f D' c)
 

@@ -12,7 +12,7 @@ use Rattle.mapi_values.specs.Messages.{Mes}
 use Rattle.mapi_values.specs.Tables.{find_row}
 use Rattle.mail_objects.specs.Forms.{Ctx, Tbl}
 use Rattle.mail_objects.specs.declared.object.Object.{Object}
-use Rattle.mail_objects.specs.declared.object.Object.TheVariants.{Context, Table, Message}
+use Rattle.mail_objects.specs.declared.object.Object.TheVariants.{Context, Table, Message, Bare}
 use Rattle.mail_tree.specs.declared.places.FolderPlace.{FolderPlace}
 use Rattle.named_props.specs.Holding.{is_form, names_in, names_of}
 use Rattle.mail_tree.specs.Names.{AreNames}
@@ -66,10 +66,12 @@ rows_rise : ℕ → Object → Bool
 rows_rise q (Context c) = true
 rows_rise q (Table t) = keys_ascend (λ r. r.0) 0 t.table.rows
 rows_rise q (Message m) = true
+rows_rise q (Bare parent) = true
 
 no_message : ℕ → Object → Bool
 no_message q (Context c) = true
 no_message q (Table t) = true
+no_message q (Bare parent) = true
 no_message q (Message m) = false
 
 -- the root's table of folders

@@ -1,8 +1,8 @@
 -- What is asked for stands there, and what is put as it is changes nothing.
-use Rattle.std.proofs.Common.{◌≡◌, ℕ, ◌%◌, ◌<◌, ◌==◌, Option, None, Some, IfOk, arith, refl, ◌⊎◌, inl, inr}
+use Rattle.std.proofs.Common.{◌≡◌, ℕ, ◌%◌, ◌==◌, Option, None, Some, IfOk, arith, refl, ◌⊎◌, inl, inr}
 use Rattle.std.proofs.lemmas.Bool.{cases_Bool}
 use Rattle.mail_objects.specs.declared.object.Object.{Object}
-use Rattle.mail_objects.specs.declared.object.Object.TheVariants.{Context, Table, Message}
+use Rattle.mail_objects.specs.declared.object.Object.TheVariants.{Context, Table, Message, Bare}
 use Rattle.mail_tree.specs.Places.{ROOT}
 use Rattle.mail_tree.specs.Tree.{Tree}
 use Rattle.mail_tree.specs.Changing.{Changed, ◌>>=◌, as_context, as_table, contents, context_at, hierarchy, known, now_at, table_at, with_object}
@@ -16,12 +16,14 @@ known_context : (o : Option Object) → IfOk (known (as_context o)) (λ c. o ≡
 known_context None = tt
 known_context (Some (Context c)) = refl
 known_context (Some (Table t)) = tt
+known_context (Some (Bare parent)) = tt
 known_context (Some (Message m)) = tt
 
 known_table : (o : Option Object) → IfOk (known (as_table o)) (λ t. o ≡ Some (Table t))
 known_table None = tt
 known_table (Some (Context c)) = tt
 known_table (Some (Table t)) = refl
+known_table (Some (Bare parent)) = tt
 known_table (Some (Message m)) = tt
 
 pub if_context : (T : Tree) (D : Changed) (q : ℕ) → IfOk (context_at T D q) (λ c. now_at T D q ≡ Some (Context c))
@@ -37,12 +39,12 @@ table_same T q D = if_then (λ t. now_at T D q ≡ Some (Table t)) (λ D'. now_a
 
 -- what holds of changes still where an object that stands there is put, of a folder or a table
 abbrev pub Stays : Tree → (Changed → Type 0) → Type 0
-Stays T P = (D : Changed) (q : ℕ) (o : Object) → (q % 32 ≡ 2) ⊎ (4 < q % 32) → now_at T D q ≡ Some o → P D → P (with_object q (Some o) D)
+Stays T P = (D : Changed) (q : ℕ) (o : Object) → (q % 32 ≡ 2) ⊎ ((q % 32 ≡ 13) ⊎ (q % 32 ≡ 14)) → now_at T D q ≡ Some o → P D → P (with_object q (Some o) D)
 
 module _ (T : Tree) (P : Changed → Type 0) (stays : Stays T P) where
-  pub table_stays : (q : ℕ) (D : Changed) → 4 < q % 32 → P D → IfOk (table_as_is T q D) P
+  pub table_stays : (q : ℕ) (D : Changed) → (q % 32 ≡ 13) ⊎ (q % 32 ≡ 14) → P D → IfOk (table_as_is T q D) P
   unfolding table_as_is
-  table_stays q D high k = if_then (λ t. now_at T D q ≡ Some (Table t)) P (table_at T D q) _ (if_table T D q) (λ t at. stays D q (Table t) (inr high) at k)
+  table_stays q D kind k = if_then (λ t. now_at T D q ≡ Some (Table t)) P (table_at T D q) _ (if_table T D q) (λ t at. stays D q (Table t) (inr kind) at k)
 
   context_stays : (f : ℕ) (D : Changed) → f % 32 ≡ 2 → P D → IfOk (context_as_is T f D) P
   unfolding context_as_is
@@ -51,8 +53,8 @@ module _ (T : Tree) (P : Changed → Type 0) (stays : Stays T P) where
   above_stays : (f : ℕ) (D : Changed) → P D → IfOk (above_as_is T f D) P
   unfolding above_as_is
   above_stays f D k = elim (cases_Bool (f == ROOT)) [
-    | inl b ↦ rw b (table_stays (hierarchy ROOT) D (omega (arith, beside_kind ROOT 13 (omega arith))) k)
-    | inr b ↦ rw b (if_then (λ c. Unit {0}) P (context_at T D f) _ (if_any (context_at T D f)) (λ c u. table_stays (hierarchy c.parent) D (omega (arith, beside_kind c.parent 13 (omega arith))) k))
+    | inl b ↦ rw b (table_stays (hierarchy ROOT) D (inl (beside_kind ROOT 13 (omega arith))) k)
+    | inr b ↦ rw b (if_then (λ c. Unit {0}) P (context_at T D f) _ (if_any (context_at T D f)) (λ c u. table_stays (hierarchy c.parent) D (inl (beside_kind c.parent 13 (omega arith))) k))
   ]
 
   -- a folder is put as it is
@@ -60,5 +62,5 @@ module _ (T : Tree) (P : Changed → Type 0) (stays : Stays T P) where
   unfolding touched
   touched_stays f D two k =
       if_then P P (context_as_is T f D >>= table_as_is T (contents f)) (above_as_is T f)
-      (if_then P P (context_as_is T f D) (table_as_is T (contents f)) (context_stays f D two k) (λ D' k'. table_stays (contents f) D' (omega (arith, beside_kind f 14 (omega arith))) k'))
+      (if_then P P (context_as_is T f D) (table_as_is T (contents f)) (context_stays f D two k) (λ D' k'. table_stays (contents f) D' (inr (beside_kind f 14 (omega arith))) k'))
       (λ D' k'. above_stays f D' k')

@@ -1,5 +1,6 @@
 -- What each command leaves as it was, and which ids it gives.
-use Rattle.std.specs.Prelude.{◌≡◌, ◌<◌, ℕ, ◌%◌, ◌==◌, ◌&&◌, ◌||◌, Bool, true, false, IfOk, IsSome, List, set, get_or, None, Some}
+use Rattle.std.specs.Prelude.{◌≡◌, ◌⊎◌, ◌<◌, ℕ, ◌%◌, ◌==◌, ◌&&◌, ◌||◌, Bool, true, false, IfOk, IsSome, List, set, get_or, None, Some}
+use Rattle.std.specs.FinMap as map
 use Rattle.pst_base.specs.Ids.{index_of}
 use Rattle.mapi_values.specs.Properties.{find}
 use Rattle.mapi_values.specs.Tables.{find_row}
@@ -11,9 +12,10 @@ use Rattle.mail_objects.specs.Forms.{Ctx, Tbl}
 use Rattle.mail_objects.specs.declared.object.Object.TheVariants.{Context, Table}
 use Rattle.node_port.specs.Nodes.{node_at}
 use Rattle.mail_tree.specs.declared.places.FolderPlace.{FolderPlace}
+use Rattle.mail_tree.specs.Folders.{Outcome}
 use Rattle.mail_tree.specs.Places.{find_place}
 use Rattle.mail_tree.specs.Tree.{Tree, object_at}
-use Rattle.mail_tree.specs.Found.{IsFound}
+use Rattle.mail_tree.specs.Found.{IsFound, IsFoundBeside}
 use Rattle.mail_tree.specs.Start.{IsStart}
 use Rattle.mail_tree.specs.Step.{after, outcome}
 use Rattle.mail_tree.specs.Whole.{IsWhole}
@@ -70,7 +72,21 @@ Counted old new other = new ≡ old
 abbrev pub GivesNewIds : Type 0
 GivesNewIds = (T : Tree) (c : Command) → IfOk (outcome T c) (λ o. Counted T.last o.last o.reply.last)
 
--- an opening finds the tree of a new store, and the tree after each command on one that it finds
+-- an opening finds the tree of a new store, and the tree after each command on one that it finds, whatever stands beside
 pub record StaysFound : Type 0 where
   pub starts : (name : List ℕ) (T : Tree) → IsStart name T → IsFound T
   pub stays : (T : Tree) (c : Command) → IsWhole T → IsFound T → IfOk (outcome T c) (λ o. IsFound (after T o))
+  pub beside : (is_beside : ℕ → Bool) (T : Tree) (c : Command) → IsWhole T → IsFoundBeside (λ q. is_beside q ≡ true) T → IfOk (outcome T c) (λ o. IsFoundBeside (λ q. is_beside q ≡ true) (after T o))
+
+-- the id is of a kind that only search folders, their updates, their criteria and their results have
+abbrev pub IsSearchId : ℕ → Type 0
+IsSearchId q = (q % 32 ≡ 3) ⊎ ((q % 32 ≡ 6) ⊎ ((q % 32 ≡ 7) ⊎ (q % 32 ≡ 16)))
+
+-- nothing is put, and nothing goes, where searches have something, and each search folder stands where it stood
+pub record Leaves (T : Tree) (o : Outcome) : Type 0 where
+  pub nodes : (q : ℕ) → IsSearchId q → map.get o.changed.objects q ≡ None
+  pub places : (f : ℕ) → f % 32 ≡ 3 → find_place f o.places ≡ find_place f T.places
+
+-- no command of the tree changes what stands for searches
+abbrev pub LeavesSearches : Type 0
+LeavesSearches = (T : Tree) (c : Command) → IsWhole T → IfOk (outcome T c) (λ o. Leaves T o)

@@ -4,7 +4,7 @@ ghost use Rattle.command_text.specs.declared.command.Command.{Command};
 ghost use Rattle.mail_laws.specs.ComesAndGoes.{ComesAndGoes};
 ghost use Rattle.mail_laws.specs.Laws.{AddsAttachment, AddsRecipient, AppendsData, Copies, Counts, CountsAnew, CountsStay, GetsWhatWasSet, MakesFolder, MakesMessage, Mirrors, MirrorsStay, Moves, MovesFolder, Reads, Removes, RemovesAttachment, RemovesFolder, RemovesRecipient, RenamesFolder, Sets, Unsets, NamesProperty};
 ghost use Rattle.mail_tree.specs.Start.{IsStart};
-ghost use Rattle.mail_laws.specs.Stays.{GivesNewIds, KeepsNodes, KeepsTables, KeepsValues, StaysFound};
+ghost use Rattle.mail_laws.specs.Stays.{GivesNewIds, KeepsNodes, KeepsTables, KeepsValues, LeavesSearches, StaysFound};
 ghost use Rattle.mail_tree.specs.Step.{after, outcome};
 ghost use Rattle.mail_tree.specs.Tree.{Tree};
 ghost use Rattle.mail_tree.specs.Whole.{Fine, IsWhole};
@@ -149,9 +149,14 @@ pub fn keeps_tables()
     ensures { KeepsTables }
 {}
 
-/// The folders of a new store are those that its tables of folders list from the root down, each at most 64 folders below it, and its objects are theirs; where a store is so, it is so after every command.
+/// The folders of a new store are those that its tables of folders list from the root down, each at most 64 folders below it, and its objects are theirs; where a store is so, it is so after every command, whatever stands beside.
 pub fn stays_found()
     ensures { StaysFound }
+{}
+
+/// No command of the tree changes a search folder, its updates, its criteria or its results, and each search folder stands where it stood.
+pub fn leaves_searches()
+    ensures { LeavesSearches }
 {}
 
 /// Objects come only with the folder or the message that a command makes, and go only with the one that it removes.

@@ -15,8 +15,8 @@ pub use folder::{lists_folders, makes_bare_folder};
 pub use law::{
     adds_attachment, adds_recipient, appends_data, comes_and_goes, copies, counts_anew,
     counts_stay, gets_what_was_set, gives_new_ids, keeps_nodes, keeps_tables, keeps_values,
-    makes_folder, makes_message, mirrors_stay, moves, moves_folder, names_property, reads, removes,
-    removes_attachment, removes_folder, removes_recipient, renames_folder, sets, some_is_whole,
-    starts_whole, stays_found, stays_whole, unsets,
+    leaves_searches, makes_folder, makes_message, mirrors_stay, moves, moves_folder,
+    names_property, reads, removes, removes_attachment, removes_folder, removes_recipient,
+    renames_folder, sets, some_is_whole, starts_whole, stays_found, stays_whole, unsets,
 };
 pub use message::{finds_messages, makes_bare_message, tell_rightly};

@@ -7,7 +7,7 @@ use Rattle.command_text.specs.declared.reply.CommandRefusal.TheVariants.{Object 
 use Rattle.mapi_values.specs.Tables.{find_row}
 use Rattle.mapi_values.specs.Messages.{Mes}
 use Rattle.mail_objects.specs.declared.object.Object.{Object}
-use Rattle.mail_objects.specs.declared.object.Object.TheVariants.{Context, Table, Message}
+use Rattle.mail_objects.specs.declared.object.Object.TheVariants.{Context, Table, Message, Bare}
 use Rattle.node_port.specs.Nodes.{Nodes, node_at}
 use Rattle.node_port.specs.declared.node.NodeRec.{NodeRec}
 use Rattle.mail_tree.specs.Tree.{Shown, StandsAt, Tree, object_at}
@@ -26,6 +26,7 @@ is_message : (o : Option Object) (M : Mes) → known (as_message o) ≡ Ok M →
 is_message None M e = cc
 is_message (Some (Context c)) M e = cc
 is_message (Some (Table t)) M e = cc
+is_message (Some (Bare parent)) M e = cc
 is_message (Some (Message m)) M e = cc
 
 stands_id : (q : ℕ) (node : Option NodeRec) (o : Option Object) (other : Option NodeRec) (M : Mes) → o ≡ Some (Message M) → StandsAt q node o other → M.nid ≡ q

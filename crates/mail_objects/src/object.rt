@@ -4,6 +4,7 @@ ghost use Rattle.std.specs.Prelude.{◌≡◌, IfOk};
 use crate::context::Context;
 use crate::mail::Mail;
 use crate::table::TableNode;
+use pst_base::Nid;
 use std::alloc::{AllocError, Global};
 
 /// An object of a store.
@@ -15,6 +16,8 @@ pub enum Object {
     Table(TableNode),
     /// A message.
     Message(Mail),
+    /// A node with this parent and without data, as the one of updates beside a search folder.
+    Bare(Nid),
 }
 
 impl Object {
@@ -26,6 +29,7 @@ impl Object {
             Object::Context(context) => Ok(Object::Context(context.copy(alloc)?)),
             Object::Table(table) => Ok(Object::Table(table.copy(alloc)?)),
             Object::Message(mail) => Ok(Object::Message(mail.copy(alloc)?)),
+            Object::Bare(parent) => Ok(Object::Bare(*parent)),
         }
     }
 }

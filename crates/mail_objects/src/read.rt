@@ -2,7 +2,8 @@
 ghost use Rattle.std.specs.Prelude.{◌≡◌, MatchOption, IfOk};
 ghost use Rattle.mapi_values.specs.Messages.{Mes};
 ghost use Rattle.mail_objects.specs.Forms.{Ctx, Tbl};
-ghost use Rattle.mail_objects.specs.Objects.{ShowsContext, ShowsMail, ShowsTable};
+ghost use Rattle.pst_base.specs.declared.ids.Nid.{Nid};
+ghost use Rattle.mail_objects.specs.Objects.{ShowsBare, ShowsContext, ShowsMail, ShowsTable};
 
 use crate::context::Context;
 use crate::mail::Mail;
@@ -63,5 +64,18 @@ pub fn read_mail(alloc: Global, nid: Nid, node: &NodeRec) -> Result<Option<Mail>
         }
         Err(MemOr::Memory) => Err(AllocError),
         Err(MemOr::Refused(_)) => Ok(None),
+    }
+}
+
+/// The parent of a node that has neither data nor subnodes, or `None` exactly where it has some. Takes no memory.
+pub fn read_bare(node: &NodeRec) -> Option<Nid>
+    ensures { MatchOption result ((parent : Nid) → ShowsBare node.now parent → ⊥) (ShowsBare node.now) }
+{
+    match node.blocks.as_slice() {
+        [] => match node.subs.as_slice() {
+            [] => Some(node.parent),
+            _ => None,
+        },
+        _ => None,
     }
 }

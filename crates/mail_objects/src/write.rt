@@ -2,7 +2,7 @@
 ghost use Rattle.std.specs.Prelude.{◌≡◌, ◌+◌, ◌≤◌, ℕ, true, IfOk};
 ghost use Rattle.space_bound.specs.Space.{kept_space, props_space, table_space};
 ghost use Rattle.write_limits.specs.Limits.{props_fit, table_fits};
-ghost use Rattle.mail_objects.specs.Objects.{ShowsContext, ShowsObject, ShowsTable, node_size, object_fits, object_space, stands_at};
+ghost use Rattle.mail_objects.specs.Objects.{ShowsBare, ShowsContext, ShowsObject, ShowsTable, node_size, object_fits, object_space, stands_at};
 
 use crate::context::Context;
 use crate::object::Object;
@@ -10,6 +10,7 @@ use crate::table::TableNode;
 use message_obj::write_message;
 use node_port::NodeRec;
 use property_context::write_pc;
+use pst_base::{Blocks, Nid, Subs};
 use std::alloc::{AllocError, Global};
 use table_writer::write_tc;
 use write_limits::{message_fits, props_fit, table_fits};
@@ -22,6 +23,7 @@ pub fn object_fits(object: &Object) -> bool
         Object::Context(context) => props_fit(context.props(), context.kept()),
         Object::Table(table) => table_fits(table.table()),
         Object::Message(mail) => message_fits(mail.message()),
+        Object::Bare(_) => true,
     }
 }
 
@@ -53,6 +55,18 @@ fn write_table(alloc: Global, table: &TableNode) -> Result<NodeRec, AllocError>
     })
 }
 
+/// The node without data that has this parent. Takes no memory.
+fn write_bare(alloc: Global, parent: Nid) -> NodeRec
+    ensures shows { ShowsBare result parent }
+    ensures small { node_size result ≤ 1 }
+{
+    NodeRec {
+        parent,
+        blocks: Blocks::new(alloc),
+        subs: Subs::new(alloc),
+    }
+}
+
 /// The node of an object that is small enough. It takes no more blocks than are asked for it. The error: memory ran out.
 pub fn write_object(alloc: Global, object: &Object) -> Result<NodeRec, AllocError>
     requires { object_fits object.now ≡ true }
@@ -63,5 +77,6 @@ pub fn write_object(alloc: Global, object: &Object) -> Result<NodeRec, AllocErro
         Object::Context(context) => write_context(alloc, context),
         Object::Table(table) => write_table(alloc, table),
         Object::Message(mail) => write_message(alloc, mail.message()),
+        Object::Bare(parent) => Ok(write_bare(alloc, *parent)),
     }
 }

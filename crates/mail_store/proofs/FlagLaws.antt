@@ -7,7 +7,7 @@ use Rattle.std.specs.Map.{lookup}
 use Rattle.std.specs.BTreeMap.{is_at}
 use Rattle.mapi_values.specs.Messages.{Mes}
 use Rattle.mail_objects.specs.declared.object.Object.{Object}
-use Rattle.mail_objects.specs.declared.object.Object.TheVariants.{Context, Table, Message}
+use Rattle.mail_objects.specs.declared.object.Object.TheVariants.{Context, Table, Message, Bare}
 use Rattle.mail_tree.specs.Changing.{Changed, newest}
 use Rattle.mail_tree.specs.Flags.{AreFlags, FlagList, has_room, known_flag, told}
 use Rattle.mail_tree.specs.Folders.{Outcome}
@@ -115,6 +115,7 @@ now_holds true None object flag unread is before = before unread is
 now_holds true (Some None) object flag unread is before = cc
 now_holds true (Some (Some (Context c))) object flag unread is before = cc
 now_holds true (Some (Some (Table t))) object flag unread is before = cc
+now_holds true (Some (Some (Bare parent))) object flag unread is before = cc
 now_holds true (Some (Some (Message M))) object flag unread is before = (M, refl, cc)
 
 -- what is known after a command is so of the tree after it

@@ -1,5 +1,5 @@
 -- A command that writes no node leaves the tree.
-use Rattle.std.proofs.Common.{◌≡◌, ◌∙◌, ℕ, ◌==◌, ◌||◌, nat_le, not, filter, Bool, true, false, List, Option, None, Some, is_some, IfOk, Ok, Err, refl, sym, ap, inl, inr}
+use Rattle.std.proofs.Common.{◌≡◌, ◌∙◌, ℕ, ◌==◌, ◌||◌, not, filter, Bool, true, false, List, Option, None, Some, is_some, IfOk, Ok, Err, refl, sym, ap, inl, inr}
 use Rattle.std.proofs.lemmas.Bool.{cases_Bool, eq-eqb}
 use Rattle.std.proofs.lemmas.Option.{none-some}
 use Rattle.std.specs.Cmp.{nat_cmp_total}
@@ -12,12 +12,12 @@ use Rattle.mapi_values.specs.Properties.{put, remove_id}
 use Rattle.mapi_values.specs.Values.{Val}
 use Rattle.mapi_values.specs.declared.value.Tag.{Tag}
 use Rattle.command_text.specs.declared.command.Command.{Command}
-use Rattle.command_text.specs.declared.command.Command.TheVariants.{MakeFolder, RenameFolder, MoveFolder, RemoveFolder, ListFolder, NewMessage, SetProperty, UnsetProperty, GetProperty, ListProperties, MoveMessage, CopyMessage, RemoveMessage, AddRecipient, RemoveRecipient, AddAttachment, AppendData, RemoveAttachment, FetchData, NameProperty, Save, Quit}
+use Rattle.command_text.specs.declared.command.Command.TheVariants.{MakeFolder, RenameFolder, MoveFolder, RemoveFolder, ListFolder, NewMessage, SetProperty, UnsetProperty, GetProperty, ListProperties, MoveMessage, CopyMessage, RemoveMessage, AddRecipient, RemoveRecipient, AddAttachment, AppendData, RemoveAttachment, FetchData, NameProperty, MakeSearch, SetCriteria, GetCriteria, Save, Quit}
 use Rattle.command_text.specs.declared.reply.CommandRefusal.{CommandRefusal}
 use Rattle.command_text.specs.declared.reply.CommandRefusal.TheVariants.{Property, NotEmpty, Cycle, Protected, Limit, Line, Ids, Object}
 use Rattle.command_text.specs.declared.reply.Limit.TheVariants.{Depth, Rows}
 use Rattle.command_text.specs.declared.reply.LastLine.{LastLine}
-use Rattle.command_text.specs.declared.reply.LastLine.TheVariants.{Attached, Done, Named, Row}
+use Rattle.command_text.specs.declared.reply.LastLine.TheVariants.{Attached, Done, Row}
 use Rattle.mail_objects.specs.declared.object.Object.{Object as Obj}
 use Rattle.mail_objects.specs.declared.object.Object.TheVariants.{Message}
 use Rattle.mail_tree.specs.declared.places.FolderPlace.{FolderPlace}
@@ -34,7 +34,6 @@ use Rattle.named_props.specs.Finding.{name_at}
 use Rattle.named_props.specs.Holding.{names_of, written}
 use Rattle.named_props.specs.declared.names.Names.{Names as Held}
 use Rattle.mail_objects.specs.Forms.{Ctx}
-use Rattle.mapi_values.specs.declared.part.Part.{Part}
 use Rattle.mail_tree.specs.Parts.{attachment_props, attachment_tags, data_tag, lengthened, next_part, part_in, part_nid, part_with, plain_part, room_for, with_attachment, with_bytes, with_part, without_attachment, has_recipient, is_full, is_wide, new_row, next_row, recipient_props, recipient_tags, rows_of, with_recipient, without_recipient}
 use Rattle.mail_tree.specs.Step.{outcome, with_changes, without_changed}
 use Rattle.mail_tree.proofs.AfterTree.{tied}
@@ -43,21 +42,21 @@ use Rattle.mail_store.specs.Planning.{StaysUnwritten}
 use Rattle.mail_store.specs.Space.{WritesNodes}
 
 -- a step, and what follows it
-if_then : {A B : Type 0} (P : A → Type 0) (Q : B → Type 0) (a : Answer A) (f : A → Answer B) → IfOk a P → ((x : A) → P x → IfOk (f x) Q) → IfOk (a >>= f) Q
+pub if_then : {A B : Type 0} (P : A → Type 0) (Q : B → Type 0) (a : Answer A) (f : A → Answer B) → IfOk a P → ((x : A) → P x → IfOk (f x) Q) → IfOk (a >>= f) Q
 if_then P Q (Ok x) f first next = next x first
 if_then P Q (Err e) f first next = tt
 
 -- a step, whatever it answers
-if_any : {A B : Type 0} (Q : B → Type 0) (a : Answer A) (f : A → Answer B) → ((x : A) → IfOk (f x) Q) → IfOk (a >>= f) Q
+pub if_any : {A B : Type 0} (Q : B → Type 0) (a : Answer A) (f : A → Answer B) → ((x : A) → IfOk (f x) Q) → IfOk (a >>= f) Q
 if_any Q (Ok x) f next = next x
 if_any Q (Err e) f next = tt
 
-if_so : {A : Type 0} (P Q : A → Type 0) (a : Answer A) → IfOk a P → ((x : A) → P x → Q x) → IfOk a Q
+pub if_so : {A : Type 0} (P Q : A → Type 0) (a : Answer A) → IfOk a P → ((x : A) → P x → Q x) → IfOk a Q
 if_so P Q (Ok x) holds follows = follows x holds
 if_so P Q (Err e) holds follows = tt
 
 -- an object was put
-some_put : (m : map.FinMap nat_cmp (Option Obj)) (q : ℕ) (o : Option Obj) → map.insert m q o ≡ map.empty → ⊥
+pub some_put : (m : map.FinMap nat_cmp (Option Obj)) (q : ℕ) (o : Option Obj) → map.insert m q o ≡ map.empty → ⊥
 some_put m q o none = none-some o (sym (ap (λ k. map.get k q) none ∙ map.get-empty nat_cmp q) ∙ here)
   where
     here : map.get (map.insert m q o) q ≡ Some o
@@ -77,34 +76,34 @@ module _ (T : Tree) where
   unfolding table_as_is
   same_writes q D = if_any WritesNodes (table_at T D q) _ (λ t. some_put D.objects q _)
 
-  mirrors : (f : ℕ) (D : Changed) → WritesNodes D → IfOk (mirrored T f D) WritesNodes
+  pub mirrors : (f : ℕ) (D : Changed) → WritesNodes D → IfOk (mirrored T f D) WritesNodes
   unfolding mirrored
   mirrors f D some = elim (cases_Bool (f == ROOT)) [
     | inl t ↦ rw t (same_writes (hierarchy ROOT) D)
     | inr t ↦ rw t (if_any WritesNodes (context_at T D f) _ (λ c. shows_row (hierarchy c.parent) f c.props D))
   ]
 
-  settles : (places : List FolderPlace) (f : ℕ) (a : Answer Changed) → IfOk (a >>= settled T places f) WritesNodes
+  pub settles : (places : List FolderPlace) (f : ℕ) (a : Answer Changed) → IfOk (a >>= settled T places f) WritesNodes
   unfolding settled
   settles places f a = if_any WritesNodes a _ (λ D. if_then WritesNodes WritesNodes (counted T places f D) (mirrored T f) (counts places f D) (λ E some. mirrors f E some))
 
   -- where no node is written the places and the counters stay
-  abbrev Right : Outcome → Type 0
+  abbrev pub Right : Outcome → Type 0
   Right o = o.changed.objects ≡ map.empty → (o.places ≡ T.places) × (o.last ≡ T.last)
 
-  then_any : {A : Type 0} (a : Answer A) (f : A → Answer Outcome) → ((x : A) → IfOk (f x) Right) → IfOk (a >>= f) Right
+  pub then_any : {A : Type 0} (a : Answer A) (f : A → Answer Outcome) → ((x : A) → IfOk (f x) Right) → IfOk (a >>= f) Right
   then_any a f next = if_any Right a f next
 
-  then_changing : (a : Answer Changed) → IfOk (a >>= changing T (replied Done)) Right
+  pub then_changing : (a : Answer Changed) → IfOk (a >>= changing T (replied Done)) Right
   then_changing a = then_any a (changing T (replied Done)) (λ D. then_any (within_limits D) _ (λ u none. (refl, refl)))
 
-  then_replying : (a : Answer Changed) (reason : Option CommandRefusal) (last : LastLine) → IfOk (a >>= replying T reason (replied last)) Right
+  pub then_replying : (a : Answer Changed) (reason : Option CommandRefusal) (last : LastLine) → IfOk (a >>= replying T reason (replied last)) Right
   then_replying a reason last = then_any a (replying T reason (replied last)) (λ D. then_any (within_limits D) _ (λ u. then_any (unless reason) _ (λ v none. (refl, refl))))
 
-  then_moving : (places : List FolderPlace) (a : Answer Changed) → IfOk a WritesNodes → IfOk (a >>= moving T places (replied Done)) Right
+  pub then_moving : (places : List FolderPlace) (a : Answer Changed) → IfOk a WritesNodes → IfOk (a >>= moving T places (replied Done)) Right
   then_moving places a some = if_then WritesNodes Right a (moving T places (replied Done)) some (λ D writes. then_any (within_limits D) _ (λ u none. absurd (writes none)))
 
-  then_making : (places : List FolderPlace) (kind index : ℕ) (a : Answer Changed) → IfOk a WritesNodes → IfOk (a >>= making T places kind index) Right
+  pub then_making : (places : List FolderPlace) (kind index : ℕ) (a : Answer Changed) → IfOk a WritesNodes → IfOk (a >>= making T places kind index) Right
   then_making places kind index a some = if_then WritesNodes Right a (making T places kind index) some
       (λ D writes. then_any (within_limits D) _ (λ u. then_any (refused_if (is_spent index) Ids) _ (λ v none. absurd (writes none))))
 
@@ -125,7 +124,7 @@ module _ (T : Tree) where
       then_any (folder_in T f) _ (λ p. then_any (unless_plain p) _ (λ u. then_any (unless_protected T f) _ (λ v. then_any (unless_named T (folded false name) (siblings T p.parent.bits f)) _ (λ w.
       then_any (context_at T nothing f) _ (λ c. then_changing _)))))
 
-  moves_between : (f from to : ℕ) (places : List FolderPlace) → IfOk (moved_between T f from to places) WritesNodes
+  pub moves_between : (f from to : ℕ) (places : List FolderPlace) → IfOk (moved_between T f from to places) WritesNodes
   unfolding moved_between
   moves_between f from to places = if_any WritesNodes (context_at T nothing f) _ (λ c. if_any WritesNodes (drop_shown T (hierarchy from) f _) _ (λ D.
       settles places to (add_shown T (hierarchy to) f c.props D >>= settled T places from)))
@@ -150,7 +149,7 @@ module _ (T : Tree) where
       let dropped = drop_shown T (hierarchy p.parent.bits) f (without_folder T f nothing) in
       then_moving places (dropped >>= settled T places p.parent.bits) (settles places p.parent.bits dropped))))))))
 
-  lists_folder : (f : ℕ) → IfOk (listing T f) Right
+  pub lists_folder : (f : ℕ) → IfOk (listing T f) Right
   unfolding listing
   lists_folder f = then_any (folder_in T f) _ (λ p. elim (cases_Bool (is_plain p)) [
     | inr t ↦ rw t (λ none. (refl, refl))
@@ -255,7 +254,7 @@ module _ (T : Tree) where
   unfolding removed_message
   removes m = then_any (message_in T m) _ (λ M. then_changing _)
 
-  right : (c : Command) → IfOk (outcome T c) Right
+  pub right : (c : Command) → IfOk (outcome T c) Right
   unfolding outcome
   right (MakeFolder parent name) = makes_folder parent.bits name
   right (RenameFolder folder name) = renames folder.bits name
@@ -277,11 +276,14 @@ module _ (T : Tree) where
   right (RemoveAttachment message attachment) = removes_attachment message.bits attachment.bits
   right (FetchData message attachment) = fetches_data message.bits attachment.bits
   right (NameProperty guid number) = names_property guid number
+  right (MakeSearch parent name) = tt
+  right (SetCriteria search flags scope restriction) = tt
+  right (GetCriteria search) = tt
   right Save = λ none. (refl, refl)
   right Quit = λ none. (refl, refl)
 
   -- where the places and the counters stay too, the tree does
-  quiet : (o : Outcome) → Right o → StaysUnwritten T o
+  pub quiet : (o : Outcome) → Right o → StaysUnwritten T o
   quiet o same none =
       let entries = no-entries o.changed none in
       let stay = same none in

@@ -1,5 +1,5 @@
 -- Whether there is room for what a command writes.
-use Rattle.std.proofs.Common.{◌≡◌, ◌∙◌, ◌<◌, ◌≤◌, ℕ, Bool, List, Option, Err, Ok, arith}
+use Rattle.std.proofs.Common.{◌≡◌, ◌∙◌, ℕ, Bool, List, Option, Err, Ok, arith}
 use Rattle.std.specs.FinMap as map
 use Rattle.std.specs.List.{AllZip}
 use Rattle.pst_base.specs.declared.ids.Nid.{Nid}

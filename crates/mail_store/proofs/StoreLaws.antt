@@ -16,8 +16,7 @@ use Rattle.mail_draft.specs.Answers.{Looks, Says}
 use Rattle.mail_draft.specs.declared.stop.Stop.{Stop}
 use Rattle.mail_draft.specs.declared.stop.Stop.TheVariants.{Refused, Fault, Changed, Memory}
 use Rattle.mail_draft.proofs.Looking.{shown_still}
-use Rattle.mail_store.specs.Planning.{Carries, IsHindered, Plans, SameKnown, ShowsTree, StandsFor, Stores, UnlessFault}
-use Rattle.mail_store.specs.Space.{HasRoom}
+use Rattle.mail_store.specs.Planning.{Carries, Plans, SameKnown, ShowsTree, StandsFor, Stores, UnlessFault}
 
 -- what follows of what holds where a call succeeds
 pub on_ok : {A E P Q : Type 0} (r : Result A E) → OnOk r P → (P → Q) → OnOk r Q
@@ -42,19 +41,13 @@ pub of_answer : {A : Type 0} (P : A → Type 0) (answer : Answer A) (x : A) → 
 of_answer P (Ok y) x holds is = subst (λ a. IfOk a P) is holds
 of_answer P (Err e) x holds is = cc
 
--- what was planned of an answer, and has room
-pub plans_made : {A P : Type 0} (view : A → Outcome) (room : Room) (plans : Outcome → P → Type 0) (answer : Answer Outcome) (oc : A) (planned : P)
-    → Says view answer (Ok oc) → (answer ≡ Ok (view oc) → plans (view oc) planned) → HasRoom room (view oc).changed → Plans room plans answer (Ok planned)
-plans_made view room plans (Ok o) oc planned says made has = subst (λ x. plans x planned × HasRoom room x.changed) says (made (ap Ok (sym says)), has)
-plans_made view room plans (Err None) oc planned says made has = tt
-plans_made view room plans (Err (Some refusal)) oc planned says made has = absurd says
-
--- what hindered the plan of an answer
-pub plans_hindered : {A P : Type 0} (view : A → Outcome) (room : Room) (plans : Outcome → P → Type 0) (answer : Answer Outcome) (oc : A) (stop : Stop)
-    → Says view answer (Ok oc) → IsHindered room (view oc).changed stop → Plans room plans answer (Err stop)
-plans_hindered view room plans (Ok o) oc stop says hindered = subst (λ x. IsHindered room x.changed stop) says hindered
-plans_hindered view room plans (Err None) oc stop says hindered = tt
-plans_hindered view room plans (Err (Some refusal)) oc stop says hindered = absurd says
+-- what was planned of what an answer says was planned of the answer
+pub plans_said : {A P : Type 0} (view : A → Outcome) (room room' : Room) (plans : Outcome → P → Type 0) (answer : Answer Outcome) (oc : A) (result : Result P Stop)
+    → Says view answer (Ok oc) → room' ≡ room → (answer ≡ Ok (view oc) → Plans room' plans (Ok (view oc)) result) → Plans room plans answer result
+plans_said view room room' plans (Ok o) oc result says same planned =
+    subst (λ x. Plans room plans (Ok x) result) says (subst (λ r. Plans r plans (Ok (view oc)) result) same (planned (ap Ok (sym says))))
+plans_said view room room' plans (Err None) oc result says same planned = tt
+plans_said view room room' plans (Err (Some refusal)) oc result says same planned = absurd says
 
 -- what was planned was done
 pub does_planned : {P : Type 0} (room : Room) (plans : Outcome → P → Type 0) (does : Outcome → Reply → Type 0) (answer : Answer Outcome) (planned : P) (reply : Reply)

@@ -6,7 +6,7 @@ ghost use Rattle.mail_tree.specs.Tree.{Shown, Tree};
 ghost use Rattle.mail_draft.specs.Answers.{IsCaused, Looks, Says};
 ghost use Rattle.mail_draft.specs.Outcomes.{outcome_of};
 
-use command_text::{Command, LastLine, Reply};
+use command_text::{Command, CommandRefusal, LastLine, Reply};
 use mail_draft::{Outcome, Stop};
 use mail_folders::{list_folder, make_folder, move_folder, remove_folder, rename_folder};
 use mail_messages::{
@@ -20,9 +20,9 @@ use node_port::Keeper;
 use pst_outside::Outside;
 use std::alloc::Global;
 
-/// What a command comes to, or why it is refused.
+/// What a command comes to, or why it is refused. Nothing changes. `Fault` comes where the disk failed, `Memory` where there was no memory, and `Changed` where something isn't as it was found before.
 #[tactic(auto, unfolding(mail_tree::specs::Step::outcome))]
-pub(crate) fn outcome<W: Outside, K: Keeper<W>>(
+pub fn outcome<W: Outside, K: Keeper<W>>(
     alloc: Global,
     keeper: &mut K,
     w: &mut W,
@@ -105,6 +105,9 @@ pub(crate) fn outcome<W: Outside, K: Keeper<W>>(
         } => fetch(alloc, keeper, w, &known.places, *message, *attachment),
         Command::NameProperty { guid, number } => {
             name_property(alloc, keeper, w, *guid, *number)
+        }
+        Command::MakeSearch { .. } | Command::SetCriteria { .. } | Command::GetCriteria { .. } => {
+            Err(Stop::Refused(CommandRefusal::Line))
         }
         Command::Save | Command::Quit => {
             let reply = Reply::without_data(alloc, LastLine::Done);

@@ -1,5 +1,5 @@
 //! The store over a keeper.
-ghost use Rattle.std.specs.Prelude.{◌≡◌, ◌⊎◌, ◌≤◌, ◌+◌, ℕ, List, Option, None, true, IfOk, IfErr, OnErr, OnOk};
+ghost use Rattle.std.specs.Prelude.{◌≡◌, ◌⊎◌, ◌≤◌, ◌+◌, ℕ, List, Option, None, Ok, true, IfOk, IfErr, OnErr, OnOk};
 ghost use Rattle.std.specs.Option.{ForSome};
 ghost use Rattle.pst_base.specs.declared.ids.Nid.{Nid as Id};
 ghost use Rattle.node_port.specs.declared.node.NodeRec.{NodeRec as Rec};
@@ -68,8 +68,8 @@ fn plan_changes<W: Outside, K: Keeper<W>>(
     Ok(keeper.prepare(alloc, w, changes)?)
 }
 
-/// Plans what a command comes to, if it writes anything.
-fn plan_outcome<W: Outside, K: Keeper<W>>(
+/// Plans the changes of what a command comes to, if it writes anything.
+fn plan_draft<W: Outside, K: Keeper<W>>(
     alloc: Global,
     keeper: &mut K,
     w: &mut W,
@@ -90,6 +90,32 @@ fn plan_outcome<W: Outside, K: Keeper<W>>(
     Ok(Some(ready))
 }
 
+/// Plans what a command comes to, which was made of what the store knows and keeps: what is to be changed for it. Nothing changes. Refused only where it writes, and the file has no room (`Full`) or no numbers (`Ids`) left.
+pub fn plan_outcome<W: Outside, K: Keeper<W>>(
+    alloc: Global,
+    store: &mut Store<K>,
+    w: &mut W,
+    outcome: Outcome,
+) -> Result<Planned<K::Ready>, Stop>
+    ensures answer { (T : Tree) → Stores (K.holds store.old.keeper (W.view w.old)) (K.last store.old.keeper) store.old.known T → StaysUnwritten T (outcome_of T outcome)
+        → Plans (K.room store.old.keeper) (λ o planned. PlansTo (K.fits store.new.keeper (W.view w.new)) T o planned.change planned.places planned.flags.items planned.reply) (Ok (outcome_of T outcome)) result }
+    ensures fits { IfOk result (λ planned. ForSome planned.change (λ ready. (after : List ℕ) × (cs : List (Id × Option Rec)) × K.fits store.new.keeper (W.view w.new) ready after cs)) }
+    ensures known { SameKnown store.old.known store.new.known }
+    ensures looks { Looks (K.holds store.old.keeper (W.view w.old)) (K.holds store.new.keeper (W.view w.new)) (K.last store.old.keeper) (K.last store.new.keeper) (K.room store.old.keeper) (K.room store.new.keeper) (W.view w.old) (W.view w.new) }
+    ensures cause { IfErr result (IsCaused K.has_disk (W.view w.old).disk_faults (W.view w.new).disk_faults) }
+{
+    let flags = plan_flags(alloc, &mut store.known.flags, &outcome.draft)?;
+    match plan_draft(alloc, &mut store.keeper, w, &outcome) {
+        Ok(change) => Ok(Planned {
+            change,
+            places: outcome.places,
+            flags,
+            reply: outcome.reply,
+        }),
+        Err(stop) => Err(stop),
+    }
+}
+
 /// Plans a command: what it answers, and what is to be changed for it. Nothing changes. Refused as the command is refused, and, where it writes, where the file has no room (`Full`) or no numbers (`Ids`) left.
 pub fn plan<W: Outside, K: Keeper<W>>(
     alloc: Global,
@@ -105,16 +131,7 @@ pub fn plan<W: Outside, K: Keeper<W>>(
     ensures cause { IfErr result (IsCaused K.has_disk (W.view w.old).disk_faults (W.view w.new).disk_faults) }
 {
     let outcome = outcome(alloc, &mut store.keeper, w, &store.known, command)?;
-    let flags = plan_flags(alloc, &mut store.known.flags, &outcome.draft)?;
-    match plan_outcome(alloc, &mut store.keeper, w, &outcome) {
-        Ok(change) => Ok(Planned {
-            change,
-            places: outcome.places,
-            flags,
-            reply: outcome.reply,
-        }),
-        Err(stop) => Err(stop),
-    }
+    plan_outcome(alloc, store, w, outcome)
 }
 
 /// Makes the changes that were planned, if any.

@@ -19,8 +19,8 @@ some_fits : (q : ℕ) (y : Object) → fits_id q y ≡ true → (x : Object) →
 some_fits q y fits x e = subst (λ z. fits_id q z ≡ true) (same_Some y x e) fits
 
 pub folder_fits : (f : ℕ) (c : Ctx) → (f % 32 ≡ 2) ⊎ (f % 32 ≡ 3) → fits_id f (Context c) ≡ true
-folder_fits f c (inl e) = or_right (f == 0x21) _ (or_right (f == 0x61) _ (or_left (f % 32 == 2) (f % 32 == 3) (eq-eqb (f % 32) 2 e)))
-folder_fits f c (inr e) = or_right (f == 0x21) _ (or_right (f == 0x61) _ (or_right (f % 32 == 2) (f % 32 == 3) (eq-eqb (f % 32) 3 e)))
+folder_fits f c (inl e) = or_right (f == 0x21) _ (or_right (f == 0x61) _ (or_left (f % 32 == 2) _ (eq-eqb (f % 32) 2 e)))
+folder_fits f c (inr e) = or_right (f == 0x21) _ (or_right (f == 0x61) _ (or_right (f % 32 == 2) _ (or_left (f % 32 == 3) (f % 32 == 7) (eq-eqb (f % 32) 3 e))))
 
 pub same_table : (t u : Tbl) → ◌≡◌ {A = Option Object} (Some (Table t)) (Some (Table u)) → t ≡ u
 same_table t u e = cc

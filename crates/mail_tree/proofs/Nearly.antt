@@ -6,7 +6,7 @@ use Rattle.mapi_values.specs.Messages.{Mes}
 use Rattle.mapi_values.specs.Tables.{find_row}
 use Rattle.mail_objects.specs.Forms.{Ctx, Tbl}
 use Rattle.mail_objects.specs.declared.object.Object.{Object}
-use Rattle.mail_objects.specs.declared.object.Object.TheVariants.{Context, Table, Message}
+use Rattle.mail_objects.specs.declared.object.Object.TheVariants.{Context, Table, Message, Bare}
 use Rattle.mail_tree.specs.declared.places.FolderPlace.{FolderPlace}
 use Rattle.mail_tree.specs.declared.places.Sort.{Sort}
 use Rattle.mail_tree.specs.declared.places.Sort.TheVariants.{Plain, Foreign}
@@ -87,26 +87,30 @@ plain_id n f p e plain = n.kinds f p e ∙ plain_kind p.sort plain
 pub message_id : (m : ℕ) (M : Mes) → fits_id m (Message M) ≡ true → (m % 32 ≡ 4) × (M.nid ≡ m)
 message_id m M e = let p = and_parts (m % 32 == 4) (M.nid == m) e in (eqb-true (m % 32) 4 p.0, eqb-true M.nid m p.1)
 
--- values stand at two ids, and at those of two kinds
-pub context_id : (q : ℕ) (c : Ctx) → fits_id q (Context c) ≡ true → (q % 32 ≡ 1) ⊎ ((q % 32 ≡ 2) ⊎ (q % 32 ≡ 3))
-context_id q c e = elim (or_cases (q == 0x21) ((q == 0x61) || ((q % 32 == 2) || (q % 32 == 3))) e) [
+-- values stand at two ids, and at those of three kinds
+pub context_id : (q : ℕ) (c : Ctx) → fits_id q (Context c) ≡ true → (q % 32 ≡ 1) ⊎ ((q % 32 ≡ 2) ⊎ ((q % 32 ≡ 3) ⊎ (q % 32 ≡ 7)))
+context_id q c e = elim (or_cases (q == 0x21) ((q == 0x61) || ((q % 32 == 2) || ((q % 32 == 3) || (q % 32 == 7)))) e) [
   | inl a ↦ inl (ap (λ x. x % 32) (eqb-true q 0x21 a))
-  | inr b ↦ elim (or_cases (q == 0x61) ((q % 32 == 2) || (q % 32 == 3)) b) [
+  | inr b ↦ elim (or_cases (q == 0x61) ((q % 32 == 2) || ((q % 32 == 3) || (q % 32 == 7))) b) [
     | inl a ↦ inl (ap (λ x. x % 32) (eqb-true q 0x61 a))
-    | inr d ↦ elim (or_cases (q % 32 == 2) (q % 32 == 3) d) [ inl a ↦ inr (inl (eqb-true (q % 32) 2 a)) | inr a ↦ inr (inr (eqb-true (q % 32) 3 a)) ]
+    | inr d ↦ elim (or_cases (q % 32 == 2) ((q % 32 == 3) || (q % 32 == 7)) d) [
+      | inl a ↦ inr (inl (eqb-true (q % 32) 2 a))
+      | inr g ↦ elim (or_cases (q % 32 == 3) (q % 32 == 7) g) [ inl a ↦ inr (inr (inl (eqb-true (q % 32) 3 a))) | inr a ↦ inr (inr (inr (eqb-true (q % 32) 7 a))) ]
+    ]
   ]
 ]
 
 no_context : (q : ℕ) (c : Ctx) → fits_id q (Context c) ≡ true → (q % 32 ≡ 13) ⊎ ((q % 32 ≡ 14) ⊎ (q % 32 ≡ 15)) → ⊥
 no_context q c e kind =
     let at_table : 13 ≤ q % 32 = elim kind [ inl k ↦ omega arith | inr k ↦ elim k [ inl l ↦ omega arith | inr l ↦ omega arith ] ] in
-    elim (context_id q c e) [ inl k ↦ omega arith | inr k ↦ elim k [ inl l ↦ omega arith | inr l ↦ omega arith ] ]
+    elim (context_id q c e) [ inl k ↦ omega arith | inr k ↦ elim k [ inl l ↦ omega arith | inr l ↦ elim l [ inl x ↦ omega arith | inr x ↦ omega arith ] ] ]
 
 -- what stands where a table may stand is a table
 pub table_of : (q : ℕ) (o : Option Object) → ((x : Object) → o ≡ Some x → fits_id q x ≡ true) → (q % 32 ≡ 13) ⊎ ((q % 32 ≡ 14) ⊎ (q % 32 ≡ 15)) → IsSome o → (t : Tbl) × (o ≡ Some (Table t))
 table_of q None typed kind is = absurd (false≢true is)
 table_of q (Some (Table t)) typed kind is = (t, refl)
 table_of q (Some (Context c)) typed kind is = absurd (no_context q c (typed (Context c) refl) kind)
+table_of q (Some (Bare parent)) typed kind is = let six = eqb-true (q % 32) 6 (typed (Bare parent) refl) in absurd (elim kind [ inl k ↦ omega arith | inr k ↦ elim k [ inl l ↦ omega arith | inr l ↦ omega arith ] ])
 table_of q (Some (Message m)) typed kind is = let e = message_id q m (typed (Message m) refl) in absurd (elim kind [ inl k ↦ omega arith | inr k ↦ elim k [ inl l ↦ omega arith | inr l ↦ omega arith ] ])
 
 -- what an object that is put has to meet

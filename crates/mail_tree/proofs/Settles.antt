@@ -8,7 +8,7 @@ use Rattle.mapi_values.specs.Values.{Val}
 use Rattle.mapi_values.proofs.KeyedLaws.{put-ascends}
 use Rattle.mail_objects.specs.Forms.{Ctx, Tbl}
 use Rattle.mail_objects.specs.declared.object.Object.{Object}
-use Rattle.mail_objects.specs.declared.object.Object.TheVariants.{Context, Table, Message}
+use Rattle.mail_objects.specs.declared.object.Object.TheVariants.{Context, Table, Message, Bare}
 use Rattle.mail_tree.specs.declared.places.FolderPlace.{FolderPlace}
 use Rattle.mail_tree.specs.Places.{ROOT, find_place, is_child, is_plain}
 use Rattle.mail_tree.specs.Tree.{Tree}
@@ -60,6 +60,7 @@ store_of {places} {at} w = values (at 0x21) (w.typed 0x21) w.store
     values None typed is = absurd (false≢true is)
     values (Some (Context c)) typed is = (c, refl)
     values (Some (Table t)) typed is = absurd (false≢true (typed (Table t) refl))
+    values (Some (Bare parent)) typed is = absurd (false≢true (typed (Bare parent) refl))
     values (Some (Message m)) typed is = absurd (false≢true (typed (Message m) refl))
 
 pub fine_unread : (T : Tree) (D : Changed) (ms : List ℕ) → EachMessage (now_at T D) ms → Fine (unread_among T D ms) (λ n. Unit {0})

@@ -3,7 +3,7 @@ use Rattle.std.specs.Prelude.{◌≡◌, ◌⊎◌, ◌≤◌, ℕ, zero, suc, �
 use Rattle.mapi_values.specs.Tables.{find_row}
 use Rattle.mail_objects.specs.Forms.{Tbl}
 use Rattle.mail_objects.specs.declared.object.Object.{Object}
-use Rattle.mail_objects.specs.declared.object.Object.TheVariants.{Context, Table, Message}
+use Rattle.mail_objects.specs.declared.object.Object.TheVariants.{Context, Table, Message, Bare}
 use Rattle.mail_tree.specs.declared.places.FolderPlace.{FolderPlace}
 use Rattle.mail_tree.specs.declared.places.Sort.{Sort}
 use Rattle.mail_tree.specs.declared.places.Sort.TheVariants.{Plain, Foreign}
@@ -27,6 +27,7 @@ abbrev pub BelongsAt : List FolderPlace → ℕ → Object → Type 0
 BelongsAt places q (Context c) = (q ≡ 0x21) ⊎ ((q ≡ 0x61) ⊎ IsSome (find_place q places))
 BelongsAt places q (Table t) = (f : ℕ) × ((p : FolderPlace) × (find_place f places ≡ Some p) × (is_plain p ≡ true)) × ((q ≡ hierarchy f) ⊎ ((q ≡ contents f) ⊎ (q ≡ associated f)))
 BelongsAt places q (Message m) = Unit {0}
+BelongsAt places q (Bare parent) = ⊥
 
 -- each object belongs where it stands
 abbrev pub AreOwned : List FolderPlace → (ℕ → Option Object) → Type 0
@@ -41,3 +42,14 @@ pub record IsFound (T : Tree) : Type 0 where
   pub reached : (f : ℕ) (p : FolderPlace) → find_place f T.places ≡ Some p → (n : ℕ) × (n ≤ 64) × StandsBelow T.places n f
   -- no object stands beside what an opening finds
   pub owned : AreOwned T.places (object_at T)
+
+-- the object belongs at the id, or the id is one of those beside what an opening of folders finds
+abbrev pub BelongsOr : (ℕ → Type 0) → List FolderPlace → ℕ → Object → Type 0
+BelongsOr beside places q o = beside q ⊎ BelongsAt places q o
+
+-- The same, where objects may stand at certain ids beside what folders and messages have.
+pub record IsFoundBeside (beside : ℕ → Type 0) (T : Tree) : Type 0 where
+  pub listed : (f : ℕ) (p : FolderPlace) (t : Tbl) (r : ℕ) (s : Sort) → find_place f T.places ≡ Some p → is_plain p ≡ true → object_at T (hierarchy f) ≡ Some (Table t)
+      → IsSome (find_row r t.table.rows) → named_sort T r ≡ Some s → (r ≡ ROOT → ⊥) × (find_place r T.places ≡ Some (record { nid = nid r; parent = nid f; sort = s }))
+  pub reached : (f : ℕ) (p : FolderPlace) → find_place f T.places ≡ Some p → (n : ℕ) × (n ≤ 64) × StandsBelow T.places n f
+  pub owned : (q : ℕ) (o : Object) → object_at T q ≡ Some o → BelongsOr beside T.places q o

@@ -35,6 +35,7 @@ abbrev pub parent_of : Obj → ℕ
 parent_of (objects.Context c) = c.parent
 parent_of (objects.Table t) = t.parent
 parent_of (objects.Message m) = m.folder
+parent_of (objects.Bare above) = above.bits
 
 -- the parent of a node, an object or as it is
 abbrev pub parent_told : Option Obj → Option NodeRec → Option ℕ

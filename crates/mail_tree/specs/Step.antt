@@ -2,7 +2,8 @@
 use Rattle.std.specs.Prelude.{ℕ, List, [], ◌∷◌, Option, None, Some, Ok, Err}
 use Rattle.std.specs.FinMap as map
 use Rattle.command_text.specs.declared.command.Command.{Command}
-use Rattle.command_text.specs.declared.command.Command.TheVariants.{MakeFolder, RenameFolder, MoveFolder, RemoveFolder, ListFolder, NewMessage, SetProperty, UnsetProperty, GetProperty, ListProperties, MoveMessage, CopyMessage, RemoveMessage, AddRecipient, RemoveRecipient, AddAttachment, AppendData, RemoveAttachment, FetchData, Save, Quit, NameProperty}
+use Rattle.command_text.specs.declared.command.Command.TheVariants.{MakeFolder, RenameFolder, MoveFolder, RemoveFolder, ListFolder, NewMessage, SetProperty, UnsetProperty, GetProperty, ListProperties, MoveMessage, CopyMessage, RemoveMessage, AddRecipient, RemoveRecipient, AddAttachment, AppendData, RemoveAttachment, FetchData, Save, Quit, NameProperty, MakeSearch, SetCriteria, GetCriteria}
+use Rattle.command_text.specs.declared.reply.CommandRefusal.TheVariants.{Line}
 use Rattle.command_text.specs.declared.reply.LastLine.TheVariants.{Done, Refused}
 use Rattle.command_text.specs.declared.reply.Reply.{Reply}
 use Rattle.mail_objects.specs.declared.object.Object.{Object}
@@ -13,7 +14,7 @@ use Rattle.mail_tree.specs.Folders.{Outcome, listing, made_folder, moved_folder,
 use Rattle.mail_tree.specs.Messages.{added_attachment, added_recipient, appended_data, copied_message, details, fetched_data, moved_message, new_message, removed_attachment, removed_message, removed_recipient, set_value, unset_value, value_in}
 use Rattle.mail_tree.specs.Names.{named_property}
 
--- what a command comes to, or why it is refused
+-- what a command comes to, or why it is refused; a tree by itself knows no searches, and their lines are none of its
 unfoldable pub outcome : Tree → Command → Answer Outcome
 outcome T (MakeFolder parent name) = made_folder T parent.bits name
 outcome T (RenameFolder folder name) = renamed_folder T folder.bits name
@@ -35,6 +36,9 @@ outcome T (AppendData message attachment bytes) = appended_data T message.bits a
 outcome T (RemoveAttachment message attachment) = removed_attachment T message.bits attachment.bits
 outcome T (FetchData message attachment) = fetched_data T message.bits attachment.bits
 outcome T (NameProperty guid number) = named_property T guid number
+outcome T (MakeSearch parent name) = Err (Some Line)
+outcome T (SetCriteria search flags scope restriction) = Err (Some Line)
+outcome T (GetCriteria search) = Err (Some Line)
 outcome T Save = Ok (unchanged T (replied Done))
 outcome T Quit = Ok (unchanged T (replied Done))
 

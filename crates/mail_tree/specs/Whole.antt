@@ -5,7 +5,7 @@ use Rattle.mapi_values.specs.Messages.{Mes}
 use Rattle.mapi_values.specs.Tables.{find_row}
 use Rattle.mail_objects.specs.Forms.{Ctx, Tbl}
 use Rattle.mail_objects.specs.declared.object.Object.{Object}
-use Rattle.mail_objects.specs.declared.object.Object.TheVariants.{Context, Table, Message}
+use Rattle.mail_objects.specs.declared.object.Object.TheVariants.{Context, Table, Message, Bare}
 use Rattle.mail_tree.specs.declared.places.FolderPlace.{FolderPlace}
 use Rattle.mail_tree.specs.declared.places.Sort.{Sort}
 use Rattle.mail_tree.specs.declared.places.Sort.TheVariants.{Plain, Foreign}
@@ -20,11 +20,12 @@ abbrev pub kind_of_sort : Sort → ℕ
 kind_of_sort Plain = 2
 kind_of_sort Foreign = 3
 
--- the object may stand at the id: values at that of the store, of the names or of a folder, a table at that of one, a message at its own
+-- the object may stand at the id: values at that of the store, of the names, of a folder or of a search's criteria, a table at that of one, a message at its own, no data at that of a search's updates
 abbrev pub fits_id : ℕ → Object → Bool
-fits_id q (Context c) = (q == 0x21) || ((q == 0x61) || ((q % 32 == 2) || (q % 32 == 3)))
-fits_id q (Table t) = (q % 32 == 13) || ((q % 32 == 14) || (q % 32 == 15))
+fits_id q (Context c) = (q == 0x21) || ((q == 0x61) || ((q % 32 == 2) || ((q % 32 == 3) || (q % 32 == 7))))
+fits_id q (Table t) = (q % 32 == 13) || ((q % 32 == 14) || ((q % 32 == 15) || (q % 32 == 16)))
 fits_id q (Message m) = (q % 32 == 4) && (m.nid == q)
+fits_id q (Bare parent) = q % 32 == 6
 
 -- a table is there, and has a row of this id
 abbrev pub HasRow : Option Object → ℕ → Type 0

@@ -7,7 +7,7 @@ use Rattle.mapi_values.specs.Tables.{find_row}
 use Rattle.mail_objects.specs.Forms.{Tbl}
 use Rattle.mail_objects.specs.Objects.{ShowsObject}
 use Rattle.mail_objects.specs.declared.object.Object.{Object}
-use Rattle.mail_objects.specs.declared.object.Object.TheVariants.{Context, Table, Message}
+use Rattle.mail_objects.specs.declared.object.Object.TheVariants.{Context, Table, Message, Bare}
 use Rattle.node_port.specs.Nodes.{Nodes, node_at}
 use Rattle.node_port.specs.declared.node.NodeRec.{NodeRec}
 use Rattle.mail_tree.specs.declared.places.FolderPlace.{FolderPlace}
@@ -116,6 +116,7 @@ module _ (N : Nodes) (T : Tree) (w : IsWhole T) (h : IsFound T) (at : (q : ℕ) 
   owned_is q (Table t) e (f, p, inl same) = inr (inr (f, p, inl same))
   owned_is q (Table t) e (f, p, inr (inl same)) = inr (inr (f, p, inr (inl same)))
   owned_is q (Table t) e (f, p, inr (inr same)) = inr (inr (f, p, inr (inr (inl (same, some_node q (subst IsSome (sym e) refl))))))
+  owned_is q (Bare parent) e b = absurd b
   owned_is q (Message m) e b =
       let v = w.objects.held q m e in
       let four = (message_id q m (w.objects.typed q (Message m) e)).0 in

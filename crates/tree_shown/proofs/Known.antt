@@ -1,22 +1,23 @@
 -- What is known of the messages of nodes is so of the tree that they show.
-use Rattle.std.proofs.Common.{◌≡◌, inr, ◌∙◌, ℕ, ◌%◌, Option, None, Some, IsSome, is_some, arith, refl, sym, ap}
+use Rattle.std.proofs.Common.{◌≡◌, inl, inr, ◌∙◌, ℕ, ◌%◌, Option, None, Some, IsSome, is_some, arith, refl, sym, ap}
 use Rattle.std.proofs.lemmas.Bool.{false≢true}
 use Rattle.mapi_values.specs.Messages.{Mes}
 use Rattle.mail_objects.specs.declared.object.Object.{Object}
-use Rattle.mail_objects.specs.declared.object.Object.TheVariants.{Context, Table, Message}
+use Rattle.mail_objects.specs.declared.object.Object.TheVariants.{Context, Table, Message, Bare}
 use Rattle.mail_tree.specs.Flags.{AreFlags, FlagList}
 use Rattle.mail_tree.specs.Standing.{HasMail}
 use Rattle.mail_tree.specs.Tree.{Tree, object_at}
 use Rattle.node_port.specs.Nodes.{Nodes}
 use Rattle.tree_look.specs.Seeing.{AreListed}
 use Rattle.tree_shown.specs.Shows.{Shows}
-use Rattle.tree_shown.proofs.Made.{context_low, table_id}
+use Rattle.tree_shown.proofs.Made.{bare_id, context_apart, table_id}
 use Rattle.tree_shown.proofs.One.{is_at}
 use Rattle.tree_shown.proofs.Owned.{IsAt, one_mail_at}
 
 -- what stands at the id of a message that the nodes have is that message
 message_at : (N : Nodes) (q : ℕ) (o : Object) (M : Mes) → IsAt N q o → q % 32 ≡ 4 → HasMail N q M → o ≡ Message M
-message_at N q (Context c) M at four has = let low = context_low q c at.1 in absurd (omega arith)
+message_at N q (Context c) M at four has = absurd (context_apart q c at.1 (inl four))
+message_at N q (Bare parent) M at four has = let six = bare_id q parent at.1 in absurd (omega arith)
 message_at N q (Table t) M at four has = let high = table_id q t at.1 in absurd (omega arith)
 message_at N q (Message m) M at four has = ap (λ (x : Mes). Message x) (one_mail_at N q m M at.0 has)
 

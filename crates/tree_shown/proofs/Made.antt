@@ -4,8 +4,9 @@ use Rattle.std.proofs.lemmas.Bool.{eqb-true, false≢true, or_cases}
 use Rattle.mapi_values.specs.Messages.{Mes}
 use Rattle.mail_objects.specs.Forms.{Ctx, Tbl}
 use Rattle.mail_objects.specs.declared.object.Object.{Object}
-use Rattle.mail_objects.specs.declared.object.Object.TheVariants.{Context, Table, Message}
+use Rattle.mail_objects.specs.declared.object.Object.TheVariants.{Context, Table, Message, Bare}
 use Rattle.node_port.specs.Nodes.{Nodes, node_at}
+use Rattle.pst_base.specs.declared.ids.Nid.{Nid}
 use Rattle.mail_tree.specs.declared.places.FolderPlace.{FolderPlace}
 use Rattle.mail_tree.specs.Changing.{associated, contents, hierarchy}
 use Rattle.mail_tree.specs.Folders.{place}
@@ -25,29 +26,40 @@ use Rattle.tree_shown.proofs.Rows.{rows_rise}
 
 -- a table's id
 pub table_id : (q : ℕ) (t : Tbl) → fits_id q (Table t) ≡ true → 13 ≤ q % 32
-table_id q t e = elim (or_cases (q % 32 == 13) ((q % 32 == 14) || (q % 32 == 15)) e) [
+table_id q t e = elim (or_cases (q % 32 == 13) ((q % 32 == 14) || ((q % 32 == 15) || (q % 32 == 16))) e) [
   | inl k ↦ let is = eqb-true (q % 32) 13 k in omega arith
-  | inr r ↦ elim (or_cases (q % 32 == 14) (q % 32 == 15) r) [
+  | inr r ↦ elim (or_cases (q % 32 == 14) ((q % 32 == 15) || (q % 32 == 16)) r) [
     | inl k ↦ let is = eqb-true (q % 32) 14 k in omega arith
-    | inr k ↦ let is = eqb-true (q % 32) 15 k in omega arith
+    | inr s ↦ elim (or_cases (q % 32 == 15) (q % 32 == 16) s) [
+      | inl k ↦ let is = eqb-true (q % 32) 15 k in omega arith
+      | inr k ↦ let is = eqb-true (q % 32) 16 k in omega arith
+    ]
   ]
 ]
 
--- values stand at ids of low kinds
-pub context_low : (q : ℕ) (c : Ctx) → fits_id q (Context c) ≡ true → q % 32 < 4
-context_low q c e = elim (context_id q c e) [ inl k ↦ omega arith | inr r ↦ elim r [ inl k ↦ omega arith | inr k ↦ omega arith ] ]
+-- a node without data has an id of its own kind
+pub bare_id : (q : ℕ) (parent : Nid) → fits_id q (Bare parent) ≡ true → q % 32 ≡ 6
+bare_id q parent e = eqb-true (q % 32) 6 e
+
+-- values stand below the kinds of tables, and at ids of other kinds than messages and nodes without data
+pub context_low : (q : ℕ) (c : Ctx) → fits_id q (Context c) ≡ true → q % 32 < 8
+context_low q c e = elim (context_id q c e) [ inl k ↦ omega arith | inr r ↦ elim r [ inl k ↦ omega arith | inr s ↦ elim s [ inl k ↦ omega arith | inr k ↦ omega arith ] ] ]
+
+pub context_apart : (q : ℕ) (c : Ctx) → fits_id q (Context c) ≡ true → (q % 32 ≡ 4) ⊎ (q % 32 ≡ 6) → ⊥
+context_apart q c e (inl other) = elim (context_id q c e) [ inl k ↦ omega arith | inr r ↦ elim r [ inl k ↦ omega arith | inr s ↦ elim s [ inl k ↦ omega arith | inr k ↦ omega arith ] ] ]
+context_apart q c e (inr other) = elim (context_id q c e) [ inl k ↦ omega arith | inr r ↦ elim r [ inl k ↦ omega arith | inr s ↦ elim s [ inl k ↦ omega arith | inr k ↦ omega arith ] ] ]
 
 -- the store's values and the names are of one kind
 fixed_kind : (q : ℕ) → IsFixed q → q % 32 ≡ 1
 fixed_kind q (inl e) = ap (λ x. x % 32) e
 fixed_kind q (inr e) = ap (λ x. x % 32) e
 
--- what stands beside a folder has another id than values
-beside_high : (N : Nodes) (f q : ℕ) → IsBeside N f q → 4 ≤ q % 32
-beside_high N f q (inl same) = omega (arith, beside_kind f 13 (omega arith))
-beside_high N f q (inr (inl same)) = omega (arith, beside_kind f 14 (omega arith))
-beside_high N f q (inr (inr (inl x))) = let same = x.0 in omega (arith, beside_kind f 15 (omega arith))
-beside_high N f q (inr (inr (inr x))) = let four = x.3 in omega arith
+-- what stands beside a folder has the id of a table or of a message
+beside_high : (N : Nodes) (f q : ℕ) → IsBeside N f q → (13 ≤ q % 32) ⊎ (q % 32 ≡ 4)
+beside_high N f q (inl same) = inl (omega (arith, beside_kind f 13 (omega arith)))
+beside_high N f q (inr (inl same)) = inl (omega (arith, beside_kind f 14 (omega arith)))
+beside_high N f q (inr (inr (inl x))) = let same = x.0 in inl (omega (arith, beside_kind f 15 (omega arith)))
+beside_high N f q (inr (inr (inr x))) = inr x.3
 
 -- what stands at the id of a folder, a table or a message is of the form that is there
 is_context : (N : Nodes) (q : ℕ) (c : Ctx) (o : Option Object) → IsSome o → ((x : Object) → o ≡ Some x → IsAt N q x) → q % 32 < 4 → HasContext N q c → o ≡ Some (Context c)
@@ -55,6 +67,7 @@ is_context N q c None is each below has = absurd (false≢true is)
 is_context N q c (Some (Context d)) is each below has = ap (λ (x : Ctx). Some (Context x)) (one_context_at N q d c (each (Context d) refl).0 has)
 is_context N q c (Some (Table t)) is each below has = let more = table_id q t (each (Table t) refl).1 in absurd (omega arith)
 is_context N q c (Some (Message m)) is each below has = let four = (message_id q m (each (Message m) refl).1).0 in absurd (omega arith)
+is_context N q c (Some (Bare parent)) is each below has = let six = bare_id q parent (each (Bare parent) refl).1 in absurd (omega arith)
 
 is_table : (N : Nodes) (q : ℕ) (t : Tbl) (o : Option Object) → IsSome o → ((x : Object) → o ≡ Some x → IsAt N q x) → (q % 32 ≡ 13) ⊎ ((q % 32 ≡ 14) ⊎ (q % 32 ≡ 15)) → HasTable N q t → o ≡ Some (Table t)
 is_table N q t o is each kind has =
@@ -65,12 +78,8 @@ is_mail : (N : Nodes) (q : ℕ) (m : Mes) (o : Option Object) → IsSome o → (
 is_mail N q m None is each kind has = absurd (false≢true is)
 is_mail N q m (Some (Message n)) is each kind has = ap (λ (x : Mes). Some (Message x)) (one_mail_at N q n m (each (Message n) refl).0 has)
 is_mail N q m (Some (Table t)) is each kind has = let more = table_id q t (each (Table t) refl).1 in absurd (omega arith)
-is_mail N q m (Some (Context c)) is each kind has = absurd (no_message (context_id q c (each (Context c) refl).1))
-  where
-    no_message : (q % 32 ≡ 1) ⊎ ((q % 32 ≡ 2) ⊎ (q % 32 ≡ 3)) → ⊥
-    no_message (inl e) = omega arith
-    no_message (inr (inl e)) = omega arith
-    no_message (inr (inr e)) = omega arith
+is_mail N q m (Some (Context c)) is each kind has = absurd (context_apart q c (each (Context c) refl).1 (inl kind))
+is_mail N q m (Some (Bare parent)) is each kind has = let six = bare_id q parent (each (Bare parent) refl).1 in absurd (omega arith)
 
 module _ (N : Nodes) (places : List FolderPlace) (last : List ℕ) (h : HasTree N places) where
   made : Gathered N (IsAt N) (owned N places h).ids
@@ -176,7 +185,13 @@ module _ (N : Nodes) (places : List FolderPlace) (last : List ℕ) (h : HasTree 
   belongs_is q (Context c) fits (inl (inl same)) = inl same
   belongs_is q (Context c) fits (inl (inr same)) = inr (inl same)
   belongs_is q (Context c) fits (inr (inl placed)) = inr (inr placed)
-  belongs_is q (Context c) fits (inr (inr (f, p, x))) = let less = context_low q c fits in let more = beside_high N f q x in absurd (omega arith)
+  belongs_is q (Context c) fits (inr (inr (f, p, x))) =
+      absurd (elim (beside_high N f q x) [ inl more ↦ let less = context_low q c fits in omega arith | inr four ↦ context_apart q c fits (inl four) ])
+  belongs_is q (Bare parent) fits (inl fixed) = let six = bare_id q parent fits in let one = fixed_kind q fixed in absurd (omega arith)
+  belongs_is q (Bare parent) fits (inr (inl placed)) = let six = bare_id q parent fits in let less = placed_low q placed in absurd (omega arith)
+  belongs_is q (Bare parent) fits (inr (inr (f, p, x))) =
+      let six = bare_id q parent fits in
+      absurd (elim (beside_high N f q x) [ inl more ↦ omega arith | inr four ↦ omega arith ])
   belongs_is q (Table t) fits (inl fixed) = let more = table_id q t fits in let one = fixed_kind q fixed in absurd (omega arith)
   belongs_is q (Table t) fits (inr (inl placed)) = let more = table_id q t fits in let less = placed_low q placed in absurd (omega arith)
   belongs_is q (Table t) fits (inr (inr (f, p, inl same))) = (f, p, inl same)

@@ -1,5 +1,5 @@
 -- Nodes show at most one tree.
-use Rattle.std.proofs.Common.{◌≡◌, ◌∙◌, ℕ, zero, suc, ◌%◌, List, Option, None, Some, IsSome, is_some, arith, refl, sym, subst, ap}
+use Rattle.std.proofs.Common.{◌≡◌, ◌⊎◌, inl, inr, ◌∙◌, ℕ, zero, suc, ◌%◌, List, Option, None, Some, IsSome, is_some, arith, refl, sym, subst, ap}
 use Rattle.std.proofs.lemmas.Bool.{false≢true}
 use Rattle.std.proofs.lemmas.Option.{same_Some}
 use Rattle.std.specs.Cmp.{nat_cmp_total}
@@ -8,9 +8,10 @@ use Rattle.mapi_values.specs.Messages.{Mes}
 use Rattle.mail_objects.specs.Forms.{Ctx, Tbl}
 use Rattle.mail_objects.specs.Objects.{ShowsObject}
 use Rattle.mail_objects.specs.declared.object.Object.{Object}
-use Rattle.mail_objects.specs.declared.object.Object.TheVariants.{Context, Table, Message}
+use Rattle.mail_objects.specs.declared.object.Object.TheVariants.{Context, Table, Message, Bare}
 use Rattle.node_port.specs.Nodes.{Nodes, node_at}
 use Rattle.node_port.specs.declared.node.NodeRec.{NodeRec}
+use Rattle.pst_base.specs.declared.ids.Nid.{Nid}
 use Rattle.mail_tree.specs.declared.places.FolderPlace.{FolderPlace}
 use Rattle.mail_tree.specs.declared.places.Sort.{Sort}
 use Rattle.mail_tree.specs.declared.places.Sort.TheVariants.{Plain, Foreign}
@@ -22,8 +23,8 @@ use Rattle.mail_tree.specs.Whole.{kind_of_sort}
 use Rattle.mail_tree.proofs.Nearly.{message_id}
 use Rattle.mail_tree.proofs.OneList.{one_list}
 use Rattle.tree_shown.specs.Shows.{IsOwned, Shows}
-use Rattle.tree_shown.proofs.Owned.{IsAt, one_context_at, one_mail_at, one_table_at}
-use Rattle.tree_shown.proofs.Made.{context_low, table_id}
+use Rattle.tree_shown.proofs.Owned.{IsAt, one_bare_at, one_context_at, one_mail_at, one_table_at}
+use Rattle.tree_shown.proofs.Made.{bare_id, context_apart, context_low, table_id}
 
 -- a row names a folder that stands somewhere
 named : (N : Nodes) (f : ℕ) (s : Sort) → f % 32 ≡ kind_of_sort s → IsSome (node_at N f) → names_sort N f ≡ Some s
@@ -52,13 +53,20 @@ one_places N P Q h k =
 one_object : (N : Nodes) (q : ℕ) (a b : Object) → IsAt N q a → IsAt N q b → a ≡ b
 one_object N q (Context a) (Context b) s t = ap (λ (x : Ctx). Context x) (one_context_at N q a b s.0 t.0)
 one_object N q (Context a) (Table b) s t = let low = context_low q a s.1 in let high = table_id q b t.1 in absurd (omega arith)
-one_object N q (Context a) (Message b) s t = let low = context_low q a s.1 in let four = (message_id q b t.1).0 in absurd (omega arith)
+one_object N q (Context a) (Message b) s t = absurd (context_apart q a s.1 (inl (message_id q b t.1).0))
+one_object N q (Context a) (Bare b) s t = absurd (context_apart q a s.1 (inr (bare_id q b t.1)))
 one_object N q (Table a) (Context b) s t = let low = context_low q b t.1 in let high = table_id q a s.1 in absurd (omega arith)
 one_object N q (Table a) (Table b) s t = ap (λ (x : Tbl). Table x) (one_table_at N q a b s.0 t.0)
 one_object N q (Table a) (Message b) s t = let high = table_id q a s.1 in let four = (message_id q b t.1).0 in absurd (omega arith)
-one_object N q (Message a) (Context b) s t = let low = context_low q b t.1 in let four = (message_id q a s.1).0 in absurd (omega arith)
+one_object N q (Table a) (Bare b) s t = let high = table_id q a s.1 in let six = bare_id q b t.1 in absurd (omega arith)
+one_object N q (Message a) (Context b) s t = absurd (context_apart q b t.1 (inl (message_id q a s.1).0))
 one_object N q (Message a) (Table b) s t = let high = table_id q b t.1 in let four = (message_id q a s.1).0 in absurd (omega arith)
 one_object N q (Message a) (Message b) s t = ap (λ (x : Mes). Message x) (one_mail_at N q a b s.0 t.0)
+one_object N q (Message a) (Bare b) s t = let four = (message_id q a s.1).0 in let six = bare_id q b t.1 in absurd (omega arith)
+one_object N q (Bare a) (Context b) s t = absurd (context_apart q b t.1 (inr (bare_id q a s.1)))
+one_object N q (Bare a) (Table b) s t = let high = table_id q b t.1 in let six = bare_id q a s.1 in absurd (omega arith)
+one_object N q (Bare a) (Message b) s t = let four = (message_id q b t.1).0 in let six = bare_id q a s.1 in absurd (omega arith)
+one_object N q (Bare a) (Bare b) s t = ap (λ (x : Nid). Bare x) (one_bare_at N q a b s.0 t.0)
 
 pub is_at : (N : Nodes) (T : Tree) → Shows N T → (q : ℕ) (o : Object) → object_at T q ≡ Some o → IsAt N q o
 is_at N T s q o e = (there (object_at T q) e (s.at q), s.typed q o e)

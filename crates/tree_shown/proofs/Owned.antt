@@ -6,12 +6,13 @@ use Rattle.mapi_values.specs.Messages.{Mes}
 use Rattle.mapi_values.specs.Tables.{find_row}
 use Rattle.mapi_values.specs.Values.{Val}
 use Rattle.mail_objects.specs.Forms.{Ctx, Tbl}
-use Rattle.mail_objects.specs.Objects.{ShowsContext, ShowsMail, ShowsObject, ShowsTable}
+use Rattle.mail_objects.specs.Objects.{ShowsBare, ShowsContext, ShowsMail, ShowsObject, ShowsTable}
 use Rattle.mail_objects.specs.declared.object.Object.{Object}
 use Rattle.mail_objects.specs.declared.object.Object.TheVariants.{Context, Table, Message}
 use Rattle.mail_objects.proofs.OneLaws.{one-context, one-mail, one-table}
 use Rattle.node_port.specs.Nodes.{Nodes, node_at}
 use Rattle.node_port.specs.declared.node.NodeRec.{NodeRec}
+use Rattle.pst_base.specs.declared.ids.Nid.{Nid}
 use Rattle.mail_tree.specs.declared.places.FolderPlace.{FolderPlace}
 use Rattle.mail_tree.specs.Changing.{associated, contents, hierarchy}
 use Rattle.mail_tree.specs.Places.{find_place, is_plain, place_id}
@@ -33,6 +34,9 @@ one_table_at N q a b s t = one-table t.0 a b (subst (λ (n : NodeRec). ShowsTabl
 
 pub one_mail_at : (N : Nodes) (q : ℕ) (a b : Mes) → HasMail N q a → HasMail N q b → a ≡ b
 one_mail_at N q a b s t = one-mail q t.0 a b (subst (λ (n : NodeRec). ShowsMail q n a) (same_Some s.0 t.0 (sym s.1 ∙ t.1)) s.2) t.2
+
+pub one_bare_at : (N : Nodes) (q : ℕ) (a b : Nid) → (node : NodeRec) × (node_at N q ≡ Some node) × ShowsBare node a → (node : NodeRec) × (node_at N q ≡ Some node) × ShowsBare node b → a ≡ b
+one_bare_at N q a b s t = sym s.2.parent ∙ ap (λ (n : NodeRec). n.parent) (same_Some s.0 t.0 (sym s.1 ∙ t.1)) ∙ t.2.parent
 
 -- the ids of rows of messages are those that rows of messages have
 row_is : (q : ℕ) (rows : List (ℕ × List Val)) → IsIn q (map (λ r. r.0) (filter is_message_row rows)) → IsSome (find_row q rows) × (q % 32 ≡ 4)
@@ -88,7 +92,7 @@ is_placed f (p ∷ ps) is = elim (cases_Bool (place_id p == f)) [ inl t ↦ inl 
 table_fits : (q : ℕ) (t : Tbl) → (q % 32 ≡ 13) ⊎ ((q % 32 ≡ 14) ⊎ (q % 32 ≡ 15)) → fits_id q (Table t) ≡ true
 table_fits q t (inl k) = or_left (q % 32 == 13) _ (eq-eqb (q % 32) 13 k)
 table_fits q t (inr (inl k)) = or_right (q % 32 == 13) _ (or_left (q % 32 == 14) _ (eq-eqb (q % 32) 14 k))
-table_fits q t (inr (inr k)) = or_right (q % 32 == 13) _ (or_right (q % 32 == 14) _ (eq-eqb (q % 32) 15 k))
+table_fits q t (inr (inr k)) = or_right (q % 32 == 13) _ (or_right (q % 32 == 14) _ (or_left (q % 32 == 15) _ (eq-eqb (q % 32) 15 k)))
 
 -- the node at the id is this object, which may stand there
 abbrev pub IsAt : Nodes → ℕ → Object → Type 0

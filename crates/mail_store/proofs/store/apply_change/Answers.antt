@@ -4,7 +4,6 @@ use Rattle.pst_outside.proofs.Moments.{started, weaker}
 use Rattle.mail_tree.specs.Step.{after}
 use Rattle.mail_store.specs.Planning.{StandsFor, Carries}
 use Rattle.node_port.specs.Nodes.{Nodes}
-use Rattle.command_text.specs.declared.reply.Reply.{Reply}
 use Rattle.mail_store.proofs.StoreLaws.{applied, applied_stands, on_ok, shown_stands}
 use Rattle.mail_store.proofs.store.apply_change.Goals as goal
 
