@@ -10,7 +10,7 @@ use Rattle.mapi_values.specs.Tables.{find_row}
 use Rattle.mapi_values.specs.Values.{Val}
 use Rattle.mail_objects.specs.Forms.{Tbl}
 use Rattle.mail_objects.specs.declared.object.Object.{Object}
-use Rattle.mail_objects.specs.declared.object.Object.TheVariants.{Context, Message, Table}
+use Rattle.mail_objects.specs.declared.object.Object.TheVariants.{Bare, Context, Message, Table}
 use Rattle.mail_tree.specs.declared.places.FolderPlace.{FolderPlace}
 use Rattle.mail_tree.specs.Changing.{as_message, contents, nothing, now_at}
 use Rattle.mail_tree.specs.Places.{find_place, is_plain, is_within, place_id}
@@ -24,9 +24,10 @@ use Rattle.mail_tree.proofs.Settles.{EachMessage, messages_of}
 use Rattle.mail_laws.proofs.MessageSteps.{Before}
 use Rattle.mail_laws.specs.Laws.{message_with}
 use Rattle.search_obj.specs.Scope.{is_among}
-use Rattle.search_lists.specs.Relisting.{Touch}
-use Rattle.search_lists.specs.Touching.{carried, messages_below}
-use Rattle.search_lists.specs.Laws.{Each, is_touched}
+use Rattle.mail_searches.specs.Relisting.{Touch}
+use Rattle.mail_searches.specs.Touching.{carried, messages_below}
+use Rattle.mail_searches.specs.Searching.{Each}
+use Rattle.search_lists.specs.Laws.{is_touched}
 
 left : (xs ys : List Touch) (k : ℕ) → is_touched xs k ≡ true → is_touched (xs ++ ys) k ≡ true
 left [] ys k e = absurd (false≢true e)
@@ -129,6 +130,7 @@ module _ (T : Tree) (w : Before T) (f : ℕ) where
       outside ts c k M is none None at = absurd (none-some M (ap as_message (sym at) ∙ is))
       outside ts c k M is none (Some (Context x)) at = absurd (none-some M (ap as_message (sym at) ∙ is))
       outside ts c k M is none (Some (Table x)) at = absurd (none-some M (ap as_message (sym at) ∙ is))
+      outside ts c k M is none (Some (Bare x)) at = absurd (none-some M (ap as_message (sym at) ∙ is))
       outside ts c k M is none (Some (Message N)) at =
           let same : N ≡ M = same_Some N M (ap as_message (sym at) ∙ is) in
           let at' : now_at T nothing k ≡ Some (Message M) = ap (λ g. g k) (now_nothing T false) ∙ at ∙ ap (λ (x : Mes). Some (Message x)) same in

@@ -4,10 +4,11 @@ use Rattle.mail_tree.specs.Step.{after, outcome}
 use Rattle.mail_tree.specs.Whole.{Fine}
 use Rattle.mail_tree.proofs.FineLaws.{fine_weaker}
 use Rattle.mail_laws.proofs.Keeping.{both, from_fine, if_then, if_weaker}
-use Rattle.search_lists.specs.Searches.{lists, row_ids}
-use Rattle.search_lists.specs.Relisting.{around, relisted}
-use Rattle.search_lists.specs.Touching.{followed, touched}
-use Rattle.search_lists.specs.Laws.{AllFresh, AreTouched, FreshAfter, LeavesResults, ListsAfter}
+use Rattle.mail_searches.specs.Searches.{lists, row_ids}
+use Rattle.mail_searches.specs.Relisting.{around, relisted}
+use Rattle.mail_searches.specs.Touching.{followed, touched}
+use Rattle.mail_searches.specs.Searching.{AllFresh}
+use Rattle.search_lists.specs.Laws.{AreTouched, FreshAfter, LeavesResults, ListsAfter}
 use Rattle.search_lists.proofs.FollowLaws.{relists}
 use Rattle.search_lists.proofs.FreshLaws.{stays_fresh}
 use Rattle.search_lists.proofs.LeaveLaws.{leaves_all}

@@ -14,9 +14,9 @@ use Rattle.mail_tree.specs.Values.{number, truth, with_counts}
 use Rattle.mail_tree.proofs.AfterTree.{puts_object, puts_values}
 use Rattle.mail_tree.proofs.KeyedFinds.{find-put_other, find-put_same}
 use Rattle.mail_tree.proofs.KindsOfPuts.{beside_kind}
-use Rattle.mail_laws.proofs.Keeping.{KeepsAt, both, if_then, mirrored_keeps}
-use Rattle.search_lists.specs.Searches.{results, runs}
-use Rattle.search_lists.specs.Relisting.{before_those, concerns, counted_search, named, relisted, settled_search, takes_row, unread, with_results}
+use Rattle.mail_laws.proofs.Keeping.{KeepsAt, both, if_any, if_then, mirrored_keeps}
+use Rattle.mail_searches.specs.Searches.{results, runs}
+use Rattle.mail_searches.specs.Relisting.{before_those, concerns, counted_search, named, relisted, settled_search, takes_row, unless_stray, unread, with_results}
 use Rattle.search_lists.specs.Laws.{CountsAnew, TellsCounts}
 use Rattle.search_lists.proofs.SettleLaws.{SameMessages, found-context, mirrored-apart, put-apart}
 
@@ -58,13 +58,14 @@ module _ (T : Tree) (s : ℕ) (search : s % 32 ≡ 3) where
   counted-tells : (rows : List (ℕ × List Val)) (D : Changed) → IfOk (counted_search T s rows D) (Told D rows)
   unfolding counted_search
   counted-tells rows D = if_then (λ c. now_at T D s ≡ Some (Context c)) (Told D rows) (context_at T D s) _ (found-context (now_at T D s)) (λ c there.
+      if_then (λ u. Unit {0}) (Told D rows) (unless_stray T D rows) _ (if_any (unless_stray T D rows)) (λ u u'.
       let ms = named T D rows in
       let props = with_counts (length ms) (length (unread ms)) false c.props in
       let k : Ctx = record c { props = props } in
       let D' = with_context s c props D in
       let puts = puts_values T D s (Context k) c.props props in
       let same : SameMessages T D D' = put-apart T D D' s (Some (Context k)) puts (ap as_message there) refl in
-      (k, puts.here, subst (λ ms. TellsCounts ms props) (sym (named-same T D D' same rows)) (counts-are ms c.props), puts.others (results s) (λ e. omega (arith, e, search, at-results))))
+      (k, puts.here, subst (λ ms. TellsCounts ms props) (sym (named-same T D D' same rows)) (counts-are ms c.props), puts.others (results s) (λ e. omega (arith, e, search, at-results)))))
 
   -- what a search's table has, its values tell
   abbrev Tells : Changed → Type 0

@@ -3,7 +3,7 @@ use Rattle.std.proofs.Common.{◌∙◌, inl}
 use Rattle.mail_tree.specs.Changing.{as_message}
 use Rattle.mail_tree.specs.Step.{after}
 use Rattle.mail_tree.specs.Tree.{object_at}
-use Rattle.search_lists.specs.Relisting.{around, relisted}
+use Rattle.mail_searches.specs.Relisting.{around, relisted}
 use Rattle.search_lists.specs.Laws.{Relists}
 use Rattle.search_lists.proofs.ListLaws.{are-rows, rows-are}
 use Rattle.search_lists.proofs.RowLaws.{relisted-ascends, relisted-at}

@@ -10,9 +10,10 @@ use Rattle.mail_tree.specs.Tree.{Tree, object_at}
 use Rattle.mail_tree.proofs.AfterTree.{after_now}
 use Rattle.mail_tree.proofs.KindsOfPuts.{beside_kind}
 use Rattle.mail_laws.proofs.Keeping.{if_then}
-use Rattle.search_lists.specs.Searches.{IsFresh, Search, is_listed, lists, results, row_ids, runs}
-use Rattle.search_lists.specs.Relisting.{around, relisted, settled_searches}
-use Rattle.search_lists.specs.Laws.{AllFresh, Settles, StaysFresh}
+use Rattle.mail_searches.specs.Searches.{IsFresh, Search, is_listed, lists, results, row_ids, runs}
+use Rattle.mail_searches.specs.Relisting.{around, relisted, settled_searches}
+use Rattle.mail_searches.specs.Searching.{AllFresh}
+use Rattle.search_lists.specs.Laws.{Settles, StaysFresh}
 use Rattle.search_lists.proofs.FollowLaws.{relists}
 use Rattle.search_lists.proofs.ListLaws.{are-rows, rows-are}
 use Rattle.search_lists.proofs.SettleLaws.{each-two, settles_all}

@@ -8,8 +8,8 @@ pub mod SettleLaws
 pub mod FreshLaws
 pub mod LeaveLaws
 pub mod CommandLaws
-pub mod PathWalks
-pub mod SearchOrder
-pub mod AskLaws
 pub mod ThereLaws
 pub mod CountLaws
+pub mod ApartLaws
+pub mod NamedLaws
+pub mod PlainLaws

@@ -16,7 +16,7 @@ use Rattle.mail_tree.specs.declared.places.FolderPlace.{FolderPlace}
 use Rattle.mail_tree.specs.Changing.{as_message}
 use Rattle.mail_tree.specs.Tree.{Tree, object_at}
 use Rattle.search_obj.specs.Scope.{is_among}
-use Rattle.search_lists.specs.Searches.{AreFresh, Search, is_listed, lists, row_ids}
+use Rattle.mail_searches.specs.Searches.{AreFresh, Search, is_listed, lists, row_ids}
 use Rattle.search_lists.specs.Laws.{ListsAll}
 
 abbrev pub ascends : ℕ → List ℕ → Bool

@@ -12,9 +12,10 @@ use Rattle.mapi_values.specs.declared.column.Column.{Column}
 use Rattle.mapi_values.proofs.KeyedLaws.{put-ascends, drop-ascends}
 use Rattle.mail_tree.proofs.KeyedFinds.{find-put_same, find-put_other, find-drop_same, find-drop_other}
 use Rattle.live_search.specs.Touching.{delta}
-use Rattle.search_lists.specs.Searches.{Search, is_listed, runs}
-use Rattle.search_lists.specs.Relisting.{Around, Touch, by_delta, changes_row, is, is_gone, props_of, relisted, relisted_row, takes_row, was}
-use Rattle.search_lists.specs.Laws.{Each, HaltedStays, ShowsTouched, is_touched}
+use Rattle.mail_searches.specs.Searches.{Search, is_listed, runs}
+use Rattle.mail_searches.specs.Relisting.{Around, Touch, by_delta, changes_row, is, is_gone, props_of, relisted, relisted_row, takes_row, was}
+use Rattle.mail_searches.specs.Searching.{Each}
+use Rattle.search_lists.specs.Laws.{HaltedStays, ShowsTouched, is_touched}
 
 abbrev pub Rows : Type 0
 Rows = List (ℕ × List Val)

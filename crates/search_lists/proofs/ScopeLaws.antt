@@ -9,7 +9,7 @@ use Rattle.restr_eval.specs.Eval.{eval, holds_of, subject}
 use Rattle.search_obj.specs.Scope.{is_among}
 use Rattle.mail_tree.specs.declared.places.FolderPlace.{FolderPlace}
 use Rattle.mail_tree.specs.Places.{ROOT, find_place, is_plain, is_within, onward, path, path_from}
-use Rattle.search_lists.specs.Searches.{Search, in_scope, is_listed, is_plain_at, looked_from}
+use Rattle.mail_searches.specs.Searches.{Search, in_scope, is_listed, is_plain_at, looked_from}
 use Rattle.search_lists.specs.Laws.{ScopesAreWithin}
 
 -- places that differ at these folders alone

@@ -4,7 +4,7 @@ use Rattle.std.proofs.lemmas.Bool.{cases_Bool, cases_eq, or_parts}
 use Rattle.mapi_values.specs.Values.{Val}
 use Rattle.mail_objects.specs.Forms.{Tbl}
 use Rattle.mail_objects.specs.declared.object.Object.{Object}
-use Rattle.mail_objects.specs.declared.object.Object.TheVariants.{Context, Message, Table}
+use Rattle.mail_objects.specs.declared.object.Object.TheVariants.{Bare, Context, Message, Table}
 use Rattle.mail_tree.specs.Changing.{Changed, ◌>>=◌, as_context, as_message, as_table, context_at, hierarchy, known, now_at, put_shown, shown_row, table_at, with_object, with_rows}
 use Rattle.mail_tree.specs.Places.{ROOT}
 use Rattle.mail_tree.specs.Settling.{mirrored, table_as_is, with_context}
@@ -15,9 +15,10 @@ use Rattle.mail_tree.proofs.KindsOfPuts.{beside_kind}
 use Rattle.mail_tree.proofs.Nearly.{Puts}
 use Rattle.mail_laws.proofs.Keeping.{KeepsAt, both, if_any, if_then, if_weaker, kept_put, mirrored_keeps}
 use Rattle.mail_laws.proofs.Touches.{table_same}
-use Rattle.search_lists.specs.Searches.{Search, results, runs}
-use Rattle.search_lists.specs.Relisting.{Around, Touch, concerns, counted_search, relisted, settled_search, settled_searches, named, takes_row, unread, with_results}
-use Rattle.search_lists.specs.Laws.{AreApart, Each, Settles, SettlesAll}
+use Rattle.mail_searches.specs.Searches.{Search, results, runs}
+use Rattle.mail_searches.specs.Relisting.{Around, Touch, concerns, counted_search, relisted, settled_search, settled_searches, named, takes_row, unless_stray, unread, with_results}
+use Rattle.mail_searches.specs.Searching.{Each}
+use Rattle.search_lists.specs.Laws.{AreApart, Settles, SettlesAll}
 use Rattle.search_lists.proofs.RowLaws.{none-gone, still-halted, still-running}
 
 -- messages are as they were
@@ -29,12 +30,14 @@ found-table None = tt
 found-table (Some (Table t)) = refl
 found-table (Some (Context c)) = tt
 found-table (Some (Message m)) = tt
+found-table (Some (Bare parent)) = tt
 
 pub found-context : (o : Option Object) → IfOk (known (as_context o)) (λ c. o ≡ Some (Context c))
 found-context None = tt
 found-context (Some (Table t)) = tt
 found-context (Some (Context c)) = refl
 found-context (Some (Message m)) = tt
+found-context (Some (Bare parent)) = tt
 
 -- what is no message is put where none stood
 pub put-apart : (T : Tree) (D D' : Changed) (q : ℕ) (o : Option Object) → Puts (now_at T D) (now_at T D') q o → as_message (now_at T D q) ≡ None → as_message o ≡ None → SameMessages T D D'
@@ -62,8 +65,9 @@ module _ (T : Tree) where
   counted-apart : (s : ℕ) (rows : List (ℕ × List Val)) (D : Changed) → IfOk (counted_search T s rows D) (SameMessages T D)
   unfolding counted_search
   counted-apart s rows D = if_then (λ c. now_at T D s ≡ Some (Context c)) (SameMessages T D) (context_at T D s) _ (found-context (now_at T D s)) (λ c there.
+      if_then (λ u. Unit {0}) (SameMessages T D) (unless_stray T D rows) _ (if_any (unless_stray T D rows)) (λ u u'.
       let props = with_counts (length (named T D rows)) (length (unread (named T D rows))) false c.props in
-      put-apart T D (with_context s c props D) s (Some (Context (record c { props = props }))) (puts_values T D s (Context (record c { props = props })) c.props props) (ap as_message there) refl)
+      put-apart T D (with_context s c props D) s (Some (Context (record c { props = props }))) (puts_values T D s (Context (record c { props = props })) c.props props) (ap as_message there) refl))
 
   results-apart : (s : ℕ) (rows : List (ℕ × List Val)) (t : Tbl) (D : Changed) → now_at T D (results s) ≡ Some (Table t) → IfOk (with_results T s rows t D) (SameMessages T D)
   unfolding with_results
@@ -78,20 +82,42 @@ module _ (T : Tree) where
     counted-keeps : (s : ℕ) (rows : List (ℕ × List Val)) (D : Changed) → (S s → ⊥) → IfOk (counted_search T s rows D) (KeepsAt S T D)
     unfolding counted_search
     counted-keeps s rows D other = if_then (λ c. Unit {0}) (KeepsAt S T D) (context_at T D s) _ (if_any (context_at T D s)) (λ c u.
+        if_then (λ v. Unit {0}) (KeepsAt S T D) (unless_stray T D rows) _ (if_any (unless_stray T D rows)) (λ v v'.
         let props = with_counts (length (named T D rows)) (length (unread (named T D rows))) false c.props in
-        kept_put S _ _ s _ (puts_values T D s (Context (record c { props = props })) c.props props) other)
+        kept_put S _ _ s _ (puts_values T D s (Context (record c { props = props })) c.props props) other))
 
     ends-keep : (s : ℕ) (rows : List (ℕ × List Val)) (D : Changed) → (S s → ⊥) → IfOk (counted_search T s rows D >>= mirrored T s) (KeepsAt S T D)
     ends-keep s rows D other = if_then (KeepsAt S T D) (KeepsAt S T D) (counted_search T s rows D) (mirrored T s) (counted-keeps s rows D other)
         (λ D' k. if_weaker (KeepsAt S T D') (KeepsAt S T D) (mirrored T s D') (mirrored_keeps S no_hierarchy T s D') (λ D'' k' m is. k' m is ∙ k m is))
 
--- What one search leaves and gets.
-record SettlesOne (T : Tree) (d : Around) (ts : List Touch) (s : Search) (D D' : Changed) : Type 0 where
-  messages : SameMessages T D D'
-  others : (q : ℕ) → q % 32 ≡ 16 → (q ≡ results s.nid → ⊥) → now_at T D' q ≡ now_at T D q
-  table : (t : Tbl) → now_at T D (results s.nid) ≡ Some (Table t) → now_at T D' (results s.nid) ≡ Some (with_rows (relisted d s t.table.columns ts t.table.rows) t)
+    -- a search whose nodes lie elsewhere keeps what stands at these ids
+    results-keep : (s : ℕ) (rows : List (ℕ × List Val)) (t : Tbl) (D : Changed) → (S s → ⊥) → (S (results s) → ⊥) → IfOk (with_results T s rows t D) (KeepsAt S T D)
+    unfolding with_results
+    results-keep s rows t D other list = if_weaker (KeepsAt S T (with_object (results s) (Some (with_rows rows t)) D)) (KeepsAt S T D) _ (ends-keep s rows (with_object (results s) (Some (with_rows rows t)) D) other)
+        (λ D' k m is. k m is ∙ kept_put S _ _ (results s) _ (puts_object T D (results s) (Some (with_rows rows t))) list m is)
 
-same_table : (t u : Tbl) → ◌≡◌ {A = Option Object} (Some (Table t)) (Some (Table u)) → t ≡ u
+    search-keeps : (d : Around) (ts : List Touch) (s : Search) (D : Changed) → (S s.nid → ⊥) → (S (results s.nid) → ⊥) → IfOk (settled_search T d ts s D) (KeepsAt S T D)
+    unfolding settled_search
+    search-keeps d ts s D other list = elim (cases_Bool (concerns d s ts)) [
+      | inl y ↦ rw y (if_then (λ t. Unit {0}) (KeepsAt S T D) (table_at T D (results s.nid)) _ (if_any (table_at T D (results s.nid))) (λ t u. elim (cases_Bool (runs s || takes_row t.table.rows ts)) [
+        | inl c ↦ rw c (results-keep s.nid (relisted d s t.table.columns ts t.table.rows) t D other list)
+        | inr c ↦ rw c (λ m is. refl)
+      ]))
+      | inr n ↦ rw n (λ m is. refl)
+    ]
+
+    pub searches-keep : (d : Around) (ts : List Touch) (ss : List Search) (D : Changed) → Each (λ s. (S s.nid → ⊥) × (S (results s.nid) → ⊥)) ss → IfOk (settled_searches T d ts ss D) (KeepsAt S T D)
+    searches-keep d ts [] D other = λ m is. refl
+    searches-keep d ts (s ∷ ss) D other = if_then (KeepsAt S T D) (KeepsAt S T D) (settled_search T d ts s D) (settled_searches T d ts ss) (search-keeps d ts s D other.0.0 other.0.1)
+        (λ D' k. if_weaker (KeepsAt S T D') (KeepsAt S T D) (settled_searches T d ts ss D') (searches-keep d ts ss D' other.1) (λ D'' k' m is. k' m is ∙ k m is))
+
+-- What one search leaves and gets.
+pub record SettlesOne (T : Tree) (d : Around) (ts : List Touch) (s : Search) (D D' : Changed) : Type 0 where
+  pub messages : SameMessages T D D'
+  pub others : (q : ℕ) → q % 32 ≡ 16 → (q ≡ results s.nid → ⊥) → now_at T D' q ≡ now_at T D q
+  pub table : (t : Tbl) → now_at T D (results s.nid) ≡ Some (Table t) → now_at T D' (results s.nid) ≡ Some (with_rows (relisted d s t.table.columns ts t.table.rows) t)
+
+pub same_table : (t u : Tbl) → ◌≡◌ {A = Option Object} (Some (Table t)) (Some (Table u)) → t ≡ u
 same_table t u e = cc
 
 module _ (T : Tree) (d : Around) (ts : List Touch) (s : Search) (D : Changed) (search : s.nid % 32 ≡ 3) where
@@ -144,7 +170,7 @@ module _ (T : Tree) (d : Around) (ts : List Touch) (s : Search) (D : Changed) (s
           (ends-keep T Others others-hierarchy s.nid rows D1 others-search) (ends-keep T Mine mine-hierarchy s.nid rows D1 mine-search)
           (λ D' k m. ((λ q is. k q is ∙ kept_put Others _ _ (results s.nid) _ put (λ e. e.1 refl) q is), m (results s.nid) refl ∙ put.here))
 
-  settles-one : IfOk (settled_search T d ts s D) (SettlesOne T d ts s D)
+  pub settles-one : IfOk (settled_search T d ts s D) (SettlesOne T d ts s D)
   unfolding settled_search
   settles-one = elim (cases_Bool (concerns d s ts)) [
     | inl y ↦ rw y (if_then (λ t. now_at T D (results s.nid) ≡ Some (Table t)) (SettlesOne T d ts s D) (table_at T D (results s.nid)) _ (found-table (now_at T D (results s.nid))) (λ t there.
@@ -161,7 +187,7 @@ module _ (T : Tree) (d : Around) (ts : List Touch) (s : Search) (D : Changed) (s
   ]
 
 -- searches with different ids have different tables
-apart : (f g : ℕ) → f % 32 ≡ 3 → g % 32 ≡ 3 → (f ≡ g → ⊥) → results f ≡ results g → ⊥
+pub apart : (f g : ℕ) → f % 32 ≡ 3 → g % 32 ≡ 3 → (f ≡ g → ⊥) → results f ≡ results g → ⊥
 apart f g a b n e = n (omega (arith, e))
 
 pub each : {X : Type 0} (P Q : X → Type 0) (xs : List X) → Each P xs → ((x : X) → P x → Q x) → Each Q xs
@@ -172,7 +198,7 @@ pub each-two : {X : Type 0} (P Q R : X → Type 0) (xs : List X) → Each P xs �
 each-two P Q R [] p q f = tt
 each-two P Q R (x ∷ xs) p q f = (f x p.0 q.0, each-two P Q R xs p.1 q.1 f)
 
-are-searches : (ss : List Search) → AreApart ss → Each (λ s. s.nid % 32 ≡ 3) ss
+pub are-searches : (ss : List Search) → AreApart ss → Each (λ s. s.nid % 32 ≡ 3) ss
 are-searches [] a = tt
 are-searches (s ∷ ss) a = (a.0, are-searches ss a.2)
 

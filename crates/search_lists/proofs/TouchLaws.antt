@@ -3,12 +3,12 @@ use Rattle.std.proofs.Common.{◌≡◌, ◌∙◌, ℕ, ◌==◌, true, false, 
 use Rattle.std.proofs.lemmas.Bool.{cases_Bool, cases_eq, eq-eqb, false≢true}
 use Rattle.mapi_values.specs.Messages.{Mes}
 use Rattle.command_text.specs.declared.command.Command.{Command}
-use Rattle.command_text.specs.declared.command.Command.TheVariants.{MakeFolder, RenameFolder, MoveFolder, RemoveFolder, ListFolder, NewMessage, SetProperty, UnsetProperty, GetProperty, ListProperties, MoveMessage, CopyMessage, RemoveMessage, AddRecipient, RemoveRecipient, AddAttachment, AppendData, RemoveAttachment, FetchData, Save, Quit, NameProperty}
+use Rattle.command_text.specs.declared.command.Command.TheVariants.{MakeFolder, RenameFolder, MoveFolder, RemoveFolder, ListFolder, NewMessage, SetProperty, UnsetProperty, GetProperty, ListProperties, MoveMessage, CopyMessage, RemoveMessage, AddRecipient, RemoveRecipient, AddAttachment, AppendData, RemoveAttachment, FetchData, Save, Quit, NameProperty, MakeSearch, SetCriteria, GetCriteria}
 use Rattle.command_text.specs.declared.reply.CommandRefusal.TheVariants.{Cycle}
 use Rattle.command_text.specs.declared.reply.LastLine.TheVariants.{Done, Made}
 use Rattle.command_text.specs.declared.reply.Reply.{Reply}
 use Rattle.mail_objects.specs.declared.object.Object.{Object}
-use Rattle.mail_objects.specs.declared.object.Object.TheVariants.{Context, Message, Table}
+use Rattle.mail_objects.specs.declared.object.Object.TheVariants.{Bare, Context, Message, Table}
 use Rattle.mail_tree.specs.declared.places.FolderPlace.{FolderPlace}
 use Rattle.mail_tree.specs.Changing.{as_message, nothing, now_at, refused_if}
 use Rattle.mail_tree.specs.Folders.{Outcome, folder_in, moved_folder, nid, place, replied, unchanged, unless_plain, unless_protected}
@@ -31,10 +31,11 @@ use Rattle.mail_laws.proofs.LawSteps.{before, both_hold, reads_only}
 use Rattle.mail_laws.proofs.MessageSteps.{Before, Keeps}
 use Rattle.mail_laws.proofs.NameEffects.{finds_name}
 use Rattle.mail_laws.proofs.PlaceEffects as places
-use Rattle.search_lists.specs.Searches.{is_listed}
-use Rattle.search_lists.specs.Relisting.{Touch}
-use Rattle.search_lists.specs.Touching.{made, messages_below, stands_in, touch_at, touched}
-use Rattle.search_lists.specs.Laws.{AreTouched, Each, TouchesAll}
+use Rattle.mail_searches.specs.Searches.{is_listed}
+use Rattle.mail_searches.specs.Relisting.{Touch}
+use Rattle.mail_searches.specs.Touching.{made, messages_below, stands_in, touch_at, touched}
+use Rattle.mail_searches.specs.Searching.{Each}
+use Rattle.search_lists.specs.Laws.{AreTouched, TouchesAll}
 use Rattle.search_lists.proofs.BelowLaws.{Stays, below-folder}
 use Rattle.search_lists.proofs.ScopeLaws.{meets-none, placed-out, same-listed}
 
@@ -80,6 +81,7 @@ home T w k m is = let h = w.held k m (is_message (object_at T k) m is) in (h.0, 
     is_message None m e = cc
     is_message (Some (Context c)) m e = cc
     is_message (Some (Table t)) m e = cc
+    is_message (Some (Bare parent)) m e = cc
     is_message (Some (Message n)) m e = cc
 
 -- each folder's parent is placed in a whole tree
@@ -210,3 +212,6 @@ touches_all T (NameProperty guid number) w = let b = before T w in both_hold T (
     (λ o k r. none_touched T o (names_apart T o guid number b k r) r.places)
 touches_all T Save w = nothing_touched T (unchanged T (replied Done)) (replied Done) refl
 touches_all T Quit w = nothing_touched T (unchanged T (replied Done)) (replied Done) refl
+touches_all T (MakeSearch parent name) w = tt
+touches_all T (SetCriteria search flags scope restriction) w = tt
+touches_all T (GetCriteria search) w = tt

@@ -1,5 +1,5 @@
 -- What the tables of searches show after a command.
-use Rattle.std.specs.Prelude.{◌≡◌, ℕ, ◌%◌, ◌||◌, ◌&&◌, ◌==◌, Bool, true, false, not, IfOk, List, [], ◌∷◌, filter, length, Option, None, Some, if◌then◌else◌}
+use Rattle.std.specs.Prelude.{◌≡◌, ℕ, ◌%◌, ◌||◌, ◌&&◌, ◌==◌, Bool, true, false, not, IfOk, IsSome, List, [], ◌∷◌, filter, length, Option, None, Some, if◌then◌else◌}
 use Rattle.std.specs.List.{list_any}
 use Rattle.std.specs.Option.{is_some}
 use Rattle.mapi_values.specs.Keyed.{keys_ascend}
@@ -21,14 +21,10 @@ use Rattle.mail_tree.specs.Tree.{Tree, object_at}
 use Rattle.mail_tree.specs.Values.{number, truth}
 use Rattle.mail_tree.specs.Whole.{Fine, IsWhole}
 use Rattle.mail_laws.specs.Laws.{message_with}
-use Rattle.search_lists.specs.Searches.{AreFresh, IsFresh, Search, in_scope, is_listed, is_plain_at, lists, results, row_ids, runs}
-use Rattle.search_lists.specs.Relisting.{Around, Touch, around, concerns, is, is_gone, named, props_of, relisted, relisted_row, settled_search, settled_searches, takes_row, unread, was, with_searches}
-use Rattle.search_lists.specs.Touching.{followed, touched}
-
--- each element of a list is so
-abbrev pub Each : {X : Type 0} → (X → Type 0) → List X → Type 0
-Each P [] = Unit {0}
-Each P (x ∷ xs) = P x × Each P xs
+use Rattle.mail_searches.specs.Searches.{AreFresh, Search, in_scope, is_listed, is_plain_at, lists, results, row_ids, runs}
+use Rattle.mail_searches.specs.Searching.{AllFresh, AreSearches, Each, Searching}
+use Rattle.mail_searches.specs.Relisting.{Around, Touch, around, concerns, is, is_gone, named, props_of, relisted, relisted_row, settled_search, settled_searches, takes_row, unread, was, with_searches}
+use Rattle.mail_searches.specs.Touching.{followed, touched}
 
 -- the message is one of those that are touched
 abbrev pub is_touched : List Touch → ℕ → Bool
@@ -120,9 +116,18 @@ CountsAnew = (T : Tree) (d : Around) (ts : List Touch) (s : Search) (D : Changed
 abbrev pub HasNodes : Tree → Changed → Search → Type 0
 HasNodes T D s = ((t : Tbl) × (now_at T D (results s.nid) ≡ Some (Table t))) × ((c : Ctx) × (now_at T D s.nid ≡ Some (Context c)) × ((u : Tbl) × (now_at T D (hierarchy c.parent) ≡ Some (Table u))))
 
--- searches whose nodes are there are settled, and their nodes are there still
+-- each of these rows names a message that is there after the changes
+abbrev pub AreNamed : Tree → Changed → List (ℕ × List Val) → Type 0
+AreNamed T D rows = (r : ℕ) → IsSome (find_row r rows) → IsSome (as_message (now_at T D r))
+
+-- so does each row that the touched messages leave the search
+abbrev pub IsNamedThen : Tree → Changed → Around → List Touch → Search → Type 0
+IsNamedThen T D d ts s = (t : Tbl) → now_at T D (results s.nid) ≡ Some (Table t) → AreNamed T D (relisted d s t.table.columns ts t.table.rows)
+
+-- searches whose nodes are there are settled, if their rows name messages then, and their nodes are there still
 abbrev pub SettlesThere : Type 0
-SettlesThere = (T : Tree) (d : Around) (ts : List Touch) (ss : List Search) (D : Changed) → Each IsSearch ss → Each (HasNodes T D) ss → Fine (settled_searches T d ts ss D) (λ D'. Each (HasNodes T D') ss)
+SettlesThere = (T : Tree) (d : Around) (ts : List Touch) (ss : List Search) (D : Changed) → AreApart ss → Each (HasNodes T D) ss → Each (IsNamedThen T D d ts) ss
+    → Fine (settled_searches T d ts ss D) (λ D'. Each (HasNodes T D') ss)
 
 -- the command left the tables of searches as they were
 abbrev pub LeavesResults : Tree → Outcome → Type 0
@@ -132,10 +137,6 @@ LeavesResults T o = (q : ℕ) → q % 32 ≡ 16 → now_at T o.changed q ≡ obj
 abbrev pub LeavesAll : Type 0
 LeavesAll = (T : Tree) (c : Command) → IsWhole T → IfOk (outcome T c) (LeavesResults T)
 
--- each running search has the table that it is to have
-abbrev pub AllFresh : Tree → List Search → Type 0
-AllFresh T ss = Each (λ s. runs s ≡ true → IsFresh T s) ss
-
 -- where the touched messages are all that matter, and running searches list what they are to list, they do so after all were settled
 abbrev pub StaysFresh : Type 0
 StaysFresh = (T : Tree) (o : Outcome) (ts : List Touch) (ss : List Search) → AreTouched T o ts → LeavesResults T o → AreApart ss → AllFresh T ss
@@ -144,3 +145,12 @@ StaysFresh = (T : Tree) (o : Outcome) (ts : List Touch) (ss : List Search) → A
 -- so do they after each command
 abbrev pub FreshAfter : Type 0
 FreshAfter = (T : Tree) (c : Command) (ss : List Search) → IsWhole T → AreApart ss → AllFresh T ss → IfOk (outcome T c) (λ o. IfOk (followed T ss c o) (λ o'. AllFresh (after T o') ss))
+
+-- the same searches, where the tree is now that one
+abbrev pub with_tree : Searching → Tree → Searching
+with_tree X T = record { tree = T; own = X.own; searches = X.searches }
+
+-- a command that knows no searches leaves them those of the tree, and running ones with the lists that they are to have
+abbrev pub PlainCommandsStay : Type 0
+PlainCommandsStay = (X : Searching) (c : Command) → IsWhole X.tree → AreSearches X → AllFresh X.tree X.searches
+    → IfOk (outcome X.tree c) (λ o. IfOk (followed X.tree X.searches c o) (λ o'. AreSearches (with_tree X (after X.tree o')) × AllFresh (after X.tree o') X.searches))

@@ -1,5 +1,1 @@
-pub mod Searches
-pub mod Relisting
-pub mod Touching
-pub mod Asking
 pub mod Laws

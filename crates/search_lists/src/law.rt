@@ -1,5 +1,5 @@
 //! What follows of the definitions on searches.
-ghost use Rattle.search_lists.specs.Laws.{CountsAnew, FreshAfter, HaltedStays, LeavesAll, ListsAfter, ListsAll, Relists, ScopesAreWithin, SettlesAll, SettlesThere, ShowsTouched, StaysFresh, TouchesAll};
+ghost use Rattle.search_lists.specs.Laws.{CountsAnew, FreshAfter, HaltedStays, LeavesAll, ListsAfter, ListsAll, PlainCommandsStay, Relists, ScopesAreWithin, SettlesAll, SettlesThere, ShowsTouched, StaysFresh, TouchesAll};
 
 /// A search looks in the plain folders that it is given, and in those within them where it is recursive.
 pub fn scopes_are_within()
@@ -46,7 +46,7 @@ pub fn counts_anew()
     ensures { CountsAnew }
 {}
 
-/// Searches are settled where their nodes are there, and these are there still.
+/// Searches are settled where their nodes are there and their rows name messages then, and the nodes are there still.
 pub fn settles_there()
     ensures { SettlesThere }
 {}
@@ -64,4 +64,9 @@ pub fn stays_fresh()
 /// After each command, with its searches settled, each running search lists what filtering all messages gives, where it did before.
 pub fn fresh_after()
     ensures { FreshAfter }
+{}
+
+/// After each command that knows no searches these are still those of the tree, and each running one lists what filtering all messages gives, where all that was so before.
+pub fn plain_commands_stay()
+    ensures { PlainCommandsStay }
 {}

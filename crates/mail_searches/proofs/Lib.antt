@@ -1,0 +1,6 @@
+pub mod PathWalks
+pub mod SearchOrder
+pub mod AskLaws
+pub mod OwnLaws
+pub mod CriteriaLaws
+pub mod HoldLaws

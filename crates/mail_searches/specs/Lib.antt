@@ -1,0 +1,9 @@
+pub mod Searches
+pub mod Relisting
+pub mod Touching
+pub mod Asking
+pub mod Searching
+pub mod Building
+pub mod Criteria
+pub mod Moving
+pub mod Step

@@ -1,0 +1,226 @@
+-- Every command keeps a tree with its searches in order.
+use Rattle.std.proofs.Common.{◌≡◌, ◌∙◌, ℕ, true, false, List, [], ◌∷◌, length, Option, None, Some, IfOk, IsSome, Ok, Err, ap, arith, inl, inr, refl, subst, sym}
+use Rattle.std.proofs.lemmas.Bool.{cases_Bool}
+use Rattle.std.specs.FinMap as map
+use Rattle.std.specs.Ordering.{nat_cmp}
+use Rattle.command_text.specs.declared.command.Command.{Command}
+use Rattle.command_text.specs.declared.command.Command.TheVariants.{MakeFolder, RenameFolder, MoveFolder, RemoveFolder, ListFolder, NewMessage, SetProperty, UnsetProperty, GetProperty, ListProperties, MoveMessage, CopyMessage, RemoveMessage, AddRecipient, RemoveRecipient, AddAttachment, AppendData, RemoveAttachment, FetchData, NameProperty, Save, Quit, MakeSearch, SetCriteria, GetCriteria}
+use Rattle.command_text.specs.declared.reply.CommandRefusal.TheVariants as refusals
+use Rattle.command_text.specs.declared.reply.Reply.{Reply}
+use Rattle.pst_base.specs.declared.ids.Nid.{Nid}
+use Rattle.mail_objects.specs.declared.object.Object.{Object}
+use Rattle.mail_tree.specs.Changing.{Answer, ◌>>=◌, as_message, newest, nothing, now_at}
+use Rattle.mail_tree.specs.Folders.{Outcome, listing, unchanged}
+use Rattle.mail_tree.specs.Found.{IsFoundBeside}
+use Rattle.mail_tree.specs.Places.{find_place}
+use Rattle.mail_tree.specs.Step as tree
+use Rattle.mail_tree.specs.Step.{outcome as tree_outcome}
+use Rattle.mail_tree.specs.Tree.{Tree, object_at}
+use Rattle.mail_tree.specs.Whole.{Fine, IsWhole}
+use Rattle.mail_tree.proofs.AfterTree.{after_now, now_nothing}
+use Rattle.mail_tree.proofs.FineLaws.{after_context, after_found, after_limits, after_table, fine_either, fine_then, fine_weaker}
+use Rattle.mail_tree.proofs.KindsOfPuts.{beside_kind}
+use Rattle.mail_laws.specs.Laws.{AreCountedBut, AreShown, Counts, Mirrors}
+use Rattle.mail_laws.specs.Stays.{Leaves}
+use Rattle.mail_laws.proofs.CountCommands.{counted_after}
+use Rattle.mail_laws.proofs.FoundCommands.{stays_beside}
+use Rattle.mail_laws.proofs.Keeping.{both, if_weaker}
+use Rattle.mail_laws.proofs.KeptLaws.{leaves_searches}
+use Rattle.mail_laws.proofs.LawSteps.{before, reads_only}
+use Rattle.mail_laws.proofs.MirrorCommands.{mirrored_after}
+use Rattle.mail_laws.proofs.MirrorPuts.{AreShownBut, all_shown, shown_but}
+use Rattle.mail_laws.proofs.Strays.{whole_after}
+use Rattle.mail_searches.specs.Criteria.{Coming, marked, search_listing, staying, told_criteria, unless_other}
+use Rattle.mail_searches.specs.Relisting.{around, settled_searches, with_searches}
+use Rattle.mail_searches.specs.Searches.{criteria_node, find_search, results}
+use Rattle.mail_searches.specs.Searching.{AllFresh, AreSearches, Each, IsOfSearch, Searching, is_own}
+use Rattle.mail_searches.specs.Step.{after, concluded, if_within, listing_in, outcome, plain_outcome}
+use Rattle.mail_searches.specs.Touching.{followed, touched}
+use Rattle.search_lists.specs.Laws.{AreTouched, with_tree}
+use Rattle.search_lists.proofs.ApartLaws.{all-apart, each-found}
+use Rattle.search_lists.proofs.NamedLaws.{named_then}
+use Rattle.search_lists.proofs.PlainLaws.{plain_commands_stay}
+use Rattle.search_lists.proofs.SettleLaws.{each}
+use Rattle.search_lists.proofs.TouchLaws.{touches_all}
+use Rattle.search_order.specs.Keeps.{IsThere, KeepsOrder, with_changes}
+use Rattle.search_order.specs.Order.{InOrder}
+use Rattle.search_order.proofs.AfterOrder.{settling_keeps_order}
+use Rattle.search_order.proofs.ResultSteps.{none_stray}
+use Rattle.search_laws.specs.Laws.{StaysInOrder}
+use Rattle.search_laws.proofs.Making.{makes_in_order}
+use Rattle.search_laws.proofs.Moves.{moves_in_order, removes_in_order, renames_in_order}
+use Rattle.search_laws.proofs.Setting.{sets_in_order}
+
+-- an answer or a refusal has both
+fine_both : {A : Type 0} (P Q : A → Type 0) (a : Answer A) → Fine a P → IfOk a Q → Fine a (λ x. P x × Q x)
+fine_both P Q (Ok x) p q = (p, q)
+fine_both P Q (Err (Some refusal)) p q = tt
+fine_both P Q (Err None) p q = p
+
+-- an answer has both
+if_both : {A : Type 0} (P Q : A → Type 0) (a : Answer A) → IfOk a P → IfOk a Q → IfOk a (λ x. P x × Q x)
+if_both P Q a p q = both P Q (λ x. P x × Q x) a p q (λ x u v. (u, v))
+
+-- an answer is fine where it is
+fine_is : {A : Type 0} (P Q : A → Type 0) (a : Answer A) → Fine a P → IfOk a Q → Fine a Q
+fine_is P Q a p q = fine_weaker (λ x. P x × Q x) Q a (fine_both P Q a p q) (λ x pq. pq.1)
+
+-- rows mirror and counts are right after each command
+mirrors_after : (T : Tree) (c : Command) → IsWhole T → Mirrors T → IfOk (tree.outcome T c) (λ o. Mirrors (tree.after T o))
+mirrors_after T c w s =
+    if_weaker (λ o. AreShownBut (λ x. ⊥) o.places (now_at T o.changed)) (λ o. Mirrors (tree.after T o)) (tree.outcome T c)
+    (mirrored_after T (before T w) (shown_but T.places (now_at T nothing) (subst (AreShown T.places) (sym (now_nothing T false)) s)) c)
+    (λ o k. subst (AreShown o.places) (after_now T o) (all_shown o.places (now_at T o.changed) k))
+
+counts_after : (T : Tree) (c : Command) → IsWhole T → Counts T → IfOk (tree.outcome T c) (λ o. Counts (tree.after T o))
+counts_after T c w s =
+    if_weaker (λ o. AreCountedBut (λ x. ⊥) o.places (now_at T o.changed)) (λ o. Counts (tree.after T o)) (tree.outcome T c)
+    (counted_after T (before T w) (λ x. ⊥) (subst (AreCountedBut (λ x. ⊥) T.places) (sym (now_nothing T false)) s) c)
+    (λ o k. subst (AreCountedBut (λ x. ⊥) o.places) (after_now T o) k)
+
+-- where nothing changes the tree stays
+no_length : {A : Type 0} (xs : List A) → length xs ≡ 0 → xs ≡ []
+no_length [] e = refl
+no_length (x ∷ xs) e = absurd (omega (arith, e))
+
+nothing_changes : map.entries nothing.objects ≡ []
+nothing_changes = no_length (map.entries nothing.objects) (sym (map.len-entries nothing.objects) ∙ map.len-empty nat_cmp (Option Object))
+
+unchanged_stays : (T : Tree) (r : Reply) → tree.after T (unchanged T r) ≡ T
+unchanged_stays T r = λ i. record {
+  places = T.places;
+  objects = tree.with_changes (nothing_changes i) T.objects;
+  others = tree.without_changed (nothing_changes i) T.others;
+  last = T.last;
+}
+
+module _ (X : Searching) (h : InOrder X) where
+  -- what only looks leaves all in order
+  quiet : (o : Outcome) → o ≡ unchanged X.tree o.reply → InOrder (with_tree X (tree.after X.tree o))
+  quiet o is = subst (λ U. InOrder (with_tree X U)) (sym (ap (tree.after X.tree) is ∙ unchanged_stays X.tree o.reply)) h
+
+  quiet_staying : (a : Answer Outcome) → Fine a (λ o. o ≡ unchanged X.tree o.reply) → Fine (a >>= staying X) (λ x. InOrder (after X x))
+  quiet_staying a is = fine_then (λ o. o ≡ unchanged X.tree o.reply) (λ x. InOrder (after X x)) a (staying X) is (λ o e. quiet o e)
+
+  -- the searches' folders and lists are there after a command of the tree
+  are-there : (o : Outcome) → Leaves X.tree o → Each (λ s. IsThere X.tree o s.nid) X.searches
+  are-there o leaves = each (λ s. find_search s.nid X.searches ≡ Some s) (λ s. IsThere X.tree o s.nid) X.searches (each-found 0 X.searches h.searches.ascend) (λ s found.
+      let own = h.searches.among s.nid s found in
+      let three = h.searches.kinds s.nid own in
+      let sixteen = beside_kind s.nid 16 (omega arith) in
+      let t = h.searches.tables s.nid own in
+      record {
+        kind = three;
+        placed = rw (leaves.places s.nid three) (h.searches.placed s.nid own);
+        table = (t.0, ap (λ x. newest x (object_at X.tree (results s.nid))) (leaves.nodes (results s.nid) (inr (inr (inr sixteen)))) ∙ t.1);
+      })
+
+  -- the lists follow it, and all keeps its order
+  abbrev Keeps : Outcome → Outcome → Type 0
+  Keeps o o' = KeepsOrder X.tree o o'.changed × (o' ≡ with_changes o o'.changed)
+
+  keeps : (c : Command) (o : Outcome) → IsWhole (tree.after X.tree o) → Leaves X.tree o → Fine (touched X.tree c o) (AreTouched X.tree o) → Fine (followed X.tree X.searches c o) (Keeps o)
+  keeps c o whole leaves touches =
+      fine_then (AreTouched X.tree o) (Keeps o) (touched X.tree c o) (λ ts. with_searches X.tree X.searches ts o) touches (λ ts are.
+      fine_then (KeepsOrder X.tree o) (Keeps o) (settled_searches X.tree (around X.tree o) ts X.searches o.changed) _
+      (settling_keeps_order X.tree o (around X.tree o) ts X.searches whole (all-apart X h.searches) (are-there o leaves) (named_then X o ts h.whole h.searches h.fresh leaves are))
+      (λ D k. (k, refl)))
+
+  -- what a command of the tree leaves
+  abbrev Base : Command → Outcome → Type 0
+  Base c o = IsWhole (tree.after X.tree o) × (IsFoundBeside (IsOfSearch X.own) (tree.after X.tree o) × (Mirrors (tree.after X.tree o) × (Counts (tree.after X.tree o) × (Leaves X.tree o × (Fine (touched X.tree c o) (AreTouched X.tree o)
+      × IfOk (followed X.tree X.searches c o) (λ o'. AreSearches (with_tree X (tree.after X.tree o')) × AllFresh (tree.after X.tree o') X.searches))))))
+
+  base : (c : Command) → Fine (tree.outcome X.tree c) (Base c)
+  base c = let a = tree.outcome X.tree c in
+      fine_both _ _ a (whole_after X.tree c h.whole) (if_both _ _ a (stays_beside (IsOfSearch X.own) X.tree c h.whole h.found) (if_both _ _ a (mirrors_after X.tree c h.whole h.mirrors) (if_both _ _ a (counts_after X.tree c h.whole h.counts)
+      (if_both _ _ a (leaves_searches X.tree c h.whole) (if_both _ _ a (touches_all X.tree c h.whole) (plain_commands_stay X c h.whole h.searches h.fresh))))))
+
+  -- what a command comes to is in order once its lists followed it
+  abbrev Stands : Outcome → Type 0
+  Stands o = InOrder (with_tree X (tree.after X.tree o))
+
+  in_order : (c : Command) (o o' : Outcome) → Base c o → Keeps o o' → AreSearches (with_tree X (tree.after X.tree o')) × AllFresh (tree.after X.tree o') X.searches → Stands o'
+  in_order c o o' b k s = record {
+    whole = subst (λ x. IsWhole (tree.after X.tree x)) (sym k.1) (k.0.whole b.0);
+    found = subst (λ x. IsFoundBeside (IsOfSearch X.own) (tree.after X.tree x)) (sym k.1) (k.0.found X.own b.1.0);
+    mirrors = subst (λ x. Mirrors (tree.after X.tree x)) (sym k.1) (k.0.mirrors b.0 b.1.1.0);
+    counts = subst (λ x. Counts (tree.after X.tree x)) (sym k.1) (k.0.counts b.0 b.1.1.1.0);
+    searches = s.0;
+    fresh = s.1;
+  }
+
+  concludes : (c : Command) (o : Outcome) → Base c o → Fine (concluded X.tree X.searches c o) Stands
+  unfolding concluded
+  concludes c o b =
+      fine_then Stands Stands (followed X.tree X.searches c o) if_within
+      (fine_weaker _ Stands (followed X.tree X.searches c o) (fine_both (Keeps o) _ (followed X.tree X.searches c o) (keeps c o b.0 b.1.1.1.1.0 b.1.1.1.1.1.0) b.1.1.1.1.1.1) (λ o' p. in_order c o o' b p.0 p.1))
+      (λ o' is. after_limits Stands o'.changed (λ u. Ok o') is)
+
+  plain : (c : Command) → Fine (plain_outcome X c) (λ x. InOrder (after X x))
+  plain c =
+      fine_then Stands (λ x. InOrder (after X x)) (tree.outcome X.tree c >>= concluded X.tree X.searches c) (staying X)
+      (fine_then (Base c) Stands (tree.outcome X.tree c) (concluded X.tree X.searches c) (base c) (λ o b. concludes c o b)) (λ o is. is)
+
+  -- what names an own search goes on
+  own_after : (s : ℕ) → Fine (unless_other X s) (λ u. is_own X.own s ≡ true)
+  own_after s = after_found (λ u. is_own X.own s ≡ true) refusals.Object (find_place s X.tree.places) _ (λ p e. elim (cases_Bool (is_own X.own s)) [
+    | inl own ↦ rw own refl
+    | inr other ↦ rw other tt
+  ])
+
+  -- the criteria of an own search are told
+  told : (s : ℕ) → Fine (told_criteria X s) (λ o. o ≡ unchanged X.tree o.reply)
+  unfolding told_criteria
+  told s = fine_then (λ u. is_own X.own s ≡ true) (λ o. o ≡ unchanged X.tree o.reply) (unless_other X s) _ (own_after s) (λ u own.
+      let c = h.searches.criteria s own in
+      after_context (λ o. o ≡ unchanged X.tree o.reply) X.tree nothing (criteria_node s) c.0 _ (ap (λ g. g (criteria_node s)) (now_nothing X.tree false) ∙ c.1) (rw c.2.1 refl))
+
+  -- the messages of an own search are listed
+  lists_own : (f : ℕ) → is_own X.own f ≡ true → Fine (search_listing X.tree f) (λ o. o ≡ unchanged X.tree o.reply)
+  unfolding search_listing
+  lists_own f own =
+      let t = h.searches.tables f own in
+      after_table (λ o. o ≡ unchanged X.tree o.reply) X.tree nothing (results f) t.0 _ (ap (λ g. g (results f)) (now_nothing X.tree false) ∙ t.1)
+      (rw (none_stray X.tree nothing t.0.table.rows (λ r some. subst (λ at. IsSome (as_message (at r))) (sym (now_nothing X.tree false)) (h.searches.rows f t.0 r own t.1 some))) refl)
+
+  -- so is what is in any other folder
+  lists_other : (folder : Nid) → Fine (listing X.tree folder.bits) (λ o. o ≡ unchanged X.tree o.reply)
+  unfolding tree_outcome
+  lists_other folder = fine_is (λ o. IsWhole (tree.after X.tree o)) (λ o. o ≡ unchanged X.tree o.reply) (listing X.tree folder.bits) (whole_after X.tree (ListFolder folder) h.whole) (reads_only X.tree (ListFolder folder) refl)
+
+  lists : (folder : Nid) → Fine (listing_in X folder.bits) (λ o. o ≡ unchanged X.tree o.reply)
+  unfolding listing_in
+  lists folder = fine_either (λ o. o ≡ unchanged X.tree o.reply) (is_own X.own folder.bits) _ _ (λ own. lists_own folder.bits own)
+      (λ other. fine_then (λ o. o ≡ unchanged X.tree o.reply) (λ o. o ≡ unchanged X.tree o.reply) (listing X.tree folder.bits) _ (lists_other folder) (λ o is. ap (λ (x : Outcome). record x { reply = marked X.own o.reply }) is))
+
+  abbrev InOrderAfter : Coming → Type 0
+  InOrderAfter o = InOrder (after X o)
+
+pub stays_in_order : StaysInOrder
+unfolding outcome
+stays_in_order X (MakeSearch parent name) h = makes_in_order X parent.bits name h
+stays_in_order X (SetCriteria search flags scope restriction) h = sets_in_order X search.bits flags scope restriction h
+stays_in_order X (GetCriteria search) h = quiet_staying X h (told_criteria X search.bits) (told X h search.bits)
+stays_in_order X (ListFolder folder) h = quiet_staying X h (listing_in X folder.bits) (lists X h folder)
+stays_in_order X (RenameFolder folder name) h = fine_either (InOrderAfter X h) (is_own X.own folder.bits) _ _ (λ own. renames_in_order X folder.bits name h own) (λ other. plain X h (RenameFolder folder name))
+stays_in_order X (MoveFolder folder parent) h = fine_either (InOrderAfter X h) (is_own X.own folder.bits) _ _ (λ own. moves_in_order X folder.bits parent.bits h own) (λ other. plain X h (MoveFolder folder parent))
+stays_in_order X (RemoveFolder folder) h = fine_either (InOrderAfter X h) (is_own X.own folder.bits) _ _ (λ own. removes_in_order X folder.bits h own) (λ other. plain X h (RemoveFolder folder))
+stays_in_order X (MakeFolder parent name) h = plain X h (MakeFolder parent name)
+stays_in_order X (NewMessage folder class time) h = plain X h (NewMessage folder class time)
+stays_in_order X (SetProperty message value) h = plain X h (SetProperty message value)
+stays_in_order X (UnsetProperty message tag) h = plain X h (UnsetProperty message tag)
+stays_in_order X (GetProperty message tag) h = plain X h (GetProperty message tag)
+stays_in_order X (ListProperties message) h = plain X h (ListProperties message)
+stays_in_order X (MoveMessage message folder) h = plain X h (MoveMessage message folder)
+stays_in_order X (CopyMessage message folder) h = plain X h (CopyMessage message folder)
+stays_in_order X (RemoveMessage message) h = plain X h (RemoveMessage message)
+stays_in_order X (AddRecipient message kind address name) h = plain X h (AddRecipient message kind address name)
+stays_in_order X (RemoveRecipient message row) h = plain X h (RemoveRecipient message row)
+stays_in_order X (AddAttachment message name bytes) h = plain X h (AddAttachment message name bytes)
+stays_in_order X (AppendData message attachment bytes) h = plain X h (AppendData message attachment bytes)
+stays_in_order X (RemoveAttachment message attachment) h = plain X h (RemoveAttachment message attachment)
+stays_in_order X (FetchData message attachment) h = plain X h (FetchData message attachment)
+stays_in_order X (NameProperty guid number) h = plain X h (NameProperty guid number)
+stays_in_order X Save h = plain X h Save
+stays_in_order X Quit h = plain X h Quit

@@ -1,0 +1,5 @@
+pub mod Quiet
+pub mod ListSteps
+pub mod ResultSteps
+pub mod SettleSteps
+pub mod AfterOrder
