@@ -1,0 +1,6 @@
+pub mod Lines
+pub mod IndexLaws
+pub mod Made
+pub mod Said
+pub mod Built
+pub mod Set

@@ -1,0 +1,173 @@
+//! How the list of a search is built.
+ghost use Rattle.std.specs.Prelude.{◌≡◌, true, [], IfErr, IfOk};
+ghost use Rattle.node_values.specs.Subnodes.{ids_ascend};
+ghost use Rattle.mail_tree.specs.Tree.{Shown, Tree};
+ghost use Rattle.mail_draft.specs.Answers.{IsCaused, Looks, Says};
+ghost use Rattle.mail_draft.specs.Drafts.{changed_of};
+ghost use Rattle.mail_searches.specs.Building.{built, found_among, found_below, with_found};
+ghost use Rattle.search_folders.specs.Pieces.{found_at, found_in};
+
+use crate::nodes::results;
+use mail_draft::{Draft, Stop, contents, table_at};
+use mail_folders::{message_ids, message_in, table_in};
+use mail_objects::TableNode;
+use mail_searches::OwnSearch;
+use mail_tree::{FolderPlace, Places};
+use mapi_values::{Message, Table, put_row};
+use node_port::NodeReader;
+use pst_base::{Ledger, Nid, Steps};
+use pst_outside::Outside;
+use restr_eval::eval;
+use search_results::with_results;
+use std::alloc::{AllocError, Global};
+
+/// Builds the list of a search anew, and counts it.
+#[tactic(auto, unfolding(mail_searches::specs::Building::built))]
+pub(crate) fn built<W: Outside, K: NodeReader<W>, L: Ledger>(
+    alloc: Global,
+    keeper: &mut K,
+    w: &mut W,
+    places: &Places,
+    search: &OwnSearch,
+    draft: Draft,
+    steps: &mut Steps<L>,
+) -> Result<Draft, Stop>
+    ensures answer { (T : Tree) → Shown (K.holds keeper.old (W.view w.old)) (K.last keeper.old) T → T.places ≡ places.now → Says changed_of (built T search.now (changed_of draft)) result }
+    ensures looks { Looks (K.holds keeper.old (W.view w.old)) (K.holds keeper.new (W.view w.new)) (K.last keeper.old) (K.last keeper.new) (K.room keeper.old) (K.room keeper.new) (W.view w.old) (W.view w.new) }
+    ensures cause { IfErr result (IsCaused K.has_disk (W.view w.old).disk_faults (W.view w.new).disk_faults) }
+{
+    let node = table_at(alloc, keeper, w, &draft, results(search.nid))?;
+    let parent = node.parent();
+    let empty = without_rows(alloc, node.into_table());
+    let table = found_below(alloc, keeper, w, places, search, empty, steps)?;
+    with_results(
+        alloc,
+        keeper,
+        w,
+        draft,
+        search.nid,
+        TableNode::new(parent, table),
+    )
+}
+
+/// The table without its rows. Takes no memory.
+fn without_rows(alloc: Global, table: Table) -> Table
+    ensures { result ≡ record table { rows = [] } }
+{
+    let Table {
+        columns,
+        ends,
+        rows: _,
+        kept,
+    } = table;
+    Table::from_parts(columns, ends, Vec::new(alloc), kept)
+}
+
+/// The table with a row of a message, if what the search asks holds of it. The table is lost with an `Err`.
+fn with_found<L: Ledger>(
+    alloc: Global,
+    search: &OwnSearch,
+    table: Table,
+    id: Nid,
+    message: &Message,
+    steps: &mut Steps<L>,
+) -> Result<Table, AllocError>
+    ensures { IfOk result (λ t. t ≡ record table { rows = with_found search.now table.columns id.bits message.now table.rows }) }
+{
+    if !eval(&search.restriction, message, steps) {
+        return Ok(table);
+    }
+    let mut table = table;
+    put_row(alloc, &mut table, id.bits, &message.props)?;
+    Ok(table)
+}
+
+/// The table with a row of the message with this id, if the search finds it. The table is lost with an `Err`.
+#[tactic(auto, unfolding(crate::specs::Pieces::found_at))]
+fn found_at<W: Outside, K: NodeReader<W>, L: Ledger>(
+    alloc: Global,
+    keeper: &mut K,
+    w: &mut W,
+    search: &OwnSearch,
+    table: Table,
+    id: Nid,
+    steps: &mut Steps<L>,
+) -> Result<Table, Stop>
+    ensures answer { (T : Tree) → Shown (K.holds keeper.old (W.view w.old)) (K.last keeper.old) T → Says (λ t. t.rows) (found_at T search.now table.columns id.bits table.rows) result }
+    ensures same { IfOk result (λ t. record t { rows = [] } ≡ record table { rows = [] }) }
+    ensures looks { Looks (K.holds keeper.old (W.view w.old)) (K.holds keeper.new (W.view w.new)) (K.last keeper.old) (K.last keeper.new) (K.room keeper.old) (K.room keeper.new) (W.view w.old) (W.view w.new) }
+    ensures cause { IfErr result (IsCaused K.has_disk (W.view w.old).disk_faults (W.view w.new).disk_faults) }
+{
+    let mail = message_in(alloc, keeper, w, id)?;
+    Ok(with_found(alloc, search, table, id, mail.message(), steps)?)
+}
+
+/// The table with the rows of the messages among these that the search finds. The table is lost with an `Err`.
+fn found_among<W: Outside, K: NodeReader<W>, L: Ledger>(
+    alloc: Global,
+    keeper: &mut K,
+    w: &mut W,
+    search: &OwnSearch,
+    table: Table,
+    messages: &[u32],
+    steps: &mut Steps<L>,
+) -> Result<Table, Stop>
+    ensures answer { (T : Tree) → Shown (K.holds keeper.old (W.view w.old)) (K.last keeper.old) T → Says (λ t. t.rows) (found_among T search.now table.columns messages.now table.rows) result }
+    ensures same { IfOk result (λ t. record t { rows = [] } ≡ record table { rows = [] }) }
+    ensures looks { Looks (K.holds keeper.old (W.view w.old)) (K.holds keeper.new (W.view w.new)) (K.last keeper.old) (K.last keeper.new) (K.room keeper.old) (K.room keeper.new) (W.view w.old) (W.view w.new) }
+    ensures cause { IfErr result (IsCaused K.has_disk (W.view w.old).disk_faults (W.view w.new).disk_faults) }
+{
+    let mut table = table;
+    for message in messages {
+        let id = Nid { bits: *message };
+        table = found_at(alloc, keeper, w, search, table, id, steps)?;
+    }
+    Ok(table)
+}
+
+/// The table with the rows of the messages that the search finds in this folder, in which it may not look. The table is lost with an `Err`.
+#[tactic(auto, unfolding(crate::specs::Pieces::found_in))]
+fn found_in<W: Outside, K: NodeReader<W>, L: Ledger>(
+    alloc: Global,
+    keeper: &mut K,
+    w: &mut W,
+    places: &Places,
+    search: &OwnSearch,
+    table: Table,
+    folder: Nid,
+    steps: &mut Steps<L>,
+) -> Result<Table, Stop>
+    ensures answer { (T : Tree) → Shown (K.holds keeper.old (W.view w.old)) (K.last keeper.old) T → T.places ≡ places.now → Says (λ t. t.rows) (found_in T search.now table.columns folder.bits table.rows) result }
+    ensures same { IfOk result (λ t. record t { rows = [] } ≡ record table { rows = [] }) }
+    ensures looks { Looks (K.holds keeper.old (W.view w.old)) (K.holds keeper.new (W.view w.new)) (K.last keeper.old) (K.last keeper.new) (K.room keeper.old) (K.room keeper.new) (W.view w.old) (W.view w.new) }
+    ensures cause { IfErr result (IsCaused K.has_disk (W.view w.old).disk_faults (W.view w.new).disk_faults) }
+{
+    if !search.looks_in(places, folder) {
+        return Ok(table);
+    }
+    let node = table_in(alloc, keeper, w, contents(folder))?;
+    let messages = message_ids(alloc, node.table())?;
+    found_among(alloc, keeper, w, search, table, messages.as_slice(), steps)
+}
+
+/// The table with the rows of the messages that the search finds in all folders in which it looks. The table is lost with an `Err`.
+fn found_below<W: Outside, K: NodeReader<W>, L: Ledger>(
+    alloc: Global,
+    keeper: &mut K,
+    w: &mut W,
+    places: &Places,
+    search: &OwnSearch,
+    table: Table,
+    steps: &mut Steps<L>,
+) -> Result<Table, Stop>
+    ensures answer { (T : Tree) → Shown (K.holds keeper.old (W.view w.old)) (K.last keeper.old) T → T.places ≡ places.now → Says (λ t. t.rows) (found_below T search.now table.columns places.now table.rows) result }
+    ensures same { IfOk result (λ t. record t { rows = [] } ≡ record table { rows = [] }) }
+    ensures looks { Looks (K.holds keeper.old (W.view w.old)) (K.holds keeper.new (W.view w.new)) (K.last keeper.old) (K.last keeper.new) (K.room keeper.old) (K.room keeper.new) (W.view w.old) (W.view w.new) }
+    ensures cause { IfErr result (IsCaused K.has_disk (W.view w.old).disk_faults (W.view w.new).disk_faults) }
+{
+    let mut table = table;
+    for place in places.as_slice() {
+        table = found_in(alloc, keeper, w, places, search, table, place.nid, steps)?;
+    }
+    Ok(table)
+}

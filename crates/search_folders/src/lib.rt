@@ -1,0 +1,25 @@
+//! The commands on search folders.
+//!
+//! Promises: `make_search`, `set_criteria`, `get_criteria`, `list_folder`, `rename_search`, `move_search` and `remove_search` give what the definitions say of `mksearch`, `criteria`, `getcriteria`, `ls`, `rename`, `mvdir` and `rmdir` where there are searches.
+//!
+//! Leaves to others: what the definitions mean (`mail_searches`), and how lists follow messages (`search_results`).
+#![tactic(auto)]
+
+mod building;
+mod coming;
+mod criteria;
+mod given;
+mod indexes;
+mod listing;
+mod making;
+mod moving;
+mod nodes;
+mod places;
+mod telling;
+
+pub use coming::Coming;
+pub use criteria::set_criteria;
+pub use listing::list_folder;
+pub use making::make_search;
+pub use moving::{move_search, remove_search, rename_search};
+pub use telling::get_criteria;

@@ -1,0 +1,5 @@
+pub mod Concluding
+pub mod Counting
+pub mod Following
+pub mod Forms
+pub mod Moving

@@ -1,0 +1,3 @@
+pub mod QuietLaws
+pub mod FollowLaws
+pub mod PlanLaws
