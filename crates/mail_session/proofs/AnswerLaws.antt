@@ -7,7 +7,7 @@ use Rattle.command_text.specs.Replies.{text, last_text}
 use Rattle.command_text.specs.Refusals.{refusal_words}
 use Rattle.command_text.specs.Limits.{limit_word}
 use Rattle.node_port.specs.declared.map_keeper.MapKeeper.{MapKeeper}
-use Rattle.mail_store.specs.declared.store.Store.{Store}
+use Rattle.search_store.specs.declared.store.SearchStore.{SearchStore}
 use Rattle.line_server.specs.History.{Answers}
 use Rattle.line_server.specs.Lines.{Piece, line, too_long, further}
 use Rattle.line_server.specs.Spoken.{too_long_text}
@@ -15,14 +15,14 @@ use Rattle.mail_session.specs.declared.mailbox.Mailbox.{Mailbox}
 use Rattle.mail_session.specs.Mailboxes.{BoxAnswers}
 use Rattle.mail_session.specs.Boxes.{Answering, DoesStep, Holds}
 use Rattle.mail_session.specs.Run.{Carries}
-use Rattle.mail_tree.specs.Tree.{Tree}
+use Rattle.mail_searches.specs.Searching.{Searching}
 
-further_answers : (store : Store MapKeeper) (spoken : List ℕ) → spoken ≡ [] → Answering store further spoken store
-further_answers store spoken is T holds = (T, inl (is, refl), holds)
+further_answers : (store : SearchStore MapKeeper) (spoken : List ℕ) → spoken ≡ [] → Answering store further spoken store
+further_answers store spoken is X holds = (X, inl (is, refl), holds)
 
-too_long_answers : (store : Store MapKeeper) → Answering store too_long too_long_text store
+too_long_answers : (store : SearchStore MapKeeper) → Answering store too_long too_long_text store
 unfolding text last_text refusal_words limit_word
-too_long_answers store T holds = (T, inl (refl, refl), holds)
+too_long_answers store X holds = (X, inl (refl, refl), holds)
 
 -- a piece was answered over the mailbox's store
 pub box_answered : {W : Type 0} (piece : Piece) (said : List ℕ) (a b : Mailbox) (v w : W) → Answers BoxAnswers piece a v said b w → Answering a.store piece said b.store
@@ -38,13 +38,13 @@ same_world too_long said a b v w is = is.2
 same_world further said a b v w is = is.2
 
 -- what was done to a line is what a command does
-pub carried : {E : Type 0} (r : Result (List ℕ) E) (old new : Store MapKeeper) (c : Command) (asked : Result Command LineRefusal) → asked ≡ Ok c
-    → IfOk r (λ t. DoesStep old c t new) → IfOk r (λ t. (T : Tree) → Holds old T → (U : Tree) × Carries T asked t U × Holds new U)
-carried (Ok t) old new c asked is does = λ T holds. let done = does T holds in (done.0, subst (λ a. Carries T a t done.0) (sym is) done.1, done.2)
+pub carried : {E : Type 0} (r : Result (List ℕ) E) (old new : SearchStore MapKeeper) (c : Command) (asked : Result Command LineRefusal) → asked ≡ Ok c
+    → IfOk r (λ t. DoesStep old c t new) → IfOk r (λ t. (X : Searching) → Holds old X → (Y : Searching) × Carries X asked t Y × Holds new Y)
+carried (Ok t) old new c asked is does = λ X holds. let done = does X holds in (done.0, subst (λ a. Carries X a t done.0) (sym is) done.1, done.2)
 carried (Err e) old new c asked is does = tt
 
 -- a line that is refused changes nothing
-pub refused_line : {E : Type 0} (r : Result (List ℕ) E) (store : Store MapKeeper) (asked : Result Command LineRefusal) (said : List ℕ)
-    → ((T : Tree) (t : List ℕ) → t ≡ said → Carries T asked t T) → IfOk r (λ t. t ≡ said) → IfOk r (λ t. (T : Tree) → Holds store T → (U : Tree) × Carries T asked t U × Holds store U)
-refused_line (Ok t) store asked said carries is = λ T holds. (T, carries T t is, holds)
+pub refused_line : {E : Type 0} (r : Result (List ℕ) E) (store : SearchStore MapKeeper) (asked : Result Command LineRefusal) (said : List ℕ)
+    → ((X : Searching) (t : List ℕ) → t ≡ said → Carries X asked t X) → IfOk r (λ t. t ≡ said) → IfOk r (λ t. (X : Searching) → Holds store X → (Y : Searching) × Carries X asked t Y × Holds store Y)
+refused_line (Ok t) store asked said carries is = λ X holds. (X, carries X t is, holds)
 refused_line (Err e) store asked said carries is = tt

@@ -1,4 +1,4 @@
--- What the turns of a server over a mailbox are: a run of a plain tree, which leaves the disk as it was.
+-- What the turns of a server over a mailbox are: a run from a new store, which leaves the disk as it was.
 use Rattle.std.proofs.Common.{◌≡◌, ◌⊎◌, ℕ, inl, inr, ap, sym, subst, refl, false, List, [], ◌∷◌, arith}
 use Rattle.std.proofs.lemmas.Bool.{true≢false}
 use Rattle.std.proofs.lemmas.List.{append-nil}
@@ -21,20 +21,19 @@ use Rattle.mail_session.specs.Worlds.{KeepsDisk}
 use Rattle.mail_session.proofs.AnswerLaws.{box_answered, same_world}
 use Rattle.mail_session.proofs.Disks.{keeps_front, keeps_listens, keeps_started}
 use Rattle.mail_session.proofs.Orders.{session_in_order}
-use Rattle.mail_tree.specs.Start.{IsStart}
-use Rattle.mail_tree.specs.Tree.{Tree}
+use Rattle.mail_searches.specs.Searching.{Searching, StartsSearching}
 
 -- the replies are those of a run
 pub runs : {W : Type 0} (view : W → World) (whole : Type 0) (ps : List Piece) (rs : List (List ℕ)) (a b : Mailbox) (v w : W)
-    → Turns view BoxAnswers whole ps rs a v b w → (T : Tree) → Holds a.store T → (trees : List Tree) × Run T ps rs trees
-runs view whole [] [] a b v w turns T holds = ([], tt)
-runs view whole (p ∷ ps) (r ∷ rs) a b v w turns T holds =
+    → Turns view BoxAnswers whole ps rs a v b w → (X : Searching) → Holds a.store X → (trees : List Searching) × Run X ps rs trees
+runs view whole [] [] a b v w turns X holds = ([], tt)
+runs view whole (p ∷ ps) (r ∷ rs) a b v w turns X holds =
     let turn = turns.2 in
-    let one = box_answered p r a turns.0 turn.heard turn.answered turn.answer T holds in
+    let one = box_answered p r a turns.0 turn.heard turn.answered turn.answer X holds in
     let rest = runs view whole ps rs turns.0 b turns.1 w turns.3 one.0 one.2 in
     (one.0 ∷ rest.0, (one.1, rest.1))
-runs view whole [] (r ∷ rs) a b v w turns T holds = absurd turns
-runs view whole (p ∷ ps) [] a b v w turns T holds = absurd turns
+runs view whole [] (r ∷ rs) a b v w turns X holds = absurd turns
+runs view whole (p ∷ ps) [] a b v w turns X holds = absurd turns
 
 -- the disk is as it was
 pub keeps_turns : {W : Type 0} (view : W → World) (whole : Type 0) (ps : List Piece) (rs : List (List ℕ)) (a b : Mailbox) (v w : W) (first : World)
@@ -50,7 +49,7 @@ keeps_turns view whole (p ∷ ps) [] a b v w first turns so_far = absurd turns
 
 -- a session, from the tree of a new store on
 is_session : {W : Type 0} (view : W → World) (whole : Type 0) (ps : List Piece) (rs : List (List ℕ)) (a b : Mailbox) (v w : W)
-    → ((T : Tree) × IsStart NAME T × Holds a.store T) → Turns view BoxAnswers whole ps rs a v b w → IsSession ps rs
+    → ((X : Searching) × StartsSearching NAME X × Holds a.store X) → Turns view BoxAnswers whole ps rs a v b w → IsSession ps rs
 is_session view whole ps rs a b v w start turns =
     let run = runs view whole ps rs a b v w turns start.0 start.2 in
     inr (start.0, run.0, start.1, run.1, session_in_order start.0 ps rs run.0 start.1 run.1)
@@ -64,7 +63,7 @@ ended_as : {W : Type 0} (view : W → World) (a b : Mailbox) (first now : W) (en
     → (status ≡ Done) ⊎ (status ≡ Input) ⊎ (status ≡ Output) ⊎ (status ≡ Memory) ⊎ (status ≡ Lines)
     → (status ≡ Done → end ≡ server_ends.Done) → (status ≡ Input → end ≡ server_ends.Input) → (status ≡ Output → end ≡ server_ends.Output) → (end ≡ server_ends.Output → status ≡ Output)
     → (status ≡ Lines → end ≡ server_ends.Lines) → (status ≡ Memory → ⊥)
-    → ((T : Tree) × IsStart NAME T × Holds a.store T) → (e : ServerEnds view BoxAnswers BoxStops a first b now end) → now ≡ e.last → ScratchEnds (view first) (view now) status
+    → ((X : Searching) × StartsSearching NAME X × Holds a.store X) → (e : ServerEnds view BoxAnswers BoxStops a first b now end) → now ≡ e.last → ScratchEnds (view first) (view now) status
 ended_as view a b first now end status statuses done input output is_output lines memory start e at_end = record {
   keeps = subst (λ x. KeepsDisk (view first) (view x)) (sym at_end) (keeps_turns view _ e.done e.replies a e.behind first e.last (view first) e.turns (keeps_started (view first)));
   taken = e.taken;
@@ -88,7 +87,7 @@ ended_as view a b first now end status statuses done input output is_output line
 }
 
 pub scratch_ends : {W : Type 0} (view : W → World) (a b : Mailbox) (first now : W) (end : ServerEnd NoStop)
-    → ((T : Tree) × IsStart NAME T × Holds a.store T) → ServerEnds view BoxAnswers BoxStops a first b now end → ScratchEnds (view first) (view now) (status_of end)
+    → ((X : Searching) × StartsSearching NAME X × Holds a.store X) → ServerEnds view BoxAnswers BoxStops a first b now end → ScratchEnds (view first) (view now) (status_of end)
 scratch_ends view a b first now server_ends.Done start e =
     ended_as view a b first now server_ends.Done Done (inl refl) (λ is. refl) (λ is. absurd (cc)) (λ is. absurd (cc)) (λ is. absurd (cc)) (λ is. absurd (cc)) (λ is. cc) start e e.closes.1
 scratch_ends view a b first now server_ends.Input start e =

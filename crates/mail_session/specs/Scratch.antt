@@ -21,7 +21,7 @@ status_of server_ends.Output = Output
 status_of server_ends.Lines = Lines
 status_of (server_ends.Stopped never) = elim never [ ]
 
--- How a session in memory ends, over any world: its replies are those of a run from the tree of a new store over lines that are the first
+-- How a session in memory ends, over any world: its replies are those of a run from a new store, whose searches are always fresh, over lines that are the first
 -- of those that it has taken.
 pub record ScratchEnds (first now : World) (status : Status) : Type 0 where
   -- no disk is touched
@@ -35,7 +35,7 @@ pub record ScratchEnds (first now : World) (status : Status) : Type 0 where
   pub done : List Piece
   pub left : List Piece
   pub cuts : lines all taken ≡ done ++ left
-  -- the replies to them are those of a plain tree
+  -- the replies to them are those of a plain tree whose running searches list what filtering lists
   pub replies : List (List ℕ)
   pub run : IsSession done replies
   -- a front of the replies was said, and all of them unless the output failed

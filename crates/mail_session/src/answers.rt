@@ -6,7 +6,7 @@ ghost use Rattle.command_text.specs.declared.reply.CommandRefusal.{CommandRefusa
 ghost use Rattle.mail_session.specs.Boxes.{Answering, StaysAs};
 ghost use Rattle.mail_session.specs.Run.{Carries, refused};
 ghost use Rattle.mail_session.specs.Boxes.{Holds};
-ghost use Rattle.mail_tree.specs.Tree.{Tree};
+ghost use Rattle.mail_searches.specs.Searching.{Searching};
 ghost use Rattle.line_server.specs.Spoken.{spoken_text};
 
 use crate::mailbox::Mailbox;
@@ -28,7 +28,7 @@ pub(crate) fn refusal_text(alloc: Global, refusal: CommandRefusal) -> Result<Byt
 
 /// Carries out what a line asks for. An `Err` changes nothing.
 fn carry_out(alloc: Global, mailbox: &mut Mailbox, bytes: &[u8]) -> Result<Bytes, AllocError>
-    ensures ok { IfOk result (λ t. (T : Tree) → Holds mailbox.old.store T → (U : Tree) × Carries T (command bytes.now) t U × Holds mailbox.new.store U) }
+    ensures ok { IfOk result (λ t. (X : Searching) → Holds mailbox.old.store X → (Y : Searching) × Carries X (command bytes.now) t Y × Holds mailbox.new.store Y) }
     ensures err { OnErr result (StaysAs mailbox.old.store mailbox.new.store) }
 {
     match read_line(alloc, bytes) {

@@ -55,7 +55,7 @@ pub fn run<W: Outside, L: Ledger>(
     ensures complete { form_of (spelled words.now) ≡ Some Form.Run → EndsAs (EndsWell (W.view world.old) (W.view world.new)) result.status }
     // `new`: what is made is read as the tree of a new store of that name.
     ensures new { (name : List ℕ) → form_of (spelled words.now) ≡ Some Form.New → third_name (spelled words.now) ≡ Some name → EndsAs (NewEnds name (W.view world.old) (W.view world.new)) result.status }
-    // `scratch`: the replies are those of a plain tree.
+    // `scratch`: the replies are those of a plain tree whose running searches list what filtering lists.
     ensures scratch { form_of (spelled words.now) ≡ Some Form.Scratch → EndsAs (ScratchEnds (W.view world.old) (W.view world.new)) result.status }
     ensures no_memory { form_of (spelled words.now) ≡ Some Form.Scratch → result.status ≡ 7 → world.new ≡ world.old }
     ensures changed { (result.status ≡ 9) ↔ IsSome result.changed }

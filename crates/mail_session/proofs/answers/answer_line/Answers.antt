@@ -3,8 +3,8 @@ use Rattle.command_text.specs.Replies.{text, last_text}
 use Rattle.mail_session.proofs.answers.answer_line.Goals as goal
 
 pub returns-in-Ok : goal.returns-in-Ok
-returns-in-Ok c = λ T holds. let done = c.in-Ok.ensures.ok T holds in (done.0, inl done.1, done.2)
+returns-in-Ok c = λ X holds. let done = c.in-Ok.ensures.ok X holds in (done.0, inl done.1, done.2)
 
 pub returns-in-Err : goal.returns-in-Err
 unfolding text last_text
-returns-in-Err c = λ T holds. (T, inr (refl, refl), c.in-Err.ensures.err T holds)
+returns-in-Err c = λ X holds. (X, inr (refl, refl), c.in-Err.ensures.err X holds)

@@ -10,10 +10,10 @@ pub returns-in-Err-Refused-Line-clause-ok : goal.returns-in-Err-Refused-Line-cla
 returns-in-Err-Refused-Line-clause-ok c =
     let gave = rw c.in-Err-Refused-Line.field-0-is at c.in-Err-Refused-Line.ensures in
     let is = rw c.in-Err-Refused-Line.field-0-0-is at gave in
-    refused_line c.refusal_text.result _ _ _ (λ T t said. subst (λ a. Carries T a t T) (sym is) (said, refl)) c.refusal_text.ensures
+    refused_line c.refusal_text.result _ _ _ (λ X t said. subst (λ a. Carries X a t X) (sym is) (said, refl)) c.refusal_text.ensures
 
 pub returns-in-Err-Refused-Value-clause-ok : goal.returns-in-Err-Refused-Value-clause-ok
 returns-in-Err-Refused-Value-clause-ok c =
     let gave = rw c.in-Err-Refused-Value.field-0-is at c.in-Err-Refused-Value.ensures in
     let is = rw c.in-Err-Refused-Value.field-0-0-is at gave in
-    refused_line c.refusal_text-in-Err-Refused-Value.result _ _ _ (λ T t said. subst (λ a. Carries T a t T) (sym is) (said, refl)) c.refusal_text-in-Err-Refused-Value.ensures
+    refused_line c.refusal_text-in-Err-Refused-Value.result _ _ _ (λ X t said. subst (λ a. Carries X a t X) (sym is) (said, refl)) c.refusal_text-in-Err-Refused-Value.ensures
