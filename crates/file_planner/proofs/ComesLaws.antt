@@ -114,6 +114,7 @@ comes p found file N last stands cs pieces sealed next e up known low page_low r
             place_pages = (d.placed).least_pages;
             end = d.end;
             unmapped = d.unmapped;
+            map_page = d.map_page;
             unique = d.unique;
             next_block = let a = d.next_block in let b = known.next_block in omega (arith, a, b, block_count);
             next_page = let a = d.next_page in let b = known.next_page in omega (arith, a, b, page_count);

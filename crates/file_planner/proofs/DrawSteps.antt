@@ -56,6 +56,7 @@ use Rattle.file_planner.proofs.NewLaws.{next-known, puts-edits, sealed-count}
 use Rattle.file_planner.proofs.PageLaws.{same-length}
 use Rattle.file_planner.proofs.PlacedLaws.{laid-high}
 use Rattle.file_planner.proofs.RecountLaws.{edits-append, extra-append, puts-extra, recounts-edits, recounts-extra, sum-ones}
+use Rattle.lays_kept.specs.Stands.{last_map}
 
 -- ---- the whole plan
 
@@ -65,6 +66,7 @@ pub record IsHeaderOf (header next : Header) (sealed : List ℕ) (end : ℕ) (bb
   pub read : reading sealed ≡ Ok next
   pub eof : next.eof ≡ end
   pub unmapped : next.maps ≡ 0
+  pub map_page : next.amap_last ≡ last_map next.eof
   pub unique : next.unique ≡ (header.unique + 1) % 2 ^ 32
   pub bbt_is : next.bbt ≡ bbt
   pub nbt_is : next.nbt ≡ nbt
@@ -123,6 +125,7 @@ drawn-of {header} {file} {m} is slots counts cs numbers sketch trees pages block
       size = top.size;
       read = top.read;
       unmapped = top.unmapped;
+      map_page = top.map_page;
       unique = top.unique;
       bbt = top.bbt_is ∙ out.bbt_is;
       nbt = top.nbt_is ∙ out.nbt_is;

@@ -9,8 +9,9 @@ use Rattle.alloc_map.specs.Taken.{IsBlockPlace, IsPagePlace, Takes}
 use Rattle.file_layout.specs.Nodes.{NodeMap, Lays, blocks_in, places_of}
 use Rattle.file_layout.specs.Numbers.{next_block, next_page}
 use Rattle.std.specs.Prelude.{Bool}
+use Rattle.lays_kept.specs.Stands.{last_map}
 
--- New blocks and pages stand at the least free places beside all that stood, the blocks first. The header gives the next numbers on by 4 for each block and by 1 for each page, and its own count by 1; it vouches for no maps, and ends the file at the least end of a region that has room for all.
+-- New blocks and pages stand at the least free places beside all that stood, the blocks first. The header gives the next numbers on by 4 for each block and by 1 for each page, and its own count by 1; it vouches for no maps, names the map page of the last region, and ends the file at the least end of a region that has room for all.
 pub record IsMade (old new : List ℕ) : Type 0 where
   pub before : Header
   pub was : reading (take 564 old) ≡ Ok before
@@ -29,6 +30,7 @@ pub record IsMade (old new : List ℕ) : Type 0 where
   pub place_pages : Takes IsPagePlace mid pages now
   pub end : IsEndFor before.eof (pages ++ blocks) after.eof
   pub unmapped : after.maps ≡ 0
+  pub map_page : after.amap_last ≡ last_map after.eof
   pub unique : after.unique ≡ (before.unique + 1) % 2 ^ 32
   pub next_block : after.next_block ≡ next_block before (blocks_in lays.blocks) + 4 * length blocks
   pub next_page : after.next_page ≡ next_page before (lays.blocks.pages ++ lays.nodes.pages) + length pages

@@ -35,6 +35,7 @@ use Rattle.content_plan.specs.Plan.{PlansContents}
 use Rattle.file_planner.specs.Freed.{all_behind}
 use Rattle.file_planner.specs.Recounts.{left_places, puts_of, recounts}
 use Rattle.file_planner.specs.declared.planner.PlanEffects.{PlanEffects}
+use Rattle.lays_kept.specs.Stands.{last_map}
 
 -- ---- what is known before anything has a place
 
@@ -106,6 +107,7 @@ pub record IsDrawn {header : Header} {file : List ℕ} {m : NodeMap} (is : Lays 
   pub size : length sealed ≡ 564
   pub read : reading sealed ≡ Ok next
   pub unmapped : next.maps ≡ 0
+  pub map_page : next.amap_last ≡ last_map next.eof
   pub unique : next.unique ≡ (header.unique + 1) % 2 ^ 32
   pub bbt : next.bbt ≡ resolve (named page first_places) block_top
   pub nbt : next.nbt ≡ resolve (named (page + length block_pages) last_places) node_top

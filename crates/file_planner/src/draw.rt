@@ -6,6 +6,7 @@ ghost use Rattle.alloc_map.specs.Slots.{IsLaid};
 ghost use Rattle.btree_pages.specs.Entries.{node_key};
 ghost use Rattle.file_blocks.specs.Blocks.{entry_key};
 ghost use Rattle.file_layout.specs.Nodes.{Lays, NodeMap};
+ghost use Rattle.lays_kept.specs.Stands.{last_map};
 ghost use Rattle.node_layout.specs.Joined.{node_id};
 ghost use Rattle.node_layout.specs.Pieces.{piece_place};
 ghost use Rattle.node_port.specs.declared.node.NodeRec.{NodeRec as NodeRecs};
@@ -26,7 +27,7 @@ use lays_kept::Piece;
 use node_store::{BLOCK_PAGE, NODE_PAGE};
 use plan_pieces::{growth, resolve_child, seal_pages};
 use pst_base::{Bid, Bref, Bytes, Place};
-use pst_commit::CommitPlan;
+use pst_commit::{CommitPlan, last_map};
 use pst_header::{Header, write};
 use ref_counts::RefChange;
 use std::alloc::{AllocError, Global};
@@ -226,7 +227,7 @@ pub(crate) fn finish(
     })
 }
 
-/// The header of the next commit, which vouches for no maps.
+/// The header of the next commit, which vouches for no maps. It names the map page of the last region.
 fn next_header(header: &Header, last: &[u32; 32], next: Numbers, made: &Pieces) -> Header
     requires { IsWritable header.now }
     ensures writable { IsWritable result }
@@ -238,6 +239,7 @@ fn next_header(header: &Header, last: &[u32; 32], next: Numbers, made: &Pieces) 
     ensures nbt { result.nbt ≡ made.now.nbt }
     ensures block { result.next_block ≡ next.block }
     ensures page { result.next_page ≡ next.page }
+    ensures map_page { result.amap_last ≡ last_map result.eof }
 {
     Header {
         unique: header.unique.wrapping_add(1),
@@ -245,6 +247,7 @@ fn next_header(header: &Header, last: &[u32; 32], next: Numbers, made: &Pieces) 
         next_page: next.page,
         indexes: *last,
         eof: made.end,
+        amap_last: last_map(made.end),
         nbt: made.nbt,
         bbt: made.bbt,
         maps: 0,

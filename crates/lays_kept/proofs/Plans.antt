@@ -33,6 +33,7 @@ maps_kept pieces header old new places writes clear is = record {
   exact = is.exact;
   pages = λ r lt. page_kept pieces old new r is.used writes (each_amap (λ p. IsClear pieces p.ib p.len) (regions_to header.eof) r lt clear) (is.pages r lt);
   free = is.free;
+  last = is.last;
 }
 
 -- what stands for nodes stands for them still

@@ -14,7 +14,7 @@ use Rattle.file_layout.specs.Trees.{IsPlace}
 use Rattle.file_layout.specs.Nodes.{Lays, places_of, regions_to, LARGEST}
 use Rattle.lays_kept.specs.Kept.{Each, SameAt, IsClear, HoldsEach, Scattered}
 use Rattle.lays_kept.specs.Saved.{region_end, SameTrees, map_pieces, HoldsMaps, last_byte, LaysSame, HasMaps}
-use Rattle.lays_kept.specs.Stands.{Maps, FileStands, Commits}
+use Rattle.lays_kept.specs.Stands.{last_map, Maps, FileStands, Commits}
 use Rattle.lays_kept.proofs.Kept.{each_front, lays_kept}
 use Rattle.lays_kept.proofs.Places.{each_append, lays_places, lays_wholes, scattered_same}
 use Rattle.lays_kept.proofs.Once.{apart_once}
@@ -158,7 +158,7 @@ pub record IsUnmapped {found bytes : List ℕ} {N : Nodes} {last : List ℕ} (is
   pub covered : IsCovered (occupied (places_of is.lays.blocks is.lays.nodes) 8192) used
 
 module _ {found bytes : List ℕ} {N : Nodes} {last : List ℕ} (is : FileStands found bytes N last) (new : Header) (sealed : List ℕ) (used : List Bool) (n : ℕ) (ready : IsUnmapped is used n) (follows : Follows is.header new sealed) (valid : new.maps ≡ 2) (end : new.eof ≡ is.header.eof)
-    (free : new.amap_free ≡ 64 * count_by not (take (3968 * n) used)) where
+    (free : new.amap_free ≡ 64 * count_by not (take (3968 * n) used)) (ends : new.amap_last ≡ last_map new.eof) where
   abbrev pub Mapping : List ℕ → Type 0
   Mapping file = Scattered (map_pieces n) bytes file
 
@@ -208,6 +208,7 @@ module _ {found bytes : List ℕ} {N : Nodes} {last : List ℕ} (is : FileStands
             page_front used n r (take 512 (drop (start_of (3968 * r)) (sealed ++ drop 564 file))) low
             (subst (IsMapPage used r) (sym (behind sealed file (start_of (3968 * r)) 512 follows.size (omega arith))) (holds r low));
         free = free ∙ ap (λ l. 64 * count_by not l) (sym whole);
+        last = ends;
       }
 
   pub mapped_same : (file : List ℕ) → Mapping file → Each (SameAt bytes (sealed ++ drop 564 file)) (places_of is.lays.blocks is.lays.nodes)

@@ -31,13 +31,18 @@ AreThose m N = (q : ℕ) → node_at N q ≡ node_with q m.nodes
 
 -- ---- the maps
 
--- The maps are those of the places that stand in the file: each region's page has a bit for each slot, set where a page or a block stands, and the header counts the bytes that are free.
+-- where the map page of the last region of a file stands
+abbrev pub last_map : ℕ → ℕ
+last_map eof = start_of (3968 * (regions_to eof - 1))
+
+-- The maps are those of the places that stand in the file: each region's page has a bit for each slot, set where a page or a block stands, and the header counts the bytes that are free and names the last of these pages.
 pub record Maps (header : Header) (file : List ℕ) (places : List Place) : Type 0 where
   pub used : List Bool
   pub size : length used ≡ 3968 * regions_to header.eof
   pub exact : IsCovered (occupied places (regions_to header.eof)) used
   pub pages : (r : ℕ) → r < regions_to header.eof → IsMapPage used r (take 512 (drop (start_of (3968 * r)) file))
   pub free : header.amap_free ≡ 64 * count_by not (take ((header.eof - 0x4400) / 64) used)
+  pub last : header.amap_last ≡ last_map header.eof
 
 -- the header doesn't vouch for the maps, or they are right, or the header is the one that was found at the opening
 abbrev pub MapsOk : List ℕ → Header → List ℕ → List Place → Type 0

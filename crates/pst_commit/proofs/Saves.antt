@@ -20,7 +20,7 @@ use Rattle.node_port.specs.Nodes.{Nodes}
 use Rattle.lays_kept.specs.declared.Piece.{Piece}
 use Rattle.lays_kept.specs.Kept.{Each, SameAt, HoldsEach, Scattered}
 use Rattle.lays_kept.specs.Saved.{region_end, SameTrees, map_pieces, HoldsMaps, last_byte, LaysSame, UsesJust, HasMaps}
-use Rattle.lays_kept.specs.Stands.{FileStands, Stands, Commits}
+use Rattle.lays_kept.specs.Stands.{FileStands, Stands, Commits, last_map}
 use Rattle.lays_kept.proofs.Gates.{shut_file}
 use Rattle.lays_kept.proofs.Saving.{Follows, IsUnmapped, same_regions, unmapped_commits, unmapped_lays, mapped_commits, mapped_lays, mapped_maps}
 use Rattle.pst_commit.specs.Commit.{IsApplied, LeavesNodes, Writes}
@@ -114,7 +114,7 @@ same_count : (a b : ℕ) → region_end a ≡ region_end b → a ≡ b
 same_count a b e = omega (arith, e)
 
 module _ (found : List ℕ) (header next : Header) (sealed : List ℕ) (n : ℕ) (old : Image) (N : Nodes) (used : List Bool) (rests : Rests found header old N) (regions : region_end n ≡ region_end (regions_to header.eof)) (none : header.maps ≡ 0) (end : header.eof ≡ region_end n)
-    (uses : UsesJust header (file_of old) used) (size : length sealed ≡ 564) (read : reading sealed ≡ Ok next) (trees : SameTrees header next) (valid : next.maps ≡ 2) (eof : next.eof ≡ header.eof) (free : next.amap_free ≡ 64 * count_by not (take (3968 * n) used)) where
+    (uses : UsesJust header (file_of old) used) (size : length sealed ≡ 564) (read : reading sealed ≡ Ok next) (trees : SameTrees header next) (valid : next.maps ≡ 2) (eof : next.eof ≡ header.eof) (free : next.amap_free ≡ 64 * count_by not (take (3968 * n) used)) (ends : next.amap_last ≡ last_map next.eof) where
   abbrev main_is : FileStands found old.main N header.indexes
   main_is = main_stands rests.shut rests.stands
 
@@ -141,13 +141,13 @@ module _ (found : List ℕ) (header next : Header) (sealed : List ℕ) (n : ℕ)
 
   pub maps_replace : Replaces found header next sealed old (Scattered (map_pieces n) old.main) (HoldsMaps used n) N
   maps_replace = record {
-    commits = mapped_commits main_is next sealed used n ready follows valid same_eof free;
+    commits = mapped_commits main_is next sealed used n ready follows valid same_eof free ends;
     lays = subst (λ (h : Header). (mid : List ℕ) → Scattered (map_pieces n) old.main mid → HoldsMaps used n mid → LaysSame h next old.main (sealed ++ drop 564 mid)) own
-        (mapped_lays main_is next sealed used n ready follows valid same_eof free);
+        (mapped_lays main_is next sealed used n ready follows valid same_eof free ends);
   }
 
   pub maps_hold : (mid : List ℕ) → Scattered (map_pieces n) old.main mid → HoldsMaps used n mid → HasMaps next (sealed ++ drop 564 mid)
-  maps_hold = mapped_maps main_is next sealed used n ready follows valid same_eof free
+  maps_hold = mapped_maps main_is next sealed used n ready follows valid same_eof free ends
 
 -- ---- no commit
 

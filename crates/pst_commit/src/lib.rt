@@ -15,6 +15,6 @@ mod writes;
 pub use apply::apply_pieces;
 pub use keeper::FileKeeper;
 pub use opening::close_gate;
-pub use save::write_maps;
+pub use save::{last_map, write_maps};
 pub use store::{CommitPlan, NodeStore};
 pub use writes::write_pieces;

@@ -9,6 +9,7 @@ ghost use Rattle.file_layout.specs.Nodes.{regions_to};
 ghost use Rattle.node_port.specs.Nodes.{Nodes};
 ghost use Rattle.lays_kept.specs.Kept.{HoldsEach, Scattered};
 ghost use Rattle.lays_kept.specs.Saved.{HasMaps, HoldsMaps, LaysSame, SameTrees, UsesJust, last_byte, map_pieces, region_end};
+ghost use Rattle.lays_kept.specs.Stands.{last_map};
 ghost use Rattle.pst_commit.specs.Commit.{LeavesNodes, Writes};
 ghost use Rattle.pst_commit.specs.Keeping.{CanSave};
 
@@ -40,6 +41,14 @@ pub(crate) fn region_end(regions: u32) -> u64
     FIRST + REGION * u64::from(regions)
 }
 
+/// Where the map page of the last region of a file of eof bytes stands ([MS-PST] 2.2.2.5, `ibAMapLast`).
+pub fn last_map(eof: u64) -> u64
+    ensures { result ≡ last_map eof }
+{
+    let bytes = eof.saturating_sub(FIRST).max(1);
+    FIRST + (bytes - 1) / REGION * REGION
+}
+
 /// The header of the next commit, which vouches for no maps, of a file that ends there.
 fn without_maps(header: &Header, end: u64) -> Header
     requires { IsWritable header.now }
@@ -56,7 +65,7 @@ fn without_maps(header: &Header, end: u64) -> Header
     }
 }
 
-/// The header of the next commit, which vouches for the maps, where so many bytes are free.
+/// The header of the next commit, which vouches for the maps and names the last of them, where so many bytes are free.
 fn with_maps(header: &Header, free: u64) -> Header
     requires { IsWritable header.now }
     ensures writable { IsWritable result }
@@ -64,8 +73,10 @@ fn with_maps(header: &Header, free: u64) -> Header
     ensures maps { result.maps ≡ 2 }
     ensures eof { result.eof ≡ header.now.eof }
     ensures free { result.amap_free ≡ free }
+    ensures last { result.amap_last ≡ last_map result.eof }
 {
     Header {
+        amap_last: last_map(header.eof),
         amap_free: free,
         maps: 2,
         unique: header.unique.wrapping_add(1),

@@ -18,7 +18,7 @@ returns-in_err-write_maps-clause-any_moment g c = λ settled found N none end ca
     let has = Scattered (map_pieces c.args.regions) old.here.main in
     let after : List ℕ → Type 0 = HoldsMaps c.args.slots.now c.args.regions in
     let replaces : old.tells → Replaces found header next sealed old.here has after N
-    = λ t. maps_replace found header next sealed c.args.regions old.here N c.args.slots.now (can.rests t) can.regions none end (uses t) size c.write-sealed.ensures.back c.with_maps-next.ensures.trees c.with_maps-next.ensures.maps c.with_maps-next.ensures.eof (c.with_maps-next.ensures.free ∙ c.free_bytes.ensures) in
+    = λ t. maps_replace found header next sealed c.args.regions old.here N c.args.slots.now (can.rests t) can.regions none end (uses t) size c.write-sealed.ensures.back c.with_maps-next.ensures.trees c.with_maps-next.ensures.maps c.with_maps-next.ensures.eof (c.with_maps-next.ensures.free ∙ c.free_bytes.ensures) c.with_maps-next.ensures.last in
     let trees = c.with_maps-next.ensures.trees in
     let shut : old.tells → IsShut old.here.side = λ t. (can.rests t).shut in
     let commits : old.tells → Commits found has after sealed N header.indexes N next.indexes = λ t. (replaces t).commits in
@@ -36,7 +36,7 @@ returns-in_err-commit_header-clause-any_moment g c = λ settled found N none end
     let has = Scattered (map_pieces c.args.regions) old.here.main in
     let after : List ℕ → Type 0 = HoldsMaps c.args.slots.now c.args.regions in
     let replaces : old.tells → Replaces found header next sealed old.here has after N
-    = λ t. maps_replace found header next sealed c.args.regions old.here N c.args.slots.now (can.rests t) can.regions none end (uses t) size c.write-sealed.ensures.back c.with_maps-next.ensures.trees c.with_maps-next.ensures.maps c.with_maps-next.ensures.eof (c.with_maps-next.ensures.free ∙ c.free_bytes.ensures) in
+    = λ t. maps_replace found header next sealed c.args.regions old.here N c.args.slots.now (can.rests t) can.regions none end (uses t) size c.write-sealed.ensures.back c.with_maps-next.ensures.trees c.with_maps-next.ensures.maps c.with_maps-next.ensures.eof (c.with_maps-next.ensures.free ∙ c.free_bytes.ensures) c.with_maps-next.ensures.last in
     let trees = c.with_maps-next.ensures.trees in
     let shut : old.tells → IsShut old.here.side = λ t. (can.rests t).shut in
     let commits : old.tells → Commits found has after sealed N header.indexes N next.indexes = λ t. (replaces t).commits in
@@ -57,7 +57,7 @@ returns-clause-any_moment g c = λ settled found N none end can uses.
     let has = Scattered (map_pieces c.args.regions) old.here.main in
     let after : List ℕ → Type 0 = HoldsMaps c.args.slots.now c.args.regions in
     let replaces : old.tells → Replaces found header next sealed old.here has after N
-    = λ t. maps_replace found header next sealed c.args.regions old.here N c.args.slots.now (can.rests t) can.regions none end (uses t) size c.write-sealed.ensures.back c.with_maps-next.ensures.trees c.with_maps-next.ensures.maps c.with_maps-next.ensures.eof (c.with_maps-next.ensures.free ∙ c.free_bytes.ensures) in
+    = λ t. maps_replace found header next sealed c.args.regions old.here N c.args.slots.now (can.rests t) can.regions none end (uses t) size c.write-sealed.ensures.back c.with_maps-next.ensures.trees c.with_maps-next.ensures.maps c.with_maps-next.ensures.eof (c.with_maps-next.ensures.free ∙ c.free_bytes.ensures) c.with_maps-next.ensures.last in
     let trees = c.with_maps-next.ensures.trees in
     let shut : old.tells → IsShut old.here.side = λ t. (can.rests t).shut in
     let commits : old.tells → Commits found has after sealed N header.indexes N next.indexes = λ t. (replaces t).commits in
@@ -78,7 +78,7 @@ returns-clause-keeps g c = λ found N none end can uses.
     let has = Scattered (map_pieces c.args.regions) old.here.main in
     let after : List ℕ → Type 0 = HoldsMaps c.args.slots.now c.args.regions in
     let replaces : old.tells → Replaces found header next sealed old.here has after N
-    = λ t. maps_replace found header next sealed c.args.regions old.here N c.args.slots.now (can.rests t) can.regions none end (uses t) size c.write-sealed.ensures.back c.with_maps-next.ensures.trees c.with_maps-next.ensures.maps c.with_maps-next.ensures.eof (c.with_maps-next.ensures.free ∙ c.free_bytes.ensures) in
+    = λ t. maps_replace found header next sealed c.args.regions old.here N c.args.slots.now (can.rests t) can.regions none end (uses t) size c.write-sealed.ensures.back c.with_maps-next.ensures.trees c.with_maps-next.ensures.maps c.with_maps-next.ensures.eof (c.with_maps-next.ensures.free ∙ c.free_bytes.ensures) c.with_maps-next.ensures.last in
     let trees = c.with_maps-next.ensures.trees in
     let shut : old.tells → IsShut old.here.side = λ t. (can.rests t).shut in
     let commits : old.tells → Commits found has after sealed N header.indexes N next.indexes = λ t. (replaces t).commits in
@@ -93,7 +93,7 @@ returns-clause-keeps g c = λ found N none end can uses.
         rests = λ t. rests_next (can.rests (back t)) (replaces (back t)) size c.write-sealed.ensures.back (applied t);
         regions = end_stays header.eof (region_end c.args.regions) next.eof can.regions (c.with_maps-next.ensures.eof ∙ end);
       },
-      λ t. (lays_next (can.rests (back t)) (replaces (back t)) (applied t), now_so (HasMaps next) (applied t) (maps_hold found header next sealed c.args.regions old.here N c.args.slots.now (can.rests (back t)) can.regions none end (uses (back t)) size c.write-sealed.ensures.back c.with_maps-next.ensures.trees c.with_maps-next.ensures.maps c.with_maps-next.ensures.eof (c.with_maps-next.ensures.free ∙ c.free_bytes.ensures) (applied t).mid (applied t).file.0 (applied t).file.1)),
+      λ t. (lays_next (can.rests (back t)) (replaces (back t)) (applied t), now_so (HasMaps next) (applied t) (maps_hold found header next sealed c.args.regions old.here N c.args.slots.now (can.rests (back t)) can.regions none end (uses (back t)) size c.write-sealed.ensures.back c.with_maps-next.ensures.trees c.with_maps-next.ensures.maps c.with_maps-next.ensures.eof (c.with_maps-next.ensures.free ∙ c.free_bytes.ensures) c.with_maps-next.ensures.last (applied t).mid (applied t).file.0 (applied t).file.1)),
     )
 
 pub returns-clause-shut : goal.returns-clause-shut
