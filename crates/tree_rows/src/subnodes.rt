@@ -1,22 +1,25 @@
-//! Subnodes by the layout of [MS-PST] 2.2.2.8.3.3.
+//! Trees of subnodes.
 ghost use Rattle.std.specs.Prelude.{◌≡◌, ◌≤◌, ◌<◌, ◌+◌, ◌*◌, [], ◌∷◌, length, IfOk};
 ghost use Rattle.data_tree.specs.Plan.{MayKeep};
 ghost use Rattle.subnode_tree.specs.Plan.{IsForm};
 
+use crate::lists::{push_blocks, stopped};
 use data_tree::{BlockList, TreeStop};
 use pst_base::{Bid, Blocks, Bytes, MemOr, Nid, Sub, Subs};
 use std::alloc::{AllocError, Global};
+use std::fmt::Write;
 use subnode_tree::{
-    Kept, count_subs, plan_subs, plan_subs_keep, read_sub_bids, read_sub_keys, read_subs,
+    Kept, SubPlan, count_subs, plan_subs, plan_subs_keep, read_sub_bids, read_sub_keys, read_subs,
 };
+use test_lines::{Trouble, Words};
 
-/// How many subnodes there are; how many blocks they have from the id 4 on, the id of the root, and the number of the next block.
-const LISTS: [(u32, usize, u64, u64); 4] = [
-    (0, 0, 0, 4),
-    (1, 2, 10, 12),
-    (340, 341, 1366, 1368),
-    (341, 344, 1378, 1380),
-];
+pub fn answer(alloc: Global, kind: &str, words: &mut Words) -> Result<String, Trouble> {
+    match kind {
+        "subnodes" => ask_subnodes(alloc, words),
+        "subnodes-kept" => ask_kept(alloc),
+        _ => Err(Trouble::Spelling),
+    }
+}
 
 /// A subnode with a block of one byte, and with none below it.
 fn sub(alloc: Global, nid: u32, byte: u8) -> Result<Sub, AllocError>
@@ -72,45 +75,45 @@ fn same(a: &[Sub], b: &[Sub]) -> bool {
         })
 }
 
-#[test]
-fn subnodes_have_a_root_and_read_back(rt: HostRuntime) -> Result<(), MemOr<TreeStop>> {
-    for (count, blocks, root, next) in LISTS {
-        let subs = flat(rt.alloc(), count.min(341))?;
-        let plan = plan_subs(rt.alloc(), &subs, 4)?;
-        assert_eq!(rt; plan.blocks.len(), blocks);
-        assert_eq!(rt; plan.bid, Bid { bits: root });
-        assert_eq!(rt; plan.next, next);
-        let mut s = BlockList {
-            blocks: plan.blocks,
-            limit: 24 * u64::from(count),
-        };
-        let read = read_subs(rt.alloc(), plan.bid, &mut s)?;
-        assert!(rt; same(read.as_slice(), subs.as_slice()), "{count} subnodes");
-        let counted = count_subs(rt.alloc(), plan.bid, &mut s)?;
-        assert_eq!(rt; counted, u64::from(count));
-        let bids = read_sub_bids(rt.alloc(), plan.bid, &mut s)?;
-        assert_eq!(rt; bids.len(), count as usize);
-        assert_eq!(rt; read_sub_keys(rt.alloc(), plan.bid, &mut s)?.len(), blocks);
-    }
+/// How many subnodes and blocks a plan has that reads back as some subnodes.
+fn push_read(
+    alloc: Global,
+    text: &mut String,
+    plan: SubPlan,
+    subs: &[Sub],
+) -> Result<(), MemOr<TreeStop>> {
+    let mut s = BlockList {
+        blocks: plan.blocks,
+        limit: 1 << 32,
+    };
+    let read = read_subs(alloc, plan.bid, &mut s)?;
+    let counted = count_subs(alloc, plan.bid, &mut s)?;
+    let bids = read_sub_bids(alloc, plan.bid, &mut s)?.len();
+    let keys = read_sub_keys(alloc, plan.bid, &mut s)?.len();
+    let word = if same(read.as_slice(), subs) {
+        "same"
+    } else {
+        "other"
+    };
+    write!(text, ", reads {word} {counted} {bids} {keys}")?;
     Ok(())
 }
 
-#[test]
-fn a_kept_block_is_named_and_not_written(rt: HostRuntime) -> Result<(), AllocError> {
-    let list: [u8; 32] = [
-        2, 0, 1, 0, 0, 0, 0, 0, 0x21, 0, 0, 0, 0, 0, 0, 0, 4, 0, 0, 0, 0, 0, 0, 0, 0, 0, 0, 0, 0,
-        0, 0, 0,
-    ];
-    let subs = single(rt.alloc(), 7)?;
-    let keep = [kept(rt.alloc())?];
-    let plan = plan_subs_keep(rt.alloc(), &subs, &keep, 8)?;
-    assert_eq!(rt; plan.next, 12);
-    let [block] = plan.blocks.as_slice() else {
-        panic!(rt; "{} blocks", plan.blocks.len());
-    };
-    assert_eq!(rt; block.0, Bid { bits: 10 });
-    assert_eq!(rt; block.1.as_slice(), list.as_slice());
-    Ok(())
+/// The blocks that are planned from the id 4 on for so many subnodes: how many they are, the id of the root, the number of the next block, and what reads back.
+fn ask_subnodes(alloc: Global, words: &mut Words) -> Result<String, Trouble> {
+    let count = words.id()?;
+    if count > 341 {
+        return Err(Trouble::Spelling);
+    }
+    let subs = flat(alloc, count)?;
+    let plan = plan_subs(alloc, &subs, 4)?;
+    let mut text = String::new(alloc);
+    let (blocks, root, next) = (plan.blocks.len(), plan.bid.bits, plan.next);
+    write!(text, "{blocks} {root} {next}")?;
+    match push_read(alloc, &mut text, plan, subs.as_slice()) {
+        Ok(()) => Ok(text),
+        Err(stop) => Err(stopped(stop)),
+    }
 }
 
 /// That the block 4 is kept.
@@ -120,4 +123,16 @@ fn kept(alloc: Global) -> Result<Kept, AllocError>
     let mut bids = Vec::new(alloc);
     bids.push(Some(Bid { bits: 4 }))?;
     Ok(Kept::from_vec(bids))
+}
+
+/// The blocks that are planned from the id 8 on for one subnode, whose data stays in the block 4.
+fn ask_kept(alloc: Global) -> Result<String, Trouble> {
+    let subs = single(alloc, 7)?;
+    let keep = [kept(alloc)?];
+    let plan = plan_subs_keep(alloc, &subs, &keep, 8)?;
+    let mut text = String::new(alloc);
+    let next = plan.next;
+    write!(text, "{next}")?;
+    push_blocks(&mut text, plan.blocks.as_slice())?;
+    Ok(text)
 }
