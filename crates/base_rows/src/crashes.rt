@@ -28,18 +28,39 @@ fn step(alloc: Global, world: &mut MemWorld, word: &str) -> Result<(), Trouble> 
     }
 }
 
-/// What a crash leaves of a file after some writes: as it was synced, as it was written, and with junk in what wasn't synced.
+/// Follows each of some steps.
+fn follow(alloc: Global, world: &mut MemWorld, steps: &str) -> Result<(), Trouble> {
+    for word in steps.split(' ') {
+        step(alloc, world, word)?;
+    }
+    Ok(())
+}
+
+/// Adds what a crash leaves of the file by this pick.
+fn push_left(
+    alloc: Global,
+    text: &mut String,
+    world: &MemWorld,
+    pick: Pick,
+) -> Result<(), Trouble> {
+    let left = world.crash(alloc, Part::Main, pick)?;
+    Ok(push_bytes(text, left.as_slice())?)
+}
+
+/// What a crash leaves of the file: as it was synced, as it was written, and with junk in what wasn't synced.
+fn left(alloc: Global, world: &MemWorld) -> Result<String, Trouble> {
+    let mut text = String::new(alloc);
+    push_left(alloc, &mut text, world, Pick::Old)?;
+    text.push(' ')?;
+    push_left(alloc, &mut text, world, Pick::New)?;
+    text.push(' ')?;
+    push_left(alloc, &mut text, world, Pick::Junk)?;
+    Ok(text)
+}
+
+/// What a crash leaves of a file after some writes.
 pub fn answer(alloc: Global, words: &mut Words) -> Result<String, Trouble> {
     let mut world = world(alloc, words.bytes(alloc)?)?;
-    for word in words.rest().split(' ') {
-        step(alloc, &mut world, word)?;
-    }
-    let mut text = String::new(alloc);
-    let mut before = "";
-    for pick in [Pick::Old, Pick::New, Pick::Junk] {
-        text.push_str(before)?;
-        push_bytes(&mut text, world.crash(alloc, Part::Main, pick)?.as_slice())?;
-        before = " ";
-    }
-    Ok(text)
+    follow(alloc, &mut world, words.rest())?;
+    left(alloc, &world)
 }

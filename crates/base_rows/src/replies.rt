@@ -2,7 +2,7 @@
 use crate::values::tag;
 use command_text::{CommandRefusal, DataLine, DataLines, LastLine, Reply, reply_text};
 use mapi_values::{Units, parse_units};
-use pst_base::{MemOr, Nid};
+use pst_base::{Bytes, MemOr, Nid};
 use std::alloc::Global;
 use std::str;
 use test_lines::{Trouble, Words};
@@ -20,37 +20,60 @@ fn nid(words: &mut Words) -> Result<Nid, Trouble> {
     Ok(Nid { bits: words.id()? })
 }
 
+fn search(alloc: Global, words: &mut Words) -> Result<DataLine, Trouble> {
+    let id = nid(words)?;
+    let name = units(alloc, words.rest())?;
+    Ok(DataLine::Search { id, name })
+}
+
+fn foreign(alloc: Global, words: &mut Words) -> Result<DataLine, Trouble> {
+    let id = nid(words)?;
+    let name = units(alloc, words.rest())?;
+    Ok(DataLine::Foreign { id, name })
+}
+
+fn message(alloc: Global, words: &mut Words) -> Result<DataLine, Trouble> {
+    let id = nid(words)?;
+    let size = words.id()?;
+    let subject = units(alloc, words.rest())?;
+    Ok(DataLine::Message { id, size, subject })
+}
+
+fn recipient(alloc: Global, words: &mut Words) -> Result<DataLine, Trouble> {
+    let row = words.id()?;
+    let kind = words.id()?;
+    let address = units(alloc, words.word()?)?;
+    let name = units(alloc, words.rest())?;
+    Ok(DataLine::Recipient {
+        row,
+        kind,
+        address,
+        name,
+    })
+}
+
+fn attachment(alloc: Global, words: &mut Words) -> Result<DataLine, Trouble> {
+    let id = nid(words)?;
+    let len = words.number()?;
+    let name = units(alloc, words.rest())?;
+    Ok(DataLine::Attachment { id, len, name })
+}
+
+fn property(words: &mut Words) -> Result<DataLine, Trouble> {
+    let tag = tag(words.word()?)?;
+    let len = words.number()?;
+    Ok(DataLine::Property { tag, len })
+}
+
 /// The line of data that words say.
 fn line(alloc: Global, sort: &str, words: &mut Words) -> Result<DataLine, Trouble> {
     match sort {
-        "search" => Ok(DataLine::Search {
-            id: nid(words)?,
-            name: units(alloc, words.rest())?,
-        }),
-        "foreign" => Ok(DataLine::Foreign {
-            id: nid(words)?,
-            name: units(alloc, words.rest())?,
-        }),
-        "message" => Ok(DataLine::Message {
-            id: nid(words)?,
-            size: words.id()?,
-            subject: units(alloc, words.rest())?,
-        }),
-        "rcpt" => Ok(DataLine::Recipient {
-            row: words.id()?,
-            kind: words.id()?,
-            address: units(alloc, words.word()?)?,
-            name: units(alloc, words.rest())?,
-        }),
-        "attach" => Ok(DataLine::Attachment {
-            id: nid(words)?,
-            len: words.number()?,
-            name: units(alloc, words.rest())?,
-        }),
-        "property" => Ok(DataLine::Property {
-            tag: tag(words.word()?)?,
-            len: words.number()?,
-        }),
+        "search" => search(alloc, words),
+        "foreign" => foreign(alloc, words),
+        "message" => message(alloc, words),
+        "rcpt" => recipient(alloc, words),
+        "attach" => attachment(alloc, words),
+        "property" => property(words),
         _ => Err(Trouble::Spelling),
     }
 }
@@ -85,12 +108,23 @@ fn reply(alloc: Global, words: &mut Words) -> Result<Reply, Trouble> {
     }
 }
 
+/// The text of the reply that words say.
+fn said(alloc: Global, words: &mut Words) -> Result<Bytes, Trouble> {
+    let reply = reply(alloc, words)?;
+    Ok(reply_text(alloc, &reply)?)
+}
+
 /// The text of a reply, with each LF as `\n`.
 pub fn answer(alloc: Global, words: &mut Words) -> Result<String, Trouble> {
-    let bytes = reply_text(alloc, &reply(alloc, words)?)?;
-    let Ok(said) = str::from_utf8(bytes.as_slice()) else {
-        return Err(Trouble::Spelling);
-    };
+    let said = said(alloc, words)?;
+    match str::from_utf8(said.as_slice()) {
+        Ok(said) => escaped(alloc, said),
+        Err(_) => Err(Trouble::Spelling),
+    }
+}
+
+/// A text with each LF as `\n`.
+fn escaped(alloc: Global, said: &str) -> Result<String, Trouble> {
     let mut text = String::new(alloc);
     for letter in said.chars() {
         if letter == '\n' {

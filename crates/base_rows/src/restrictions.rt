@@ -115,11 +115,20 @@ fn delta_word(delta: Delta) -> &'static str {
     }
 }
 
+/// What a change of a message does to the list of a search with that restriction.
+fn touch_word(
+    alloc: Global,
+    restriction: &Restriction,
+    words: &mut Words,
+) -> Result<&'static str, Trouble> {
+    let old = touched(alloc, words)?;
+    let new = touched(alloc, words)?;
+    Ok(delta_word(delta(restriction, old.as_ref(), new.as_ref())))
+}
+
 /// What a change of a message does to the list of a search.
 fn ask_touch(alloc: Global, words: &mut Words) -> Result<String, Trouble> {
     let restriction = restriction(alloc, words)?;
-    let old = touched(alloc, words)?;
-    let new = touched(alloc, words)?;
-    let word = delta_word(delta(&restriction, old.as_ref(), new.as_ref()));
+    let word = touch_word(alloc, &restriction, words)?;
     Ok(String::from_str(alloc, word)?)
 }

@@ -103,7 +103,13 @@ fn criteria_after(
 fn ask_change(alloc: Global, words: &mut Words) -> Result<String, Trouble> {
     let flags = flags(words)?;
     let object = props(alloc, words.rest())?;
-    match criteria_after(alloc, &object, flags)? {
+    let after = criteria_after(alloc, &object, flags)?;
+    object_text(alloc, object, after)
+}
+
+/// The object with these criteria, or that the line was refused.
+fn object_text(alloc: Global, object: Props, after: Option<Criteria>) -> Result<String, Trouble> {
+    match after {
         Some(after) => props_text(alloc, &write_search(alloc, object, &after)?),
         None => Ok(String::from_str(alloc, "refused")?),
     }
@@ -146,10 +152,15 @@ fn set(alloc: Global, values: &str) -> Result<CriteriaSet, Trouble> {
     criteria(alloc, &object)?.set.ok_or(Trouble::Spelling)
 }
 
+/// The folders that a search is about, among these.
+fn folders(alloc: Global, set: &CriteriaSet, words: &str) -> Result<Vec<Nid>, Trouble> {
+    let plain = pairs(alloc, words)?;
+    Ok(scope_of(alloc, set, plain.as_slice())?)
+}
+
 /// The folders that a search is about.
 fn ask_scope(alloc: Global, words: &mut Words) -> Result<String, Trouble> {
     let set = set(alloc, words.part().rest())?;
-    let plain = pairs(alloc, words.rest())?;
-    let folders = scope_of(alloc, &set, plain.as_slice())?;
+    let folders = folders(alloc, &set, words.rest())?;
     ids_text(alloc, folders.as_slice())
 }
