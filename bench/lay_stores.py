@@ -341,10 +341,15 @@ def few_columns():
     return store({}, {0x200024: (props, subs)})
 
 
-def many_recipients():
-    """A message with one recipient fewer than a command may bring it to, in a table without columns for them."""
+def many_rows():
+    """One table of 99,999 rows, one fewer than a command may bring a table to, without columns for them: as the recipients of a message, and as the messages of 0x8062, where its rows name nothing."""
     props = {(0x001A, 0x1F): text("IPM.Note"), (0x0E07, 3): u32(0), (0x0E08, 3): u32(0)}
-    return store({}, {0x200024: (props, {0x692: table(Columns([]), {row: {} for row in range(99_999)})})})
+    s = laid({}, {0x200024: (props, {})})
+    heap, below = table(Columns([]), {32 * row + 8: {} for row in range(1, 100_000)})
+    rows = s.data(heap), {nid: (s.data(blocks), {}) for nid, (blocks, _) in below.items()}
+    s.node(0x806E, rows[0], subs=rows[1])
+    s.node(0x200024, s.nodes[0x200024][0], parent=0x8022, subs={0x692: rows})
+    return s.bytes({2: 0x403, 3: 0x4000, 4: 0x10001, 8: 0x8000})
 
 
 def unknown(inner):
@@ -398,7 +403,7 @@ if __name__ == "__main__":
         ("full_names.pst", full_names()),
         ("crowded_names.pst", crowded_names()),
         ("few_columns.pst", few_columns()),
-        ("many_recipients.pst", many_recipients()),
+        ("many_rows.pst", many_rows()),
         ("other_programs.pst", other_programs()),
         ("many_values.pst", many_values()),
         ("large_attachment.pst", large_attachment()),
