@@ -1,11 +1,11 @@
 #!/bin/sh
-# Prints how many commits a second `new`, `set` of a subject and `set` of a body of 10,000 bytes come to in a file, how many bytes each writes, and beside them how many a second a bare loop of the same writes and five syncs comes to.
+# Prints how many commits a second `new`, `set` of a subject and `set` of a body of 10,000 bytes come to in a file, how many bytes each writes, and beside them how many a second a bare loop of the same writes and five syncs comes to, and SQLite with a write-ahead log for the same values.
 # Then how long the opening of a file takes beside reading it with zlib's crc, and how much memory it needs.
 # Files are made in the folder that is named (default: a temporary one of the system), so that its disk is measured.
 # Needs crates/pstore/out/pstore, which ./pstore builds.
 cd "$(dirname "$0")/.." || exit 1
 exec python3 - crates/pstore/out/pstore "${1:-}" <<'END'
-import os, resource, subprocess, sys, tempfile, time, zlib
+import os, resource, sqlite3, subprocess, sys, tempfile, time, zlib
 
 COMMITS = 200
 FOLDER, MESSAGE = "0x8082", "0x200024"
@@ -66,6 +66,23 @@ def bare(size):
     return COMMITS / took
 
 
+def write_ahead(size):
+    """SQLite's commits of one row with so many bytes, each of which is stable before the next begins."""
+    base = sqlite3.connect(path + ".db", isolation_level=None)
+    for line in "pragma journal_mode = wal", "pragma synchronous = full", "create table mail (id integer primary key, value blob)":
+        base.execute(line)
+    start = time.perf_counter()
+    for i in range(COMMITS):
+        base.execute("insert or replace into mail values (?, ?)", (i % 100, os.urandom(size)))
+    took = time.perf_counter() - start
+    base.close()
+    for end in "", "-wal", "-shm":
+        if os.path.exists(path + ".db" + end):
+            os.remove(path + ".db" + end)
+    return COMMITS / took
+
+
+VALUES = {"new": 100, "set": 10, "body": 2 * len(BODY)}  # how many bytes of values a commit puts
 for name, line in {"new": f"new {FOLDER} IPM.Note 0", "set": f"set {MESSAGE} 0x0037001f Hello", "body": f"set {MESSAGE} 0x1000001f {BODY}"}.items():
     session = make()
     before, start = session.written(), time.perf_counter()
@@ -73,7 +90,7 @@ for name, line in {"new": f"new {FOLDER} IPM.Note 0", "set": f"set {MESSAGE} 0x0
         session.ask(line)
     took, size = time.perf_counter() - start, (session.written() - before) // COMMITS
     session.end()
-    print(f"{name:5} {COMMITS / took:8.0f} commits/s {size:8} bytes a commit, bare loop {bare(max(size - 1_145, 1)):8.0f} commits/s")
+    print(f"{name:5} {COMMITS / took:8.0f} commits/s {size:8} bytes a commit, bare loop {bare(max(size - 1_145, 1)):8.0f} commits/s, SQLite {write_ahead(VALUES[name]):8.0f} commits/s")
 
 for megabytes in 30, 500:
     session = make()

@@ -1,0 +1,56 @@
+#!/bin/sh
+# Makes a store of several regions with mail in it, and has other readers of .pst files read it: libpst's `readpst` and libpff's `pffexport`, where they are installed (Debian: pst-utils and pff-tools).
+# Says of each what of the mail it found, and what not.
+# Needs crates/pstore/out/pstore, which ./pstore builds, or the program named by PSTORE.
+cd "$(dirname "$0")/.." || exit 1
+exec python3 - "${PSTORE:-crates/pstore/out/pstore}" <<'END'
+import base64, os, shutil, subprocess, sys, tempfile
+
+program, folder = sys.argv[1], tempfile.mkdtemp()
+path = os.path.join(folder, "mail.pst")
+DATA = bytes(i * i % 251 for i in range(800_000))  # fills some regions
+LINES = [
+    "mkdir 0x8022 Inbox", "mkdir 0x8082 Projects", "new 0x8082 IPM.Note 133500000000000000",
+    "set 0x200024 0x0037001f Hello", "set 0x200024 0x1000001f Body of the first", "set 0x200024 0x0c1a001f Alice", "set 0x200024 0x0042001f Alice",
+    "rcpt 0x200024 1 bob@example.org Bob", "rcpt 0x200024 2 carol@example.org Carol", "attach 0x200024 note.txt 48656c6c6f",
+    "new 0x80a2 IPM.Note 133500000000000000", "set 0x200044 0x0037001f Second", "attach 0x200044 big.bin " + DATA[:400_000].hex(), "append 0x200044 0x8025 " + DATA[400_000:].hex(),
+    "name 0329060000000000c000000000000046 0x8554",  # libpff wants a name that is known
+    "save",
+]
+subprocess.run([program, "new", path, "Mail"], check=True, stdout=subprocess.DEVNULL)
+said = subprocess.run([program, "run", path], input="".join(line + "\n" for line in LINES).encode(), check=True, stdout=subprocess.PIPE).stdout
+assert b"no " not in said, said
+
+
+def texts(of):
+    """The bytes of all that stands in a folder, with the names."""
+    found = b""
+    for at, folders, files in os.walk(of):
+        found += "\n".join([at, *folders, *files]).encode()
+        for name in files:
+            with open(os.path.join(at, name), "rb") as it:
+                found += it.read()
+    return found
+
+
+def tell(reader, words, wanted):
+    if not shutil.which(reader):
+        return print(f"{reader:10} is not installed")
+    to = os.path.join(folder, reader)
+    os.makedirs(to)
+    done = subprocess.run([reader, *words(to), path], stdout=subprocess.PIPE, stderr=subprocess.STDOUT)
+    found = texts(to)
+    lost = [name for name, it in wanted.items() if it not in found]
+    print(f"{reader:10} status {done.returncode}, " + (f"not found: {', '.join(lost)}" if lost else f"all found: {', '.join(wanted)}"))
+
+
+def lines_of(data):
+    """The first lines of data in base64, as mail has them."""
+    return base64.b64encode(data[:57])
+
+
+SAID = {"folders": b"Projects", "subjects": b"Second", "body": b"Body of the first", "sender": b"Alice"}
+tell("readpst", lambda to: ["-q", "-M", "-o", to], SAID | {"attachment": base64.b64encode(b"Hello"), "long attachment": lines_of(DATA)})
+tell("pffexport", lambda to: ["-q", "-t", os.path.join(to, "all")], SAID | {"recipients": b"carol@example.org", "attachment": b"Hello", "long attachment": DATA})
+shutil.rmtree(folder)
+END
