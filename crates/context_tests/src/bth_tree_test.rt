@@ -45,6 +45,11 @@ fn a_leaf_holds_as_many_records_as_fit(rt: HostRuntime) -> Result<(), Fail> {
         view.item(hid).expect(&rt, "a header") == [0xB5, 2, 6, 0, 0x20, 0, 0, 0].as_slice()
     );
     assert!(rt; view.item(0x20).expect(&rt, "a leaf").len() == 3576);
+    Ok(())
+}
+
+#[test]
+fn records_that_fit_no_leaf_have_two(rt: HostRuntime) -> Result<(), Fail> {
     let (two, hid) = made(rt.alloc(), 448)?;
     let view = HeapView::read(two.as_slice()).expect(&rt, "a heap");
     assert!(rt;
@@ -55,6 +60,13 @@ fn a_leaf_holds_as_many_records_as_fit(rt: HostRuntime) -> Result<(), Fail> {
         view.item(0x60).expect(&rt, "pairs")
             == [0, 0, 0x20, 0, 0, 0, 0xBF, 1, 0x40, 0, 0, 0].as_slice()
     );
+    Ok(())
+}
+
+#[test]
+fn records_of_two_leaves_read_back(rt: HostRuntime) -> Result<(), Fail> {
+    let (two, hid) = made(rt.alloc(), 448)?;
+    let view = HeapView::read(two.as_slice()).expect(&rt, "a heap");
     assert!(rt;
         bth_read(rt.alloc(), &view, hid, 2, 6)
             .expect(&rt, "a tree")
@@ -68,6 +80,11 @@ fn a_leaf_holds_as_many_records_as_fit(rt: HostRuntime) -> Result<(), Fail> {
             == [196, 1, 2, 3, 4, 5].as_slice()
     );
     assert!(rt; bth_find(&view, hid, 448).expect(&rt, "a tree").is_none());
+    Ok(())
+}
+
+#[test]
+fn a_tree_may_have_no_records(rt: HostRuntime) -> Result<(), Fail> {
     let (none, hid) = made(rt.alloc(), 0)?;
     let view = HeapView::read(none.as_slice()).expect(&rt, "a heap");
     assert!(rt; view.item(hid).expect(&rt, "a header") == [0xB5, 2, 6, 0, 0, 0, 0, 0].as_slice());
@@ -81,6 +98,35 @@ fn a_leaf_holds_as_many_records_as_fit(rt: HostRuntime) -> Result<(), Fail> {
 
 /// What a row of a table expects of a tree: no tree, or so many records, with the entry of key 3 if there is one.
 type Expected = Option<(usize, Option<u8>)>;
+
+/// A heap with two leaves, an inner item, an empty one and a tree's header, and the heap id of that.
+fn by_hand(
+    alloc: Global,
+    leaf: [u8; 4],
+    inner: [u8; 10],
+    level: u8,
+    root: u8,
+) -> Result<(Blocks, u32), AllocError> {
+    let mut maker = HeapMaker::new(alloc);
+    maker.add(&leaf)?;
+    maker.add(&[3, 30, 4, 40])?;
+    maker.add(&inner)?;
+    maker.add(&[])?;
+    let hid = maker.add(&[0xB5, 1, 1, level, root, 0, 0, 0])?;
+    Ok((maker.finish(0xBC, hid)?, hid))
+}
+
+/// What is read of a tree, as a row tells it. Reading all and finding one are refused together.
+fn told(alloc: Global, view: &HeapView, hid: u32) -> Result<Expected, Fail> {
+    match (bth_read(alloc, view, hid, 1, 1), bth_find(view, hid, 3)) {
+        (Ok(records), Ok(entry)) => {
+            let first = entry.and_then(|bytes| bytes.first().copied());
+            Ok(Some((records.len(), first)))
+        }
+        (Err(_), Err(_)) => Ok(None),
+        _ => Err(Fail::from("one of both is refused")),
+    }
+}
 
 #[test]
 fn a_tree_with_a_mistake_is_refused(rt: HostRuntime) -> Result<(), Fail> {
@@ -97,26 +143,9 @@ fn a_tree_with_a_mistake_is_refused(rt: HostRuntime) -> Result<(), Fail> {
         ([1, 10, 2, 20], pairs, 2, 0x60, None),
     ];
     for (leaf, inner, level, root, expected) in rows {
-        let mut maker = HeapMaker::new(rt.alloc());
-        maker.add(&leaf)?;
-        maker.add(&[3, 30, 4, 40])?;
-        maker.add(&inner)?;
-        maker.add(&[])?;
-        let hid = maker.add(&[0xB5, 1, 1, level, root, 0, 0, 0])?;
-        let blocks = maker.finish(0xBC, hid)?;
+        let (blocks, hid) = by_hand(rt.alloc(), leaf, inner, level, root)?;
         let view = HeapView::read(blocks.as_slice()).expect(&rt, "a heap");
-        let read = bth_read(rt.alloc(), &view, hid, 1, 1);
-        let found = bth_find(&view, hid, 3);
-        match expected {
-            None => assert!(rt; read.is_err() && found.is_err()),
-            Some((count, entry)) => {
-                assert!(rt; read.expect(&rt, "a tree").len() == count);
-                let first = found
-                    .expect(&rt, "a tree")
-                    .map(|bytes| bytes.first().copied());
-                assert!(rt; first.flatten() == entry);
-            }
-        }
+        assert!(rt; told(rt.alloc(), &view, hid)? == expected);
     }
     Ok(())
 }

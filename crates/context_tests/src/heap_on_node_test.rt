@@ -47,15 +47,24 @@ fn heads_depend_on_the_block(rt: HostRuntime) -> Result<(), Fail> {
     Ok(())
 }
 
+/// A heap of items of one byte, of 3580 bytes three times, and of none, and their heap ids.
+fn five(alloc: Global) -> Result<(Blocks, [u32; 5]), AllocError> {
+    let mut maker = HeapMaker::new(alloc);
+    let first = maker.add(&ITEM[..1])?;
+    let second = maker.add(&ITEM)?;
+    let third = maker.add(&ITEM)?;
+    let fourth = maker.add(&ITEM)?;
+    let fifth = maker.add(&ITEM[..0])?;
+    Ok((
+        maker.finish(0xBC, 0x40)?,
+        [first, second, third, fourth, fifth],
+    ))
+}
+
 #[test]
 fn items_stand_under_their_heap_ids(rt: HostRuntime) -> Result<(), Fail> {
-    let mut maker = HeapMaker::new(rt.alloc());
-    assert!(rt; maker.add(&ITEM[..1])? == 0x20);
-    assert!(rt; maker.add(&ITEM)? == 0x40);
-    assert!(rt; maker.add(&ITEM)? == 0x60);
-    assert!(rt; maker.add(&ITEM)? == 0x10020);
-    assert!(rt; maker.add(&ITEM[..0])? == 0x10040);
-    let blocks = maker.finish(0xBC, 0x40)?;
+    let (blocks, hids) = five(rt.alloc())?;
+    assert!(rt; hids == [0x20, 0x40, 0x60, 0x10020, 0x10040]);
     assert!(rt; blocks.len() == 2);
     let view = HeapView::read(blocks.as_slice()).expect(&rt, "a heap");
     assert!(rt; view.client() == 0xBC);

@@ -9,7 +9,7 @@ use node_port::NodeRec;
 use node_values::ids_ascend;
 use property_context::write_pc;
 use pst_base::{Blocks, Bytes, MemOr, Nid, Sub, Subs};
-use std::alloc::Global;
+use std::alloc::{AllocError, Global};
 use std::test::Fail;
 use table_writer::write_tc;
 use write_limits::{props_fit, table_fits};
@@ -90,8 +90,8 @@ fn attachment(alloc: Global, bits: u32, len: usize) -> Result<Sub, Fail> {
     })
 }
 
-/// The subnode of a table with these rows.
-fn table(alloc: Global, bits: u32, rows: &[u32]) -> Result<Sub, Fail> {
+/// The columns of the tables.
+fn columns(alloc: Global) -> Result<Vec<Column>, AllocError> {
     let mut columns = Vec::new(alloc);
     for (tag, at, width, bit) in COLUMNS {
         columns.push(Column {
@@ -101,14 +101,31 @@ fn table(alloc: Global, bits: u32, rows: &[u32]) -> Result<Sub, Fail> {
             bit,
         })?;
     }
+    Ok(columns)
+}
+
+/// A table without rows.
+fn empty_table(alloc: Global) -> Result<Table, Fail> {
+    let columns = columns(alloc)?;
     if !is_layout(columns.as_slice(), &[12, 12, 12, 13]) {
         return Err(Fail::from("no layout"));
     }
-    let mut table = Table::new(alloc, columns, [12, 12, 12, 13]);
+    Ok(Table::new(alloc, columns, [12, 12, 12, 13]))
+}
+
+/// Adds a row to a table for each id.
+fn put_rows(alloc: Global, table: &mut Table, rows: &[u32]) -> Result<(), Fail> {
     let name = make_props(alloc, &[(PID_TAG_DISPLAY_NAME, 6)])?;
     for id in rows {
-        put_row(alloc, &mut table, *id, &name)?;
+        put_row(alloc, table, *id, &name)?;
     }
+    Ok(())
+}
+
+/// The subnode of a table with these rows.
+fn table(alloc: Global, bits: u32, rows: &[u32]) -> Result<Sub, Fail> {
+    let mut table = empty_table(alloc)?;
+    put_rows(alloc, &mut table, rows)?;
     if !table_fits(&table) || !ids_ascend(table.kept()) {
         return Err(Fail::from("no table to write"));
     }
