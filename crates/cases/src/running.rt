@@ -94,14 +94,29 @@ pub fn call(
     Ok((exit, world))
 }
 
-/// Runs a case whose words are these.
-pub fn run_case(alloc: Global, case: &Case, words: &str) -> Result<Outcome, AllocError> {
-    let fails = FailPlan {
+/// Which calls fail in a case.
+fn fails_of(alloc: Global, case: &Case) -> Result<FailPlan, AllocError> {
+    Ok(FailPlan {
         takes: Vec::from_slice(alloc, case.fails.takes.as_slice())?,
         says: Vec::from_slice(alloc, case.fails.says.as_slice())?,
         disks: Vec::from_slice(alloc, case.fails.disks.as_slice())?,
         dead_from: case.fails.dead_from,
-    };
+    })
+}
+
+/// How a run ended, with what the world then is.
+fn outcome_of(alloc: Global, exit: Exit, world: &CaseWorld) -> Result<Outcome, AllocError> {
+    Ok(Outcome {
+        exit,
+        said: Vec::from_slice(alloc, world.world.said())?,
+        main: Vec::from_slice(alloc, world.world.content(Part::Main))?,
+        side: Vec::from_slice(alloc, world.world.content(Part::Side))?,
+    })
+}
+
+/// Runs a case whose words are these.
+pub fn run_case(alloc: Global, case: &Case, words: &str) -> Result<Outcome, AllocError> {
+    let fails = fails_of(alloc, case)?;
     let start = Start {
         words,
         main: case.main.as_slice(),
@@ -109,12 +124,7 @@ pub fn run_case(alloc: Global, case: &Case, words: &str) -> Result<Outcome, Allo
         input: case.input.as_slice(),
     };
     let (exit, world) = call(alloc, case, start, fails)?;
-    Ok(Outcome {
-        exit,
-        said: Vec::from_slice(alloc, world.world.said())?,
-        main: Vec::from_slice(alloc, world.world.content(Part::Main))?,
-        side: Vec::from_slice(alloc, world.world.content(Part::Side))?,
-    })
+    outcome_of(alloc, exit, &world)
 }
 
 /// The first of the lines that must be among those said and isn't.

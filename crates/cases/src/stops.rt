@@ -53,20 +53,25 @@ fn end_of(input: &[u8], n: usize) -> usize
     input.len()
 }
 
+/// What is said to the lines that look, after the first n of the case's lines.
+fn look_after(alloc: Global, case: &Case, words: &str, n: usize) -> Result<Vec<u8>, AllocError> {
+    let start = Start {
+        words,
+        main: case.main.as_slice(),
+        side: case.side.as_slice(),
+        input: &case.input.as_slice()[..end_of(case.input.as_slice(), n)],
+    };
+    let (_, w) = call(alloc, case, start, FailPlan::none(alloc))?;
+    let (main, side) = (w.world.content(Part::Main), w.world.content(Part::Side));
+    look(alloc, case, main, side)
+}
+
 /// What is said to the lines that look, after none of the case's lines, after one, and so on to all.
 fn looks_between(alloc: Global, case: &Case, words: &str) -> Result<Vec<Vec<u8>>, AllocError> {
     let lines = case.input.iter().filter(|byte| **byte == b'\n').count();
     let mut looks = Vec::new(alloc);
     for n in 0..=lines {
-        let start = Start {
-            words,
-            main: case.main.as_slice(),
-            side: case.side.as_slice(),
-            input: &case.input.as_slice()[..end_of(case.input.as_slice(), n)],
-        };
-        let (_, w) = call(alloc, case, start, FailPlan::none(alloc))?;
-        let (main, side) = (w.world.content(Part::Main), w.world.content(Part::Side));
-        looks.push(look(alloc, case, main, side)?)?;
+        looks.push(look_after(alloc, case, words, n)?)?;
     }
     Ok(looks)
 }
@@ -138,24 +143,33 @@ fn bad_outcome(
     Ok(None)
 }
 
+/// The world of a case whose disk fails from a call on.
+fn stopped_at(
+    alloc: Global,
+    case: &Case,
+    words: &str,
+    number: u64,
+) -> Result<CaseWorld, AllocError> {
+    let mut fails = FailPlan::none(alloc);
+    fails.dead_from = Some(number);
+    let start = Start {
+        words,
+        main: case.main.as_slice(),
+        side: case.side.as_slice(),
+        input: case.input.as_slice(),
+    };
+    let (_, w) = call(alloc, case, start, fails)?;
+    Ok(w)
+}
+
 /// The first stop of a case that leaves what no whole lines leave; `None` where there is none.
 pub fn bad_stop(alloc: Global, case: &Case, words: &str) -> Result<Option<BadStop>, AllocError> {
     let looks = looks_between(alloc, case, words)?;
     for number in 0..MOST_CALLS {
-        let mut fails = FailPlan::none(alloc);
-        fails.dead_from = Some(number);
-        let start = Start {
-            words,
-            main: case.main.as_slice(),
-            side: case.side.as_slice(),
-            input: case.input.as_slice(),
-        };
-        let (_, w) = call(alloc, case, start, fails)?;
-        if let Some(stop) = bad_outcome(alloc, case, looks.as_slice(), &w, number)? {
-            return Ok(Some(stop));
-        }
-        if w.disk_faults == 0 {
-            return Ok(None);
+        let w = stopped_at(alloc, case, words, number)?;
+        let bad = bad_outcome(alloc, case, looks.as_slice(), &w, number)?;
+        if bad.is_some() || w.disk_faults == 0 {
+            return Ok(bad);
         }
     }
     Ok(None)
