@@ -156,7 +156,8 @@ fn plain_folders(alloc: Global, places: &Places, folders: &[Nid]) -> Result<Vec<
     if folders.len() >= SCOPE_END {
         return Err(Stop::Memory);
     }
-    if repeats(folders) || !are_plain(places, folders) {
+    // First what takes little: then there are no more ids to compare than the store has folders.
+    if !are_plain(places, folders) || repeats(folders) {
         return Err(Stop::Refused(CommandRefusal::Scope));
     }
     Ok(Vec::from_slice(alloc, folders)?)
