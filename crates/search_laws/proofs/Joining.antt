@@ -1,5 +1,5 @@
 -- Every command keeps a tree with its searches in order.
-use Rattle.std.proofs.Common.{◌≡◌, ◌∙◌, ℕ, true, false, List, [], ◌∷◌, length, Option, None, Some, IfOk, IsSome, Ok, Err, ap, arith, inl, inr, refl, subst, sym}
+use Rattle.std.proofs.Common.{◌≡◌, ◌∙◌, ℕ, Bool, true, false, List, [], ◌∷◌, length, Option, None, Some, IfOk, IsSome, Ok, Err, ap, arith, inl, inr, refl, subst, sym}
 use Rattle.std.proofs.lemmas.Bool.{cases_Bool}
 use Rattle.std.specs.FinMap as map
 use Rattle.std.specs.Ordering.{nat_cmp}
@@ -45,9 +45,10 @@ use Rattle.search_lists.proofs.TouchLaws.{touches_all}
 use Rattle.search_order.specs.Keeps.{IsThere, KeepsOrder, with_changes}
 use Rattle.search_order.specs.Order.{InOrder}
 use Rattle.search_order.proofs.AfterOrder.{settling_keeps_order}
-use Rattle.search_order.proofs.ResultSteps.{none_stray}
+use Rattle.search_order.proofs.ResultSteps.{if_given, none_stray}
 use Rattle.search_laws.specs.Laws.{StaysInOrder}
 use Rattle.search_laws.proofs.Making.{makes_in_order}
+use Rattle.search_laws.proofs.Marked.{marks_still}
 use Rattle.search_laws.proofs.Moves.{moves_in_order, removes_in_order, renames_in_order}
 use Rattle.search_laws.proofs.Setting.{sets_in_order}
 
@@ -94,13 +95,13 @@ unchanged_stays T r = λ i. record {
   last = T.last;
 }
 
-module _ (X : Searching) (h : InOrder X) where
+module _ (tidy : Bool) (X : Searching) (h : InOrder tidy X) where
   -- what only looks leaves all in order
-  quiet : (o : Outcome) → o ≡ unchanged X.tree o.reply → InOrder (with_tree X (tree.after X.tree o))
-  quiet o is = subst (λ U. InOrder (with_tree X U)) (sym (ap (tree.after X.tree) is ∙ unchanged_stays X.tree o.reply)) h
+  quiet : (o : Outcome) → o ≡ unchanged X.tree o.reply → InOrder tidy (with_tree X (tree.after X.tree o))
+  quiet o is = subst (λ U. InOrder tidy (with_tree X U)) (sym (ap (tree.after X.tree) is ∙ unchanged_stays X.tree o.reply)) h
 
-  quiet_staying : (a : Answer Outcome) → Fine a (λ o. o ≡ unchanged X.tree o.reply) → Fine (a >>= staying X) (λ x. InOrder (after X x))
-  quiet_staying a is = fine_then (λ o. o ≡ unchanged X.tree o.reply) (λ x. InOrder (after X x)) a (staying X) is (λ o e. quiet o e)
+  quiet_staying : (a : Answer Outcome) → Fine a (λ o. o ≡ unchanged X.tree o.reply) → Fine (a >>= staying X) (λ x. InOrder tidy (after X x))
+  quiet_staying a is = fine_then (λ o. o ≡ unchanged X.tree o.reply) (λ x. InOrder tidy (after X x)) a (staying X) is (λ o e. quiet o e)
 
   -- the searches' folders and lists are there after a command of the tree
   are-there : (o : Outcome) → Leaves X.tree o → Each (λ s. IsThere X.tree o s.nid) X.searches
@@ -128,26 +129,28 @@ module _ (X : Searching) (h : InOrder X) where
 
   -- what a command of the tree leaves
   abbrev Base : Command → Outcome → Type 0
-  Base c o = IsWhole (tree.after X.tree o) × (IsFoundBeside (IsOfSearch X.own) (tree.after X.tree o) × (Mirrors (tree.after X.tree o) × (Counts (tree.after X.tree o) × (Leaves X.tree o × (Fine (touched X.tree c o) (AreTouched X.tree o)
+  Base c o = IsWhole (tree.after X.tree o) × (IsFoundBeside (IsOfSearch X.own) (tree.after X.tree o) × ((tidy ≡ true → Mirrors (tree.after X.tree o)) × ((tidy ≡ true → Counts (tree.after X.tree o)) × (Leaves X.tree o × (Fine (touched X.tree c o) (AreTouched X.tree o)
       × IfOk (followed X.tree X.searches c o) (λ o'. AreSearches (with_tree X (tree.after X.tree o')) × AllFresh (tree.after X.tree o') X.searches))))))
 
   base : (c : Command) → Fine (tree.outcome X.tree c) (Base c)
   base c = let a = tree.outcome X.tree c in
-      fine_both _ _ a (whole_after X.tree c h.whole) (if_both _ _ a (stays_beside (IsOfSearch X.own) X.tree c h.whole h.found) (if_both _ _ a (mirrors_after X.tree c h.whole h.mirrors) (if_both _ _ a (counts_after X.tree c h.whole h.counts)
+      fine_both _ _ a (whole_after X.tree c h.whole) (if_both _ _ a (stays_beside (IsOfSearch X.own) X.tree c h.whole h.found)
+      (if_both _ _ a (if_given (tidy ≡ true) (λ o. Mirrors (tree.after X.tree o)) a (λ t. mirrors_after X.tree c h.whole (h.mirrors t))) (if_both _ _ a (if_given (tidy ≡ true) (λ o. Counts (tree.after X.tree o)) a (λ t. counts_after X.tree c h.whole (h.counts t)))
       (if_both _ _ a (leaves_searches X.tree c h.whole) (if_both _ _ a (touches_all X.tree c h.whole) (plain_commands_stay X c h.whole h.searches h.fresh))))))
 
   -- what a command comes to is in order once its lists followed it
   abbrev Stands : Outcome → Type 0
-  Stands o = InOrder (with_tree X (tree.after X.tree o))
+  Stands o = InOrder tidy (with_tree X (tree.after X.tree o))
 
   in_order : (c : Command) (o o' : Outcome) → Base c o → Keeps o o' → AreSearches (with_tree X (tree.after X.tree o')) × AllFresh (tree.after X.tree o') X.searches → Stands o'
   in_order c o o' b k s = record {
     whole = subst (λ x. IsWhole (tree.after X.tree x)) (sym k.1) (k.0.whole b.0);
     found = subst (λ x. IsFoundBeside (IsOfSearch X.own) (tree.after X.tree x)) (sym k.1) (k.0.found X.own b.1.0);
-    mirrors = subst (λ x. Mirrors (tree.after X.tree x)) (sym k.1) (k.0.mirrors b.0 b.1.1.0);
-    counts = subst (λ x. Counts (tree.after X.tree x)) (sym k.1) (k.0.counts b.0 b.1.1.1.0);
+    mirrors = λ t. subst (λ x. Mirrors (tree.after X.tree x)) (sym k.1) (k.0.mirrors b.0 (b.1.1.0 t));
+    counts = λ t. subst (λ x. Counts (tree.after X.tree x)) (sym k.1) (k.0.counts b.0 (b.1.1.1.0 t));
     searches = s.0;
     fresh = s.1;
+    marked = marks_still X o' X.searches h.marked (λ f three other. ap (λ (x : Outcome). find_place f x.places) k.1 ∙ b.1.1.1.1.0.places f three);
   }
 
   concludes : (c : Command) (o : Outcome) → Base c o → Fine (concluded X.tree X.searches c o) Stands
@@ -157,9 +160,9 @@ module _ (X : Searching) (h : InOrder X) where
       (fine_weaker _ Stands (followed X.tree X.searches c o) (fine_both (Keeps o) _ (followed X.tree X.searches c o) (keeps c o b.0 b.1.1.1.1.0 b.1.1.1.1.1.0) b.1.1.1.1.1.1) (λ o' p. in_order c o o' b p.0 p.1))
       (λ o' is. after_limits Stands o'.changed (λ u. Ok o') is)
 
-  plain : (c : Command) → Fine (plain_outcome X c) (λ x. InOrder (after X x))
+  plain : (c : Command) → Fine (plain_outcome X c) (λ x. InOrder tidy (after X x))
   plain c =
-      fine_then Stands (λ x. InOrder (after X x)) (tree.outcome X.tree c >>= concluded X.tree X.searches c) (staying X)
+      fine_then Stands (λ x. InOrder tidy (after X x)) (tree.outcome X.tree c >>= concluded X.tree X.searches c) (staying X)
       (fine_then (Base c) Stands (tree.outcome X.tree c) (concluded X.tree X.searches c) (base c) (λ o b. concludes c o b)) (λ o is. is)
 
   -- what names an own search goes on
@@ -195,32 +198,32 @@ module _ (X : Searching) (h : InOrder X) where
       (λ other. fine_then (λ o. o ≡ unchanged X.tree o.reply) (λ o. o ≡ unchanged X.tree o.reply) (listing X.tree folder.bits) _ (lists_other folder) (λ o is. ap (λ (x : Outcome). record x { reply = marked X.own o.reply }) is))
 
   abbrev InOrderAfter : Coming → Type 0
-  InOrderAfter o = InOrder (after X o)
+  InOrderAfter o = InOrder tidy (after X o)
 
 pub stays_in_order : StaysInOrder
 unfolding outcome
-stays_in_order X (MakeSearch parent name) h = makes_in_order X parent.bits name h
-stays_in_order X (SetCriteria search flags scope restriction) h = sets_in_order X search.bits flags scope restriction h
-stays_in_order X (GetCriteria search) h = quiet_staying X h (told_criteria X search.bits) (told X h search.bits)
-stays_in_order X (ListFolder folder) h = quiet_staying X h (listing_in X folder.bits) (lists X h folder)
-stays_in_order X (RenameFolder folder name) h = fine_either (InOrderAfter X h) (is_own X.own folder.bits) _ _ (λ own. renames_in_order X folder.bits name h own) (λ other. plain X h (RenameFolder folder name))
-stays_in_order X (MoveFolder folder parent) h = fine_either (InOrderAfter X h) (is_own X.own folder.bits) _ _ (λ own. moves_in_order X folder.bits parent.bits h own) (λ other. plain X h (MoveFolder folder parent))
-stays_in_order X (RemoveFolder folder) h = fine_either (InOrderAfter X h) (is_own X.own folder.bits) _ _ (λ own. removes_in_order X folder.bits h own) (λ other. plain X h (RemoveFolder folder))
-stays_in_order X (MakeFolder parent name) h = plain X h (MakeFolder parent name)
-stays_in_order X (NewMessage folder class time) h = plain X h (NewMessage folder class time)
-stays_in_order X (SetProperty message value) h = plain X h (SetProperty message value)
-stays_in_order X (UnsetProperty message tag) h = plain X h (UnsetProperty message tag)
-stays_in_order X (GetProperty message tag) h = plain X h (GetProperty message tag)
-stays_in_order X (ListProperties message) h = plain X h (ListProperties message)
-stays_in_order X (MoveMessage message folder) h = plain X h (MoveMessage message folder)
-stays_in_order X (CopyMessage message folder) h = plain X h (CopyMessage message folder)
-stays_in_order X (RemoveMessage message) h = plain X h (RemoveMessage message)
-stays_in_order X (AddRecipient message kind address name) h = plain X h (AddRecipient message kind address name)
-stays_in_order X (RemoveRecipient message row) h = plain X h (RemoveRecipient message row)
-stays_in_order X (AddAttachment message name bytes) h = plain X h (AddAttachment message name bytes)
-stays_in_order X (AppendData message attachment bytes) h = plain X h (AppendData message attachment bytes)
-stays_in_order X (RemoveAttachment message attachment) h = plain X h (RemoveAttachment message attachment)
-stays_in_order X (FetchData message attachment) h = plain X h (FetchData message attachment)
-stays_in_order X (NameProperty guid number) h = plain X h (NameProperty guid number)
-stays_in_order X Save h = plain X h Save
-stays_in_order X Quit h = plain X h Quit
+stays_in_order tidy X (MakeSearch parent name) h = makes_in_order tidy X parent.bits name h
+stays_in_order tidy X (SetCriteria search flags scope restriction) h = sets_in_order tidy X search.bits flags scope restriction h
+stays_in_order tidy X (GetCriteria search) h = quiet_staying tidy X h (told_criteria X search.bits) (told tidy X h search.bits)
+stays_in_order tidy X (ListFolder folder) h = quiet_staying tidy X h (listing_in X folder.bits) (lists tidy X h folder)
+stays_in_order tidy X (RenameFolder folder name) h = fine_either (InOrderAfter tidy X h) (is_own X.own folder.bits) _ _ (λ own. renames_in_order tidy X folder.bits name h own) (λ other. plain tidy X h (RenameFolder folder name))
+stays_in_order tidy X (MoveFolder folder parent) h = fine_either (InOrderAfter tidy X h) (is_own X.own folder.bits) _ _ (λ own. moves_in_order tidy X folder.bits parent.bits h own) (λ other. plain tidy X h (MoveFolder folder parent))
+stays_in_order tidy X (RemoveFolder folder) h = fine_either (InOrderAfter tidy X h) (is_own X.own folder.bits) _ _ (λ own. removes_in_order tidy X folder.bits h own) (λ other. plain tidy X h (RemoveFolder folder))
+stays_in_order tidy X (MakeFolder parent name) h = plain tidy X h (MakeFolder parent name)
+stays_in_order tidy X (NewMessage folder class time) h = plain tidy X h (NewMessage folder class time)
+stays_in_order tidy X (SetProperty message value) h = plain tidy X h (SetProperty message value)
+stays_in_order tidy X (UnsetProperty message tag) h = plain tidy X h (UnsetProperty message tag)
+stays_in_order tidy X (GetProperty message tag) h = plain tidy X h (GetProperty message tag)
+stays_in_order tidy X (ListProperties message) h = plain tidy X h (ListProperties message)
+stays_in_order tidy X (MoveMessage message folder) h = plain tidy X h (MoveMessage message folder)
+stays_in_order tidy X (CopyMessage message folder) h = plain tidy X h (CopyMessage message folder)
+stays_in_order tidy X (RemoveMessage message) h = plain tidy X h (RemoveMessage message)
+stays_in_order tidy X (AddRecipient message kind address name) h = plain tidy X h (AddRecipient message kind address name)
+stays_in_order tidy X (RemoveRecipient message row) h = plain tidy X h (RemoveRecipient message row)
+stays_in_order tidy X (AddAttachment message name bytes) h = plain tidy X h (AddAttachment message name bytes)
+stays_in_order tidy X (AppendData message attachment bytes) h = plain tidy X h (AppendData message attachment bytes)
+stays_in_order tidy X (RemoveAttachment message attachment) h = plain tidy X h (RemoveAttachment message attachment)
+stays_in_order tidy X (FetchData message attachment) h = plain tidy X h (FetchData message attachment)
+stays_in_order tidy X (NameProperty guid number) h = plain tidy X h (NameProperty guid number)
+stays_in_order tidy X Save h = plain tidy X h Save
+stays_in_order tidy X Quit h = plain tidy X h Quit

@@ -1,3 +1,4 @@
+pub mod Marked
 pub mod SettingObject
 pub mod SettingLists
 pub mod SettingSays
@@ -31,4 +32,5 @@ pub mod ShiftingFound
 pub mod ShiftingRows
 pub mod ShiftingTree
 pub mod Moves
+pub mod Sound
 pub mod Joining

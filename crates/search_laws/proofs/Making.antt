@@ -1,6 +1,8 @@
 -- A new search leaves all in order.
-use Rattle.std.proofs.Common.{◌≡◌, ℕ, ◌%◌, true, false, List, None, Some, arith, refl, sym, subst, ap, ◌∙◌}
+use Rattle.std.proofs.Common.{◌≡◌, ℕ, ◌%◌, Bool, true, false, List, None, Some, IsSome, arith, refl, sym, subst, ap, ◌∙◌, inl, inr}
+use Rattle.std.proofs.lemmas.Bool.{false_from_ne_true, false≢true}
 use Rattle.std.specs.FinMap as map
+use Rattle.node_port.specs.Nodes.{node_at}
 use Rattle.mail_tree.specs.declared.places.FolderPlace.{FolderPlace}
 use Rattle.mail_tree.specs.Places.{find_place, is_deep, is_plain}
 use Rattle.mail_tree.specs.Tree.{Tree, object_at}
@@ -17,21 +19,24 @@ use Rattle.mail_laws.proofs.MessageSteps.{Before}
 use Rattle.mail_laws.proofs.Spent.{new_id_kind}
 use Rattle.mail_laws.proofs.Strays.{fine_with, no_node_comes}
 use Rattle.mail_searches.specs.Criteria.{Coming, made_search, making_search_in, next_search_index}
-use Rattle.mail_searches.specs.Searching.{Searching}
+use Rattle.mail_searches.specs.Searches.{updates}
+use Rattle.mail_searches.specs.Searching.{Searching, is_own}
 use Rattle.mail_searches.specs.Step.{after}
-use Rattle.search_order.specs.Order.{InOrder}
+use Rattle.search_order.specs.Order.{AreMarked, InOrder}
+use Rattle.search_order.proofs.ResultSteps.{if_given}
 use Rattle.search_laws.specs.Laws.{MakesInOrder}
+use Rattle.search_laws.proofs.Marked.{marks_stay, none_beside}
 use Rattle.search_laws.proofs.MakingLists.{lists_there}
 use Rattle.search_laws.proofs.MakingCounted.{steps_count}
-use Rattle.search_laws.proofs.MakingFound.{found_after, with_id}
+use Rattle.search_laws.proofs.MakingFound.{among_kept, among_new, among_was, found_after, with_id}
 use Rattle.search_laws.proofs.MakingIds.{IsFree, new_search_free}
 use Rattle.search_laws.proofs.MakingMade.{Away, Makes, steps_make}
-use Rattle.search_laws.proofs.MakingPuts.{plain_was, with_place}
+use Rattle.search_laws.proofs.MakingPuts.{place_others, plain_was, with_place}
 use Rattle.search_laws.proofs.MakingSearches.{fresh_after, searches_after}
 use Rattle.search_laws.proofs.MakingShown.{steps_show}
 use Rattle.search_laws.proofs.MakingTree.{fine_making, made, steps}
 
-module _ (X : Searching) (order : InOrder X) (parent : ℕ) (name : List ℕ) where
+module _ (tidy : Bool) (X : Searching) (order : InOrder tidy X) (parent : ℕ) (name : List ℕ) where
   abbrev T : Tree
   T = X.tree
 
@@ -46,7 +51,7 @@ module _ (X : Searching) (order : InOrder X) (parent : ℕ) (name : List ℕ) wh
   coming o = record { outcome = o; own = with_id s X.own; searches = X.searches }
 
   abbrev Good : Outcome → Type 0
-  Good o = InOrder (after X (coming o))
+  Good o = InOrder tidy (after X (coming o))
 
   w : Before T
   w = subst (AreWhole T.places) (sym (now_nothing T false)) order.whole.objects
@@ -64,7 +69,20 @@ module _ (X : Searching) (order : InOrder X) (parent : ℕ) (name : List ℕ) wh
     not_there : find_place s T.places ≡ None
     not_there = not_placed T s w (ap (λ g. g s) (now_nothing T false) ∙ free.own_free)
 
-    in_order : (D : Changed) → Makes T s parent D → AreShown places (now_at T D) → AreCountedBut (λ x. ⊥) places (now_at T D) → Good (made T parent index D)
+    -- the new search is own, and beside it no other node stands; each other search folder stands where it stood
+    marked : (D : Changed) → Makes T s parent D → AreMarked (after X (coming (made T parent index D)))
+    marked D m =
+        let o = made T parent index D in
+        marks_stay X (coming o) order.marked
+        (λ f kind other there.
+        let apart : f ≡ s → ⊥ = λ same. false≢true (sym other ∙ ap (is_own (with_id s X.own)) same ∙ among_new s X.own) in
+        (subst IsSome (place_others T.places s parent f apart) there, false_from_ne_true (is_own X.own f) (λ old. false≢true (sym other ∙ among_kept s f X.own old))))
+        (λ f own. elim (among_was s f X.own own) [
+          | inl same ↦ inr (ap (λ x. node_at (tree.after T o).others (updates x)) same ∙ none_beside T o (updates s) _ free.updates_free m.updates_there)
+          | inr old ↦ inl old
+        ])
+
+    in_order : (D : Changed) → Makes T s parent D → (tidy ≡ true → AreShown places (now_at T D)) → (tidy ≡ true → AreCountedBut (λ x. ⊥) places (now_at T D)) → Good (made T parent index D)
     in_order D m shown counted =
         let o = made T parent index D in
         let objects : AreWhole places (object_at (tree.after T o)) = subst (AreWhole places) (after_now T o) m.whole in
@@ -78,10 +96,11 @@ module _ (X : Searching) (order : InOrder X) (parent : ℕ) (name : List ℕ) wh
             no_stray = λ f p e plain_p. no_node_comes (map.entries D.objects) T.others (associated f) (order.whole.no_stray f p (plain_was T.places s parent f p e plain_p) plain_p);
           };
           found = found_after T w X.own s parent q three free found plain deep order.found o refl m;
-          mirrors = subst (AreShown places) (after_now T o) shown;
-          counts = subst (AreCountedBut (λ x. ⊥) places) (after_now T o) counted;
+          mirrors = λ t. subst (AreShown places) (after_now T o) (shown t);
+          counts = λ t. subst (AreCountedBut (λ x. ⊥) places) (after_now T o) (counted t);
           searches = searches_after X s parent three free order.whole order.searches none (tree.after T o) refl others objects (now _ ∙ m.criteria_there) (now _ ∙ m.list_there);
           fresh = fresh_after X s parent three free order.whole order.searches none (tree.after T o) refl others objects (now _ ∙ m.criteria_there) (now _ ∙ m.list_there) order.fresh;
+          marked = marked D m;
         }
 
     steps_in_order : Fine (steps T s parent name) (λ D. Good (made T parent index D))
@@ -89,14 +108,15 @@ module _ (X : Searching) (order : InOrder X) (parent : ℕ) (name : List ℕ) wh
         let a = steps T s parent name in
         let Shown : Changed → Type 0 = λ D. AreShown places (now_at T D) in
         let Counted : Changed → Type 0 = λ D. AreCountedBut (λ x. ⊥) places (now_at T D) in
-        fine_with (λ D. Makes T s parent D × Shown D) Counted (λ D. Good (made T parent index D)) a
-        (fine_with (Makes T s parent) Shown (λ D. Makes T s parent D × Shown D) a (steps_make T w s parent q name three found plain) (steps_show T w s parent q name three found plain order.mirrors) (λ D m shown. (m, shown)))
-        (steps_count T w s parent q name three found plain not_there order.counts)
+        fine_with (λ D. Makes T s parent D × (tidy ≡ true → Shown D)) (λ D. tidy ≡ true → Counted D) (λ D. Good (made T parent index D)) a
+        (fine_with (Makes T s parent) (λ D. tidy ≡ true → Shown D) (λ D. Makes T s parent D × (tidy ≡ true → Shown D)) a (steps_make T w s parent q name three found plain)
+        (if_given (tidy ≡ true) Shown a (λ t. steps_show T w s parent q name three found plain (order.mirrors t))) (λ D m shown. (m, shown)))
+        (if_given (tidy ≡ true) Counted a (λ t. steps_count T w s parent q name three found plain not_there (order.counts t)))
         (λ D m counted. in_order D m.0 m.1 counted)
 
-  makes_order : Fine (made_search X parent name) (λ o. InOrder (after X o))
+  makes_order : Fine (made_search X parent name) (λ o. InOrder tidy (after X o))
   unfolding made_search
-  makes_order = rw (lists_there T order.whole) (fine_then Good (λ o. InOrder (after X o)) (making_search_in T parent name index) _ (fine_making T parent name index Good w steps_in_order) (λ o k. k))
+  makes_order = rw (lists_there T order.whole) (fine_then Good (λ o. InOrder tidy (after X o)) (making_search_in T parent name index) _ (fine_making T parent name index Good w steps_in_order) (λ o k. k))
 
 pub makes_in_order : MakesInOrder
-makes_in_order X parent name order = makes_order X order parent name
+makes_in_order tidy X parent name order = makes_order tidy X order parent name

@@ -1,12 +1,12 @@
 -- Each plain folder of a whole tree has its table of folders.
-use Rattle.std.proofs.Common.{◌≡◌, ◌∙◌, ℕ, ◌%◌, ◌≤◌, ◌<◌, ◌||◌, Bool, true, not, List, [], ◌∷◌, Some, Ok, suc, arith, refl, inl, inr}
+use Rattle.std.proofs.Common.{◌≡◌, ◌∙◌, ℕ, ◌≤◌, true, List, [], ◌∷◌, Some, Ok, suc, arith, refl, inl, inr}
 use Rattle.std.specs.Prelude.{nat_le}
 use Rattle.std.specs.List.{list_all}
 use Rattle.std.proofs.lemmas.Bool.{and_parts, cases_Bool, eq-eqb, leb-true, ne_eqb}
 use Rattle.mapi_values.specs.Keyed.{keys_ascend}
 use Rattle.mail_tree.specs.declared.places.FolderPlace.{FolderPlace}
 use Rattle.mail_tree.specs.Places.{find_place, is_plain, place_id}
-use Rattle.mail_tree.specs.Tree.{Tree, object_at}
+use Rattle.mail_tree.specs.Tree.{Tree}
 use Rattle.mail_tree.specs.Whole.{IsWhole}
 use Rattle.mail_tree.proofs.Settles.{folders_of}
 use Rattle.mail_searches.specs.Criteria.{has_list, unless_listless}

@@ -1,6 +1,6 @@
 -- A command that changes an own search folder's values, its place and the tables that list it leaves all in order.
-use Rattle.std.proofs.Common.{◌≡◌, ◌∙◌, ℕ, ◌%◌, true, Some, IsSome, ap, arith, refl, subst, sym, inl, inr}
-use Rattle.std.proofs.lemmas.Bool.{cases_eq}
+use Rattle.std.proofs.Common.{◌≡◌, ◌∙◌, ℕ, ◌%◌, Bool, true, Some, IsSome, ap, arith, refl, subst, sym, inl, inr}
+use Rattle.std.proofs.lemmas.Bool.{cases_eq, false≢true}
 use Rattle.mail_objects.specs.Forms.{Ctx}
 use Rattle.mail_tree.specs.declared.places.FolderPlace.{FolderPlace}
 use Rattle.mail_tree.specs.Changing.{hierarchy, nothing, now_at}
@@ -22,6 +22,7 @@ use Rattle.mail_searches.specs.Searching.{IsOfSearch, Searching, is_own}
 use Rattle.mail_searches.specs.Step.{after}
 use Rattle.search_order.specs.Order.{InOrder}
 use Rattle.search_laws.proofs.AfterFound.{found_then, whole_then}
+use Rattle.search_laws.proofs.Marked.{marks_still}
 use Rattle.search_laws.proofs.OwnStays.{Follows, all_fresh, searches_stay}
 use Rattle.search_laws.proofs.OwnSteps.{IsQuietId, messages_stay, now_before, place_of}
 use Rattle.search_laws.proofs.PlainPlaces.{same_context}
@@ -35,21 +36,21 @@ finds_before beside T w h = record {
 }
 
 -- What a command that names an own search folder left, which has a place still.
-pub record Shifts (X : Searching) (s : ℕ) (o : Outcome) : Type 0 where
+pub record Shifts (tidy : Bool) (X : Searching) (s : ℕ) (o : Outcome) : Type 0 where
   pub kept : (q : ℕ) → IsQuietId q → (q ≡ s → ⊥) → now_at X.tree o.changed q ≡ object_at X.tree q
   pub here : IsSome (find_place s o.places)
   pub others : (g : ℕ) → (g ≡ s → ⊥) → find_place g o.places ≡ find_place g X.tree.places
   pub foreign : (g : ℕ) (q : FolderPlace) → find_place g o.places ≡ Some q → is_plain q ≡ true → g ≡ s → ⊥
   pub finds : Finds (IsOfSearch X.own) X.tree o.places o.changed
   pub reached : AreReached o.places
-  pub shown : AreShownBut (λ x. ⊥) o.places (now_at X.tree o.changed)
-  pub counted : AreCountedBut (λ x. ⊥) o.places (now_at X.tree o.changed)
+  pub shown : tidy ≡ true → AreShownBut (λ x. ⊥) o.places (now_at X.tree o.changed)
+  pub counted : tidy ≡ true → AreCountedBut (λ x. ⊥) o.places (now_at X.tree o.changed)
 
 -- what such a command comes to
 abbrev pub same_searches : Searching → Outcome → Coming
 same_searches X o = record { outcome = o; own = X.own; searches = X.searches }
 
-module _ (X : Searching) (s : ℕ) (h : InOrder X) (own : is_own X.own s ≡ true) (o : Outcome) (w' : Keeps X.tree o) (k : Shifts X s o) where
+module _ (tidy : Bool) (X : Searching) (s : ℕ) (h : InOrder tidy X) (own : is_own X.own s ≡ true) (o : Outcome) (w' : Keeps X.tree o) (k : Shifts tidy X s o) where
   three : s % 32 ≡ 3
   three = h.searches.kinds s own
 
@@ -79,12 +80,13 @@ module _ (X : Searching) (s : ℕ) (h : InOrder X) (own : is_own X.own s ≡ tru
     places = k.others;
   }
 
-  pub in_order : InOrder (after X (same_searches X o))
+  pub in_order : InOrder tidy (after X (same_searches X o))
   in_order = record {
     whole = whole_then X.tree o w' (λ f q e plain. h.whole.no_stray f q (sym (k.others f (k.foreign f q e plain)) ∙ e) plain);
     found = found_then X.tree o stood (IsOfSearch X.own) k.finds k.reached;
-    mirrors = subst (AreShown o.places) (after_now X.tree o) (all_shown o.places (now_at X.tree o.changed) k.shown);
-    counts = subst (AreCountedBut (λ x. ⊥) o.places) (after_now X.tree o) k.counted;
+    mirrors = λ t. subst (AreShown o.places) (after_now X.tree o) (all_shown o.places (now_at X.tree o.changed) (k.shown t));
+    counts = λ t. subst (AreCountedBut (λ x. ⊥) o.places) (after_now X.tree o) (k.counted t);
     searches = searches_stay X s (same_searches X o) h.whole h.searches three follows;
     fresh = all_fresh X s (same_searches X o) h.whole h.searches three follows h.fresh;
+    marked = marks_still X o X.searches h.marked (λ f kind other. k.others f (λ same. false≢true (sym other ∙ ap (is_own X.own) same ∙ own)));
   }

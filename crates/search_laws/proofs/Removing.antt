@@ -1,11 +1,11 @@
 -- `rmdir` of an own search folder leaves all in order.
-use Rattle.std.proofs.Common.{◌≡◌, ◌∙◌, ℕ, ◌%◌, true, List, Some, IfOk, IsSome, ap, arith, refl, subst, sym, inl, inr}
-use Rattle.std.proofs.lemmas.Bool.{cases_eq, false≢true}
+use Rattle.std.proofs.Common.{◌≡◌, ◌∙◌, ℕ, ◌%◌, Bool, true, List, Some, IfOk, IsSome, is_some, ap, arith, refl, subst, sym, inl, inr}
+use Rattle.std.proofs.lemmas.Bool.{false≢true}
 use Rattle.std.proofs.lemmas.Option.{none-some}
 use Rattle.mapi_values.specs.Keyed.{drop_key}
 use Rattle.mapi_values.proofs.KeyedLaws.{drop-ascends}
 use Rattle.mail_tree.specs.declared.places.FolderPlace.{FolderPlace}
-use Rattle.mail_tree.specs.Changing.{nothing, now_at}
+use Rattle.mail_tree.specs.Changing.{Changed, nothing, now_at}
 use Rattle.mail_tree.specs.Folders.{Outcome}
 use Rattle.mail_tree.specs.Places.{find_place, place_id}
 use Rattle.mail_tree.specs.Tree.{Tree, object_at}
@@ -26,15 +26,17 @@ use Rattle.mail_searches.specs.Searches.{criteria_node, find_search, results, se
 use Rattle.mail_searches.specs.Searching.{IsOfSearch, Searching, is_own}
 use Rattle.mail_searches.specs.Step.{after}
 use Rattle.search_order.specs.Order.{InOrder}
+use Rattle.search_order.proofs.ResultSteps.{if_given}
 use Rattle.search_laws.specs.Laws.{RemovesInOrder}
 use Rattle.search_laws.proofs.AfterFound.{found_then, whole_then}
+use Rattle.search_laws.proofs.Marked.{marks_stay}
 use Rattle.search_laws.proofs.OwnStays.{Follows, all_fresh, searches_stay}
 use Rattle.search_laws.proofs.OwnSteps.{IsQuietId, fine_with, if_four, messages_stay, no_root, now_before, place_of}
 use Rattle.search_laws.proofs.RemovingFound.{finds_removed, own_gone, own_other, reached_removed}
 use Rattle.search_laws.proofs.RemovingRows.{counted_removed, keeps_removed, shown_removed}
 use Rattle.search_laws.proofs.RemovingTree.{IsNode, all_gone, fine_removed, goes_elsewhere, if_removed, node_cases, removed_outcome, removing}
 
-module _ (X : Searching) (s : ℕ) (h : InOrder X) (own : is_own X.own s ≡ true) where
+module _ (tidy : Bool) (X : Searching) (s : ℕ) (h : InOrder tidy X) (own : is_own X.own s ≡ true) where
   abbrev T : Tree
   T = X.tree
 
@@ -58,16 +60,19 @@ module _ (X : Searching) (s : ℕ) (h : InOrder X) (own : is_own X.own s ≡ tru
     kept : KeepsAt IsQuietId T (without_search T s nothing) o.changed
     finds : Finds (IsOfSearch own') T o.places o.changed
     reached : AreReached o.places
-    shown : AreShownBut (λ x. ⊥) o.places (now_at T o.changed)
-    counted : AreCountedBut (λ x. ⊥) o.places (now_at T o.changed)
+    shown : tidy ≡ true → AreShownBut (λ x. ⊥) o.places (now_at T o.changed)
+    counted : tidy ≡ true → AreCountedBut (λ x. ⊥) o.places (now_at T o.changed)
     places_are : o.places ≡ drop_key place_id s T.places
 
   gone : IfOk (removing_search T s) Gone
   gone =
       let places = drop_key place_id s T.places in
       let root = no_root s three in
-      if_removed T s p.0 Gone p.1 (if_four (KeepsAt IsQuietId T (without_search T s nothing)) (Finds (IsOfSearch own') T places) (λ D. AreShownBut (λ x. ⊥) places (now_at T D)) (λ D. AreCountedBut (λ x. ⊥) places (now_at T D)) (λ D. Gone (removed_outcome T s D)) (removing T s p.0)
-      (keeps_removed T s p.0 w three p.1 root) (finds_removed T s p.0 X.own w three p.1 h.found root) (shown_removed T s p.0 w three p.1 root h.mirrors) (counted_removed T s p.0 w three p.1 root h.counts)
+      let Shown : Changed → Type 0 = λ D. AreShownBut (λ x. ⊥) places (now_at T D) in
+      let Counted : Changed → Type 0 = λ D. AreCountedBut (λ x. ⊥) places (now_at T D) in
+      if_removed T s p.0 Gone p.1 (if_four (KeepsAt IsQuietId T (without_search T s nothing)) (Finds (IsOfSearch own') T places) (λ D. tidy ≡ true → Shown D) (λ D. tidy ≡ true → Counted D) (λ D. Gone (removed_outcome T s D)) (removing T s p.0)
+      (keeps_removed T s p.0 w three p.1 root) (finds_removed T s p.0 X.own w three p.1 h.found root)
+      (if_given (tidy ≡ true) Shown (removing T s p.0) (λ t. shown_removed T s p.0 w three p.1 root (h.mirrors t))) (if_given (tidy ≡ true) Counted (removing T s p.0) (λ t. counted_removed T s p.0 w three p.1 root (h.counts t)))
       (λ D kept finds shown counted. record { kept = kept; finds = finds; reached = reached_removed T s p.0 X.own w three p.1 h.found root; shown = shown; counted = counted; places_are = refl }))
 
   module _ (o : Outcome) (w' : Keeps T o) (g : Gone o) where
@@ -75,11 +80,12 @@ module _ (X : Searching) (s : ℕ) (h : InOrder X) (own : is_own X.own s ≡ tru
     place_other : (f : ℕ) → (f ≡ s → ⊥) → find_place f o.places ≡ find_place f T.places
     place_other f other = ap (find_place f) g.places_are ∙ find-drop_other place_id f s T.places other
 
+    -- that of the search is gone
+    stands_apart : (f : ℕ) → IsSome (find_place f o.places) → f ≡ s → ⊥
+    stands_apart f there same = false≢true (subst IsSome (ap (λ x. find_place x o.places) same ∙ ap (find_place s) g.places_are ∙ find-drop_same place_id 0 s T.places w.ascend) there)
+
     place_was : (f : ℕ) (q : FolderPlace) → find_place f o.places ≡ Some q → find_place f T.places ≡ Some q
-    place_was f q e = elim (cases_eq f s) [
-      | inl same ↦ absurd (none-some q (sym (find-drop_same place_id 0 s T.places w.ascend) ∙ ap (λ x. find_place x (drop_key place_id s T.places)) (sym same) ∙ sym (ap (find_place f) g.places_are) ∙ e))
-      | inr other ↦ sym (place_other f other) ∙ e
-    ]
+    place_was f q e = sym (place_other f (stands_apart f (ap is_some e))) ∙ e
 
     -- at other ids than those of folders, of their tables and of the search stands what stood there
     elsewhere : (q : ℕ) → IsQuietId q → (IsNode s q → ⊥) → now_at T o.changed q ≡ object_at T q
@@ -156,20 +162,23 @@ module _ (X : Searching) (s : ℕ) (h : InOrder X) (own : is_own X.own s ≡ tru
       places = place_other;
     }
 
-    in_order : InOrder (after X (coming o))
+    in_order : InOrder tidy (after X (coming o))
     in_order = record {
       whole = whole_then T o w' (λ f q e plain. h.whole.no_stray f q (place_was f q e) plain);
       found = found_then T o stood (IsOfSearch own') g.finds g.reached;
-      mirrors = subst (AreShown o.places) (after_now T o) (all_shown o.places (now_at T o.changed) g.shown);
-      counts = subst (AreCountedBut (λ x. ⊥) o.places) (after_now T o) g.counted;
+      mirrors = λ t. subst (AreShown o.places) (after_now T o) (all_shown o.places (now_at T o.changed) (g.shown t));
+      counts = λ t. subst (AreCountedBut (λ x. ⊥) o.places) (after_now T o) (g.counted t);
       searches = searches_stay X s (coming o) h.whole h.searches three follows;
       fresh = all_fresh X s (coming o) h.whole h.searches three follows h.fresh;
+      marked = marks_stay X (coming o) h.marked
+          (λ f kind other there. let apart = stands_apart f there in (subst IsSome (place_other f apart) there, sym (own_other X.own s f apart) ∙ other))
+          (λ f is. inl (stays f is));
     }
 
 pub removes_in_order : RemovesInOrder
 unfolding removed_search
-removes_in_order X s h own =
+removes_in_order tidy X s h own =
     let T = X.tree in
-    fine_then (λ o. InOrder (after X (record { outcome = o; own = drop_key (λ f. f) s X.own; searches = drop_key search_id s X.searches }))) (λ c. InOrder (after X c)) (removing_search T s) _
-    (fine_with (Keeps T) (Gone X s h own) _ (removing_search T s) (fine_removed T s (p X s h own).0 (w X s h own) (three X s h own) (p X s h own).1) (gone X s h own) (λ o w' g. in_order X s h own o w' g))
+    fine_then (λ o. InOrder tidy (after X (record { outcome = o; own = drop_key (λ f. f) s X.own; searches = drop_key search_id s X.searches }))) (λ c. InOrder tidy (after X c)) (removing_search T s) _
+    (fine_with (Keeps T) (Gone tidy X s h own) _ (removing_search T s) (fine_removed T s (p tidy X s h own).0 (w tidy X s h own) (three tidy X s h own) (p tidy X s h own).1) (gone tidy X s h own) (λ o w' g. in_order tidy X s h own o w' g))
     (λ o k. k)

@@ -1,5 +1,5 @@
 -- `rename` of an own search folder leaves all in order.
-use Rattle.std.proofs.Common.{◌≡◌, ◌∙◌, ℕ, ◌%◌, true, false, List, Some, IsSome, IfOk, ap, arith, refl, subst, sym, inr}
+use Rattle.std.proofs.Common.{◌≡◌, ◌∙◌, ℕ, ◌%◌, Bool, true, false, List, Some, IsSome, IfOk, ap, arith, refl, subst, sym, inr}
 use Rattle.std.proofs.lemmas.Bool.{ne_eqb}
 use Rattle.mapi_values.specs.Characters.{folded}
 use Rattle.mapi_values.specs.Properties.{put}
@@ -36,6 +36,7 @@ use Rattle.mail_searches.specs.Moving.{renamed_search}
 use Rattle.mail_searches.specs.Searching.{IsOfSearch, Searching, is_own}
 use Rattle.mail_searches.specs.Step.{after}
 use Rattle.search_order.specs.Order.{InOrder}
+use Rattle.search_order.proofs.ResultSteps.{if_given}
 use Rattle.search_laws.specs.Laws.{RenamesInOrder}
 use Rattle.search_laws.proofs.OwnShift.{Shifts, finds_before, in_order, same_searches}
 use Rattle.search_laws.proofs.OwnSteps.{IsQuietId, counted_before, no_hierarchy, shown_before, fine_with, if_four, no_root, now_before, place_of}
@@ -107,7 +108,7 @@ module _ (T : Tree) (s : ℕ) (name : List ℕ) (p : FolderPlace) (w : Before T)
       (λ f q e plain free same. omega (arith, three, same, beside_kind f 14 (omega arith)))
       (λ f q t e plain free is row four. omega (arith, three, four)))
 
-module _ (X : Searching) (s : ℕ) (name : List ℕ) (h : InOrder X) (own : is_own X.own s ≡ true) where
+module _ (tidy : Bool) (X : Searching) (s : ℕ) (name : List ℕ) (h : InOrder tidy X) (own : is_own X.own s ≡ true) where
   abbrev T' : Tree
   T' = X.tree
 
@@ -123,13 +124,16 @@ module _ (X : Searching) (s : ℕ) (name : List ℕ) (h : InOrder X) (own : is_o
   abbrev first : Changed
   first = D T' s name at.0 whole kind at.1
 
-  shifts : IfOk (mirrored T' s first) (λ D'. Shifts X s (renamed_outcome T' D'))
+  shifts : IfOk (mirrored T' s first) (λ D'. Shifts tidy X s (renamed_outcome T' D'))
   shifts =
       let root = no_root s kind in
       let c = old T' s name at.0 whole kind at.1 in
       let values = props T' s name at.0 whole kind at.1 in
-      if_four (KeepsAt IsQuietId T' first) (Finds (IsOfSearch X.own) T' T'.places) (λ D'. AreShownBut (λ x. ⊥) T'.places (now_at T' D')) (λ D'. AreCountedBut (λ x. ⊥) T'.places (now_at T' D')) (λ D'. Shifts X s (renamed_outcome T' D')) (mirrored T' s first)
-      (mirrored_keeps IsQuietId no_hierarchy T' s first) (finds_row T' s name at.0 whole kind at.1 (IsOfSearch X.own) h.found root) (shown_row T' s name at.0 whole kind at.1 h.mirrors) (counted_row T' s name at.0 whole kind at.1 h.counts)
+      let Shown : Changed → Type 0 = λ D'. AreShownBut (λ x. ⊥) T'.places (now_at T' D') in
+      let Counted : Changed → Type 0 = λ D'. AreCountedBut (λ x. ⊥) T'.places (now_at T' D') in
+      if_four (KeepsAt IsQuietId T' first) (Finds (IsOfSearch X.own) T' T'.places) (λ D'. tidy ≡ true → Shown D') (λ D'. tidy ≡ true → Counted D') (λ D'. Shifts tidy X s (renamed_outcome T' D')) (mirrored T' s first)
+      (mirrored_keeps IsQuietId no_hierarchy T' s first) (finds_row T' s name at.0 whole kind at.1 (IsOfSearch X.own) h.found root)
+      (if_given (tidy ≡ true) Shown (mirrored T' s first) (λ t. shown_row T' s name at.0 whole kind at.1 (h.mirrors t))) (if_given (tidy ≡ true) Counted (mirrored T' s first) (λ t. counted_row T' s name at.0 whole kind at.1 (h.counts t)))
       (λ D' kept finds shown counted. record {
         kept = λ q quiet other. kept q quiet ∙ (puts_values T' nothing s (Context (record c.0 { props = values })) c.0.props values).others q other ∙ now_before T' q;
         here = h.searches.placed s own;
@@ -141,10 +145,10 @@ module _ (X : Searching) (s : ℕ) (name : List ℕ) (h : InOrder X) (own : is_o
         counted = counted;
       })
 
-  renames : Fine (renamed_search T' s name) (λ o. InOrder (after X (same_searches X o)))
-  renames = renamed_by T' s name at.0 whole kind at.1 (λ o. InOrder (after X (same_searches X o)))
-      (fine_with (λ D'. AreWhole T'.places (now_at T' D')) (λ D'. Shifts X s (renamed_outcome T' D')) (λ D'. InOrder (after X (same_searches X (renamed_outcome T' D')))) (mirrored T' s first) (fine_row T' s name at.0 whole kind at.1) shifts
-      (λ D' w' k. in_order X s h own (renamed_outcome T' D') w' k))
+  renames : Fine (renamed_search T' s name) (λ o. InOrder tidy (after X (same_searches X o)))
+  renames = renamed_by T' s name at.0 whole kind at.1 (λ o. InOrder tidy (after X (same_searches X o)))
+      (fine_with (λ D'. AreWhole T'.places (now_at T' D')) (λ D'. Shifts tidy X s (renamed_outcome T' D')) (λ D'. InOrder tidy (after X (same_searches X (renamed_outcome T' D')))) (mirrored T' s first) (fine_row T' s name at.0 whole kind at.1) shifts
+      (λ D' w' k. in_order tidy X s h own (renamed_outcome T' D') w' k))
 
 pub renames_in_order : RenamesInOrder
-renames_in_order X s name h own = fine_then (λ o. InOrder (after X (same_searches X o))) (λ c. InOrder (after X c)) (renamed_search X.tree s name) (staying X) (renames X s name h own) (λ o k. k)
+renames_in_order tidy X s name h own = fine_then (λ o. InOrder tidy (after X (same_searches X o))) (λ c. InOrder tidy (after X c)) (renamed_search X.tree s name) (staying X) (renames tidy X s name h own) (λ o k. k)

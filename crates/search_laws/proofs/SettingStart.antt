@@ -1,16 +1,18 @@
 -- A new store is in order.
-use Rattle.std.proofs.Common.{◌≡◌, ◌∙◌, ℕ, true, List, sym, subst, ap, inr}
+use Rattle.std.proofs.Common.{◌≡◌, ◌∙◌, ℕ, ◌%◌, true, List, arith, refl, sym, subst, ap, inr}
 use Rattle.std.proofs.lemmas.Bool.{false≢true}
 use Rattle.std.proofs.lemmas.Option.{none-some}
 use Rattle.mapi_values.specs.Keyed.{keys_ascend}
 use Rattle.mail_laws.proofs.FoundStart.{starts_found}
-use Rattle.mail_laws.proofs.Starting.{starts_whole}
+use Rattle.mail_laws.proofs.Starting.{four, starts_whole}
 use Rattle.mail_searches.specs.Searches.{find_search, search_id}
 use Rattle.mail_searches.specs.Searching.{AllFresh, AreSearches, IsOfSearch, Searching, StartsSearching, is_own}
 use Rattle.mail_tree.specs.Found.{IsFound, IsFoundBeside}
+use Rattle.mail_tree.specs.Places.{find_place}
 use Rattle.mail_tree.specs.Tree.{Tree}
-use Rattle.search_order.specs.Order.{InOrder}
+use Rattle.search_order.specs.Order.{AreMarked, InOrder}
 use Rattle.search_laws.specs.Laws.{StartsInOrder}
+use Rattle.search_laws.proofs.OwnSteps.{place_of}
 
 -- what an opening finds it finds whatever may stand beside
 found-beside : (beside : ℕ → Type 0) (T : Tree) → IsFound T → IsFoundBeside beside T
@@ -33,16 +35,26 @@ module _ (name : List ℕ) (X : Searching) (s : StartsSearching name X) where
     blank = λ f t e. absurd (none-own f e);
   }
 
-  pub starts-so : InOrder X
+  -- its folders are plain ones
+  no-marks : AreMarked X
+  no-marks = record {
+    foreign = λ f there three other are.
+        let p = place_of X.tree.places f there in
+        let two = four (λ g q. g % 32 ≡ 2) refl refl refl refl f p.0 (ap (find_place f) (sym s.tree.places) ∙ p.1) in omega (arith, two, three);
+    updates = λ f node parent own at bare. none-own f own;
+  }
+
+  pub starts-so : InOrder true X
   starts-so =
       let w = starts_whole name X.tree s.tree in
       record {
         whole = w.0;
         found = found-beside (IsOfSearch X.own) X.tree (starts_found name X.tree s.tree);
-        mirrors = w.1;
-        counts = w.2;
+        mirrors = λ t. w.1;
+        counts = λ t. w.2;
         searches = no-searches;
         fresh = subst (AllFresh X.tree) (sym s.none) tt;
+        marked = no-marks;
       }
 
 pub starts_so : StartsInOrder

@@ -50,6 +50,7 @@ use Rattle.search_lists.proofs.ListLaws.{are-rows, rows-are}
 use Rattle.search_order.specs.Keeps.{IsThere, KeepsOrder, ResultsKeepOrder}
 use Rattle.search_order.specs.Order.{InOrder}
 use Rattle.search_laws.specs.Laws.{SetsInOrder}
+use Rattle.search_laws.proofs.Marked.{marks_still}
 use Rattle.search_laws.proofs.SettingLists.{AreBuilt, each-found, rows_built}
 use Rattle.search_laws.proofs.SettingObject.{counts_after_object, found_after_object, messages_after_object, mirrors_after_object, object_puts, put_so, whole_after_object}
 use Rattle.search_laws.proofs.SettingSays.{held_parts, says_written}
@@ -224,7 +225,7 @@ record Sets (T : Tree) (s : ℕ) (search : Search) (D1 D : Changed) : Type 0 whe
   rows : (u : Tbl) (r : ℕ) → now_at T D (results s) ≡ Some (Table u) → IsSome (find_row r u.table.rows) → IsSome (as_message (object_at T r))
   fresh : runs search ≡ true → (t : Tbl) × (now_at T D (results s) ≡ Some (Table t)) × (row_ids t.table.rows ≡ lists T search)
 
-module _ (results_keep : ResultsKeepOrder) (X : Searching) (s : ℕ) (c : Ctx) (set : CritSet) (order : InOrder X) (own : is_own X.own s ≡ true) (at : object_at X.tree (criteria_node s) ≡ Some (Context c)) (holds : can_hold set ≡ true) where
+module _ (results_keep : ResultsKeepOrder) (tidy : Bool) (X : Searching) (s : ℕ) (c : Ctx) (set : CritSet) (order : InOrder tidy X) (own : is_own X.own s ≡ true) (at : object_at X.tree (criteria_node s) ≡ Some (Context c)) (holds : can_hold set ≡ true) where
   abbrev T : Tree
   T = X.tree
 
@@ -368,14 +369,15 @@ module _ (results_keep : ResultsKeepOrder) (X : Searching) (s : ℕ) (c : Ctx) (
         (each-found search_id 0 X.searches order.searches.ascend) order.fresh
         (λ z stands fresh other run. let f = fresh run in (f.0, list-now z.nid (order.searches.among z.nid z stands) other ∙ f.1, same-lists T X'.tree z f.0.table.rows refl messages-now f.2)))
 
-    order-now : InOrder X'
+    order-now : InOrder tidy X'
     order-now = record {
       whole = sets.keeps.whole first-whole;
       found = sets.keeps.found X.own (found_after_object T (criteria_node s) c props (replied Done) node at (IsOfSearch X.own) (s, own, inr (inl refl)) order.found);
-      mirrors = sets.keeps.mirrors first-whole (mirrors_after_object T (criteria_node s) c props (replied Done) node at order.whole order.mirrors);
-      counts = sets.keeps.counts first-whole (counts_after_object T (criteria_node s) c props (replied Done) node at order.whole order.counts);
+      mirrors = λ t. sets.keeps.mirrors first-whole (mirrors_after_object T (criteria_node s) c props (replied Done) node at order.whole (order.mirrors t));
+      counts = λ t. sets.keeps.counts first-whole (counts_after_object T (criteria_node s) c props (replied Done) node at order.whole (order.counts t));
       searches = searches-now;
       fresh = fresh-now;
+      marked = marks_still X now searches order.marked (λ f three other. refl);
     }
 
   abbrev reason : Option CommandRefusal
@@ -385,34 +387,34 @@ module _ (results_keep : ResultsKeepOrder) (X : Searching) (s : ℕ) (c : Ctx) (
   coming o = record { outcome = o; own = X.own; searches = put_key search_id search X.searches }
 
   -- the search gets the criteria
-  criteria-set : Fine (built_unless set.flags.stop T search first >>= replying T reason (replied Done) >>= λ o. Ok (coming o)) (λ o. InOrder (after X o))
+  criteria-set : Fine (built_unless set.flags.stop T search first >>= replying T reason (replied Done) >>= λ o. Ok (coming o)) (λ o. InOrder tidy (after X o))
   criteria-set =
-      fine_then (λ o. InOrder (after X (coming o))) (λ o. InOrder (after X o)) (built_unless set.flags.stop T search first >>= replying T reason (replied Done)) (λ o. Ok (coming o))
-      (fine_then (Sets T s search first) (λ o. InOrder (after X (coming o))) (built_unless set.flags.stop T search first) (replying T reason (replied Done)) (by-stop set.flags.stop refl)
-      (λ D sets. replying-fine (λ o. InOrder (after X (coming o))) T reason (replied Done) D (order-now D sets)))
+      fine_then (λ o. InOrder tidy (after X (coming o))) (λ o. InOrder tidy (after X o)) (built_unless set.flags.stop T search first >>= replying T reason (replied Done)) (λ o. Ok (coming o))
+      (fine_then (Sets T s search first) (λ o. InOrder tidy (after X (coming o))) (built_unless set.flags.stop T search first) (replying T reason (replied Done)) (by-stop set.flags.stop refl)
+      (λ D sets. replying-fine (λ o. InOrder tidy (after X (coming o))) T reason (replied Done) D (order-now D sets)))
       (λ o p. p)
 
 -- the criteria that a line makes of those that the object says
-in-criteria : ResultsKeepOrder → (X : Searching) (s : ℕ) (c : Ctx) (flags : SearchFlags) (ids : Option (List ℕ)) (restriction : Option Restr) → InOrder X → is_own X.own s ≡ true → object_at X.tree (criteria_node s) ≡ Some (Context c) → ShowsCriteria X.searches s c.props
-    → Fine (criteria_in c >>= λ old. found refusals.Criteria (changed old flags ids restriction) >>= with_criteria X s c) (λ o. InOrder (after X o))
+in-criteria : ResultsKeepOrder → (tidy : Bool) (X : Searching) (s : ℕ) (c : Ctx) (flags : SearchFlags) (ids : Option (List ℕ)) (restriction : Option Restr) → InOrder tidy X → is_own X.own s ≡ true → object_at X.tree (criteria_node s) ≡ Some (Context c) → ShowsCriteria X.searches s c.props
+    → Fine (criteria_in c >>= λ old. found refusals.Criteria (changed old flags ids restriction) >>= with_criteria X s c) (λ o. InOrder tidy (after X o))
 unfolding with_criteria setting_criteria
-in-criteria results_keep X s c flags ids restriction order own at shows =
-    rw shows.1 (after_found (λ o. InOrder (after X o)) refusals.Criteria (changed shows.0 flags ids restriction) (with_criteria X s c) (λ k e.
+in-criteria results_keep tidy X s c flags ids restriction order own at shows =
+    rw shows.1 (after_found (λ o. InOrder tidy (after X o)) refusals.Criteria (changed shows.0 flags ids restriction) (with_criteria X s c) (λ k e.
     let made = changed-set shows.0 flags ids restriction k e in
-    subst (λ x. Fine (with_criteria X s c x) (λ o. InOrder (after X o))) made.1 (held made.0)))
+    subst (λ x. Fine (with_criteria X s c x) (λ o. InOrder tidy (after X o))) made.1 (held made.0)))
   where
-    held : (set : CritSet) → Fine (setting_criteria X s c (record { version = Second; set = Some set }) set) (λ o. InOrder (after X o))
-    held set = after_test (λ o. InOrder (after X o)) (not (can_hold set)) refusals.Criteria _ (λ e. criteria-set results_keep X s c set order own at (not-false (can_hold set) e))
+    held : (set : CritSet) → Fine (setting_criteria X s c (record { version = Second; set = Some set }) set) (λ o. InOrder tidy (after X o))
+    held set = after_test (λ o. InOrder tidy (after X o)) (not (can_hold set)) refusals.Criteria _ (λ e. criteria-set results_keep tidy X s c set order own at (not-false (can_hold set) e))
 
 -- criteria that a search gets leave all in order
 pub sets_keeping : ResultsKeepOrder → SetsInOrder
 unfolding given_criteria with_criteria
-sets_keeping results_keep X s number scope bytes order =
-    fine_then (λ u. is_own X.own s ≡ true) (λ o. InOrder (after X o)) _ _ (owned X s) (λ u own.
-    after_found (λ o. InOrder (after X o)) refusals.Flags (flags_of number) _ (λ flags is_flags.
-    fine_then (λ r. Unit {0}) (λ o. InOrder (after X o)) (given_restriction bytes) _ (restriction-fine bytes) (λ restriction u.
-    fine_then (λ ids. Unit {0}) (λ o. InOrder (after X o)) (given_scope X.tree scope) _ (scope-fine X.tree scope) (λ ids u.
+sets_keeping results_keep tidy X s number scope bytes order =
+    fine_then (λ u. is_own X.own s ≡ true) (λ o. InOrder tidy (after X o)) _ _ (owned X s) (λ u own.
+    after_found (λ o. InOrder tidy (after X o)) refusals.Flags (flags_of number) _ (λ flags is_flags.
+    fine_then (λ r. Unit {0}) (λ o. InOrder tidy (after X o)) (given_restriction bytes) _ (restriction-fine bytes) (λ restriction u.
+    fine_then (λ ids. Unit {0}) (λ o. InOrder tidy (after X o)) (given_scope X.tree scope) _ (scope-fine X.tree scope) (λ ids u.
     let object = order.searches.criteria s own in
     let now : now_at X.tree nothing (criteria_node s) ≡ Some (Context object.0) = ap (λ g. g (criteria_node s)) (now_nothing X.tree false) ∙ object.1 in
-    after_context (λ o. InOrder (after X o)) X.tree nothing (criteria_node s) object.0 _ now
-    (in-criteria results_keep X s object.0 flags ids restriction order own object.1 object.2)))))
+    after_context (λ o. InOrder tidy (after X o)) X.tree nothing (criteria_node s) object.0 _ now
+    (in-criteria results_keep tidy X s object.0 flags ids restriction order own object.1 object.2)))))

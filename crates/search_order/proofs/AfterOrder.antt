@@ -32,7 +32,7 @@ use Rattle.search_order.proofs.ResultSteps.{results_orderly}
 use Rattle.search_order.proofs.SettleSteps.{Stands, searches_orderly}
 
 -- another node stands after a command where none was changed
-other_after : (T : Tree) (o : Outcome) (q : ℕ) → node_at (after T o).others q ≡ cond (is_some (map.get o.changed.objects q)) None (node_at T.others q)
+pub other_after : (T : Tree) (o : Outcome) (q : ℕ) → node_at (after T o).others q ≡ cond (is_some (map.get o.changed.objects q)) None (node_at T.others q)
 other_after T o q = get-without_changed (map.entries o.changed.objects) T.others q
     ∙ ap (λ (x : Option (Option Object)). cond {A = Option NodeRec} (is_some x) None (node_at T.others q)) (sym (map.get-entries o.changed.objects q))
 

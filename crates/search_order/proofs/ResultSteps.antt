@@ -40,7 +40,7 @@ fine_all P Q R S U (Err None) p q r s next = p
 fine_all P Q R S U (Err (Some refusal)) p q r s next = tt
 
 -- what holds of an answer where this is so
-if_given : {A : Type 0} (B : Type 0) (P : A → Type 0) (a : Answer A) → (B → IfOk a P) → IfOk a (λ x. B → P x)
+pub if_given : {A : Type 0} (B : Type 0) (P : A → Type 0) (a : Answer A) → (B → IfOk a P) → IfOk a (λ x. B → P x)
 if_given B P (Ok x) h = h
 if_given B P (Err e) h = tt
 
