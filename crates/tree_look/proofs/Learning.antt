@@ -1,18 +1,19 @@
 -- What is known of messages, as a look goes on.
-use Rattle.std.proofs.Common.{◌≡◌, ◌∙◌, ◌==◌, ◌%◌, if◌then◌else◌, inl, inr, ℕ, Bool, true, not, List, [], Some, sym, subst}
-use Rattle.std.proofs.lemmas.Bool.{cases_Bool, eqb-true}
+use Rattle.std.proofs.Common.{◌≡◌, ⊎_elim, ◌∙◌, ◌==◌, ◌%◌, if◌then◌else◌, inl, inr, ℕ, Bool, true, false, List, [], Some, refl, sym, subst}
+use Rattle.std.proofs.lemmas.Bool.{cases_Bool, eq-eqb, eqb-true}
 use Rattle.std.proofs.lemmas.Option.{none-some, same_Some}
-use Rattle.mapi_values.specs.Messages.{Mes}
 use Rattle.mail_tree.specs.Flags.{FlagList, known_flag}
-use Rattle.mail_tree.specs.Places.{find_place, is_plain}
-use Rattle.mail_tree.specs.Standing.{HasMail, HasTree, ListsMessage}
-use Rattle.mail_tree.specs.Values.{is_read}
+use Rattle.mapi_values.specs.Keyed.{put_key}
+use Rattle.mail_tree.specs.Places.{find_place, is_plain, is_plain_sort, place_id}
+use Rattle.mail_tree.specs.Standing.{HasTree, ListsMessage}
 use Rattle.mail_tree.specs.declared.places.FolderPlace.{FolderPlace}
+use Rattle.mail_tree.specs.declared.places.Sort.{Sort}
 use Rattle.node_port.specs.Nodes.{Nodes}
 use Rattle.tree_look.specs.Faults.{IsOpened}
-use Rattle.tree_look.specs.Seeing.{AreListed, AreSeen, IsUnread, Learns}
+use Rattle.tree_look.specs.Seeing.{AreKnown, AreListed, AreSeen, IsKnown, IsUnread, Learns, StaysKnown}
 use Rattle.tree_look.proofs.Excludes.{reached_placed}
 use Rattle.tree_look.proofs.Found.{plain_kind}
+use Rattle.tree_look.proofs.Steps.{put_found, stands}
 
 -- a plain folder lists the message, and it is unread or not
 abbrev pub IsSeen : Nodes → Bool → ℕ → Type 0
@@ -37,3 +38,34 @@ seen-listed N places flags tree seen = λ m unread known.
     let s = seen m unread known in
     let at = reached_placed N places tree s.1.0 s.0 s.1.1 in
     (s.0, (at.0, at.1, plain_kind (at.0).sort (s.0 % 32) (tree.kinds s.0 at.0 at.1) s.1.2), s.2, s.3)
+
+-- ---- the other direction: what is listed is known
+
+-- of the message itself something is known then, and what was known stays so
+pub known-one : (m : ℕ) (unread : Bool) (old new : FlagList) → ((q : ℕ) → known_flag q new ≡ (if q == m then Some unread else known_flag q old)) → StaysKnown old new × IsKnown new m
+known-one m unread old new is = (
+  λ q was. elim (cases_Bool (q == m)) [ inl t ↦ (unread, rw t at (is q)) | inr f ↦ (was.0, rw f at (is q) ∙ was.1) ],
+  (unread, rw (eq-eqb m m refl) at (is m)),
+)
+
+-- a search folder lists no message
+pub known-foreign : (N : Nodes) (row parent : ℕ) (s : Sort) (places new : List FolderPlace) (flags : FlagList) → is_plain_sort s ≡ false → new ≡ put_key place_id (stands row parent s) places → AreKnown N places flags → AreKnown N new flags
+known-foreign N row parent s places new flags foreign put known f m at lists = ⊎_elim
+    (λ here. absurd (never (sym foreign ∙ subst (λ (q : FolderPlace). is_plain q ≡ true) (sym here.1) at.2)))
+    (λ old. known f m (at.0, old, at.2) lists)
+    (put_found row parent s places f at.0 (subst (λ k. find_place f k ≡ Some at.0) put at.1))
+  where
+    never : false ≡ true → ⊥
+    never e = cc
+
+-- one plain folder more, whose messages are known
+pub known-plain : (N : Nodes) (row parent : ℕ) (s : Sort) (places new : List FolderPlace) (old flags : FlagList) → new ≡ put_key place_id (stands row parent s) places
+    → StaysKnown old flags × ((m : ℕ) → ListsMessage N row m → IsKnown flags m) → AreKnown N places old → AreKnown N new flags
+known-plain N row parent s places new old flags put now known f m at lists = ⊎_elim
+    (λ here. now.1 m (subst (λ k. ListsMessage N k m) here.0 lists))
+    (λ was. now.0 m (known f m (at.0, was, at.2) lists))
+    (put_found row parent s places f at.0 (subst (λ k. find_place f k ≡ Some at.0) put at.1))
+
+-- no folder was placed
+pub none-known : (N : Nodes) (flags : FlagList) → AreKnown N [] flags
+none-known N flags = λ f m at lists. absurd (none-some at.0 at.1)

@@ -25,3 +25,15 @@ Learns N old new = AreSeen N old → AreSeen N new
 abbrev pub AreListed : Nodes → List FolderPlace → FlagList → Type 0
 AreListed N places flags = (m : ℕ) (unread : Bool) → known_flag m flags ≡ Some unread
     → (f : ℕ) × ((p : FolderPlace) × (find_place f places ≡ Some p) × (is_plain p ≡ true)) × ListsMessage N f m × IsUnread N m unread
+
+-- something is known of the message
+abbrev pub IsKnown : FlagList → ℕ → Type 0
+IsKnown flags m = (unread : Bool) × (known_flag m flags ≡ Some unread)
+
+-- what was known of messages stays known
+abbrev pub StaysKnown : FlagList → FlagList → Type 0
+StaysKnown old new = (m : ℕ) → IsKnown old m → IsKnown new m
+
+-- of each message that a plain folder of these places lists something is known
+abbrev pub AreKnown : Nodes → List FolderPlace → FlagList → Type 0
+AreKnown N places flags = (f m : ℕ) → ((p : FolderPlace) × (find_place f places ≡ Some p) × (is_plain p ≡ true)) → ListsMessage N f m → (unread : Bool) × (known_flag m flags ≡ Some unread)

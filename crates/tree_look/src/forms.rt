@@ -66,8 +66,8 @@ pub(crate) fn check_names(alloc: Global, context: &Context) -> Result<(), LookSt
     }
 }
 
-/// The table that a node is, or why it is none.
-pub(crate) fn table_of(alloc: Global, node: &NodeRec) -> Result<TableNode, MemOr<MessageFault>>
+/// The table that a node is, or why it is none: its bytes are no table, or the subnodes that it keeps don't ascend by id. `Memory` comes where there was none.
+pub fn table_of(alloc: Global, node: &NodeRec) -> Result<TableNode, MemOr<MessageFault>>
     ensures { Reads (ShowsTable node.now) (IsNoTable node.now) result }
 {
     match read_tc(alloc, node.blocks.as_slice(), &node.subs) {

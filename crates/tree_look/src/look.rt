@@ -7,7 +7,7 @@ ghost use Rattle.tree_look.specs.Faults.{Finds};
 ghost use Rattle.mail_tree.specs.Standing.{HasTree, names_sort};
 ghost use Rattle.tree_look.specs.declared.stops.LookRefusal.{LookRefusal as Refusal};
 ghost use Rattle.tree_look.specs.declared.stops.LookStop.TheVariants.{Refused};
-ghost use Rattle.tree_look.specs.Seeing.{AreListed, Learns};
+ghost use Rattle.tree_look.specs.Seeing.{AreKnown, AreListed, Learns};
 ghost use Rattle.tree_look.specs.Walk.{parent_of, Awaits, Comes, Follows, IsCaused, IsPart, Looks};
 
 use crate::forms::check_names;
@@ -51,6 +51,8 @@ fn follow<W: Outside, K: NodeReader<W>>(
         → Finds N (λ u. Follows N above row.bits places.old places.new) result }
     ensures flags { (N : Nodes) → K.holds keeper.old (W.view w.old) N → (n : ℕ) → n + left ≡ 65 → Comes N above n row.bits → Awaits above n row.bits places.old → IsPart N places.old
         → OnOk result (Learns N flags.old flags.new) }
+    ensures known { (N : Nodes) → K.holds keeper.old (W.view w.old) N → (n : ℕ) → n + left ≡ 65 → Comes N above n row.bits → Awaits above n row.bits places.old → IsPart N places.old
+        → OnOk result (AreKnown N places.old flags.old → AreKnown N places.new flags.new) }
     ensures looks { Looks (K.holds keeper.old (W.view w.old)) (K.holds keeper.new (W.view w.new)) (K.last keeper.old) (K.last keeper.new) (K.room keeper.old) (K.room keeper.new) (W.view w.old) (W.view w.new) }
     ensures cause { IfErr result (IsCaused K.has_disk (W.view w.old).disk_faults (W.view w.new).disk_faults) }
 {
@@ -83,6 +85,7 @@ pub fn look_folders<W: Outside, K: NodeReader<W>>(
 ) -> Result<(Places, Flags), LookStop>
     ensures found { (N : Nodes) → K.holds keeper.old (W.view w.old) N → Finds N (λ found. HasTree N found.0) result }
     ensures flags { (N : Nodes) → K.holds keeper.old (W.view w.old) N → IfOk result (λ found. AreListed N found.0 found.1) }
+    ensures known { (N : Nodes) → K.holds keeper.old (W.view w.old) N → IfOk result (λ found. AreKnown N found.0 found.1) }
     // What is wrong excludes every tree.
     ensures only { IfErr result (λ stop. (refusal : Refusal) → stop ≡ Refused refusal → (N : Nodes) → K.holds keeper.old (W.view w.old) N → (places : List Stands) → HasTree N places → ⊥) }
     ensures looks { Looks (K.holds keeper.old (W.view w.old)) (K.holds keeper.new (W.view w.new)) (K.last keeper.old) (K.last keeper.new) (K.room keeper.old) (K.room keeper.new) (W.view w.old) (W.view w.new) }

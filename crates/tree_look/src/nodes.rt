@@ -13,7 +13,7 @@ ghost use Rattle.mail_tree.specs.Folders.{nid as nid_with};
 ghost use Rattle.node_port.specs.Nodes.{Nodes, node_at};
 ghost use Rattle.tree_look.specs.Faults.{Finds, IsFixed, IsOpened, IsReached};
 ghost use Rattle.mail_tree.specs.Standing.{HasContext, HasMail, HasTable, HasTables, ListsMessage};
-ghost use Rattle.tree_look.specs.Seeing.{Learns};
+ghost use Rattle.tree_look.specs.Seeing.{IsKnown, Learns, StaysKnown};
 ghost use Rattle.tree_look.specs.Stops.{missed, sort_with};
 ghost use Rattle.tree_look.specs.Walk.{Checked, Comes, IsCaused, Looks};
 
@@ -115,6 +115,7 @@ fn look_message<W: Outside, K: NodeReader<W>>(
 ) -> Result<(), LookStop>
     ensures found { (N : Nodes) → K.holds keeper.old (W.view w.old) N → IsOpened N folder.bits → ListsMessage N folder.bits nid.bits → Finds N (λ u. (M : Mes) × HasMail N nid.bits M × (M.folder ≡ folder.bits)) result }
     ensures flags { (N : Nodes) → K.holds keeper.old (W.view w.old) N → IsOpened N folder.bits → ListsMessage N folder.bits nid.bits → OnOk result (Learns N flags.old flags.new) }
+    ensures known { OnOk result (StaysKnown flags.old flags.new × IsKnown flags.new nid.bits) }
     ensures looks { Looks (K.holds keeper.old (W.view w.old)) (K.holds keeper.new (W.view w.new)) (K.last keeper.old) (K.last keeper.new) (K.room keeper.old) (K.room keeper.new) (W.view w.old) (W.view w.new) }
     ensures cause { IfErr result (IsCaused K.has_disk (W.view w.old).disk_faults (W.view w.new).disk_faults) }
 {
@@ -145,6 +146,7 @@ fn look_row<W: Outside, K: NodeReader<W>>(
     ensures found { (N : Nodes) → K.holds keeper.old (W.view w.old) N → IsOpened N folder.bits → (t : Tbl) → HasTable N (contents folder.bits) t → IsSome (find_row row.bits t.table.rows)
         → Finds N (λ u. row.bits % 32 ≡ 4 → (M : Mes) × HasMail N row.bits M × (M.folder ≡ folder.bits)) result }
     ensures flags { (N : Nodes) → K.holds keeper.old (W.view w.old) N → IsOpened N folder.bits → (t : Tbl) → HasTable N (contents folder.bits) t → IsSome (find_row row.bits t.table.rows) → OnOk result (Learns N flags.old flags.new) }
+    ensures known { OnOk result (StaysKnown flags.old flags.new × (row.bits % 32 ≡ 4 → IsKnown flags.new row.bits)) }
     ensures looks { Looks (K.holds keeper.old (W.view w.old)) (K.holds keeper.new (W.view w.new)) (K.last keeper.old) (K.last keeper.new) (K.room keeper.old) (K.room keeper.new) (W.view w.old) (W.view w.new) }
     ensures cause { IfErr result (IsCaused K.has_disk (W.view w.old).disk_faults (W.view w.new).disk_faults) }
 {
@@ -166,6 +168,7 @@ fn look_messages<W: Outside, K: NodeReader<W>>(
     ensures found { (N : Nodes) → K.holds keeper.old (W.view w.old) N → IsOpened N folder.bits → HasTable N (contents folder.bits) table.now
         → Finds N (λ u. (m : ℕ) → IsSome (find_row m table.now.table.rows) → m % 32 ≡ 4 → (M : Mes) × HasMail N m M × (M.folder ≡ folder.bits)) result }
     ensures flags { (N : Nodes) → K.holds keeper.old (W.view w.old) N → IsOpened N folder.bits → HasTable N (contents folder.bits) table.now → OnOk result (Learns N flags.old flags.new) }
+    ensures known { OnOk result (StaysKnown flags.old flags.new × ((m : ℕ) → IsSome (find_row m table.now.table.rows) → m % 32 ≡ 4 → IsKnown flags.new m)) }
     ensures looks { Looks (K.holds keeper.old (W.view w.old)) (K.holds keeper.new (W.view w.new)) (K.last keeper.old) (K.last keeper.new) (K.room keeper.old) (K.room keeper.new) (W.view w.old) (W.view w.new) }
     ensures cause { IfErr result (IsCaused K.has_disk (W.view w.old).disk_faults (W.view w.new).disk_faults) }
 {
@@ -208,6 +211,7 @@ pub(crate) fn look_tables<W: Outside, K: NodeReader<W>>(
     ensures found { (N : Nodes) → K.holds keeper.old (W.view w.old) N → IsOpened N folder.bits
         → Finds N (λ ids. HasTables N folder.bits × ((t : Tbl) × HasTable N (hierarchy folder.bits) t × (keys_ascend (λ r. r.0) 0 t.table.rows ≡ true) × (ids.items ≡ map (λ r. nid_with r.0) t.table.rows))) result }
     ensures flags { (N : Nodes) → K.holds keeper.old (W.view w.old) N → IsOpened N folder.bits → OnOk result (Learns N flags.old flags.new) }
+    ensures known { (N : Nodes) → K.holds keeper.old (W.view w.old) N → IsOpened N folder.bits → OnOk result (StaysKnown flags.old flags.new × ((m : ℕ) → ListsMessage N folder.bits m → IsKnown flags.new m)) }
     ensures looks { Looks (K.holds keeper.old (W.view w.old)) (K.holds keeper.new (W.view w.new)) (K.last keeper.old) (K.last keeper.new) (K.room keeper.old) (K.room keeper.new) (W.view w.old) (W.view w.new) }
     ensures cause { IfErr result (IsCaused K.has_disk (W.view w.old).disk_faults (W.view w.new).disk_faults) }
 {

@@ -45,12 +45,12 @@ module _ (N : Nodes) (P Q : List FolderPlace) (h : HasTree N P) (k : HasTree N Q
       (k.listed p.parent.bits above.0 f parent above.2 above.3 p.sort name).1 ∙ sym (h.listed p.parent.bits above.0 f above.1 above.2 above.3 p.sort name).1 ∙ e
 
 -- the places are those that rows lead to
-one_places : (N : Nodes) (P Q : List FolderPlace) → HasTree N P → HasTree N Q → P ≡ Q
+pub one_places : (N : Nodes) (P Q : List FolderPlace) → HasTree N P → HasTree N Q → P ≡ Q
 one_places N P Q h k =
     one_list place_id 0 0 P Q h.ascend k.ascend (λ f p e. let below = h.reached f p e in stands N P Q h k below.0 f p below.2 e) (λ f p e. let below = k.reached f p e in stands N Q P k h below.0 f p below.2 e)
 
 -- what may stand at an id is of one form, and so one object
-one_object : (N : Nodes) (q : ℕ) (a b : Object) → IsAt N q a → IsAt N q b → a ≡ b
+pub one_object : (N : Nodes) (q : ℕ) (a b : Object) → IsAt N q a → IsAt N q b → a ≡ b
 one_object N q (Context a) (Context b) s t = ap (λ (x : Ctx). Context x) (one_context_at N q a b s.0 t.0)
 one_object N q (Context a) (Table b) s t = let low = context_low q a s.1 in let high = table_id q b t.1 in absurd (omega arith)
 one_object N q (Context a) (Message b) s t = absurd (context_apart q a s.1 (inl (message_id q b t.1).0))

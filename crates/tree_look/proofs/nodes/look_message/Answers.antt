@@ -1,7 +1,7 @@
 use Rattle.std.proofs.Common.{◌≡◌, inr, ◌∙◌, not, sym, ap, arith}
 use Rattle.mapi_values.specs.Messages.{Mes}
 use Rattle.mail_tree.specs.Values.{is_read}
-use Rattle.tree_look.proofs.Learning.{learns-one}
+use Rattle.tree_look.proofs.Learning.{known-one, learns-one}
 use Rattle.tree_look.specs.Forms.{IsNoMail}
 use Rattle.tree_look.proofs.Found.{formless_caused, formless_found, unfit_found}
 use Rattle.tree_look.specs.declared.stops.TreeFault.TheVariants.{Parent}
@@ -25,3 +25,6 @@ returns-in-Ok-clause-flags g c = λ N held opened lists.
     let unread : not (is_read (c.in-Ok.mail).props) ≡ not c.is_read-unread.result = ap not (sym (c.is_read-unread.ensures ∙ ap (λ (m : Mes). is_read m.props) (c.behind-mail.view_is ∙ c.message.ensures.message))) in
     learns-one N c.args.nid.bits (not c.is_read-unread.result) c.args.flags.now c.keep_flag.new.flags c.in_ok-keep_flag-in-Ok.ensures.ok
     (c.args.folder.bits, opened, lists, (c.in-Ok.mail, (c.in-Some.node, sym (c.in_ok-node.ensures.found N held) ∙ c.in-Some.is, c.in-Ok.ensures), unread))
+
+pub returns-in-Ok-clause-known : goal.returns-in-Ok-clause-known
+returns-in-Ok-clause-known g c = known-one c.args.nid.bits (not c.is_read-unread.result) c.args.flags.now c.keep_flag.new.flags c.in_ok-keep_flag-in-Ok.ensures.ok

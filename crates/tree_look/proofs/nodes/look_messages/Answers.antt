@@ -1,8 +1,9 @@
-use Rattle.std.proofs.Common.{◌≡◌, ◌%◌, ℕ, List, ap, sym, subst, ◌∙◌, IsSome, get_or}
+use Rattle.std.proofs.Common.{◌≡◌, inl, inr, ⊎_elim, ◌%◌, ℕ, List, ap, sym, subst, ◌∙◌, IsSome, get_or}
 use Rattle.mapi_values.specs.Messages.{Mes}
 use Rattle.mapi_values.specs.Tables.{Tab, find_row}
 use Rattle.mapi_values.specs.Values.{Val}
 use Rattle.mail_tree.specs.Standing.{HasMail}
+use Rattle.tree_look.specs.Seeing.{IsKnown}
 use Rattle.tree_look.proofs.Found.{looks_then, next_row, row_here, stops_on}
 use Rattle.tree_look.proofs.nodes.look_messages.Goals as goal
 
@@ -35,4 +36,10 @@ loop-row-preserved g c =
           (subst (λ (x : ℕ × List Val). IsSome (find_row x.0 c.args.table.now.table.rows)) (sym c.row-item.is)
           (subst (λ (x : List (ℕ × List Val)). IsSome (find_row ((get_or rows c.loop-row.row-index c.row-item.result).0) x)) rows_are (row_here rows c.loop-row.row-index c.row-item.result c.loop-row-test.true)))
           (I.learns N held opened has seen);
+      stays = λ m was. c.in_ok-look_row.ensures.known.0 m (I.stays m was);
+      known =
+          let P : ℕ → Type 0 = λ m. m % 32 ≡ 4 → IsKnown c.look_row.new.flags m in
+          next_row P rows c.loop-row.row-index c.row-item.result c.loop-row-test.true
+          (λ m row. ⊎_elim (λ was. inl (λ kind. c.in_ok-look_row.ensures.known.0 m (was kind))) inr (I.known m row))
+          (subst (λ (x : ℕ × List Val). P x.0) c.row-item.is c.in_ok-look_row.ensures.known.1);
     }

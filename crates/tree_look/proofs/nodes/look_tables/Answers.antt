@@ -40,3 +40,12 @@ returns-clause-found g c = λ N held opened.
       },
       (c.in_ok-folders.folders, folders, c.row_ids.ensures.ascend, c.in_ok-row_ids.ensures.ids),
     )
+
+pub returns-clause-known : goal.returns-clause-known
+returns-clause-known g c = λ N held opened.
+    let messages : HasTable N (contents c.args.folder.bits) c.in_ok-messages.messages = subst (λ k. HasTable N k c.in_ok-messages.messages) c.beside-2.ensures (c.in_ok-messages.ensures.found N (c.in_ok-folders.ensures.looks.stays N held) opened (inr c.beside-2.ensures)) in (
+      c.in_ok-look_messages.ensures.known.0,
+      λ m lists.
+          c.in_ok-look_messages.ensures.known.1 m
+          (subst (λ (x : Tbl). IsSome (find_row m x.table.rows)) (one_table_at N (contents c.args.folder.bits) lists.0 c.in_ok-messages.messages lists.1 messages) lists.2) lists.3,
+    )
