@@ -1,0 +1,6 @@
+pub mod Said
+pub mod OneAt
+pub mod Keeping
+pub mod Parts
+pub mod Places
+pub mod Excludes
