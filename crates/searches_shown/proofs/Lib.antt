@@ -1,0 +1,5 @@
+pub mod Alike
+pub mod Without
+pub mod Has
+pub mod Made
+pub mod One
