@@ -1,0 +1,4 @@
+pub mod RowLaws
+pub mod PassLaws
+pub mod Steps
+pub mod CheckLaws
