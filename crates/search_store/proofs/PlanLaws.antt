@@ -1,5 +1,5 @@
 -- What was planned, where there are searches.
-use Rattle.std.proofs.Common.{◌≡◌, None, Some, Result, Ok, Err, ap, subst, sym}
+use Rattle.std.proofs.Common.{◌≡◌, None, Some, Ok, Err, ap, subst, sym}
 use Rattle.mail_tree.specs.Changing.{Answer}
 use Rattle.mail_draft.specs.Answers.{Says}
 use Rattle.mail_draft.specs.declared.stop.Stop.{Stop}

@@ -1,15 +1,13 @@
 -- A command that writes no node leaves the tree, where there are searches too.
-use Rattle.std.proofs.Common.{◌≡◌, ◌⊎◌, ℕ, ◌||◌, ◌==◌, not, Bool, true, false, List, [], ◌∷◌, Option, None, Some, IfOk, Ok, Err, refl, sym, subst, inl, inr, if◌then◌else◌}
+use Rattle.std.proofs.Common.{◌≡◌, ◌⊎◌, ℕ, ◌||◌, ◌==◌, not, Bool, true, false, List, [], ◌∷◌, Option, Some, IfOk, refl, sym, subst, inl, inr, if◌then◌else◌}
 use Rattle.std.specs.FinMap as map
 use Rattle.std.proofs.lemmas.Bool.{cases_Bool}
 use Rattle.mapi_values.specs.Characters.{folded}
 use Rattle.mapi_values.specs.Keyed.{drop_key, put_key}
 use Rattle.mapi_values.specs.Values.{Val}
-use Rattle.restr_codec.specs.Restr.{Restr}
 use Rattle.search_obj.specs.Changing.{changed as criteria_after}
 use Rattle.search_obj.specs.Crits.{Crit, CritSet}
 use Rattle.search_obj.specs.Flags.{flags_of}
-use Rattle.search_obj.specs.declared.flags.SearchFlags.{SearchFlags}
 use Rattle.search_obj.specs.Writing.{written}
 use Rattle.command_text.specs.declared.command.Command.{Command}
 use Rattle.command_text.specs.declared.command.Command.TheVariants.{MakeFolder, RenameFolder, MoveFolder, RemoveFolder, ListFolder, NewMessage, SetProperty, UnsetProperty, GetProperty, ListProperties, MoveMessage, CopyMessage, RemoveMessage, AddRecipient, RemoveRecipient, AddAttachment, AppendData, RemoveAttachment, FetchData, NameProperty, Save, Quit, MakeSearch, SetCriteria, GetCriteria}
@@ -25,10 +23,9 @@ use Rattle.mail_tree.specs.Settling.{mirrored, settled, with_context}
 use Rattle.mail_tree.specs.Step as tree
 use Rattle.mail_tree.specs.Tree.{Tree}
 use Rattle.mail_tree.specs.Values.{folder_props, name_of}
-use Rattle.mail_searches.specs.Building.{built, built_rows}
 use Rattle.mail_searches.specs.Criteria.{Coming, built_unless, can_hold, criteria_in, given_criteria, given_restriction, given_scope, made_search, making_search, making_search_in, next_search_index, overfills, search_listing, search_place, setting_criteria, staying, told_criteria, unless_listless, unless_other, with_criteria, with_search}
 use Rattle.mail_searches.specs.Moving.{moved_search, removed_search, removing_search, renamed_search, without_search}
-use Rattle.mail_searches.specs.Relisting.{Around, Touch, around, concerns, counted_search, relisted, settled_search, settled_searches, takes_row, unless_stray, with_results, with_searches}
+use Rattle.mail_searches.specs.Relisting.{Around, Touch, around, concerns, counted_search, relisted, settled_search, settled_searches, takes_row, unless_stray, with_results}
 use Rattle.mail_searches.specs.Searches.{Search, criteria_node, results, runs, search_id, search_of}
 use Rattle.mail_searches.specs.Searching.{Searching, is_own}
 use Rattle.mail_searches.specs.Step.{concluded, if_within, listing_in, outcome, plain_outcome}

@@ -1,5 +1,5 @@
 -- What a store with searches stands for, and what it plans.
-use Rattle.std.specs.Prelude.{◌≡◌, ℕ, Bool, true, false, List, None, Some, Result, Ok, Err}
+use Rattle.std.specs.Prelude.{ℕ, Bool, true, false, List, None, Some, Result, Ok, Err}
 use Rattle.command_text.specs.declared.command.Command.{Command}
 use Rattle.command_text.specs.declared.command.Command.TheVariants.{ListFolder, MakeSearch, SetCriteria, GetCriteria}
 use Rattle.node_port.specs.Nodes.{Nodes}

@@ -1,11 +1,11 @@
 //! The store over a keeper, with its searches.
-ghost use Rattle.std.specs.Prelude.{◌≡◌, ◌≤◌, ◌+◌, ℕ, List, Option, Ok, true, IfErr, IfOk, OnErr, OnOk};
+ghost use Rattle.std.specs.Prelude.{◌≡◌, ◌⊎◌, ◌≤◌, ◌+◌, ℕ, List, Option, Ok, true, IfErr, IfOk, OnErr, OnOk};
 ghost use Rattle.std.specs.Option.{ForSome};
 ghost use Rattle.pst_base.specs.declared.ids.Nid.{Nid as Id};
-ghost use Rattle.pst_outside.specs.Calls.{NeverFall, Rose};
+ghost use Rattle.pst_outside.specs.Calls.{LeavesOnly, NeverFall, Rose, Settled};
 ghost use Rattle.node_port.specs.declared.node.NodeRec.{NodeRec as Rec};
 ghost use Rattle.mail_draft.specs.Answers.{IsCaused, Looks};
-ghost use Rattle.mail_store.specs.Planning.{PlansTo, SameKnown};
+ghost use Rattle.mail_store.specs.Planning.{Alters, PlansTo, SameKnown, StandsFor, cost_of};
 ghost use Rattle.mail_searches.specs.Criteria.{Coming as Comings};
 ghost use Rattle.mail_searches.specs.Asking.{work_of};
 ghost use Rattle.mail_searches.specs.Relisting.{Touch, around};
@@ -22,8 +22,8 @@ use crate::planned::PlannedSearch;
 use command_text::{Command, Reply};
 use mail_draft::Stop;
 use mail_searches::{KnownSearches, OwnFolders, Searches};
-use mail_store::{Store, commit as commit_tree, plan_outcome};
-use node_port::Keeper;
+use mail_store::{Store, commit as commit_tree, plan_outcome, save as save_tree};
+use node_port::{Keeper, Saver};
 use pst_base::{Ledger, Steps};
 use pst_outside::{Failed, Outside};
 use search_folders::Coming;
@@ -103,6 +103,18 @@ pub fn commit<W: Outside, K: Keeper<W>>(
         → StoresSearches (K.holds store.new.store.keeper (W.view w.new)) (K.last store.new.store.keeper) store.new.store.known store.new.searches (after X o)) }
     ensures reply { IfOk result (λ reply. reply ≡ planned.tree.reply) }
     ensures cause { OnErr result (Rose (W.view w.old).disk_faults (W.view w.new).disk_faults × (K.has_disk ≡ true)) }
+    ensures rests { Settled (W.view w.old) → ((W.view w.old).tells → K.rests (W.view w.old).here) → OnOk result (Settled (W.view w.new) × ((W.view w.new).tells → K.rests (W.view w.new).here)) }
+    // A crash at any moment leaves the tree from before or that after.
+    ensures any_moment { (X : Searching) (o : Comings) → StoresSearches (K.holds store.old.store.keeper (W.view w.old)) (K.last store.old.store.keeper) store.old.store.known store.old.searches X
+        → PlansTo (K.fits store.old.store.keeper (W.view w.old)) X.tree o.outcome planned.tree.change planned.tree.places planned.tree.flags.items planned.tree.reply
+        → o.own ≡ new_or_old X.own planned.own → o.searches ≡ new_or_old X.searches planned.searches
+        → Settled (W.view w.old) → ((W.view w.old).tells → K.rests (W.view w.old).here)
+        → LeavesOnly (W.view w.old) (W.view w.new) (λ c. (c.said ≡ (W.view w.old).here.said) × (StandsFor (K.stands (K.room store.old.store.keeper).found c) X.tree ⊎ StandsFor (K.stands (K.room store.old.store.keeper).found c) (after X o).tree)) }
+    ensures applied { OnOk result ((X : Searching) → StoresSearches (K.holds store.old.store.keeper (W.view w.old)) (K.last store.old.store.keeper) store.old.store.known store.old.searches X → ((W.view w.old).tells → K.rests (W.view w.old).here) → (W.view w.new).tells → Alters K.applied planned.tree.change (W.view w.old).here (W.view w.new).here) }
+    ensures found { (K.room store.new.store.keeper).found ≡ (K.room store.old.store.keeper).found }
+    ensures written { (W.view w.new).written ≤ (W.view w.old).written + cost_of K.cost planned.tree.change }
+    ensures told { (W.view w.new).tells → (W.view w.old).tells }
+    ensures input { (W.view w.new).tells → (W.view w.new).input ≡ (W.view w.old).input }
     ensures counts { NeverFall (W.view w.old) (W.view w.new) }
 {
     let PlannedSearch {
@@ -113,4 +125,24 @@ pub fn commit<W: Outside, K: Keeper<W>>(
     let reply = commit_tree(&mut store.store, w, tree)?;
     settle_searches(&mut store.searches, own, searches);
     Ok(reply)
+}
+
+/// Saves what the keeper knows beside the nodes. The tree and its searches stay. It fails only where the disk failed. Takes no memory.
+pub fn save<W: Outside, K: Saver<W>>(store: &mut SearchStore<K>, w: &mut W) -> Result<(), Failed>
+    ensures same { OnOk result ((X : Searching) → StoresSearches (K.holds store.old.store.keeper (W.view w.old)) (K.last store.old.store.keeper) store.old.store.known store.old.searches X → ((W.view w.old).tells → K.rests (W.view w.old).here) → (K.has_disk ≡ true → (W.view w.new).tells)
+        → StoresSearches (K.holds store.new.store.keeper (W.view w.new)) (K.last store.new.store.keeper) store.new.store.known store.new.searches X) }
+    ensures searches { store.new.searches ≡ store.old.searches }
+    ensures room { K.room store.new.store.keeper ≡ K.room store.old.store.keeper }
+    ensures saved { OnOk result ((X : Searching) → StoresSearches (K.holds store.old.store.keeper (W.view w.old)) (K.last store.old.store.keeper) store.old.store.known store.old.searches X → ((W.view w.old).tells → K.rests (W.view w.old).here) → (W.view w.new).tells → K.saved (W.view w.old).here (W.view w.new).here) }
+    ensures rests { Settled (W.view w.old) → ((W.view w.old).tells → K.rests (W.view w.old).here) → OnOk result (Settled (W.view w.new) × ((W.view w.new).tells → K.rests (W.view w.new).here)) }
+    // A crash at any moment leaves the same tree.
+    ensures any_moment { (X : Searching) → StoresSearches (K.holds store.old.store.keeper (W.view w.old)) (K.last store.old.store.keeper) store.old.store.known store.old.searches X → Settled (W.view w.old) → ((W.view w.old).tells → K.rests (W.view w.old).here)
+        → LeavesOnly (W.view w.old) (W.view w.new) (λ c. (c.said ≡ (W.view w.old).here.said) × StandsFor (K.stands (K.room store.old.store.keeper).found c) X.tree) }
+    ensures written { (W.view w.new).written ≤ (W.view w.old).written + K.save_cost store.old.store.keeper }
+    ensures told { (W.view w.new).tells → (W.view w.old).tells }
+    ensures input { (W.view w.new).tells → (W.view w.new).input ≡ (W.view w.old).input }
+    ensures cause { OnErr result (Rose (W.view w.old).disk_faults (W.view w.new).disk_faults × (K.has_disk ≡ true)) }
+    ensures counts { NeverFall (W.view w.old) (W.view w.new) }
+{
+    save_tree(&mut store.store, w)
 }

@@ -10,3 +10,6 @@ returns-clause-made g c = λ X o s p own searches rests told. record {
     searches = searches ∙ ap (λ x. new_or_old x c.args.planned.searches) s.searches.searches ∙ sym c.settle_searches.ensures.searches;
   };
 }
+
+pub returns-clause-applied : goal.returns-clause-applied
+returns-clause-applied g c = λ X s rests told. c.in_ok-reply.ensures.applied X.tree s.tree rests told
