@@ -12,7 +12,7 @@ use Rattle.line_server.specs.Lines.{Piece, line, too_long, further, up_to_quit}
 use Rattle.line_server.specs.Server.{ServerEnds}
 use Rattle.line_server.proofs.PieceLaws.{nothing_cuts}
 use Rattle.node_port.specs.Stops.{Room}
-use Rattle.mail_tree.specs.Tree.{Tree}
+use Rattle.mail_searches.specs.Searching.{Searching}
 use Rattle.store_session.specs.Carrying.{IsCaused, Leaves}
 use Rattle.store_session.specs.Disks.{Effects}
 use Rattle.store_session.specs.Keeping.{Keeping}
@@ -49,16 +49,16 @@ has_cause view disk answers stops causes a b first now (server_ends.Stopped stor
     (rose_later (view first).disk_faults (view turn.heard).disk_faults (view now).disk_faults (omega (arith, counts.disk_faults, turn.hears.counts.disk_faults)) cause.0, cause.1)
 has_cause view disk answers stops causes a b first now (server_ends.Stopped (store_stops.Changed ib stored computed)) e = tt
 
-module _ {S W : Type 0} (view : W → World) (disk : Bool) (has : S → W → Tree → Type 0) (stands : Image → Tree → Type 0) (rests : Image → Type 0) (effects : Effects) (room : S → Room) (answers : Answering S W) (stops : Stopping S W StoreStop) (keeps : Keeping view disk has stands rests effects room answers stops)
-    (a b : S) (first now : W) (T : Tree) (h : has a first T) (tells : disk ≡ true → (view now).tells) where
+module _ {S W : Type 0} (view : W → World) (disk : Bool) (has : S → W → Searching → Type 0) (stands : Image → Searching → Type 0) (rests : Image → Type 0) (effects : Effects) (room : S → Room) (answers : Answering S W) (stops : Stopping S W StoreStop) (keeps : Keeping view disk has stands rests effects room answers stops)
+    (a b : S) (first now : W) (X : Searching) (h : has a first X) (tells : disk ≡ true → (view now).tells) where
   -- a session whose server wasn't stopped
   ended_as : (end : ServerEnd StoreStop) (to : SessionEnd) → (to ≡ Disk → ⊥) → (to ≡ Memory → ⊥) → ((ib stored computed : ℕ) → to ≡ Changed ib stored computed → ⊥)
       → (to ≡ Done → end ≡ server_ends.Done) → (to ≡ Input → end ≡ server_ends.Input) → (end ≡ server_ends.Output → to ≡ Output) → (to ≡ Lines → end ≡ server_ends.Lines)
-      → (e : ServerEnds view answers stops a first b now end) → (b ≡ e.behind) × (now ≡ e.last) → StoreSessionEnds effects stands rests (view first).here (view first) (view now) T to
+      → (e : ServerEnds view answers stops a first b now end) → (b ≡ e.behind) × (now ≡ e.last) → StoreSessionEnds effects stands rests (view first).here (view first) (view now) X to
   ended_as end to disk_ memory changed done input output lines_ e closes =
       let turns : Turns view answers (end ≡ server_ends.Output → ⊥) e.done e.replies a first b now =
       subst (λ (s : S). Turns view answers (end ≡ server_ends.Output → ⊥) e.done e.replies a first s now) (sym closes.0) (subst (λ (x : W). Turns view answers (end ≡ server_ends.Output → ⊥) e.done e.replies a first e.behind x) (sym closes.1) e.turns) in
-      let r = turns_run view disk has stands rests effects room answers stops keeps (view now).tells (end ≡ server_ends.Output → ⊥) e.done e.replies a b first now T (λ t. t) h turns tells in
+      let r = turns_run view disk has stands rests effects room answers stops keeps (view now).tells (end ≡ server_ends.Output → ⊥) e.done e.replies a b first now X (λ t. t) h turns tells in
       record {
         taken = e.taken;
         input = e.input;
@@ -78,10 +78,10 @@ module _ {S W : Type 0} (view : W → World) (disk : Bool) (has : S → W → Tr
         disk_is = λ no. r.disk_is;
         front = r.front;
         whole = λ no. r.said (λ is. no (output is));
-        images = subst (λ (l : List StoreTurn). LeavesOnly (view first) (view now) (IsReached stands (view first).here.said T l)) (sym (append-nil r.turns)) r.images;
-        ends_as = λ no. keeps.here b now (tree_after T r.turns) r.holds;
-        settled = λ no. keeps.settled b now (tree_after T r.turns) r.holds;
-        at_rest = λ no. keeps.at_rest b now (tree_after T r.turns) r.holds;
+        images = subst (λ (l : List StoreTurn). LeavesOnly (view first) (view now) (IsReached stands (view first).here.said X l)) (sym (append-nil r.turns)) r.images;
+        ends_as = λ no. keeps.here b now (tree_after X r.turns) r.holds;
+        settled = λ no. keeps.settled b now (tree_after X r.turns) r.holds;
+        at_rest = λ no. keeps.at_rest b now (tree_after X r.turns) r.holds;
         finished = λ is. e.finished (done is);
         input_failed = λ is. let k = e.input_failed (input is) in (k.1, k.2, k.3);
         spent = λ is. e.spent (lines_ is);
@@ -91,25 +91,25 @@ module _ {S W : Type 0} (view : W → World) (disk : Bool) (has : S → W → Tr
       }
 
   -- what the line in hand came to
-  stop_piece : (piece : Piece) (stop : StoreStop) (c : S) (v : W) (U : Tree) → StopsAt stops piece c v stop b now → has c v U → (bytes : List ℕ) × (piece ≡ line bytes) × StopLeaves stands effects (room c) (view v) (view now) U bytes stop
-  stop_piece (line bytes) stop c v U is held = (bytes, refl, keeps.stopped c b v now bytes stop U is held tells)
-  stop_piece too_long stop c v U is held = absurd is
-  stop_piece further stop c v U is held = absurd is
+  stop_piece : (piece : Piece) (stop : StoreStop) (c : S) (v : W) (Y : Searching) → StopsAt stops piece c v stop b now → has c v Y → (bytes : List ℕ) × (piece ≡ line bytes) × StopLeaves stands effects (room c) (view v) (view now) Y bytes stop
+  stop_piece (line bytes) stop c v Y is held = (bytes, refl, keeps.stopped c b v now bytes stop Y is held tells)
+  stop_piece too_long stop c v Y is held = absurd is
+  stop_piece further stop c v Y is held = absurd is
 
   -- the disk failed
-  ended_by_disk : ServerEnds view answers stops a first b now (server_ends.Stopped store_stops.Disk) → StoreSessionEnds effects stands rests (view first).here (view first) (view now) T Disk
+  ended_by_disk : ServerEnds view answers stops a first b now (server_ends.Stopped store_stops.Disk) → StoreSessionEnds effects stands rests (view first).here (view first) (view now) X Disk
   ended_by_disk e =
       let turn = e.closes.3 in
       let told : (view now).tells → (view e.last).tells = λ t. turn.hears.stays.told (turn.quiet.told t) in
-      let r = turns_run view disk has stands rests effects room answers stops keeps (view now).tells _ e.done e.replies a e.behind first e.last T told h e.turns (λ d. told (tells d)) in
-      let U : Tree = tree_after T r.turns in
-      let held : has e.behind turn.heard U = heard_has view disk has stands rests effects room answers stops keeps e.behind e.last turn.heard U r.holds turn.hears (λ d. turn.quiet.told (tells d)) in
-      let s = stop_piece e.closes.0 store_stops.Disk e.behind turn.heard U turn.stopped held in
-      let next : Tree = s.2.0 in
+      let r = turns_run view disk has stands rests effects room answers stops keeps (view now).tells _ e.done e.replies a e.behind first e.last X told h e.turns (λ d. told (tells d)) in
+      let Y : Searching = tree_after X r.turns in
+      let held : has e.behind turn.heard Y = heard_has view disk has stands rests effects room answers stops keeps e.behind e.last turn.heard Y r.holds turn.hears (λ d. turn.quiet.told (tells d)) in
+      let s = stop_piece e.closes.0 store_stops.Disk e.behind turn.heard Y turn.stopped held in
+      let next : Searching = s.2.0 in
       let reply : List ℕ = s.2.1 in
       let hand_turn : StoreTurn = record { said = reply; tree = next; disk = (view now).here } in
-      let answer : Answers effects (room e.behind) U (view turn.heard).here ⊥ e.closes.0 reply next (view now).here = subst (λ (p : Piece). Answers effects (room e.behind) U (view turn.heard).here ⊥ p reply next (view now).here) (sym s.1) s.2.2 in
-      let leaves : Leaves stands (view e.last) (view now) U next = heard_leaves view disk has stands rests effects room answers stops keeps e.behind e.last turn.heard now U next r.holds turn.hears turn.quiet.told s.2.3 in
+      let answer : Answers effects (room e.behind) Y (view turn.heard).here ⊥ e.closes.0 reply next (view now).here = subst (λ (p : Piece). Answers effects (room e.behind) Y (view turn.heard).here ⊥ p reply next (view now).here) (sym s.1) s.2.2 in
+      let leaves : Leaves stands (view e.last) (view now) Y next = heard_leaves view disk has stands rests effects room answers stops keeps e.behind e.last turn.heard now Y next r.holds turn.hears turn.quiet.told s.2.3 in
       let said : (view e.last).tells → (view e.last).here.said ≡ (view first).here.said ++ texts r.turns = r.said (λ is. absurd (cc)) in
       let whole : (view now).tells → (view now).here.said ≡ (view first).here.said ++ texts r.turns = λ t. (leaves.here t).0 ∙ said (told t) in
       record {
@@ -126,12 +126,12 @@ module _ {S W : Type 0} (view : W → World) (disk : Bool) (has : S → W → Tr
         turns = r.turns;
         last = hand_turn ∷ [];
         run = r.run;
-        in_hand = ((room e.behind, r.measured, answers_on effects (room e.behind) U (λ none. none) (λ none. absurd none) (λ none. absurd none) e.closes.0 reply next answer), tt);
+        in_hand = ((room e.behind, r.measured, answers_on effects (room e.behind) Y (λ none. none) (λ none. absurd none) (λ none. absurd none) e.closes.0 reply next answer), tt);
         stand = r.stand;
         disk_is = λ no. absurd (no refl);
         front = λ t. (length (texts r.turns), whole t ∙ ap (λ l. (view first).here.said ++ l) (sym (take_all (length (texts r.turns)) (texts r.turns) (omega arith))));
         whole = λ no. whole;
-        images = reached_then stands (view first).here.said T r.turns hand_turn r.images (λ t. said (told t)) (commit_leaves stands U hand_turn leaves);
+        images = reached_then stands (view first).here.said X r.turns hand_turn r.images (λ t. said (told t)) (commit_leaves stands Y hand_turn leaves);
         ends_as = λ no. absurd (no refl);
         settled = λ no. absurd (no refl);
         at_rest = λ no. absurd (no refl);
@@ -148,12 +148,12 @@ module _ {S W : Type 0} (view : W → World) (disk : Bool) (has : S → W → Tr
   never_changed ib stored computed e =
       let turn = e.closes.3 in
       let told : (view now).tells → (view e.last).tells = λ t. turn.hears.stays.told (turn.quiet.told t) in
-      let r = turns_run view disk has stands rests effects room answers stops keeps (view now).tells _ e.done e.replies a e.behind first e.last T told h e.turns (λ d. told (tells d)) in
-      let U : Tree = tree_after T r.turns in
-      let held : has e.behind turn.heard U = heard_has view disk has stands rests effects room answers stops keeps e.behind e.last turn.heard U r.holds turn.hears (λ d. turn.quiet.told (tells d)) in
-      (stop_piece e.closes.0 (store_stops.Changed ib stored computed) e.behind turn.heard U turn.stopped held).2
+      let r = turns_run view disk has stands rests effects room answers stops keeps (view now).tells _ e.done e.replies a e.behind first e.last X told h e.turns (λ d. told (tells d)) in
+      let Y : Searching = tree_after X r.turns in
+      let held : has e.behind turn.heard Y = heard_has view disk has stands rests effects room answers stops keeps e.behind e.last turn.heard Y r.holds turn.hears (λ d. turn.quiet.told (tells d)) in
+      (stop_piece e.closes.0 (store_stops.Changed ib stored computed) e.behind turn.heard Y turn.stopped held).2
 
-  pub session_ends : (end : ServerEnd StoreStop) → ServerEnds view answers stops a first b now end → StoreSessionEnds effects stands rests (view first).here (view first) (view now) T (end_of end)
+  pub session_ends : (end : ServerEnd StoreStop) → ServerEnds view answers stops a first b now end → StoreSessionEnds effects stands rests (view first).here (view first) (view now) X (end_of end)
   session_ends server_ends.Done e =
       ended_as server_ends.Done Done (λ is. cc) (λ is. cc) (λ ib stored computed is. cc) (λ is. refl) (λ is. absurd (cc)) (λ is. absurd (cc)) (λ is. absurd (cc)) e e.closes
   session_ends server_ends.Input e =
@@ -166,8 +166,8 @@ module _ {S W : Type 0} (view : W → World) (disk : Bool) (has : S → W → Tr
   session_ends (server_ends.Stopped (store_stops.Changed ib stored computed)) e = absurd (never_changed ib stored computed e)
 
 -- there was no memory for a session
-pub ends_by_memory : (effects : Effects) (stands : Image → Tree → Type 0) (rests : Image → Type 0) (v : World) (T : Tree) → Settled v → (v.tells → rests v.here) → stands v.here T → StoreSessionEnds effects stands rests v.here v v T Memory
-ends_by_memory effects stands rests v T settled at_rest is = record {
+pub ends_by_memory : (effects : Effects) (stands : Image → Searching → Type 0) (rests : Image → Type 0) (v : World) (X : Searching) → Settled v → (v.tells → rests v.here) → stands v.here X → StoreSessionEnds effects stands rests v.here v v X Memory
+ends_by_memory effects stands rests v X settled at_rest is = record {
   taken = [];
   input = λ t. refl;
   all = false;
@@ -186,7 +186,7 @@ ends_by_memory effects stands rests v T settled at_rest is = record {
   disk_is = λ no t. same_as refl;
   front = λ t. (0, sym (append-nil v.here.said));
   whole = λ no t. sym (append-nil v.here.said);
-  images = weaker (IsReached stands v.here.said T []) (standing stands v T settled is) (λ c told k. record {
+  images = weaker (IsReached stands v.here.said X []) (standing stands v X settled is) (λ c told k. record {
     done = [];
     left = [];
     are = refl;

@@ -10,9 +10,9 @@ use Rattle.line_server.specs.Spoken.{spoken_text}
 use Rattle.line_server.specs.declared.spoken.Spoken.{Spoken}
 use Rattle.node_port.specs.Stops.{Room}
 use Rattle.mail_tree.specs.Changing.{Answer}
-use Rattle.mail_tree.specs.Folders.{Outcome}
-use Rattle.mail_tree.specs.Step.{outcome}
-use Rattle.mail_tree.specs.Tree.{Tree}
+use Rattle.mail_searches.specs.Criteria.{Coming}
+use Rattle.mail_searches.specs.Searching.{Searching}
+use Rattle.mail_searches.specs.Step.{outcome}
 use Rattle.store_session.specs.Carrying.{CarriesOut, IsCaused, Leaves, SaysRefusal}
 use Rattle.store_session.specs.Lines.{AnswersLine, StopsLine}
 use Rattle.store_session.specs.Disks.{Becomes, CommitsAnswer, Effects, Moves, is_save}
@@ -22,38 +22,38 @@ use Rattle.store_session.specs.declared.carrying.StoreStop.TheVariants.{Disk, Ch
 use Rattle.store_session.proofs.Carry.{memory_text, same_as}
 
 -- the answer to a line
-pub line_answered : (has has' : Tree → Type 0) (stands : Image → Tree → Type 0) (effects : Effects) (room : Room) (found found' : List ℕ) (disk : Bool) (old new : World) (bytes : List ℕ) (r : Result Spoken StoreStop)
-    → ((T : Tree) → has T → (disk ≡ true → new.tells) → CarriesOut has' stands (λ told. Answers effects room T old.here told (line bytes)) old new T r) → found' ≡ found
+pub line_answered : (has has' : Bool → Searching → Type 0) (stands : Bool → Image → Searching → Type 0) (effects : Effects) (room : Room) (found found' : List ℕ) (disk : Bool) (old new : World) (bytes : List ℕ) (r : Result Spoken StoreStop)
+    → ((tidy : Bool) (X : Searching) → has tidy X → (disk ≡ true → new.tells) → CarriesOut (has' tidy) (stands tidy) (λ told. Answers effects room X old.here told (line bytes)) old new X r) → found' ≡ found
     → IfOk r (λ spoken. AnswersLine has has' stands effects room found found' disk old new bytes (spoken_text spoken))
 line_answered has has' stands effects room found found' disk old new bytes (Ok spoken) carries same = record { carried = carries; same = same }
 line_answered has has' stands effects room found found' disk old new bytes (Err stop) carries same = tt
 
 -- the stop at one
-pub line_stopped : (has has' : Tree → Type 0) (stands : Image → Tree → Type 0) (effects : Effects) (room : Room) (disk : Bool) (old new : World) (bytes : List ℕ) (r : Result Spoken StoreStop)
-    → ((T : Tree) → has T → (disk ≡ true → new.tells) → CarriesOut has' stands (λ told. Answers effects room T old.here told (line bytes)) old new T r) → IfErr r (IsCaused disk old new)
+pub line_stopped : (has has' : Bool → Searching → Type 0) (stands : Bool → Image → Searching → Type 0) (effects : Effects) (room : Room) (disk : Bool) (old new : World) (bytes : List ℕ) (r : Result Spoken StoreStop)
+    → ((tidy : Bool) (X : Searching) → has tidy X → (disk ≡ true → new.tells) → CarriesOut (has' tidy) (stands tidy) (λ told. Answers effects room X old.here told (line bytes)) old new X r) → IfErr r (IsCaused disk old new)
     → IfErr r (λ stop. StopsLine has stands effects room disk old new bytes stop)
 line_stopped has has' stands effects room disk old new bytes (Ok spoken) carries cause = tt
 line_stopped has has' stands effects room disk old new bytes (Err Disk) carries cause = record { cause = cause; leaves = carries }
 line_stopped has has' stands effects room disk old new bytes (Err (Changed ib stored computed)) carries cause = record { cause = cause; leaves = carries }
 
 -- what a line answers that is a command
-command_line : (effects : Effects) (room : Room) (T U : Tree) (old new : Image) (told : Type 0) (c : Command) (bytes said : List ℕ) → command bytes ≡ Ok c → CommandAnswers effects room T old told c said U new → Answers effects room T old told (line bytes) said U new
-command_line effects room T U old new told c bytes said is (inl carries) = inl (subst (λ asked. Carries effects room T old told asked said U new) (sym is) carries)
-command_line effects room T U old new told c bytes said is (inr lacks) = inr lacks
+command_line : (effects : Effects) (room : Room) (X Y : Searching) (old new : Image) (told : Type 0) (c : Command) (bytes said : List ℕ) → command bytes ≡ Ok c → CommandAnswers effects room X old told c said Y new → Answers effects room X old told (line bytes) said Y new
+command_line effects room X Y old new told c bytes said is (inl carries) = inl (subst (λ asked. Carries effects room X old told asked said Y new) (sym is) carries)
+command_line effects room X Y old new told c bytes said is (inr lacks) = inr lacks
 
 -- so a command that was carried out is its line's
-pub command_carried : (has : Tree → Type 0) (stands : Image → Tree → Type 0) (effects : Effects) (room : Room) (old new : World) (T : Tree) (c : Command) (bytes : List ℕ) (r : Result Spoken StoreStop) → command bytes ≡ Ok c
-    → CarriesOut has stands (λ told. CommandAnswers effects room T old.here told c) old new T r → CarriesOut has stands (λ told. Answers effects room T old.here told (line bytes)) old new T r
-command_carried has stands effects room old new T c bytes (Ok spoken) is done = (done.0, command_line effects room T done.0 old.here new.here new.tells c bytes (spoken_text spoken) is done.1, done.2, done.3)
-command_carried has stands effects room old new T c bytes (Err Disk) is done = (done.0, done.1, command_line effects room T done.0 old.here new.here ⊥ c bytes done.1 is done.2, done.3)
-command_carried has stands effects room old new T c bytes (Err (Changed ib stored computed)) is done = done
+pub command_carried : (has : Searching → Type 0) (stands : Image → Searching → Type 0) (effects : Effects) (room : Room) (old new : World) (X : Searching) (c : Command) (bytes : List ℕ) (r : Result Spoken StoreStop) → command bytes ≡ Ok c
+    → CarriesOut has stands (λ told. CommandAnswers effects room X old.here told c) old new X r → CarriesOut has stands (λ told. Answers effects room X old.here told (line bytes)) old new X r
+command_carried has stands effects room old new X c bytes (Ok spoken) is done = (done.0, command_line effects room X done.0 old.here new.here new.tells c bytes (spoken_text spoken) is done.1, done.2, done.3)
+command_carried has stands effects room old new X c bytes (Err Disk) is done = (done.0, done.1, command_line effects room X done.0 old.here new.here ⊥ c bytes done.1 is done.2, done.3)
+command_carried has stands effects room old new X c bytes (Err (Changed ib stored computed)) is done = done
 
 -- a line that is refused
-pub refused_carried : (has : Tree → Type 0) (stands : Image → Tree → Type 0) (effects : Effects) (room : Room) (v : World) (T : Tree) (refusal : LineRefusal) (bytes : List ℕ) (spoken : Spoken) → command bytes ≡ Err refusal → SaysRefusal (refusal_of refusal) spoken
-    → has T → Leaves stands v v T T → CarriesOut has stands (λ told. Answers effects room T v.here told (line bytes)) v v T (Ok spoken)
-refused_carried has stands effects room v T refusal bytes spoken is (inl says) h leaves =
-    (T, inl (subst (λ asked. Carries effects room T v.here v.tells asked (spoken_text spoken) T v.here) (sym is) (says, (refl, λ told. same_as refl))), h, leaves)
-refused_carried has stands effects room v T refusal bytes spoken is (inr says) h leaves = (T, inr (says ∙ memory_text, (refl, λ told. same_as refl)), h, leaves)
+pub refused_carried : (has : Searching → Type 0) (stands : Image → Searching → Type 0) (effects : Effects) (room : Room) (v : World) (X : Searching) (refusal : LineRefusal) (bytes : List ℕ) (spoken : Spoken) → command bytes ≡ Err refusal → SaysRefusal (refusal_of refusal) spoken
+    → has X → Leaves stands v v X X → CarriesOut has stands (λ told. Answers effects room X v.here told (line bytes)) v v X (Ok spoken)
+refused_carried has stands effects room v X refusal bytes spoken is (inl says) h leaves =
+    (X, inl (subst (λ asked. Carries effects room X v.here v.tells asked (spoken_text spoken) X v.here) (sym is) (says, (refl, λ told. same_as refl))), h, leaves)
+refused_carried has stands effects room v X refusal bytes spoken is (inr says) h leaves = (X, inr (says ∙ memory_text, (refl, λ told. same_as refl)), h, leaves)
 
 -- ---- the same from and to other images of the same disks
 
@@ -67,27 +67,27 @@ same_between s e same = record {
 made_between : (made : Image → Image → Type 0) {old from new to : Image} → old ≡ from → SameDisk new to → Becomes made old new → Becomes made from to
 made_between made s e is = (is.0, subst (λ i. made i is.0) s is.1, same_between refl e is.2)
 
-commits_between : (applied : Image → Image → Type 0) (answer : Answer Outcome) {old from new to : Image} → old ≡ from → SameDisk new to → CommitsAnswer applied answer old new → CommitsAnswer applied answer from to
+commits_between : (applied : Image → Image → Type 0) (answer : Answer Coming) {old from new to : Image} → old ≡ from → SameDisk new to → CommitsAnswer applied answer old new → CommitsAnswer applied answer from to
 commits_between applied (Ok o) s e is = record { written = λ writes. made_between applied s e (is.written writes); unwritten = λ none. same_between s e (is.unwritten none) }
 commits_between applied (Err refusal) s e is = same_between s e is
 
-moves_between : (effects : Effects) (saving : Bool) (answer : Answer Outcome) {old from new to : Image} → old ≡ from → SameDisk new to → Moves effects saving answer old new → Moves effects saving answer from to
+moves_between : (effects : Effects) (saving : Bool) (answer : Answer Coming) {old from new to : Image} → old ≡ from → SameDisk new to → Moves effects saving answer old new → Moves effects saving answer from to
 moves_between effects true answer s e is = made_between effects.saved s e is
 moves_between effects false answer s e is = commits_between effects.applied answer s e is
 
-module _ (effects : Effects) (room : Room) (T : Tree) {old from new to : Image} {told also : Type 0} (tells : also → told) (starts : also → old ≡ from) (ends : also → SameDisk new to) where
-  stays_on : (U : Tree) → Stays effects room T old told U new → Stays effects room T from also U to
-  stays_on U is = (is.0, λ t. same_between (starts t) (ends t) (is.1 (tells t)))
+module _ (effects : Effects) (room : Room) (X : Searching) {old from new to : Image} {told also : Type 0} (tells : also → told) (starts : also → old ≡ from) (ends : also → SameDisk new to) where
+  stays_on : (Y : Searching) → Stays effects room X old told Y new → Stays effects room X from also Y to
+  stays_on Y is = (is.0, λ t. same_between (starts t) (ends t) (is.1 (tells t)))
 
-  carries_on : (asked : Result Command LineRefusal) (said : List ℕ) (U : Tree) → Carries effects room T old told asked said U new → Carries effects room T from also asked said U to
-  carries_on (Ok c) said U (inl is) = inl (is.0, is.1, λ t. moves_between effects (is_save c) (outcome T c) (starts t) (ends t) (is.2 (tells t)))
-  carries_on (Ok c) said U (inr is) = inr (is.0, λ t. same_between (starts t) (ends t) (is.1 (tells t)))
-  carries_on (Err refusal) said U is = (is.0, stays_on U is.1)
+  carries_on : (asked : Result Command LineRefusal) (said : List ℕ) (Y : Searching) → Carries effects room X old told asked said Y new → Carries effects room X from also asked said Y to
+  carries_on (Ok c) said Y (inl is) = inl (is.0, is.1, λ t. moves_between effects (is_save c) (outcome X c) (starts t) (ends t) (is.2 (tells t)))
+  carries_on (Ok c) said Y (inr is) = inr (is.0, λ t. same_between (starts t) (ends t) (is.1 (tells t)))
+  carries_on (Err refusal) said Y is = (is.0, stays_on Y is.1)
 
-  pub answers_on : (piece : Piece) (said : List ℕ) (U : Tree) → Answers effects room T old told piece said U new → Answers effects room T from also piece said U to
-  answers_on (line bytes) said U (inl is) = inl (carries_on (command bytes) said U is)
-  answers_on (line bytes) said U (inr is) = inr (is.0, stays_on U is.1)
-  answers_on too_long said U (inl is) = inl (is.0, stays_on U is.1)
-  answers_on too_long said U (inr is) = absurd is
-  answers_on further said U (inl is) = inl (is.0, stays_on U is.1)
-  answers_on further said U (inr is) = absurd is
+  pub answers_on : (piece : Piece) (said : List ℕ) (Y : Searching) → Answers effects room X old told piece said Y new → Answers effects room X from also piece said Y to
+  answers_on (line bytes) said Y (inl is) = inl (carries_on (command bytes) said Y is)
+  answers_on (line bytes) said Y (inr is) = inr (is.0, stays_on Y is.1)
+  answers_on too_long said Y (inl is) = inl (is.0, stays_on Y is.1)
+  answers_on too_long said Y (inr is) = absurd is
+  answers_on further said Y (inl is) = inl (is.0, stays_on Y is.1)
+  answers_on further said Y (inr is) = absurd is

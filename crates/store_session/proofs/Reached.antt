@@ -5,7 +5,7 @@ use Rattle.std.specs.List.{concat}
 use Rattle.pst_outside.specs.World.{Image, SameDisk, World}
 use Rattle.pst_outside.specs.Calls.{LeavesOnly, SaysSome, Settled}
 use Rattle.pst_outside.proofs.Moments.{continues, says_settled, weaker}
-use Rattle.mail_tree.specs.Tree.{Tree}
+use Rattle.mail_searches.specs.Searching.{Searching}
 use Rattle.store_session.specs.Carrying.{Leaves}
 use Rattle.store_session.specs.Turns.{IsReached, StoreTurn, replies_of, texts, tree_after}
 
@@ -13,7 +13,7 @@ pub texts_more : (turns more : List StoreTurn) → texts (turns ++ more) ≡ tex
 texts_more [] more = refl
 texts_more (t ∷ ts) more = ap (λ l. t.said ++ l) (texts_more ts more) ∙ sym (append_assoc t.said (texts ts) (texts more))
 
-pub after_more : (start : Tree) (turns more : List StoreTurn) → tree_after start (turns ++ more) ≡ tree_after (tree_after start turns) more
+pub after_more : (start : Searching) (turns more : List StoreTurn) → tree_after start (turns ++ more) ≡ tree_after (tree_after start turns) more
 after_more start [] more = refl
 after_more start (t ∷ ts) more = after_more t.tree ts more
 
@@ -24,7 +24,7 @@ take_over (x ∷ xs) ys n =
     ap (λ k. take k (x ∷ (xs ++ ys))) e ∙ ap (λ l. x ∷ l) (take_over xs ys n)
 
 -- what was reached stays reached when more turns come
-pub reached_more : (stands : Image → Tree → Type 0) (first : List ℕ) (start : Tree) (turns more : List StoreTurn) (c : Image) → IsReached stands first start turns c → IsReached stands first start (turns ++ more) c
+pub reached_more : (stands : Image → Searching → Type 0) (first : List ℕ) (start : Searching) (turns more : List StoreTurn) (c : Image) → IsReached stands first start turns c → IsReached stands first start (turns ++ more) c
 reached_more stands first start turns more c is = record {
   done = is.done;
   left = is.left ++ more;
@@ -35,7 +35,7 @@ reached_more stands first start turns more c is = record {
 }
 
 -- what is reached behind a turn whose reply was said
-pub reached_behind : (stands : Image → Tree → Type 0) (first said : List ℕ) (start : Tree) (turn : StoreTurn) (turns : List StoreTurn) (c : Image) → said ≡ first ++ turn.said → IsReached stands said turn.tree turns c
+pub reached_behind : (stands : Image → Searching → Type 0) (first said : List ℕ) (start : Searching) (turn : StoreTurn) (turns : List StoreTurn) (c : Image) → said ≡ first ++ turn.said → IsReached stands said turn.tree turns c
     → IsReached stands first start (turn ∷ turns) c
 reached_behind stands first said start turn turns c e is = record {
   done = turn ∷ is.done;
@@ -47,7 +47,7 @@ reached_behind stands first said start turn turns c e is = record {
 }
 
 -- within a turn, of whose reply nothing was said yet
-pub reached_commit : (stands : Image → Tree → Type 0) (first : List ℕ) (start : Tree) (turn : StoreTurn) (c : Image) → c.said ≡ first → stands c start ⊎ stands c turn.tree → IsReached stands first start (turn ∷ []) c
+pub reached_commit : (stands : Image → Searching → Type 0) (first : List ℕ) (start : Searching) (turn : StoreTurn) (c : Image) → c.said ≡ first → stands c start ⊎ stands c turn.tree → IsReached stands first start (turn ∷ []) c
 reached_commit stands first start turn c said (inl before) = record {
   done = [];
   left = turn ∷ [];
@@ -66,7 +66,7 @@ reached_commit stands first start turn c said (inr after) = record {
 }
 
 -- while its reply is said
-pub reached_say : (stands : Image → Tree → Type 0) (first : List ℕ) (start : Tree) (turn : StoreTurn) (c : Image) (n : ℕ) → c.said ≡ first ++ take n turn.said → stands c turn.tree → IsReached stands first start (turn ∷ []) c
+pub reached_say : (stands : Image → Searching → Type 0) (first : List ℕ) (start : Searching) (turn : StoreTurn) (c : Image) (n : ℕ) → c.said ≡ first ++ take n turn.said → stands c turn.tree → IsReached stands first start (turn ∷ []) c
 reached_say stands first start turn c n said after = record {
   done = turn ∷ [];
   left = [];
@@ -77,18 +77,18 @@ reached_say stands first start turn c n said after = record {
 }
 
 -- one turn's images, from its commit and the saying of its reply
-pub turn_leaves : (stands : Image → Tree → Type 0) (T : Tree) (turn : StoreTurn) {old mid new : World} → Leaves stands old mid T turn.tree → LeavesOnly mid new (SaysSome mid turn.said) → Settled mid → stands mid.here turn.tree
-    → ((c d : Image) → SameDisk c d → stands c turn.tree → stands d turn.tree) → (new.tells → mid.tells) → LeavesOnly old new (IsReached stands old.here.said T (turn ∷ []))
-turn_leaves stands T turn {old} {mid} {new} leaves saying settled is on tells =
-    continues (weaker (IsReached stands old.here.said T (turn ∷ [])) leaves (λ c told k. reached_commit stands old.here.said T turn c k.0 k.1)) saying
-    (λ c told some. reached_say stands old.here.said T turn c some.so_far (some.said ∙ ap (λ s. s ++ take some.so_far turn.said) (leaves.here (tells told)).0) (on mid.here c (says_settled settled some) is))
+pub turn_leaves : (stands : Image → Searching → Type 0) (X : Searching) (turn : StoreTurn) {old mid new : World} → Leaves stands old mid X turn.tree → LeavesOnly mid new (SaysSome mid turn.said) → Settled mid → stands mid.here turn.tree
+    → ((c d : Image) → SameDisk c d → stands c turn.tree → stands d turn.tree) → (new.tells → mid.tells) → LeavesOnly old new (IsReached stands old.here.said X (turn ∷ []))
+turn_leaves stands X turn {old} {mid} {new} leaves saying settled is on tells =
+    continues (weaker (IsReached stands old.here.said X (turn ∷ [])) leaves (λ c told k. reached_commit stands old.here.said X turn c k.0 k.1)) saying
+    (λ c told some. reached_say stands old.here.said X turn c some.so_far (some.said ∙ ap (λ s. s ++ take some.so_far turn.said) (leaves.here (tells told)).0) (on mid.here c (says_settled settled some) is))
 
 -- the same where nothing is said
-pub commit_leaves : (stands : Image → Tree → Type 0) (T : Tree) (turn : StoreTurn) {old new : World} → Leaves stands old new T turn.tree → LeavesOnly old new (IsReached stands old.here.said T (turn ∷ []))
-commit_leaves stands T turn {old} leaves = weaker (IsReached stands old.here.said T (turn ∷ [])) leaves (λ c told k. reached_commit stands old.here.said T turn c k.0 k.1)
+pub commit_leaves : (stands : Image → Searching → Type 0) (X : Searching) (turn : StoreTurn) {old new : World} → Leaves stands old new X turn.tree → LeavesOnly old new (IsReached stands old.here.said X (turn ∷ []))
+commit_leaves stands X turn {old} leaves = weaker (IsReached stands old.here.said X (turn ∷ [])) leaves (λ c told k. reached_commit stands old.here.said X turn c k.0 k.1)
 
 -- a turn's images, behind those of all that went before
-pub reached_then : (stands : Image → Tree → Type 0) (first : List ℕ) (start : Tree) (turns : List StoreTurn) (turn : StoreTurn) {old mid new : World} → LeavesOnly old mid (IsReached stands first start turns)
+pub reached_then : (stands : Image → Searching → Type 0) (first : List ℕ) (start : Searching) (turns : List StoreTurn) (turn : StoreTurn) {old mid new : World} → LeavesOnly old mid (IsReached stands first start turns)
     → (new.tells → mid.here.said ≡ first ++ texts turns) → LeavesOnly mid new (IsReached stands mid.here.said (tree_after start turns) (turn ∷ [])) → LeavesOnly old new (IsReached stands first start (turns ++ turn ∷ []))
 reached_then stands first start turns turn {old} {mid} {new} run said step =
     continues (weaker (IsReached stands first start (turns ++ turn ∷ [])) run (λ c told is. reached_more stands first start turns (turn ∷ []) c is)) step

@@ -15,7 +15,7 @@ use Rattle.line_server.specs.Spoken.{too_long_text}
 use Rattle.line_server.specs.Worlds.{Listens}
 use Rattle.line_server.proofs.Hearing.{falls_along}
 use Rattle.node_port.specs.Stops.{Room}
-use Rattle.mail_tree.specs.Tree.{Tree}
+use Rattle.mail_searches.specs.Searching.{Searching}
 use Rattle.store_session.specs.Carrying.{Leaves}
 use Rattle.store_session.specs.Keeping.{Keeping}
 use Rattle.store_session.specs.Disks.{Effects}
@@ -58,96 +58,96 @@ turns_counts view answers whole [] (r ∷ rs) a b v w turns = absurd turns
 turns_counts view answers whole (p ∷ ps) [] a b v w turns = absurd turns
 
 -- What turns over a state with a tree come to, where `told` says that the disks are told.
-pub record Ran {S W : Type 0} (view : W → World) (has : S → W → Tree → Type 0) (stands : Image → Tree → Type 0) (effects : Effects) (room : S → Room) (told whole : Type 0) (pieces : List Piece) (replies : List (List ℕ)) (v : W) (b : S) (w : W) (T : Tree) : Type 0 where
+pub record Ran {S W : Type 0} (view : W → World) (has : S → W → Searching → Type 0) (stands : Image → Searching → Type 0) (effects : Effects) (room : S → Room) (told whole : Type 0) (pieces : List Piece) (replies : List (List ℕ)) (v : W) (b : S) (w : W) (X : Searching) : Type 0 where
   pub turns : List StoreTurn
-  pub run : Run effects told T (view v).here pieces turns
-  pub stand : StandThrough stands T (view v).here turns
+  pub run : Run effects told X (view v).here pieces turns
+  pub stand : StandThrough stands X (view v).here turns
   pub disk_is : (view w).tells → SameDisk (disk_after (view v).here turns) (view w).here
   pub measured : effects.measures (disk_after (view v).here turns) (room b)
   pub replies_are : replies_of turns ≡ replies
-  pub holds : has b w (tree_after T turns)
-  pub images : LeavesOnly (view v) (view w) (IsReached stands (view v).here.said T turns)
+  pub holds : has b w (tree_after X turns)
+  pub images : LeavesOnly (view v) (view w) (IsReached stands (view v).here.said X turns)
   pub front : (view w).tells → (k : ℕ) × ((view w).here.said ≡ (view v).here.said ++ take k (texts turns))
   pub said : whole → (view w).tells → (view w).here.said ≡ (view v).here.said ++ texts turns
 
 -- What one turn comes to.
-pub record Takes {S W : Type 0} (view : W → World) (has : S → W → Tree → Type 0) (stands : Image → Tree → Type 0) (effects : Effects) (room : S → Room) (told whole : Type 0) (piece : Piece) (reply : List ℕ) (a : S) (v : W) (b : S) (w : W) (T : Tree) : Type 0 where
+pub record Takes {S W : Type 0} (view : W → World) (has : S → W → Searching → Type 0) (stands : Image → Searching → Type 0) (effects : Effects) (room : S → Room) (told whole : Type 0) (piece : Piece) (reply : List ℕ) (a : S) (v : W) (b : S) (w : W) (X : Searching) : Type 0 where
   pub turn : StoreTurn
   pub reply_is : turn.said ≡ reply
   pub disk_is : turn.disk ≡ (view w).here
-  pub answer : Answers effects (room a) T (view v).here told piece turn.said turn.tree turn.disk
+  pub answer : Answers effects (room a) X (view v).here told piece turn.said turn.tree turn.disk
   pub holds : has b w turn.tree
-  pub images : LeavesOnly (view v) (view w) (IsReached stands (view v).here.said T (turn ∷ []))
+  pub images : LeavesOnly (view v) (view w) (IsReached stands (view v).here.said X (turn ∷ []))
   pub front : (view w).tells → (k : ℕ) × ((view w).here.said ≡ (view v).here.said ++ take k reply)
   pub said : whole → (view w).tells → (view w).here.said ≡ (view v).here.said ++ reply
 
-module _ {S W : Type 0} (view : W → World) (disk : Bool) (has : S → W → Tree → Type 0) (stands : Image → Tree → Type 0) (rests : Image → Type 0) (effects : Effects) (room : S → Room) (answers : Answering S W) (stops : Stopping S W StoreStop)
+module _ {S W : Type 0} (view : W → World) (disk : Bool) (has : S → W → Searching → Type 0) (stands : Image → Searching → Type 0) (rests : Image → Type 0) (effects : Effects) (room : S → Room) (answers : Answering S W) (stops : Stopping S W StoreStop)
     (keeps : Keeping view disk has stands rests effects room answers stops) where
-  pub heard_has : (a : S) (v w : W) (T : Tree) → has a v T → Listens (view v) (view w) → (disk ≡ true → (view w).tells) → has a w T
-  heard_has a v w T h listens tells = keeps.has_on a v w T h (heard_settled (keeps.settled a v T h) listens) (λ told. (listens.stays.told told, same_as (listens.stays.here told))) tells
+  pub heard_has : (a : S) (v w : W) (X : Searching) → has a v X → Listens (view v) (view w) → (disk ≡ true → (view w).tells) → has a w X
+  heard_has a v w X h listens tells = keeps.has_on a v w X h (heard_settled (keeps.settled a v X h) listens) (λ told. (listens.stays.told told, same_as (listens.stays.here told))) tells
 
   -- taking input, and then what leaves one tree or another
-  pub heard_leaves : (a : S) (v m w : W) (T U : Tree) → has a v T → Listens (view v) (view m) → ((view w).tells → (view m).tells) → Leaves stands (view m) (view w) T U → Leaves stands (view v) (view w) T U
-  heard_leaves a v m w T U h listens tells leaves =
-      let P : Image → Type 0 = λ c. (c.said ≡ (view v).here.said) × (stands c T ⊎ stands c U) in
-      let before = standing stands (view v) T (keeps.settled a v T h) (keeps.here a v T h) in
+  pub heard_leaves : (a : S) (v m w : W) (X Y : Searching) → has a v X → Listens (view v) (view m) → ((view w).tells → (view m).tells) → Leaves stands (view m) (view w) X Y → Leaves stands (view v) (view w) X Y
+  heard_leaves a v m w X Y h listens tells leaves =
+      let P : Image → Type 0 = λ c. (c.said ≡ (view v).here.said) × (stands c X ⊎ stands c Y) in
+      let before = standing stands (view v) X (keeps.settled a v X h) (keeps.here a v X h) in
       continues (listens_on (weaker P before (λ c told k. (k.0, inl (elim k.1 [ inl is ↦ is | inr is ↦ is ])))) listens) leaves
       (λ c told k. (k.0 ∙ ap (λ (i : Image). i.said) (listens.stays.here (tells told)), k.1))
 
-  answer_piece : (piece : Piece) (said : List ℕ) (a b : S) (v w : W) (T : Tree) → AnswersPiece answers piece a v said b w → has a v T → (disk ≡ true → (view w).tells)
-      → (U : Tree) × Answers effects (room a) T (view v).here (view w).tells piece said U (view w).here × has b w U × Leaves stands (view v) (view w) T U
-  answer_piece (line bytes) said a b v w T is h tells = keeps.answered a b v w bytes said T is h tells
-  answer_piece too_long said a b v w T is h tells = (
-    T,
+  answer_piece : (piece : Piece) (said : List ℕ) (a b : S) (v w : W) (X : Searching) → AnswersPiece answers piece a v said b w → has a v X → (disk ≡ true → (view w).tells)
+      → (Y : Searching) × Answers effects (room a) X (view v).here (view w).tells piece said Y (view w).here × has b w Y × Leaves stands (view v) (view w) X Y
+  answer_piece (line bytes) said a b v w X is h tells = keeps.answered a b v w bytes said X is h tells
+  answer_piece too_long said a b v w X is h tells = (
+    X,
     inl (is.0 ∙ limit_text, (refl, λ t. same_as (ap (λ x. (view x).here) is.2))),
-    subst (λ x. has x w T) (sym is.1) (subst (λ x. has a x T) (sym is.2) h),
-    subst (λ x. Leaves stands (view v) (view x) T T) (sym is.2) (standing stands (view v) T (keeps.settled a v T h) (keeps.here a v T h)),
+    subst (λ x. has x w X) (sym is.1) (subst (λ x. has a x X) (sym is.2) h),
+    subst (λ x. Leaves stands (view v) (view x) X X) (sym is.2) (standing stands (view v) X (keeps.settled a v X h) (keeps.here a v X h)),
   )
-  answer_piece further said a b v w T is h tells = (
-    T,
+  answer_piece further said a b v w X is h tells = (
+    X,
     inl (is.0, (refl, λ t. same_as (ap (λ x. (view x).here) is.2))),
-    subst (λ x. has x w T) (sym is.1) (subst (λ x. has a x T) (sym is.2) h),
-    subst (λ x. Leaves stands (view v) (view x) T T) (sym is.2) (standing stands (view v) T (keeps.settled a v T h) (keeps.here a v T h)),
+    subst (λ x. has x w X) (sym is.1) (subst (λ x. has a x X) (sym is.2) h),
+    subst (λ x. Leaves stands (view v) (view x) X X) (sym is.2) (standing stands (view v) X (keeps.settled a v X h) (keeps.here a v X h)),
   )
 
   -- one turn
-  takes : (told whole : Type 0) (piece : Piece) (reply : List ℕ) (a b : S) (v w : W) (T : Tree) → (told → (view w).tells) → has a v T → Turn view answers whole piece reply a v b w → (disk ≡ true → (view w).tells)
-      → Takes view has stands effects room told whole piece reply a v b w T
-  takes told whole piece reply a b v w T also h turn tells =
+  takes : (told whole : Type 0) (piece : Piece) (reply : List ℕ) (a b : S) (v w : W) (X : Searching) → (told → (view w).tells) → has a v X → Turn view answers whole piece reply a v b w → (disk ≡ true → (view w).tells)
+      → Takes view has stands effects room told whole piece reply a v b w X
+  takes told whole piece reply a b v w X also h turn tells =
       let told_answered : (view w).tells → (view turn.answered).tells = turn.says.stays.told in
       let told_heard : (view turn.answered).tells → (view turn.heard).tells = turn.quiet.told in
-      let held : has a turn.heard T = heard_has a v turn.heard T h turn.hears (λ d. told_heard (told_answered (tells d))) in
-      let done = answer_piece piece reply a b turn.heard turn.answered T turn.answer held (λ d. told_answered (tells d)) in
-      let leaves : Leaves stands (view v) (view turn.answered) T done.0 = heard_leaves a v turn.heard turn.answered T done.0 h turn.hears told_heard done.3 in
+      let held : has a turn.heard X = heard_has a v turn.heard X h turn.hears (λ d. told_heard (told_answered (tells d))) in
+      let done = answer_piece piece reply a b turn.heard turn.answered X turn.answer held (λ d. told_answered (tells d)) in
+      let leaves : Leaves stands (view v) (view turn.answered) X done.0 = heard_leaves a v turn.heard turn.answered X done.0 h turn.hears told_heard done.3 in
       let settled : Settled (view turn.answered) = keeps.settled b turn.answered done.0 done.2 in
       let made : StoreTurn = record { said = reply; tree = done.0; disk = (view w).here } in
       record {
         turn = made;
         reply_is = refl;
         disk_is = refl;
-        answer = answers_on effects (room a) T (λ t. told_answered (also t)) (λ t. turn.hears.stays.here (told_heard (told_answered (also t)))) (λ t. turn.says.stays.here (also t)) piece reply done.0 done.1;
+        answer = answers_on effects (room a) X (λ t. told_answered (also t)) (λ t. turn.hears.stays.here (told_heard (told_answered (also t)))) (λ t. turn.says.stays.here (also t)) piece reply done.0 done.1;
         holds = keeps.has_on b turn.answered w done.0 done.2 (turn.says.settled settled) (λ t. (told_answered t, turn.says.stays.here t)) tells;
-        images = turn_leaves stands T made leaves turn.says.any_moment settled (keeps.here b turn.answered done.0 done.2) (λ c d same is. keeps.stands_on c d done.0 same is) told_answered;
+        images = turn_leaves stands X made leaves turn.says.any_moment settled (keeps.here b turn.answered done.0 done.2) (λ c d same is. keeps.stands_on c d done.0 same is) told_answered;
         front = λ t. let k = turn.says.front t in (k.0, k.2 ∙ ap (λ s. s ++ take k.0 reply) (leaves.here (told_answered t)).0);
         said = λ is t. turn.all_said is t ∙ ap (λ s. s ++ reply) (leaves.here (told_answered t)).0;
       }
 
   -- one after another
-  pub turns_run : (told whole : Type 0) (pieces : List Piece) (replies : List (List ℕ)) (a b : S) (v w : W) (T : Tree) → (told → (view w).tells) → has a v T → Turns view answers whole pieces replies a v b w → (disk ≡ true → (view w).tells)
-      → Ran view has stands effects room told whole pieces replies v b w T
-  turns_run told whole [] [] a b v w T also h turns tells =
-      let held : has b w T = subst (λ x. has x w T) (sym turns.0) (heard_has a v w T h turns.1 tells) in
+  pub turns_run : (told whole : Type 0) (pieces : List Piece) (replies : List (List ℕ)) (a b : S) (v w : W) (X : Searching) → (told → (view w).tells) → has a v X → Turns view answers whole pieces replies a v b w → (disk ≡ true → (view w).tells)
+      → Ran view has stands effects room told whole pieces replies v b w X
+  turns_run told whole [] [] a b v w X also h turns tells =
+      let held : has b w X = subst (λ x. has x w X) (sym turns.0) (heard_has a v w X h turns.1 tells) in
       let same : (view w).tells → (view w).here.said ≡ (view v).here.said ++ [] = λ t. ap (λ (i : Image). i.said) (turns.1.stays.here t) ∙ sym (append-nil (view v).here.said) in
-      let before = standing stands (view v) T (keeps.settled a v T h) (keeps.here a v T h) in
+      let before = standing stands (view v) X (keeps.settled a v X h) (keeps.here a v X h) in
       record {
         turns = [];
         run = tt;
-        stand = keeps.here a v T h;
+        stand = keeps.here a v X h;
         disk_is = λ t. same_as (turns.1.stays.here t);
-        measured = subst (λ x. effects.measures (view v).here (room x)) (sym turns.0) (keeps.measured a v T h);
+        measured = subst (λ x. effects.measures (view v).here (room x)) (sym turns.0) (keeps.measured a v X h);
         replies_are = refl;
         holds = held;
-        images = listens_on (weaker (IsReached stands (view v).here.said T []) before (λ c t k. record {
+        images = listens_on (weaker (IsReached stands (view v).here.said X []) before (λ c t k. record {
           done = [];
           left = [];
           are = refl;
@@ -158,14 +158,14 @@ module _ {S W : Type 0} (view : W → World) (disk : Bool) (has : S → W → Tr
         front = λ t. (0, same t);
         said = λ is t. same t;
       }
-  turns_run told whole (piece ∷ []) (reply ∷ []) a b v w T also h turns tells =
+  turns_run told whole (piece ∷ []) (reply ∷ []) a b v w X also h turns tells =
       let rest = turns.3 in
       let back : (view w).tells → (view turns.1).tells = rest.1.stays.told in
-      let one = takes told _ piece reply a turns.0 v turns.1 T (λ t. back (also t)) h turns.2 (λ d. back (tells d)) in
+      let one = takes told _ piece reply a turns.0 v turns.1 X (λ t. back (also t)) h turns.2 (λ d. back (tells d)) in
       record {
         turns = one.turn ∷ [];
-        run = ((room a, keeps.measured a v T h, one.answer), tt);
-        stand = (keeps.here a v T h, subst (λ i. stands i one.turn.tree) (sym one.disk_is) (keeps.here turns.0 turns.1 one.turn.tree one.holds));
+        run = ((room a, keeps.measured a v X h, one.answer), tt);
+        stand = (keeps.here a v X h, subst (λ i. stands i one.turn.tree) (sym one.disk_is) (keeps.here turns.0 turns.1 one.turn.tree one.holds));
         disk_is = λ t. same_as (rest.1.stays.here t ∙ sym one.disk_is);
         measured = subst (λ x. effects.measures one.turn.disk (room x)) (sym rest.0) (subst (λ i. effects.measures i (room turns.0)) (sym one.disk_is) (keeps.measured turns.0 turns.1 one.turn.tree one.holds));
         replies_are = ap (λ l. l ∷ []) one.reply_is;
@@ -174,29 +174,29 @@ module _ {S W : Type 0} (view : W → World) (disk : Bool) (has : S → W → Tr
         front = λ t. let k = one.front (back t) in (k.0, ap (λ (i : Image). i.said) (rest.1.stays.here t) ∙ k.1 ∙ ap (λ x. (view v).here.said ++ take k.0 x) (sym (append-nil one.turn.said ∙ one.reply_is)));
         said = λ all t. ap (λ (i : Image). i.said) (rest.1.stays.here t) ∙ one.said (λ e. all) (back t) ∙ ap (λ x. (view v).here.said ++ x) (sym (append-nil one.turn.said ∙ one.reply_is));
       }
-  turns_run told whole (piece ∷ q ∷ ps) (reply ∷ r ∷ rs) a b v w T also h turns tells =
+  turns_run told whole (piece ∷ q ∷ ps) (reply ∷ r ∷ rs) a b v w X also h turns tells =
       let back : (view w).tells → (view turns.1).tells = turns_told view answers whole (q ∷ ps) (r ∷ rs) turns.0 b turns.1 w turns.3 in
-      let one = takes told _ piece reply a turns.0 v turns.1 T (λ t. back (also t)) h turns.2 (λ d. back (tells d)) in
-      let U : Tree = one.turn.tree in
-      let more = turns_run told whole (q ∷ ps) (r ∷ rs) turns.0 b turns.1 w U also one.holds turns.3 tells in
+      let one = takes told _ piece reply a turns.0 v turns.1 X (λ t. back (also t)) h turns.2 (λ d. back (tells d)) in
+      let Y : Searching = one.turn.tree in
+      let more = turns_run told whole (q ∷ ps) (r ∷ rs) turns.0 b turns.1 w Y also one.holds turns.3 tells in
       let first : List ℕ = (view v).here.said in
       let before : (view w).tells → (view turns.1).here.said ≡ first ++ one.turn.said = λ t. one.said (λ e. absurd (cc)) (back t) ∙ ap (λ l. first ++ l) (sym one.reply_is) in
       record {
         turns = one.turn ∷ more.turns;
-        run = ((room a, keeps.measured a v T h, one.answer), subst (λ i. Run effects told U i (q ∷ ps) more.turns) (sym one.disk_is) more.run);
-        stand = (keeps.here a v T h, subst (λ i. StandThrough stands U i more.turns) (sym one.disk_is) more.stand);
+        run = ((room a, keeps.measured a v X h, one.answer), subst (λ i. Run effects told Y i (q ∷ ps) more.turns) (sym one.disk_is) more.run);
+        stand = (keeps.here a v X h, subst (λ i. StandThrough stands Y i more.turns) (sym one.disk_is) more.stand);
         disk_is = subst (λ i. (view w).tells → SameDisk (disk_after i more.turns) (view w).here) (sym one.disk_is) more.disk_is;
         measured = subst (λ i. effects.measures (disk_after i more.turns) (room b)) (sym one.disk_is) more.measured;
         replies_are = λ i. one.reply_is i ∷ more.replies_are i;
         holds = more.holds;
-        images = continues (weaker (IsReached stands first T (one.turn ∷ more.turns)) one.images (λ c t k. reached_more stands first T (one.turn ∷ []) more.turns c k)) more.images
-            (λ c t k. reached_behind stands first (view turns.1).here.said T one.turn more.turns c (before t) k);
+        images = continues (weaker (IsReached stands first X (one.turn ∷ more.turns)) one.images (λ c t k. reached_more stands first X (one.turn ∷ []) more.turns c k)) more.images
+            (λ c t k. reached_behind stands first (view turns.1).here.said X one.turn more.turns c (before t) k);
         front = λ t.
             let k = more.front t in
             (length one.turn.said + k.0, k.1 ∙ ap (λ x. x ++ take k.0 (texts more.turns)) (before t) ∙ append_assoc first one.turn.said (take k.0 (texts more.turns)) ∙ ap (λ l. first ++ l) (sym (take_over one.turn.said (texts more.turns) k.0)));
         said = λ all t. more.said all t ∙ ap (λ x. x ++ texts more.turns) (before t) ∙ append_assoc first one.turn.said (texts more.turns);
       }
-  turns_run told whole [] (r ∷ rs) a b v w T also h turns tells = absurd turns
-  turns_run told whole (p ∷ ps) [] a b v w T also h turns tells = absurd turns
-  turns_run told whole (p ∷ []) (reply ∷ r ∷ rs) a b v w T also h turns tells = absurd turns.3
-  turns_run told whole (p ∷ q ∷ ps) (reply ∷ []) a b v w T also h turns tells = absurd turns.3
+  turns_run told whole [] (r ∷ rs) a b v w X also h turns tells = absurd turns
+  turns_run told whole (p ∷ ps) [] a b v w X also h turns tells = absurd turns
+  turns_run told whole (p ∷ []) (reply ∷ r ∷ rs) a b v w X also h turns tells = absurd turns.3
+  turns_run told whole (p ∷ q ∷ ps) (reply ∷ []) a b v w X also h turns tells = absurd turns.3

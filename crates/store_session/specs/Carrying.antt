@@ -8,30 +8,36 @@ use Rattle.line_server.specs.Spoken.{no_memory_text, spoken_text}
 use Rattle.node_port.specs.Nodes.{Nodes}
 use Rattle.mail_draft.specs.declared.stop.Stop.{Stop}
 use Rattle.mail_draft.specs.declared.stop.Stop.TheVariants as stops
-use Rattle.mail_store.specs.Planning.{Stores}
-use Rattle.mail_tree.specs.Tree.{Tree}
-use Rattle.mail_tree.specs.Whole.{IsWhole}
+use Rattle.mail_searches.specs.Searching.{Searching}
+use Rattle.mail_searches.specs.declared.known.KnownSearches.{KnownSearches}
+use Rattle.mail_store.specs.Planning.{StandsFor}
 use Rattle.mail_tree.specs.declared.known.Known.{Known}
+use Rattle.search_order.specs.Order.{InOrder}
+use Rattle.search_store.specs.Planning.{StoresSearches}
 use Rattle.store_session.specs.Run.{refused}
 use Rattle.store_session.specs.declared.carrying.StoreStop.{StoreStop}
 use Rattle.store_session.specs.declared.carrying.StoreStop.TheVariants.{Disk, Changed}
 
--- A store over a keeper has the tree, which is whole; nothing is pending, and the disk is as a commit needs it.
-pub record Has (holds : Nodes → Type 0) (last : List ℕ) (known : Known) (rests : Image → Type 0) (world : World) (T : Tree) : Type 0 where
-  pub stores : Stores holds last known T
-  pub whole : IsWhole T
+-- A store over a keeper has the tree with its searches, which is in order, and tidy if `tidy`; nothing is pending, and the disk is as a commit needs it.
+pub record Has (holds : Nodes → Type 0) (last : List ℕ) (known : Known) (of_searches : KnownSearches) (rests : Image → Type 0) (world : World) (tidy : Bool) (X : Searching) : Type 0 where
+  pub stores : StoresSearches holds last known of_searches X
+  pub order : InOrder tidy X
   pub settled : Settled world
   pub at_rest : world.tells → rests world.here
 
+-- the image stands for the tree, which is in order with its searches, and tidy if `tidy`
+abbrev pub StandsOrdered : Bool → (Image → Nodes → List ℕ → Type 0) → Image → Searching → Type 0
+StandsOrdered tidy stands c X = StandsFor (stands c) X.tree × InOrder tidy X
+
 -- at each moment nothing more was said, and the disk stands for one tree or the other
-abbrev pub Leaves : (Image → Tree → Type 0) → World → World → Tree → Tree → Type 0
-Leaves stands old new T U = LeavesOnly old new (λ c. (c.said ≡ old.here.said) × (stands c T ⊎ stands c U))
+abbrev pub Leaves : (Image → Searching → Type 0) → World → World → Searching → Searching → Type 0
+Leaves stands old new X Y = LeavesOnly old new (λ c. (c.said ≡ old.here.said) × (stands c X ⊎ stands c Y))
 
 -- What was carried out: the store has the tree after it, or the disk failed on the way to one, and nothing is told of it. That something changed never comes.
-abbrev pub CarriesOut : (Tree → Type 0) → (Image → Tree → Type 0) → (Type 0 → List ℕ → Tree → Image → Type 0) → World → World → Tree → Result Spoken StoreStop → Type 0
-CarriesOut has stands answers old new T (Ok spoken) = (U : Tree) × answers new.tells (spoken_text spoken) U new.here × has U × Leaves stands old new T U
-CarriesOut has stands answers old new T (Err Disk) = (U : Tree) × (said : List ℕ) × answers ⊥ said U new.here × Leaves stands old new T U
-CarriesOut has stands answers old new T (Err (Changed ib stored computed)) = ⊥
+abbrev pub CarriesOut : (Searching → Type 0) → (Image → Searching → Type 0) → (Type 0 → List ℕ → Searching → Image → Type 0) → World → World → Searching → Result Spoken StoreStop → Type 0
+CarriesOut has stands answers old new X (Ok spoken) = (Y : Searching) × answers new.tells (spoken_text spoken) Y new.here × has Y × Leaves stands old new X Y
+CarriesOut has stands answers old new X (Err Disk) = (Y : Searching) × (said : List ℕ) × answers ⊥ said Y new.here × Leaves stands old new X Y
+CarriesOut has stands answers old new X (Err (Changed ib stored computed)) = ⊥
 
 -- the count of the disk's faults rose where it failed, and there is a disk
 abbrev pub IsCaused : Bool → World → World → StoreStop → Type 0

@@ -5,7 +5,7 @@ use Rattle.pst_outside.specs.Calls.{Settled}
 use Rattle.line_server.specs.History.{Answering, Stopping}
 use Rattle.line_server.specs.Lines.{line}
 use Rattle.node_port.specs.Stops.{Room}
-use Rattle.mail_tree.specs.Tree.{Tree}
+use Rattle.mail_searches.specs.Searching.{Searching}
 use Rattle.store_session.specs.Carrying.{Leaves}
 use Rattle.store_session.specs.Disks.{Effects}
 use Rattle.store_session.specs.Lines.{StopLeaves}
@@ -13,14 +13,14 @@ use Rattle.store_session.specs.Run.{Answers}
 use Rattle.store_session.specs.declared.carrying.StoreStop.{StoreStop}
 
 -- A state over a world has a tree, for which the disk stands, and the disk has the state's room; that stays while input is taken and replies are said, and answers go from tree to tree, and from disk to disk.
-pub record Keeping {S W : Type 0} (view : W → World) (disk : Bool) (has : S → W → Tree → Type 0) (stands : Image → Tree → Type 0) (rests : Image → Type 0) (effects : Effects) (room : S → Room) (answers : Answering S W) (stops : Stopping S W StoreStop) : Type 0 where
-  pub settled : (a : S) (v : W) (T : Tree) → has a v T → Settled (view v)
-  pub at_rest : (a : S) (v : W) (T : Tree) → has a v T → (view v).tells → rests (view v).here
-  pub here : (a : S) (v : W) (T : Tree) → has a v T → stands (view v).here T
-  pub measured : (a : S) (v : W) (T : Tree) → has a v T → effects.measures (view v).here (room a)
-  pub stands_on : (c d : Image) (T : Tree) → SameDisk c d → stands c T → stands d T
-  pub has_on : (a : S) (v w : W) (T : Tree) → has a v T → Settled (view w) → ((view w).tells → (view v).tells × SameDisk (view v).here (view w).here) → (disk ≡ true → (view w).tells) → has a w T
-  pub answered : (a b : S) (v w : W) (bytes said : List ℕ) (T : Tree) → answers a v bytes said b w → has a v T → (disk ≡ true → (view w).tells)
-      → (U : Tree) × Answers effects (room a) T (view v).here (view w).tells (line bytes) said U (view w).here × has b w U × Leaves stands (view v) (view w) T U
-  pub stopped : (a b : S) (v w : W) (bytes : List ℕ) (stop : StoreStop) (T : Tree) → stops a v bytes stop b w → has a v T → (disk ≡ true → (view w).tells)
-      → StopLeaves stands effects (room a) (view v) (view w) T bytes stop
+pub record Keeping {S W : Type 0} (view : W → World) (disk : Bool) (has : S → W → Searching → Type 0) (stands : Image → Searching → Type 0) (rests : Image → Type 0) (effects : Effects) (room : S → Room) (answers : Answering S W) (stops : Stopping S W StoreStop) : Type 0 where
+  pub settled : (a : S) (v : W) (X : Searching) → has a v X → Settled (view v)
+  pub at_rest : (a : S) (v : W) (X : Searching) → has a v X → (view v).tells → rests (view v).here
+  pub here : (a : S) (v : W) (X : Searching) → has a v X → stands (view v).here X
+  pub measured : (a : S) (v : W) (X : Searching) → has a v X → effects.measures (view v).here (room a)
+  pub stands_on : (c d : Image) (X : Searching) → SameDisk c d → stands c X → stands d X
+  pub has_on : (a : S) (v w : W) (X : Searching) → has a v X → Settled (view w) → ((view w).tells → (view v).tells × SameDisk (view v).here (view w).here) → (disk ≡ true → (view w).tells) → has a w X
+  pub answered : (a b : S) (v w : W) (bytes said : List ℕ) (X : Searching) → answers a v bytes said b w → has a v X → (disk ≡ true → (view w).tells)
+      → (Y : Searching) × Answers effects (room a) X (view v).here (view w).tells (line bytes) said Y (view w).here × has b w Y × Leaves stands (view v) (view w) X Y
+  pub stopped : (a b : S) (v w : W) (bytes : List ℕ) (stop : StoreStop) (X : Searching) → stops a v bytes stop b w → has a v X → (disk ≡ true → (view w).tells)
+      → StopLeaves stands effects (room a) (view v) (view w) X bytes stop

@@ -7,7 +7,7 @@ use Rattle.line_server.specs.declared.end.ServerEnd.{ServerEnd}
 use Rattle.line_server.specs.declared.end.ServerEnd.TheVariants as server_ends
 use Rattle.line_server.specs.Lines.{Piece, is_quit, lines}
 use Rattle.line_server.specs.Server.{LINES}
-use Rattle.mail_tree.specs.Tree.{Tree}
+use Rattle.mail_searches.specs.Searching.{Searching}
 use Rattle.store_session.specs.Disks.{Effects}
 use Rattle.store_session.specs.Run.{Run}
 use Rattle.store_session.specs.Turns.{IsReached, StandThrough, StoreTurn, disk_after, texts, tree_after}
@@ -32,11 +32,11 @@ HasCause disk old new Output = Rose old.out_faults new.out_faults
 HasCause disk old new Disk = Rose old.disk_faults new.disk_faults × (disk ≡ true)
 HasCause disk old new other = Unit {0}
 
--- How a session over a store ends that had a tree at its start. Its replies are those of a run from that tree over the first of the lines
+-- How a session over a store ends that had a tree with its searches at its start. Its replies are those of a run from that tree over the first of the lines
 -- that it has taken. Where the output failed, the last of the answered lines is the one in hand. `effects` says what room a disk has and
 -- what is made of it, `stands` for which trees it stands, and `rests` how it is between two commits. `opened` is the disk that the first
 -- line finds.
-pub record StoreSessionEnds (effects : Effects) (stands : Image → Tree → Type 0) (rests : Image → Type 0) (opened : Image) (first now : World) (start : Tree) (end : SessionEnd) : Type 0 where
+pub record StoreSessionEnds (effects : Effects) (stands : Image → Searching → Type 0) (rests : Image → Type 0) (opened : Image) (first now : World) (start : Searching) (end : SessionEnd) : Type 0 where
   -- what was taken of the input, and whether it was all
   pub taken : List ℕ
   pub input : now.tells → first.input ≡ taken ++ now.input

@@ -1,22 +1,24 @@
 //! Lines carried out over a store.
-ghost use Rattle.std.specs.Prelude.{◌≡◌, false, true, IfErr};
+ghost use Rattle.std.specs.Prelude.{◌≡◌, Bool, false, true, IfErr};
 ghost use Rattle.command_text.specs.declared.command.Command.TheVariants.{Save};
-ghost use Rattle.mail_store.specs.Planning.{StandsFor};
-ghost use Rattle.mail_tree.specs.Tree.{Tree};
+ghost use Rattle.mail_searches.specs.Searching.{Searching};
 ghost use Rattle.line_server.specs.Lines.{line};
 ghost use Rattle.line_server.specs.Worlds.{Quiet};
-ghost use Rattle.store_session.specs.Carrying.{CarriesOut, ComesTo, Has, IsCaused, SaysRefusal};
+ghost use Rattle.store_session.specs.Carrying.{CarriesOut, ComesTo, Has, IsCaused, SaysRefusal, StandsOrdered};
 ghost use Rattle.store_session.specs.Disks.{effects_of, is_save};
 ghost use Rattle.store_session.specs.Run.{Answers, CommandAnswers};
 
+use crate::planning::plan_counted;
 use command_text::{Command, CommandRefusal, LastLine, Reply, read_line, reply_text};
 use line_server::Spoken;
 use mail_draft::Stop;
-use mail_store::{Store, commit, plan, save};
 use node_port::Saver;
 use pst_base::MemOr;
 use pst_outside::Outside;
+use search_store::{SearchStore, commit, save};
 use std::alloc::{AllocError, Global};
+use std::marker::Brand;
+use std::sync::ledger::Blank;
 
 /// Why a session over a store can't go on.
 #[derive(Clone, Copy, Debug, PartialEq, Eq, Drop)]
@@ -63,22 +65,23 @@ fn stopped(alloc: Global, stop: Stop) -> Result<Spoken, StoreStop>
 /// Carries out a command other than `save`; its reply is made before anything is changed.
 fn carry_planned<W: Outside, K: Saver<W>>(
     alloc: Global,
-    store: &mut Store<K>,
+    store: &mut SearchStore<K>,
     world: &mut W,
     command: &Command,
 ) -> Result<Spoken, StoreStop>
     requires other { is_save command.now ≡ false }
-    ensures carries { (T : Tree) → Has (K.holds store.old.keeper (W.view world.old)) (K.last store.old.keeper) store.old.known K.rests (W.view world.old) T → (K.has_disk ≡ true → (W.view world.new).tells)
-        → CarriesOut (Has (K.holds store.new.keeper (W.view world.new)) (K.last store.new.keeper) store.new.known K.rests (W.view world.new)) (λ c U. StandsFor (K.stands (K.room store.old.keeper).found c) U) (λ told. CommandAnswers (effects_of K.measures K.applied K.saved) (K.room store.old.keeper) T (W.view world.old).here told command.now) (W.view world.old) (W.view world.new) T result }
-    ensures found { (K.room store.new.keeper).found ≡ (K.room store.old.keeper).found }
+    ensures carries { (tidy : Bool) (X : Searching) → Has (K.holds store.old.store.keeper (W.view world.old)) (K.last store.old.store.keeper) store.old.store.known store.old.searches K.rests (W.view world.old) tidy X → (K.has_disk ≡ true → (W.view world.new).tells)
+        → CarriesOut (Has (K.holds store.new.store.keeper (W.view world.new)) (K.last store.new.store.keeper) store.new.store.known store.new.searches K.rests (W.view world.new) tidy) (StandsOrdered tidy (K.stands (K.room store.old.store.keeper).found)) (λ told. CommandAnswers (effects_of K.measures K.applied K.saved) (K.room store.old.store.keeper) X (W.view world.old).here told command.now) (W.view world.old) (W.view world.new) X result }
+    ensures found { (K.room store.new.store.keeper).found ≡ (K.room store.old.store.keeper).found }
     ensures cause { IfErr result (IsCaused K.has_disk (W.view world.old) (W.view world.new)) }
     ensures quiet { Quiet (W.view world.old) (W.view world.new) }
 {
-    let planned = match plan(alloc, store, world, command) {
+    let blank = Blank::new(1);
+    let planned = match plan_counted::<W, K, Brand>(alloc, store, world, command, blank) {
         Ok(planned) => planned,
         Err(stop) => return stopped(alloc, stop),
     };
-    let Ok(text) = reply_text(alloc, &planned.reply) else {
+    let Ok(text) = reply_text(alloc, &planned.tree.reply) else {
         return Ok(Spoken::NoMemory);
     };
     match commit(store, world, planned) {
@@ -90,12 +93,12 @@ fn carry_planned<W: Outside, K: Saver<W>>(
 /// Carries out `save`; its reply is made before anything is written.
 fn carry_save<W: Outside, K: Saver<W>>(
     alloc: Global,
-    store: &mut Store<K>,
+    store: &mut SearchStore<K>,
     world: &mut W,
 ) -> Result<Spoken, StoreStop>
-    ensures carries { (T : Tree) → Has (K.holds store.old.keeper (W.view world.old)) (K.last store.old.keeper) store.old.known K.rests (W.view world.old) T → (K.has_disk ≡ true → (W.view world.new).tells)
-        → CarriesOut (Has (K.holds store.new.keeper (W.view world.new)) (K.last store.new.keeper) store.new.known K.rests (W.view world.new)) (λ c U. StandsFor (K.stands (K.room store.old.keeper).found c) U) (λ told. CommandAnswers (effects_of K.measures K.applied K.saved) (K.room store.old.keeper) T (W.view world.old).here told Save) (W.view world.old) (W.view world.new) T result }
-    ensures found { (K.room store.new.keeper).found ≡ (K.room store.old.keeper).found }
+    ensures carries { (tidy : Bool) (X : Searching) → Has (K.holds store.old.store.keeper (W.view world.old)) (K.last store.old.store.keeper) store.old.store.known store.old.searches K.rests (W.view world.old) tidy X → (K.has_disk ≡ true → (W.view world.new).tells)
+        → CarriesOut (Has (K.holds store.new.store.keeper (W.view world.new)) (K.last store.new.store.keeper) store.new.store.known store.new.searches K.rests (W.view world.new) tidy) (StandsOrdered tidy (K.stands (K.room store.old.store.keeper).found)) (λ told. CommandAnswers (effects_of K.measures K.applied K.saved) (K.room store.old.store.keeper) X (W.view world.old).here told Save) (W.view world.old) (W.view world.new) X result }
+    ensures found { (K.room store.new.store.keeper).found ≡ (K.room store.old.store.keeper).found }
     ensures cause { IfErr result (IsCaused K.has_disk (W.view world.old) (W.view world.new)) }
     ensures quiet { Quiet (W.view world.old) (W.view world.new) }
 {
@@ -111,13 +114,13 @@ fn carry_save<W: Outside, K: Saver<W>>(
 /// Carries out a command; its reply is made before anything is changed.
 fn carry_out<W: Outside, K: Saver<W>>(
     alloc: Global,
-    store: &mut Store<K>,
+    store: &mut SearchStore<K>,
     world: &mut W,
     command: &Command,
 ) -> Result<Spoken, StoreStop>
-    ensures carries { (T : Tree) → Has (K.holds store.old.keeper (W.view world.old)) (K.last store.old.keeper) store.old.known K.rests (W.view world.old) T → (K.has_disk ≡ true → (W.view world.new).tells)
-        → CarriesOut (Has (K.holds store.new.keeper (W.view world.new)) (K.last store.new.keeper) store.new.known K.rests (W.view world.new)) (λ c U. StandsFor (K.stands (K.room store.old.keeper).found c) U) (λ told. CommandAnswers (effects_of K.measures K.applied K.saved) (K.room store.old.keeper) T (W.view world.old).here told command.now) (W.view world.old) (W.view world.new) T result }
-    ensures found { (K.room store.new.keeper).found ≡ (K.room store.old.keeper).found }
+    ensures carries { (tidy : Bool) (X : Searching) → Has (K.holds store.old.store.keeper (W.view world.old)) (K.last store.old.store.keeper) store.old.store.known store.old.searches K.rests (W.view world.old) tidy X → (K.has_disk ≡ true → (W.view world.new).tells)
+        → CarriesOut (Has (K.holds store.new.store.keeper (W.view world.new)) (K.last store.new.store.keeper) store.new.store.known store.new.searches K.rests (W.view world.new) tidy) (StandsOrdered tidy (K.stands (K.room store.old.store.keeper).found)) (λ told. CommandAnswers (effects_of K.measures K.applied K.saved) (K.room store.old.store.keeper) X (W.view world.old).here told command.now) (W.view world.old) (W.view world.new) X result }
+    ensures found { (K.room store.new.store.keeper).found ≡ (K.room store.old.store.keeper).found }
     ensures cause { IfErr result (IsCaused K.has_disk (W.view world.old) (W.view world.new)) }
     ensures quiet { Quiet (W.view world.old) (W.view world.new) }
 {
@@ -132,13 +135,13 @@ fn carry_out<W: Outside, K: Saver<W>>(
 /// An `Err` comes where the disk failed, or something isn't as it was found before; the latter never of a store that has a tree.
 pub fn answer_line<W: Outside, K: Saver<W>>(
     alloc: Global,
-    store: &mut Store<K>,
+    store: &mut SearchStore<K>,
     world: &mut W,
     bytes: &[u8],
 ) -> Result<Spoken, StoreStop>
-    ensures carries { (T : Tree) → Has (K.holds store.old.keeper (W.view world.old)) (K.last store.old.keeper) store.old.known K.rests (W.view world.old) T → (K.has_disk ≡ true → (W.view world.new).tells)
-        → CarriesOut (Has (K.holds store.new.keeper (W.view world.new)) (K.last store.new.keeper) store.new.known K.rests (W.view world.new)) (λ c U. StandsFor (K.stands (K.room store.old.keeper).found c) U) (λ told. Answers (effects_of K.measures K.applied K.saved) (K.room store.old.keeper) T (W.view world.old).here told (line bytes.now)) (W.view world.old) (W.view world.new) T result }
-    ensures found { (K.room store.new.keeper).found ≡ (K.room store.old.keeper).found }
+    ensures carries { (tidy : Bool) (X : Searching) → Has (K.holds store.old.store.keeper (W.view world.old)) (K.last store.old.store.keeper) store.old.store.known store.old.searches K.rests (W.view world.old) tidy X → (K.has_disk ≡ true → (W.view world.new).tells)
+        → CarriesOut (Has (K.holds store.new.store.keeper (W.view world.new)) (K.last store.new.store.keeper) store.new.store.known store.new.searches K.rests (W.view world.new) tidy) (StandsOrdered tidy (K.stands (K.room store.old.store.keeper).found)) (λ told. Answers (effects_of K.measures K.applied K.saved) (K.room store.old.store.keeper) X (W.view world.old).here told (line bytes.now)) (W.view world.old) (W.view world.new) X result }
+    ensures found { (K.room store.new.store.keeper).found ≡ (K.room store.old.store.keeper).found }
     ensures cause { IfErr result (IsCaused K.has_disk (W.view world.old) (W.view world.new)) }
     ensures quiet { Quiet (W.view world.old) (W.view world.new) }
 {

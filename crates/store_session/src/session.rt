@@ -1,18 +1,17 @@
 //! A session over a store.
-ghost use Rattle.std.specs.Prelude.{◌≡◌, true};
+ghost use Rattle.std.specs.Prelude.{◌≡◌, Bool, true};
 ghost use Rattle.pst_outside.specs.Calls.{NeverFall};
-ghost use Rattle.mail_store.specs.Planning.{StandsFor};
-ghost use Rattle.mail_tree.specs.Tree.{Tree};
-ghost use Rattle.store_session.specs.Carrying.{Has};
+ghost use Rattle.mail_searches.specs.Searching.{Searching};
+ghost use Rattle.store_session.specs.Carrying.{Has, StandsOrdered};
 ghost use Rattle.store_session.specs.Disks.{effects_of};
 ghost use Rattle.store_session.specs.Session.{HasCause, StoreSessionEnds, end_of};
 
 use crate::answerer::StoreAnswerer;
 use crate::carrying::StoreStop;
 use line_server::{ServerEnd, serve};
-use mail_store::Store;
 use node_port::Saver;
 use pst_outside::Outside;
+use search_store::SearchStore;
 use std::alloc::{AllocError, Global};
 
 /// How a session over a store ended.
@@ -61,12 +60,12 @@ fn end_of(end: ServerEnd<StoreStop>) -> SessionEnd
 /// A session over a store: takes lines until the input ends, a line is `quit`, a device fails, something changed, or 2^32 lines were taken.
 pub fn run_session<W: Outside, K: Saver<W> + Drop>(
     alloc: Global,
-    store: Store<K>,
+    store: SearchStore<K>,
     world: &mut W,
 ) -> SessionEnd
-    // From a store that has a tree, where the world tells what a disk holds: the replies are those of a run from disk to disk, and a stop at any moment leaves the tree after some of its turns.
-    ensures ends { (T : Tree) → Has (K.holds store.keeper (W.view world.old)) (K.last store.keeper) store.known K.rests (W.view world.old) T → (K.has_disk ≡ true → (W.view world.new).tells)
-        → StoreSessionEnds (effects_of K.measures K.applied K.saved) (λ c U. StandsFor (K.stands (K.room store.keeper).found c) U) K.rests (W.view world.old).here (W.view world.old) (W.view world.new) T result }
+    // From a store that has a tree with its searches in order, where the world tells what a disk holds: the replies are those of a run from disk to disk, and a stop at any moment leaves the tree after some of its turns, in order with its searches, and tidy where it was so at the start.
+    ensures ends { (tidy : Bool) (X : Searching) → Has (K.holds store.store.keeper (W.view world.old)) (K.last store.store.keeper) store.store.known store.searches K.rests (W.view world.old) tidy X → (K.has_disk ≡ true → (W.view world.new).tells)
+        → StoreSessionEnds (effects_of K.measures K.applied K.saved) (StandsOrdered tidy (K.stands (K.room store.store.keeper).found)) K.rests (W.view world.old).here (W.view world.old) (W.view world.new) X result }
     ensures cause { HasCause K.has_disk (W.view world.old) (W.view world.new) result }
     ensures no_memory { result ≡ SessionEnd.Memory → world.new ≡ world.old }
     ensures told { (W.view world.new).tells → (W.view world.old).tells }

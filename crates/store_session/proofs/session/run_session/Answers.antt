@@ -7,7 +7,7 @@ use Rattle.store_session.proofs.StoreKeeps.{has_stands, has_tree, line_answers, 
 use Rattle.store_session.proofs.session.run_session.Goals as goal
 
 pub returns-in-Ok-clause-ends : goal.returns-in-Ok-clause-ends
-returns-in-Ok-clause-ends g c = λ T h tells.
+returns-in-Ok-clause-ends g c = λ tidy X h tells.
     let view = g.W.Outside.view in
     let holds = g.K.NodeReader.holds in
     let last = g.K.NodeReader.last in
@@ -16,12 +16,12 @@ returns-in-Ok-clause-ends g c = λ T h tells.
     let stands = g.K.Keeper.stands in
     let rests = g.K.Keeper.rests in
     let effects = effects_of g.K.Keeper.measures g.K.Keeper.applied g.K.Saver.saved in
-    let found = (room c.args.store.keeper).found in
-    subst (λ e. StoreSessionEnds effects (stands_for view holds last room disk stands rests effects found) rests (view c.args.world.now).here (view c.args.world.now) (view c.serve.new.world) T e) (sym c.end_of.ensures)
-    (session_ends view disk (has_tree view holds last room disk stands rests effects found) (stands_for view holds last room disk stands rests effects found) rests effects (λ a. room a.store.keeper)
+    let found = (room c.args.store.store.keeper).found in
+    subst (λ e. StoreSessionEnds effects (stands_for view holds last room disk stands rests effects found tidy) rests (view c.args.world.now).here (view c.args.world.now) (view c.serve.new.world) X e) (sym c.end_of.ensures)
+    (session_ends view disk (has_tree view holds last room disk stands rests effects found tidy) (stands_for view holds last room disk stands rests effects found tidy) rests effects (λ a. room a.store.store.keeper)
     (line_answers view holds last room disk stands rests effects) (line_stops view holds last room disk stands rests effects)
-    (store_keeps view holds last room disk stands rests effects g.met.K.NodeReader.holds_on g.met.K.Keeper.held_stands g.met.K.Keeper.held_measures g.met.K.Keeper.stands_on g.met.K.Keeper.rests_on found)
-    (record { store = c.args.store }) c.serve.new.answerer c.args.world.now c.serve.new.world T (h, refl) tells c.in-Ok.end c.in-Ok.ensures.ends)
+    (store_keeps view holds last room disk stands rests effects g.met.K.NodeReader.holds_on g.met.K.Keeper.held_stands g.met.K.Keeper.held_measures g.met.K.Keeper.stands_on g.met.K.Keeper.rests_on found tidy)
+    (record { store = c.args.store }) c.serve.new.answerer c.args.world.now c.serve.new.world X (h, refl) tells c.in-Ok.end c.in-Ok.ensures.ends)
 
 pub returns-in-Ok-clause-cause : goal.returns-in-Ok-clause-cause
 returns-in-Ok-clause-cause g c =
@@ -38,7 +38,7 @@ returns-in-Ok-clause-cause g c =
     (record { store = c.args.store }) c.serve.new.answerer c.args.world.now c.serve.new.world c.in-Ok.end c.in-Ok.ensures.ends)
 
 pub returns-clause-ends : goal.returns-clause-ends
-returns-clause-ends g c = λ T h tells.
+returns-clause-ends g c = λ tidy X h tells.
     let view = g.W.Outside.view in
     let holds = g.K.NodeReader.holds in
     let last = g.K.NodeReader.last in
@@ -47,7 +47,7 @@ returns-clause-ends g c = λ T h tells.
     let stands = g.K.Keeper.stands in
     let rests = g.K.Keeper.rests in
     let effects = effects_of g.K.Keeper.measures g.K.Keeper.applied g.K.Saver.saved in
-    let found = (room c.args.store.keeper).found in
-    subst (λ w. StoreSessionEnds effects (stands_for view holds last room disk stands rests effects found) rests (view c.args.world.now).here (view c.args.world.now) (view w) T Memory) (sym c.in-Err.ensures.no_memory.1)
-    (ends_by_memory effects (stands_for view holds last room disk stands rests effects found) rests (view c.args.world.now) T h.settled h.at_rest
-    (has_stands view holds last room disk stands rests effects g.met.K.Keeper.held_stands found (record { store = c.args.store }) c.args.world.now T (h, refl)))
+    let found = (room c.args.store.store.keeper).found in
+    subst (λ w. StoreSessionEnds effects (stands_for view holds last room disk stands rests effects found tidy) rests (view c.args.world.now).here (view c.args.world.now) (view w) X Memory) (sym c.in-Err.ensures.no_memory.1)
+    (ends_by_memory effects (stands_for view holds last room disk stands rests effects found tidy) rests (view c.args.world.now) X h.settled h.at_rest
+    (has_stands view holds last room disk stands rests effects g.met.K.Keeper.held_stands found tidy (record { store = c.args.store }) c.args.world.now X (h, refl)))
