@@ -21,15 +21,14 @@ use Rattle.file_scan.proofs.ScanLaws.{lays-once, whole-once}
 use Rattle.node_port.specs.Nodes.{Nodes, get-set_at, no_nodes, node_at, set_at}
 use Rattle.node_port.specs.declared.node.NodeRec.{NodeRec}
 use Rattle.lays_kept.specs.Stands.{AreThose, node_with, rec_of}
-use Rattle.mail_tree.specs.declared.places.FolderPlace.{FolderPlace}
-use Rattle.tree_look.specs.Faults.{HasFault, Stops}
-use Rattle.mail_tree.specs.Standing.{HasTree}
-use Rattle.tree_look.specs.declared.stops.LookRefusal.{LookRefusal}
-use Rattle.tree_look.specs.declared.stops.LookStop.{LookStop}
-use Rattle.tree_look.specs.declared.stops.LookStop.TheVariants as looks
-use Rattle.tree_look.proofs.Excludes.{fault_excludes}
+use Rattle.mail_searches.specs.Searching.{Searching}
+use Rattle.searches_shown.specs.Showing.{ShowsFresh}
+use Rattle.node_port.specs.declared.keeper.KeepStop.TheVariants as keep
+use Rattle.store_open.specs.Opening.{StopsTree}
+use Rattle.store_open.specs.declared.stops.TreeStop.{TreeStop}
+use Rattle.store_open.specs.declared.stops.TreeStop.TheVariants as trees
 use Rattle.file_open.specs.Opening.{LaysNodes, ReadsFresh, StopsOpening, spent_in}
-use Rattle.file_open.specs.Stops.{of_look, of_scan}
+use Rattle.file_open.specs.Stops.{of_scan, of_tree}
 
 -- ---- nodes of a map
 
@@ -98,20 +97,17 @@ same_spent image N M last next a b =
 
 -- ---- refusals
 
-scan_excludes : (image : Image) (refusal : OpenRefusal) → IsRefused image refusal → (places : List FolderPlace) → ReadsFresh image places → ⊥
-scan_excludes image refusal (inl bad) places fresh = never (opening image.main image.side) (fresh.reads.laid).header refusal (fresh.reads.laid).opened bad
-scan_excludes image refusal (inr bad) places fresh =
+scan_excludes : (image : Image) (refusal : OpenRefusal) → IsRefused image refusal → (X : Searching) → ReadsFresh image X → ⊥
+scan_excludes image refusal (inl bad) X fresh = never (opening image.main image.side) (fresh.reads.laid).header refusal (fresh.reads.laid).opened bad
+scan_excludes image refusal (inr bad) X fresh =
     let laid = fresh.reads.laid in
     bad.none laid.m (subst (λ h. Lays h (file_of image) laid.m) (header_once image laid.header bad.header laid.opened bad.opened) laid.lays)
 
-look_excludes : {image : Image} {N : Nodes} {last : List ℕ} → LaysNodes image N last → (refusal : LookRefusal) → HasFault N refusal → (places : List FolderPlace) → ReadsFresh image places → ⊥
-look_excludes laid refusal fault places fresh = fault_excludes _ refusal fault places (subst (λ M. HasTree M places) (same_nodes fresh.reads.laid laid) fresh.reads.tree)
-
 -- where the numbers are used up no tree is read that leaves some
-pub spent_excludes : (image : Image) (N : Nodes) (last : List ℕ) (laid : LaysNodes image N last) → spent_in image N last laid ≡ true → (places : List FolderPlace) → ReadsFresh image places → ⊥
-spent_excludes image N last laid spent places fresh =
+pub spent_excludes : (image : Image) (N : Nodes) (last : List ℕ) (laid : LaysNodes image N last) → spent_in image N last laid ≡ true → (X : Searching) → ReadsFresh image X → ⊥
+spent_excludes image N last laid spent X fresh =
     let r = fresh.reads in
-    both (sym fresh.left ∙ same_spent image r.nodes N r.last last r.laid laid ∙ spent)
+    both (sym fresh.left ∙ same_spent image r.nodes N X.tree.last last r.laid laid ∙ spent)
   where
     both : false ≡ true → ⊥
     both h = cc
@@ -122,11 +118,11 @@ scan_stops image scans.Fault is = tt
 scan_stops image (scans.Changed ib stored computed) is = is
 scan_stops image scans.Memory is = tt
 
-pub look_stops : (image : Image) (N : Nodes) (last : List ℕ) → LaysNodes image N last → (stop : LookStop) → Stops N stop → StopsOpening image (of_look stop)
-look_stops image N last laid (looks.Refused refusal) is = ((N, last, laid, is), look_excludes laid refusal is)
-look_stops image N last laid looks.Fault is = tt
-look_stops image N last laid (looks.Changed ib stored computed) is = is
-look_stops image N last laid looks.Memory is = tt
+pub tree_stops : (image : Image) (N : Nodes) (last : List ℕ) → LaysNodes image N last → (stop : TreeStop) → StopsTree N stop → StopsOpening image (of_tree stop)
+tree_stops image N last laid (trees.Refused refusal) is = ((N, last, laid, is.0), λ X fresh. is.1 X (subst (λ M. ShowsFresh M X) (same_nodes fresh.reads.laid laid) fresh.reads.shows))
+tree_stops image N last laid (trees.Kept keep.Fault) is = tt
+tree_stops image N last laid (trees.Kept (keep.Changed ib stored computed)) is = is
+tree_stops image N last laid (trees.Kept keep.Memory) is = tt
 
 -- ---- what a scan finds
 

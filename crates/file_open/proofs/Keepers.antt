@@ -19,18 +19,17 @@ use Rattle.lays_kept.proofs.Opened.{front_is, opens_parts, stands_opens}
 use Rattle.pst_commit.specs.Keeping.{Holds}
 use Rattle.pst_commit.proofs.Holding.{same_header}
 use Rattle.pst_commit.proofs.Outcomes.{stands_over}
-use Rattle.mail_tree.specs.declared.known.Known.{Known}
-use Rattle.tree_look.specs.Faults.{Stops}
-use Rattle.mail_tree.specs.Standing.{HasTree}
-use Rattle.tree_look.specs.Seeing.{AreListed}
+use Rattle.mail_searches.specs.Searching.{Searching}
 use Rattle.tree_look.specs.Walk.{Looks}
-use Rattle.tree_look.specs.declared.stops.LookStop.{LookStop}
-use Rattle.file_open.specs.Opening.{IsKept, IsOpened, LaysNodes, ReadsFresh, StopsOpening, spent_in}
-use Rattle.file_open.specs.Stops.{of_look}
+use Rattle.store_open.specs.Opening.{KnowsTree, StopsTree}
+use Rattle.store_open.specs.declared.open.OpenedTree.{OpenedTree}
+use Rattle.store_open.specs.declared.stops.TreeStop.{TreeStop}
+use Rattle.file_open.specs.Opening.{IsKept, IsOpened, LaysNodes, Reads, ReadsFresh, StopsOpening, spent_in}
+use Rattle.file_open.specs.Stops.{of_tree}
 use Rattle.file_open.specs.declared.stops.FileRefusal.TheVariants.{Ids}
 use Rattle.file_open.specs.declared.stops.FileStop.{FileStop}
 use Rattle.file_open.specs.declared.stops.FileStop.TheVariants.{Refused}
-use Rattle.file_open.proofs.Files.{header_once, laid_found, look_stops, same_spent, some_nodes, spent_excludes, spent_found}
+use Rattle.file_open.proofs.Files.{header_once, laid_found, same_spent, some_nodes, spent_excludes, spent_found, tree_stops}
 
 -- files that lay nodes stand for them, whatever their header vouches for, as long as it is the one that was found
 abbrev pub laid_stands : {image : Image} {N : Nodes} {last : List ℕ} (bytes : List ℕ) → LaysNodes image N last → bytes ≡ take 564 (file_of image) → Stands bytes image N last
@@ -102,14 +101,14 @@ module _ {knows : Header → List ℕ → Type 0} {bytes : List ℕ} {header : H
   spent_is = spent_found mid.here found is those.0 those.1
 
   -- the tree was refused
-  pub refused_tree : (stop : LookStop) → ((N : Nodes) → Holds knows bytes header mid N → Stops N stop) → StopsOpening mid.here (of_look stop)
-  refused_tree stop stops = look_stops mid.here those.0 found.header.indexes laid stop (stops those.0 (made.holds is those.0 those.1))
+  pub refused_tree : (stop : TreeStop) → ((N : Nodes) → Holds knows bytes header mid N → StopsTree N stop) → StopsOpening mid.here (of_tree stop)
+  refused_tree stop stops = tree_stops mid.here those.0 found.header.indexes laid stop (stops those.0 (made.holds is those.0 those.1))
 
   -- the tree was found
-  pub opened : {knows' : Header → List ℕ → Type 0} {bytes' : List ℕ} {header' : Header} {room room' : Room} {now : World} (known : Known)
+  pub opened : {knows' : Header → List ℕ → Type 0} {bytes' : List ℕ} {header' : Header} {room room' : Room} {now : World} (tree : OpenedTree)
       → Looks (Holds knows bytes header mid) (Holds knows' bytes' header' now) header.indexes header'.indexes room room' mid now → room.found ≡ bytes → room'.found ≡ bytes'
-      → ((N : Nodes) → Holds knows bytes header mid N → HasTree N known.places) → ((N : Nodes) → Holds knows bytes header mid N → AreListed N known.places known.flags) → IsOpened knows' bytes' header' mid.here now known
-  opened {knows'} {bytes'} {header'} {now = now} known looks was has trees flags =
+      → ((N : Nodes) → Holds knows bytes header mid N → KnowsTree N header.indexes tree) → IsOpened knows' bytes' header' mid.here now tree
+  opened {knows'} {bytes'} {header'} {now = now} tree looks was has trees =
       let before = made.holds is those.0 those.1 in
       let held : Holds knows' bytes' header' now those.0 = looks.stays those.0 before in
       record {
@@ -128,26 +127,43 @@ module _ {knows : Header → List ℕ → Type 0} {bytes : List ℕ} {header : H
             ∙ held.1.own;
         front = sym has ∙ ap (λ (r : Room). r.found) looks.space ∙ was ∙ made.front;
         held = held;
-        tree = trees those.0 before;
-        flags = flags those.0 before;
+        tree = subst (λ last. KnowsTree those.0 last tree) (sym looks.counters) (trees those.0 before);
       }
 
-  -- numbers are left
-  pub fresh : {knows' : Header → List ℕ → Type 0} {bytes' : List ℕ} {header' : Header} {now : World} {known : Known} → IsOpened knows' bytes' header' mid.here now known → has_spent ≡ false → ReadsFresh mid.here known.places
-  fresh {header' = header'} o left = record {
-    reads = record { nodes = o.nodes; last = header'.indexes; laid = o.laid; tree = o.tree };
-    left = same_spent mid.here o.nodes those.0 header'.indexes found.header.indexes o.laid laid ∙ sym spent_is ∙ left;
+  -- the tree is read from the files
+  abbrev reads : {knows' : Header → List ℕ → Type 0} {bytes' : List ℕ} {header' : Header} {now : World} {tree : OpenedTree} (o : IsOpened knows' bytes' header' mid.here now tree) → Reads mid.here o.tree.tree
+  reads o = record {
+    nodes = o.nodes;
+    laid = record {
+      header = o.laid.header;
+      opened = o.laid.opened;
+      m = o.laid.m;
+      lays = o.laid.lays;
+      those = o.laid.those;
+      counters = o.laid.counters ∙ sym o.tree.counters;
+    };
+    shows = o.tree.shows;
   }
 
+  -- numbers are left or not, as the scan found
+  numbers : {knows' : Header → List ℕ → Type 0} {bytes' : List ℕ} {header' : Header} {now : World} {tree : OpenedTree} (o : IsOpened knows' bytes' header' mid.here now tree)
+      → spent_in mid.here o.nodes o.tree.tree.tree.last (reads o).laid ≡ has_spent
+  numbers o = same_spent mid.here o.nodes those.0 o.tree.tree.tree.last found.header.indexes (reads o).laid laid ∙ sym spent_is
+
+  -- numbers are left
+  pub fresh : {knows' : Header → List ℕ → Type 0} {bytes' : List ℕ} {header' : Header} {now : World} {tree : OpenedTree} → IsOpened knows' bytes' header' mid.here now tree → has_spent ≡ false
+      → (X : Searching) × ReadsFresh mid.here X
+  fresh o left = (o.tree.tree, record { reads = reads o; left = numbers o ∙ left })
+
   -- or none
-  pub spent_stops : {knows' : Header → List ℕ → Type 0} {bytes' : List ℕ} {header' : Header} {now : World} (known : Known) → IsOpened knows' bytes' header' mid.here now known → has_spent ≡ true → StopsOpening mid.here (Refused Ids)
-  spent_stops {header' = header'} known o spent = (
-    (known.places, (record { nodes = o.nodes; last = header'.indexes; laid = o.laid; tree = o.tree }, same_spent mid.here o.nodes those.0 header'.indexes found.header.indexes o.laid laid ∙ sym spent_is ∙ spent)),
+  pub spent_stops : {knows' : Header → List ℕ → Type 0} {bytes' : List ℕ} {header' : Header} {now : World} {tree : OpenedTree} → IsOpened knows' bytes' header' mid.here now tree → has_spent ≡ true → StopsOpening mid.here (Refused Ids)
+  spent_stops o spent = (
+    (o.tree.tree, (reads o, numbers o ∙ spent)),
     spent_excludes mid.here those.0 found.header.indexes laid (sym spent_is ∙ spent),
   )
 
 -- what is held of a store is held where its gate is closed
-pub still_opened : {knows : Header → List ℕ → Type 0} {bytes : List ℕ} {header : Header} {old : Image} {mid now : World} {known : Known} → IsOpened knows bytes header old mid known → SameStore mid.here now.here → now.tells → IsOpened knows bytes header old now known
+pub still_opened : {knows : Header → List ℕ → Type 0} {bytes : List ℕ} {header : Header} {old : Image} {mid now : World} {tree : OpenedTree} → IsOpened knows bytes header old mid tree → SameStore mid.here now.here → now.tells → IsOpened knows bytes header old now tree
 still_opened {knows} {bytes} {header} {old} {mid} {now} o same told =
     let held = o.held.1 in
     let stands : Stands bytes now.here o.nodes header.indexes = stands_over held.stands same in
@@ -167,5 +183,4 @@ still_opened {knows} {bytes} {header} {old} {mid} {now} o same told =
         },
       );
       tree = o.tree;
-      flags = o.flags;
     }

@@ -12,11 +12,10 @@ use Rattle.pst_commit.specs.Keeping.{Holds}
 use Rattle.file_scan.specs.Found.{IsFound}
 use Rattle.file_scan.specs.Scan.{IsRefused}
 use Rattle.file_scan.specs.declared.scan.FoundFile.{FoundFile}
-use Rattle.mail_tree.specs.declared.known.Known.{Known}
-use Rattle.mail_tree.specs.declared.places.FolderPlace.{FolderPlace}
-use Rattle.tree_look.specs.Faults.{HasFault}
-use Rattle.tree_look.specs.Seeing.{AreListed}
-use Rattle.mail_tree.specs.Standing.{HasTree}
+use Rattle.mail_searches.specs.Searching.{Searching}
+use Rattle.searches_shown.specs.Showing.{ShowsFresh}
+use Rattle.store_open.specs.Opening.{IsTreeRefused, KnowsTree}
+use Rattle.store_open.specs.declared.open.OpenedTree.{OpenedTree}
 use Rattle.file_open.specs.declared.stops.FileRefusal.{FileRefusal}
 use Rattle.file_open.specs.declared.stops.FileRefusal.TheVariants as refusals
 use Rattle.file_open.specs.declared.stops.FileStop.{FileStop}
@@ -37,29 +36,28 @@ pub record LaysNodes (image : Image) (N : Nodes) (last : List ℕ) : Type 0 wher
 abbrev pub spent_in : (image : Image) (N : Nodes) (last : List ℕ) → LaysNodes image N last → Bool
 spent_in image N last laid = is_spent laid.header (laid.lays).blocks (laid.lays).nodes
 
--- The two files are read as a tree whose folders stand at these places.
-pub record Reads (image : Image) (places : List FolderPlace) : Type 0 where
+-- The two files are read as the tree with its searches, each running one of which lists what filtering lists.
+pub record Reads (image : Image) (X : Searching) : Type 0 where
   pub nodes : Nodes
-  pub last : List ℕ
-  pub laid : LaysNodes image nodes last
-  pub tree : HasTree nodes places
+  pub laid : LaysNodes image nodes X.tree.last
+  pub shows : ShowsFresh nodes X
 
 -- the same, and numbers are left
-pub record ReadsFresh (image : Image) (places : List FolderPlace) : Type 0 where
-  pub reads : Reads image places
-  pub left : spent_in image reads.nodes reads.last reads.laid ≡ false
+pub record ReadsFresh (image : Image) (X : Searching) : Type 0 where
+  pub reads : Reads image X
+  pub left : spent_in image reads.nodes X.tree.last reads.laid ≡ false
 
 -- ---- why they are no such tree
 
 -- what a refusal says of the two files
 abbrev pub IsFileRefused : Image → FileRefusal → Type 0
 IsFileRefused image (refusals.Scan refusal) = IsRefused image refusal
-IsFileRefused image (refusals.Look refusal) = (N : Nodes) × (last : List ℕ) × LaysNodes image N last × HasFault N refusal
-IsFileRefused image refusals.Ids = (places : List FolderPlace) × ((r : Reads image places) × (spent_in image r.nodes r.last r.laid ≡ true))
+IsFileRefused image (refusals.Tree refusal) = (N : Nodes) × (last : List ℕ) × LaysNodes image N last × IsTreeRefused N refusal
+IsFileRefused image refusals.Ids = (X : Searching) × ((r : Reads image X) × (spent_in image r.nodes X.tree.last r.laid ≡ true))
 
 -- what a stop of an opening says of files whose bytes are told: a refusal excludes every tree
 abbrev pub StopsOpening : Image → FileStop → Type 0
-StopsOpening image (stops.Refused refusal) = IsFileRefused image refusal × ((places : List FolderPlace) → ReadsFresh image places → ⊥)
+StopsOpening image (stops.Refused refusal) = IsFileRefused image refusal × ((X : Searching) → ReadsFresh image X → ⊥)
 StopsOpening image stops.Fault = Unit {0}
 StopsOpening image (stops.Changed ib stored computed) = ⊥
 StopsOpening image stops.Memory = Unit {0}
@@ -79,12 +77,11 @@ pub record IsKept (knows : Header → List ℕ → Type 0) (bytes : List ℕ) (h
   pub front : bytes ≡ take 564 (file_of world.here)
   pub holds : (is : IsFound world.here found) (N : Nodes) → AreThose is.nodes N → Holds knows bytes header world N
 
--- The keeper of an opened file holds the nodes that the files laid at the start, with the header that they opened with and its bytes; the nodes have a tree, of which this is known: where its folders stand, and which of its messages are unread.
-pub record IsOpened (knows : Header → List ℕ → Type 0) (bytes : List ℕ) (header : Header) (old : Image) (now : World) (known : Known) : Type 0 where
+-- The keeper of an opened file holds the nodes that the files laid at the start, with the header that they opened with and its bytes; the nodes show a tree with searches, of which this is known.
+pub record IsOpened (knows : Header → List ℕ → Type 0) (bytes : List ℕ) (header : Header) (old : Image) (now : World) (opened : OpenedTree) : Type 0 where
   pub nodes : Nodes
   pub laid : LaysNodes old nodes header.indexes
   pub own : laid.header ≡ header
   pub front : bytes ≡ take 564 (file_of old)
   pub held : Holds knows bytes header now nodes
-  pub tree : HasTree nodes known.places
-  pub flags : AreListed nodes known.places known.flags
+  pub tree : KnowsTree nodes header.indexes opened

@@ -4,6 +4,7 @@ ghost use Rattle.pst_outside.specs.Calls.{NeverFall, Rose, Settled, Untouched};
 ghost use Rattle.gate_file.specs.Gate.{IsShut, SameStore};
 ghost use Rattle.node_port.specs.Nodes.{Nodes};
 ghost use Rattle.lays_kept.specs.Stands.{Stands};
+ghost use Rattle.mail_searches.specs.Searching.{Searching};
 ghost use Rattle.pst_commit.specs.Commit.{LeavesNodes};
 ghost use Rattle.file_open.specs.Opening.{IsOpened, ReadsFresh, StopsOpening};
 
@@ -12,17 +13,16 @@ use crate::stops::{FileRefusal, FileStop};
 use crate::store::FoundStore;
 use file_scan::scan_file;
 use gate_file::SIDE_LEN;
-use mail_tree::Known;
 use pst_commit::{FileKeeper, close_gate};
 use pst_outside::{Outside, Part};
 use std::alloc::Global;
-use tree_look::look_folders;
+use store_open::{OpenedTree, open_store};
 
-/// An opened file: the keeper of its nodes, and what is known of their tree.
+/// An opened file: the keeper of its nodes, and what is known of their tree and its searches.
 #[derive(Drop)]
 pub struct OpenedFile<S> {
     pub keeper: FileKeeper<S>,
-    pub known: Known,
+    pub tree: OpenedTree,
 }
 
 /// Opens a file without writing: the gate may be left open, so the keeper is to be read from alone. The stops are those of `open_file`.
@@ -30,8 +30,8 @@ pub fn look_file<W: Outside, S: FoundStore<W> + Drop>(
     alloc: Global,
     w: &mut W,
 ) -> Result<OpenedFile<S>, FileStop>
-    ensures reads { IfOk result (λ o. (W.view w.new).tells → ReadsFresh (W.view w.old).here o.known.places) }
-    ensures opened { IfOk result (λ o. (W.view w.new).tells → IsOpened (S.knows o.keeper.store) o.keeper.found o.keeper.header (W.view w.old).here (W.view w.new) o.known) }
+    ensures reads { IfOk result (λ o. (W.view w.new).tells → (X : Searching) × ReadsFresh (W.view w.old).here X) }
+    ensures opened { IfOk result (λ o. (W.view w.new).tells → IsOpened (S.knows o.keeper.store) o.keeper.found o.keeper.header (W.view w.old).here (W.view w.new) o.tree) }
     ensures refused { IfErr result (λ stop. (W.view w.new).tells → StopsOpening (W.view w.old).here stop) }
     ensures fault { result ≡ Err FileStop.Fault → Rose (W.view w.old).disk_faults (W.view w.new).disk_faults }
     ensures same { Untouched (W.view w.old) (W.view w.new) }
@@ -39,12 +39,11 @@ pub fn look_file<W: Outside, S: FoundStore<W> + Drop>(
     let found = scan_file(alloc, w)?;
     let spent = is_spent(&found);
     let mut keeper = keep(alloc, w, found)?;
-    let (places, flags) = look_folders(alloc, &mut keeper, w)?;
+    let tree = open_store(alloc, &mut keeper, w)?;
     if spent {
         return Err(FileStop::Refused(FileRefusal::Ids));
     }
-    let known = Known { places, flags };
-    Ok(OpenedFile { keeper, known })
+    Ok(OpenedFile { keeper, tree })
 }
 
 /// The length of the gate's file, of a file that opens.
@@ -69,13 +68,13 @@ fn side_len<W: Outside>(w: &mut W) -> Result<u64, FileStop>
 
 /// Opens a file for writing: its tree is that of its bytes, and the gate that a stop has left is closed last.
 ///
-/// `Refused` names the first thing that is wrong: with the header, the file's length, the pages, blocks, nodes and places as `file_scan` finds them, with the folders, tables and messages as `tree_look` does, and last that a next number is used up. `Fault` comes where the disk failed, `Memory` where there was none, and `Changed` where something isn't as it was found before, never over a world that tells.
+/// `Refused` names the first thing that is wrong: with the header, the file's length, the pages, blocks, nodes and places as `file_scan` finds them, with the folders, tables, messages and searches as `store_open` does, and last that a next number is used up. `Fault` comes where the disk failed, `Memory` where there was none, and `Changed` where something isn't as it was found before, never over a world that tells.
 pub fn open_file<W: Outside, S: FoundStore<W> + Drop>(
     alloc: Global,
     w: &mut W,
 ) -> Result<OpenedFile<S>, FileStop>
-    ensures reads { IfOk result (λ o. (W.view w.new).tells → ReadsFresh (W.view w.old).here o.known.places) }
-    ensures opened { IfOk result (λ o. (W.view w.new).tells → IsOpened (S.knows o.keeper.store) o.keeper.found o.keeper.header (W.view w.old).here (W.view w.new) o.known) }
+    ensures reads { IfOk result (λ o. (W.view w.new).tells → (X : Searching) × ReadsFresh (W.view w.old).here X) }
+    ensures opened { IfOk result (λ o. (W.view w.new).tells → IsOpened (S.knows o.keeper.store) o.keeper.found o.keeper.header (W.view w.old).here (W.view w.new) o.tree) }
     ensures refused { IfErr result (λ stop. (W.view w.new).tells → StopsOpening (W.view w.old).here stop) }
     ensures fault { result ≡ Err FileStop.Fault → Rose (W.view w.old).disk_faults (W.view w.new).disk_faults }
     // The files stand for the same afterwards, and nothing is pending if nothing was.

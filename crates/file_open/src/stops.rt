@@ -1,16 +1,17 @@
 //! Why an opening gives nothing.
 use file_layout::{OpenRefusal, OpenStop};
+use node_port::KeepStop;
 use pst_outside::Failed;
 use std::alloc::AllocError;
-use tree_look::{LookRefusal, LookStop};
+use store_open::{TreeRefusal, TreeStop};
 
 /// Why a file is refused. The bytes never change by it.
 #[derive(Clone, Copy, Debug, PartialEq, Eq)]
 pub enum FileRefusal {
     /// By its header, its pages, blocks or places.
     Scan(OpenRefusal),
-    /// By its folders, tables and messages.
-    Look(LookRefusal),
+    /// By its folders, tables, messages and searches.
+    Tree(TreeRefusal),
     /// The number of the next block or page is 2^61 or above.
     Ids,
 }
@@ -74,26 +75,28 @@ impl From<OpenStop> for FileStop {
     }
 }
 
-impl From<LookStop> for FileStop {
+impl From<TreeStop> for FileStop {
     ghost use Rattle.std.specs.Prelude.{◌≡◌};
-    ghost use Rattle.file_open.specs.Stops.{of_look};
+    ghost use Rattle.file_open.specs.Stops.{of_tree};
 
-    ghost from_gives = { λ stop e. e ≡ of_look stop };
+    ghost from_gives = { λ stop e. e ≡ of_tree stop };
 
-    fn from(stop: LookStop) -> FileStop {
+    fn from(stop: TreeStop) -> FileStop {
         match stop {
-            LookStop::Refused(refusal) => FileStop::Refused(FileRefusal::Look(refusal)),
-            LookStop::Fault => FileStop::Fault,
-            LookStop::Changed {
-                ib,
-                stored,
-                computed,
-            } => FileStop::Changed {
+            TreeStop::Refused(refusal) => FileStop::Refused(FileRefusal::Tree(refusal)),
+            TreeStop::Kept(KeepStop::Fault) => FileStop::Fault,
+            TreeStop::Kept(
+                KeepStop::Changed {
+                    ib,
+                    stored,
+                    computed,
+                },
+            ) => FileStop::Changed {
                 ib,
                 stored,
                 computed,
             },
-            LookStop::Memory => FileStop::Memory,
+            TreeStop::Kept(KeepStop::Memory) => FileStop::Memory,
         }
     }
 }

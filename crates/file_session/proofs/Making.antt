@@ -1,5 +1,5 @@
 -- What the files of a new store stand for.
-use Rattle.std.proofs.Common.{◌≡◌, ◌∙◌, ℕ, Bool, List, length, ◌≤◌, arith, inl, inr, refl, sym, ap, subst}
+use Rattle.std.proofs.Common.{◌≡◌, ◌∙◌, ℕ, Bool, true, List, [], length, ◌≤◌, arith, inl, inr, refl, sym, ap, subst}
 use Rattle.std.specs.FinMap as map
 use Rattle.std.specs.Ordering.{nat_cmp}
 use Rattle.pst_outside.specs.World.{Image, World}
@@ -18,8 +18,8 @@ use Rattle.lays_kept.proofs.Opened.{opens_parts}
 use Rattle.pst_commit.specs.Keeping.{Holds}
 use Rattle.empty_file.specs.Empty.{HasBytes, IsFirst, IsVacant}
 use Rattle.empty_file.specs.Known.{IsFoundEmpty}
-use Rattle.mail_laws.proofs.FoundStart.{starts_found}
-use Rattle.mail_laws.proofs.Starting.{starts_whole}
+use Rattle.mail_searches.specs.Searching.{Searching, StartsSearching}
+use Rattle.search_laws.proofs.Setting.{starts_in_order}
 use Rattle.mail_tree.specs.Start.{IsStart, start_last}
 use Rattle.mail_tree.specs.Tree.{StandsAt, Tree, object_at}
 use Rattle.file_session.specs.FileRun.{ReadsAs, front_of}
@@ -73,12 +73,14 @@ own_front bytes image N last next same s = record {
 
 -- the nodes of a new store are read as its tree
 pub made_reads : (name : List ℕ) (image : Image) (N : Nodes) (last : List ℕ) (T : Tree) → IsStart name T → ((q : ℕ) → StandsAt q (node_at N q) (object_at T q) (node_at T.others q)) → last ≡ start_last
-    → Stands (front_of image) image N last → ReadsAs (front_of image) image T
-made_reads name image N last T start at same stands = record {
-  stands = record { nodes = N; held = subst (λ l. Stands (front_of image) image N l) (same ∙ sym start.counters) stands; at = at; counters = refl };
-  whole = (starts_whole name T start).0;
-  is_found = starts_found name T start;
-}
+    → Stands (front_of image) image N last → (X : Searching) × StartsSearching name X × ReadsAs true (front_of image) image X
+made_reads name image N last T start at same stands =
+    let X : Searching = record { tree = T; own = []; searches = [] } in
+    let starts : StartsSearching name X = record { tree = start; none_own = refl; none = refl } in (
+      X,
+      starts,
+      (record { nodes = N; held = subst (λ l. Stands (front_of image) image N l) (same ∙ sym start.counters) stands; at = at; counters = refl }, starts_in_order name X starts),
+    )
 
 -- ---- stops
 

@@ -1,5 +1,5 @@
 -- From the opening to the end of a session over a file.
-use Rattle.std.proofs.Common.{◌≡◌, ◌∙◌, ℕ, true, List, [], ◌++◌, take, refl, sym, ap, subst, inl, inr}
+use Rattle.std.proofs.Common.{◌≡◌, ◌∙◌, ℕ, Bool, true, false, List, [], ◌++◌, take, refl, sym, ap, subst, inl, inr}
 use Rattle.std.proofs.lemmas.List.{append-nil}
 use Rattle.pst_outside.specs.World.{Image, World}
 use Rattle.pst_outside.specs.Calls.{LeavesOnly, Settled, Untouched}
@@ -11,46 +11,34 @@ use Rattle.node_port.specs.Nodes.{Nodes}
 use Rattle.pst_commit.specs.Commit.{LeavesNodes}
 use Rattle.pst_commit.specs.Keeping.{Holds}
 use Rattle.mail_store.specs.Planning.{StandsFor}
-use Rattle.mail_tree.specs.Tree.{Tree, object_at}
-use Rattle.mail_tree.specs.Flags.{AreFlags}
-use Rattle.mail_tree.specs.declared.known.Known.{Known}
-use Rattle.mail_tree.specs.declared.places.FolderPlace.{FolderPlace}
+use Rattle.mail_searches.specs.Searching.{Searching}
+use Rattle.search_order.specs.Order.{InOrder}
 use Rattle.file_open.proofs.Keepers.{laid_stands}
 use Rattle.file_open.specs.Opening.{IsFileRefused, IsOpened, ReadsFresh, StopsOpening}
 use Rattle.file_open.specs.declared.stops.FileRefusal.{FileRefusal}
 use Rattle.file_open.specs.declared.stops.FileStop.{FileStop}
 use Rattle.file_open.specs.declared.stops.FileStop.TheVariants as stops
-use Rattle.tree_look.specs.Seeing.{AreListed}
-use Rattle.tree_shown.proofs.Known.{shows_flags}
-use Rattle.tree_shown.proofs.Made.{shows_tree}
+use Rattle.store_open.specs.declared.open.OpenedTree.{OpenedTree}
 use Rattle.store_session.specs.Carrying.{Has}
 use Rattle.store_session.specs.Disks.{Effects}
 use Rattle.store_session.specs.Session.{StoreSessionEnds}
-use Rattle.store_session.specs.Turns.{IsReached, StoreTurn, disk_after, texts, tree_after}
+use Rattle.store_session.specs.Turns.{IsReached, StoreTurn, texts}
 use Rattle.store_session.specs.declared.session.SessionEnd.{SessionEnd}
 use Rattle.store_session.specs.declared.session.SessionEnd.TheVariants.{Disk, Changed, Memory}
 use Rattle.file_session.specs.FileRun.{EndsOpened, EndsUnopened, ReadsAs, file_effects, front_of}
 use Rattle.file_session.specs.Stops.{unopened}
 use Rattle.file_session.specs.declared.run.FileRun.{FileRun}
 use Rattle.file_session.specs.declared.run.FileRun.TheVariants.{Refused, Ended}
-use Rattle.file_session.proofs.Good.{AllGood, IsGood, good_after, good_both, reached_good, run_good, through_good}
-
--- a file that stands for a good tree is read as it
-pub reads_good : (found : List ℕ) (c : Image) (T : Tree) → StandsFor (Stands found c) T → IsGood T → ReadsAs found c T
-reads_good found c T stands h = record { stands = stands; whole = h.whole; is_found = h.is_found }
 
 -- ---- a session that began behind an opening
 
-module _ (effects : Effects) (found : List ℕ) (rests : Image → Type 0) (opened : Image) (first mid now : World) (T : Tree) (end : SessionEnd) (good : IsGood T)
+module _ (effects : Effects) (stands : Image → Searching → Type 0) (rests : Image → Type 0) (opened : Image) (first mid now : World) (X : Searching) (end : SessionEnd)
     (told : now.tells → mid.tells)
     (input : mid.tells → mid.input ≡ first.input)
     (said : mid.tells → mid.here.said ≡ first.here.said)
-    (opening : LeavesOnly first mid (λ c. (c.said ≡ first.here.said) × ReadsAs found c T)) where
-  stands : Image → Tree → Type 0
-  stands c U = StandsFor (Stands found c) U
-
+    (opening : LeavesOnly first mid (λ c. (c.said ≡ first.here.said) × stands c X)) where
   -- before the first line
-  at_start : (turns : List StoreTurn) (c : Image) → (c.said ≡ first.here.said) × ReadsAs found c T → IsReached (ReadsAs found) first.here.said T turns c
+  at_start : (turns : List StoreTurn) (c : Image) → (c.said ≡ first.here.said) × stands c X → IsReached stands first.here.said X turns c
   at_start turns c is = record {
     done = [];
     left = turns;
@@ -60,14 +48,10 @@ module _ (effects : Effects) (found : List ℕ) (rests : Image → Type 0) (open
     said = is.0 ∙ sym (append-nil first.here.said);
   }
 
-  pub session_behind : StoreSessionEnds effects (λ c U. StandsFor (Stands found c) U) rests opened mid now T end → StoreSessionEnds effects (ReadsAs found) rests opened first now T end
+  pub session_behind : StoreSessionEnds effects stands rests opened mid now X end → StoreSessionEnds effects stands rests opened first now X end
   session_behind s =
-      let turns_good : AllGood s.turns = run_good effects now.tells T opened s.answered s.turns good s.run in
-      let after_good : IsGood (tree_after T s.turns) = good_after T s.turns good turns_good in
-      let last_good : AllGood s.last = run_good effects ⊥ (tree_after T s.turns) (disk_after opened s.turns) s.hand s.last after_good s.in_hand in
-      let all_good : AllGood (s.turns ++ s.last) = good_both s.turns s.last turns_good last_good in
-      let begins : LeavesOnly first mid (IsReached (ReadsAs found) first.here.said T (s.turns ++ s.last)) =
-      weaker (IsReached (ReadsAs found) first.here.said T (s.turns ++ s.last)) opening (λ c t is. at_start (s.turns ++ s.last) c is) in
+      let begins : LeavesOnly first mid (IsReached stands first.here.said X (s.turns ++ s.last)) =
+      weaker (IsReached stands first.here.said X (s.turns ++ s.last)) opening (λ c t is. at_start (s.turns ++ s.last) c is) in
       record {
         taken = s.taken;
         input = λ t. sym (input (told t)) ∙ s.input t;
@@ -83,14 +67,12 @@ module _ (effects : Effects) (found : List ℕ) (rests : Image → Type 0) (open
         last = s.last;
         run = s.run;
         in_hand = s.in_hand;
-        stand = through_good (λ c U. StandsFor (Stands found c) U) (ReadsAs found) (λ c U. reads_good found c U) T opened s.turns good turns_good s.stand;
+        stand = s.stand;
         disk_is = s.disk_is;
         front = λ t. let f = s.front t in (f.0, f.1 ∙ ap (λ l. l ++ take f.0 (texts s.turns)) (said (told t)));
         whole = λ no t. s.whole no t ∙ ap (λ l. l ++ texts s.turns) (said (told t));
-        images = continues begins s.images
-            (λ c t is. subst (λ l. IsReached (ReadsAs found) l T (s.turns ++ s.last) c) (said (told t))
-            (reached_good (λ c U. StandsFor (Stands found c) U) (ReadsAs found) (λ c U. reads_good found c U) mid.here.said T (s.turns ++ s.last) c good all_good is));
-        ends_as = λ no. reads_good found now.here (tree_after T s.turns) (s.ends_as no) after_good;
+        images = continues begins s.images (λ c t is. subst (λ l. IsReached stands l X (s.turns ++ s.last) c) (said (told t)) is);
+        ends_as = s.ends_as;
         settled = s.settled;
         at_rest = s.at_rest;
         finished = s.finished;
@@ -104,10 +86,10 @@ module _ (effects : Effects) (found : List ℕ) (rests : Image → Type 0) (open
 -- ---- what an opening gives to a session
 
 -- a world that leaves nodes leaves what they show
-pub leaves_tree : (found : List ℕ) (first mid : World) (N : Nodes) (T : Tree) → ((c : Image) → Stands found c N T.last → StandsFor (Stands found c) T) → IsGood T → LeavesNodes first mid found N T.last
-    → LeavesOnly first mid (λ c. (c.said ≡ first.here.said) × ReadsAs found c T)
-leaves_tree found first mid N T shows good leaves =
-    weaker (λ c. (c.said ≡ first.here.said) × ReadsAs found c T) leaves (λ c t is. (is.0, reads_good found c T (shows c is.1) good))
+pub leaves_tree : (tidy : Bool) (found : List ℕ) (first mid : World) (N : Nodes) (X : Searching) → ((c : Image) → Stands found c N X.tree.last → StandsFor (Stands found c) X.tree) → InOrder tidy X → LeavesNodes first mid found N X.tree.last
+    → LeavesOnly first mid (λ c. (c.said ≡ first.here.said) × ReadsAs tidy found c X)
+leaves_tree tidy found first mid N X shows order leaves =
+    weaker (λ c. (c.said ≡ first.here.said) × ReadsAs tidy found c X) leaves (λ c t is. (is.0, (shows c is.1, order)))
 
 -- the opening of files that stand for nodes leaves them
 abbrev pub Leaving : World → World → Type 0
@@ -115,39 +97,53 @@ Leaving first mid = (found : List ℕ) (N : Nodes) (last : List ℕ) → (first.
 
 -- ---- an opening that gave a keeper
 
-pub ends_opened : (knows : Header → List ℕ → Type 0) (becomes : List ℕ → List ℕ → Type 0) (bytes : List ℕ) (header : Header) (known : Known) (first mid now : World) (end : SessionEnd)
-    → IsOpened knows bytes header first.here mid known
+pub ends_opened : (knows : Header → List ℕ → Type 0) (becomes : List ℕ → List ℕ → Type 0) (bytes : List ℕ) (header : Header) (tree : OpenedTree) (first mid now : World) (end : SessionEnd)
+    → IsOpened knows bytes header first.here mid tree
     → now.tells → (now.tells → mid.tells)
     → (mid.tells → mid.input ≡ first.input) → SameStore first.here mid.here
     → Settled mid → (mid.tells → IsShut mid.here.side)
     → Leaving first mid
-    → ((T : Tree) → Has (Holds knows bytes header mid) header.indexes known (λ image. IsShut image.side) mid T → (true ≡ true → now.tells)
-    → StoreSessionEnds (file_effects becomes) (λ c U. StandsFor (Stands bytes c) U) (λ image. IsShut image.side) mid.here mid now T end)
+    → ((tidy : Bool) (X : Searching) → Has (Holds knows bytes header mid) header.indexes tree.known tree.searches (λ image. IsShut image.side) mid tidy X → (true ≡ true → now.tells)
+    → StoreSessionEnds (file_effects becomes) (ReadsAs tidy bytes) (λ image. IsShut image.side) mid.here mid now X end)
     → EndsOpened becomes first now end
-ends_opened knows becomes bytes header known first mid now end o tells told input store settled shut leaving session =
-    let got = shows_tree o.nodes known.places header.indexes o.tree in
-    let T : Tree = got.0 in
-    let same_last : T.last ≡ header.indexes = got.2 in
-    let good : IsGood T = record { whole = got.4; is_found = got.5 } in
-    let flags : AreFlags (object_at T) known.flags = shows_flags o.nodes T known.flags got.3 (subst (λ p. AreListed o.nodes p known.flags) (sym got.1) o.flags) in
-    let shows : (c : Image) → Stands bytes c o.nodes T.last → StandsFor (Stands bytes c) T = λ c is. record { nodes = o.nodes; held = is; at = got.3.at; counters = refl } in
-    let stands : Stands bytes first.here o.nodes T.last = subst (λ l. Stands bytes first.here o.nodes l) (sym same_last) (laid_stands bytes o.laid o.front) in
-    let opening : LeavesOnly first mid (λ c. (c.said ≡ first.here.said) × ReadsAs bytes c T) = leaves_tree bytes first mid o.nodes T shows good (leaving bytes o.nodes T.last (λ t. stands)) in
-    let has : Has (Holds knows bytes header mid) header.indexes known (λ image. IsShut image.side) mid T = record {
-      stores = record { shown = record { nodes = o.nodes; held = o.held; at = got.3.at; counters = same_last }; knows = record { places = got.1; flags = flags } };
-      whole = got.4;
-      settled = settled;
-      at_rest = shut;
+ends_opened knows becomes bytes header tree first mid now end o tells told input store settled shut leaving session =
+    let X : Searching = o.tree.tree in
+    let shown = o.tree.shows.0 in
+    let sound : InOrder false X = record {
+      whole = shown.whole;
+      found = shown.found;
+      mirrors = λ e. absurd (no_truth e);
+      counts = λ e. absurd (no_truth e);
+      searches = shown.searches;
+      fresh = o.tree.shows.1;
+      marked = shown.marked;
     } in
-    let ends : StoreSessionEnds (file_effects becomes) (ReadsAs bytes) (λ image. IsShut image.side) mid.here first now T end =
-    session_behind (file_effects becomes) bytes (λ image. IsShut image.side) mid.here first mid now T end good told input (λ t. (opening.here t).0) opening (session T has (λ e. tells)) in
+    let shows : (c : Image) → Stands bytes c o.nodes X.tree.last → StandsFor (Stands bytes c) X.tree = λ c is. record { nodes = o.nodes; held = is; at = shown.at; counters = refl } in
+    let stands : Stands bytes first.here o.nodes X.tree.last = subst (λ l. Stands bytes first.here o.nodes l) (sym o.tree.counters) (laid_stands bytes o.laid o.front) in
+    let leaves : LeavesNodes first mid bytes o.nodes X.tree.last = leaving bytes o.nodes X.tree.last (λ t. stands) in
     record {
-      start = T;
-      reads = subst (λ f. ReadsAs f first.here T) o.front (reads_good bytes first.here T (shows first.here stands) good);
+      start = X;
+      reads = subst (λ f. ReadsAs false f first.here X) o.front (shows first.here stands, sound);
       opened = mid.here;
       store = store;
-      session = subst (λ f. StoreSessionEnds (file_effects becomes) (ReadsAs f) (λ image. IsShut image.side) mid.here first now T end) o.front ends;
+      session = λ tidy read.
+          let order : InOrder tidy X = read.1 in
+          let opening : LeavesOnly first mid (λ c. (c.said ≡ first.here.said) × ReadsAs tidy bytes c X) = leaves_tree tidy bytes first mid o.nodes X shows order leaves in
+          let has : Has (Holds knows bytes header mid) header.indexes tree.known tree.searches (λ image. IsShut image.side) mid tidy X = record {
+            stores = record {
+              tree = record { shown = record { nodes = o.nodes; held = o.held; at = shown.at; counters = o.tree.counters }; knows = o.tree.knows };
+              searches = o.tree.searches;
+            };
+            order = order;
+            settled = settled;
+            at_rest = shut;
+          } in
+          subst (λ f. StoreSessionEnds (file_effects becomes) (ReadsAs tidy f) (λ image. IsShut image.side) mid.here first now X end) o.front
+          (session_behind (file_effects becomes) (ReadsAs tidy bytes) (λ image. IsShut image.side) mid.here first mid now X end told input (λ t. (opening.here t).0) opening (session tidy X has (λ e. tells)));
     }
+  where
+    no_truth : false ≡ true → ⊥
+    no_truth e = cc
 
 -- ---- one that gave none
 
@@ -176,10 +172,9 @@ no_fault : (r : FileRefusal) → stops.Refused r ≡ stops.Fault → ⊥
 no_fault r is = cc
 
 -- the trees that the files are read as stay
-still_reads : (found : List ℕ) (first now : World) → Leaving first now → (T : Tree) → ReadsAs found first.here T → LeavesOnly first now (λ c. (c.said ≡ first.here.said) × ReadsAs found c T)
-still_reads found first now leaving T r =
-    leaves_tree found first now r.stands.nodes T (λ c is. record { nodes = r.stands.nodes; held = is; at = r.stands.at; counters = r.stands.counters })
-    (record { whole = r.whole; is_found = r.is_found }) (leaving found r.stands.nodes T.last (λ t. r.stands.held))
+still_reads : (found : List ℕ) (first now : World) → Leaving first now → (tidy : Bool) (X : Searching) → ReadsAs tidy found first.here X → LeavesOnly first now (λ c. (c.said ≡ first.here.said) × ReadsAs tidy found c X)
+still_reads found first now leaving tidy X r =
+    leaves_tree tidy found first now r.0.nodes X (λ c is. record { nodes = r.0.nodes; held = is; at = r.0.at; counters = r.0.counters }) r.1 (leaving found r.0.nodes X.tree.last (λ t. r.0.held))
 
 pub ends_unopened : (first now : World) (stop : FileStop) (end : SessionEnd) → unopened stop ≡ Ended end → now.tells
     → StopsOpening first.here stop → (now.tells → now.input ≡ first.input) → (now.tells → now.here.said ≡ first.here.said) → Leaving first now
@@ -191,7 +186,7 @@ ends_unopened first now stops.Memory end is tells why input said leaving = recor
 
 pub refused_is : (first now : World) (stop : FileStop) (refusal : FileRefusal) → unopened stop ≡ Refused refusal
     → ((stop ≡ stops.Fault → ⊥) → Untouched first now) → (now.tells → StopsOpening first.here stop)
-    → Untouched first now × (now.tells → IsFileRefused first.here refusal × ((places : List FolderPlace) → ReadsFresh first.here places → ⊥))
+    → Untouched first now × (now.tells → IsFileRefused first.here refusal × ((X : Searching) → ReadsFresh first.here X → ⊥))
 refused_is first now (stops.Refused r) refusal is clean why = (clean (no_fault r), λ t. (subst (IsFileRefused first.here) (same_refusal r refusal is) ((why t).0), (why t).1))
 refused_is first now stops.Fault refusal is clean why = absurd (no_refusal refusal Disk is)
 refused_is first now (stops.Changed ib stored computed) refusal is clean why = absurd (no_refusal refusal (Changed ib stored computed) is)

@@ -1,15 +1,13 @@
 -- How a session over a file ends.
-use Rattle.std.specs.Prelude.{◌≡◌, ◌⊎◌, List, ℕ, take}
+use Rattle.std.specs.Prelude.{◌≡◌, ◌⊎◌, Bool, false, List, ℕ, take}
 use Rattle.pst_outside.specs.World.{Image, World}
 use Rattle.pst_outside.specs.Calls.{LeavesOnly}
 use Rattle.gate_file.specs.Gate.{IsShut, SameStore}
 use Rattle.file_blocks.specs.Blocks.{file_of}
 use Rattle.lays_kept.specs.Stands.{Stands}
 use Rattle.pst_commit.specs.Keeping.{HasRoom, IsSaved}
-use Rattle.mail_tree.specs.Found.{IsFound}
-use Rattle.mail_tree.specs.Tree.{Tree}
-use Rattle.mail_tree.specs.Whole.{IsWhole}
-use Rattle.mail_store.specs.Planning.{StandsFor}
+use Rattle.mail_searches.specs.Searching.{Searching}
+use Rattle.store_session.specs.Carrying.{StandsOrdered}
 use Rattle.store_session.specs.Disks.{Effects, effects_of}
 use Rattle.store_session.specs.Session.{StoreSessionEnds}
 use Rattle.store_session.specs.declared.session.SessionEnd.{SessionEnd}
@@ -19,31 +17,30 @@ use Rattle.store_session.specs.declared.session.SessionEnd.TheVariants.{Disk, Me
 abbrev pub front_of : Image → List ℕ
 front_of image = take 564 (file_of image)
 
--- The two files of an image are read as the tree: they lay nodes that show it, with its counters, and an opening finds it from the root down. The maps are right wherever the header vouches for them, but in a file whose header is still the one that was found.
-pub record ReadsAs (found : List ℕ) (image : Image) (T : Tree) : Type 0 where
-  pub stands : StandsFor (Stands found image) T
-  pub whole : IsWhole T
-  pub is_found : IsFound T
+-- The two files of an image are read as the tree with its searches: they lay nodes that show it, with its counters; an opening finds it from the root down, its search folders by their nodes, and each running search lists what filtering lists. If `tidy`, its rows mirror what they show and its counts are right. The maps are right wherever the header vouches for them, but in a file whose header is still the one that was found.
+abbrev pub ReadsAs : Bool → List ℕ → Image → Searching → Type 0
+ReadsAs tidy found = StandsOrdered tidy (Stands found)
 
 -- The opening gave nothing: no line was taken and nothing was said, and a stop at any moment leaves the tree that the files were read as.
 pub record EndsUnopened (first now : World) (end : SessionEnd) : Type 0 where
   pub ends : (end ≡ Disk) ⊎ (end ≡ Memory)
   pub input : now.tells → now.input ≡ first.input
   pub said : now.tells → now.here.said ≡ first.here.said
-  pub images : (T : Tree) → ReadsAs (front_of first.here) first.here T → LeavesOnly first now (λ c. (c.said ≡ first.here.said) × ReadsAs (front_of first.here) c T)
+  pub images : (tidy : Bool) (X : Searching) → ReadsAs tidy (front_of first.here) first.here X → LeavesOnly first now (λ c. (c.said ≡ first.here.said) × ReadsAs tidy (front_of first.here) c X)
 
 -- What is told of files from turn to turn: their room, what a commit makes of their bytes, and what a save does.
 abbrev pub file_effects : (List ℕ → List ℕ → Type 0) → Effects
 file_effects becomes = effects_of HasRoom (λ old new. becomes (file_of old) (file_of new)) IsSaved
 
--- The files were opened as a tree, and this is how the session over it ended: its replies are those of a run from the tree, each turn of which takes the files from what they were to what they are, and a stop at any moment leaves files that are read as the tree after some of its turns, among them each whose reply had begun. `becomes` says what a commit makes of a file.
+-- The files were opened as a tree with its searches, and this is how the session over it ended: its replies are those of a run from the tree, each turn of which takes the files from what they were to what they are, and a stop at any moment leaves files that are read as the tree after some of its turns, among them each whose reply had begun, tidy where it was so at the start. `becomes` says what a commit makes of a file.
 pub record EndsOpened (becomes : List ℕ → List ℕ → Type 0) (first now : World) (end : SessionEnd) : Type 0 where
-  pub start : Tree
-  pub reads : ReadsAs (front_of first.here) first.here start
+  pub start : Searching
+  pub reads : ReadsAs false (front_of first.here) first.here start
   -- the disk that the first line finds: the store is as it was
   pub opened : Image
   pub store : SameStore first.here opened
-  pub session : StoreSessionEnds (file_effects becomes) (ReadsAs (front_of first.here)) (λ image. IsShut image.side) opened first now start end
+  pub session : (tidy : Bool) → ReadsAs tidy (front_of first.here) first.here start
+      → StoreSessionEnds (file_effects becomes) (ReadsAs tidy (front_of first.here)) (λ image. IsShut image.side) opened first now start end
 
 -- how a session over a file ends that wasn't refused
 abbrev pub FileRunEnds : (List ℕ → List ℕ → Type 0) → World → World → SessionEnd → Type 0

@@ -1,13 +1,12 @@
 //! A new store in a file.
-ghost use Rattle.std.specs.Prelude.{◌≡◌, ◌⊎◌, ℕ, IsTrue};
+ghost use Rattle.std.specs.Prelude.{◌≡◌, ◌⊎◌, ℕ, true, IsTrue};
 ghost use Rattle.pst_outside.specs.Calls.{NeverFall, Rose, Settled, Untouched};
 ghost use Rattle.gate_file.specs.Gate.{IsShut};
 ghost use Rattle.empty_file.specs.Empty.{HasBytes, IsFirst};
 ghost use Rattle.empty_file.specs.Known.{IsFoundEmpty};
 ghost use Rattle.node_port.specs.Nodes.{ascend, changed, no_nodes};
 ghost use Rattle.lays_kept.specs.Stands.{Stands};
-ghost use Rattle.mail_tree.specs.Start.{IsStart};
-ghost use Rattle.mail_tree.specs.Tree.{Tree};
+ghost use Rattle.mail_searches.specs.Searching.{Searching, StartsSearching};
 ghost use Rattle.file_session.specs.FileRun.{ReadsAs, front_of};
 ghost use Rattle.file_session.specs.Stops.{of_plan};
 
@@ -105,7 +104,7 @@ pub fn make_file<W: Outside, S: FoundStore<W> + Drop>(
     w: &mut W,
     name: &Units,
 ) -> FileMade
-    ensures made { result ≡ FileMade.Made → (W.view w.new).tells → (T : Tree) × IsStart name.now T × ReadsAs (front_of (W.view w.new).here) (W.view w.new).here T }
+    ensures made { result ≡ FileMade.Made → (W.view w.new).tells → (X : Searching) × StartsSearching name.now X × ReadsAs true (front_of (W.view w.new).here) (W.view w.new).here X }
     ensures said { Settled (W.view w.old) → result ≡ FileMade.Made → (W.view w.new).tells → (W.view w.new).here.said ≡ (W.view w.old).here.said }
     ensures not_empty { result ≡ FileMade.NotEmpty → Untouched (W.view w.old) (W.view w.new) × ((W.view w.new).tells → HasBytes (W.view w.new).here) }
     // Files that have bytes stay as they are.

@@ -1,7 +1,7 @@
 //! A session over a file.
-ghost use Rattle.std.specs.Prelude.{◌≡◌, List, true};
+ghost use Rattle.std.specs.Prelude.{◌≡◌, true};
 ghost use Rattle.pst_outside.specs.Calls.{NeverFall, Settled, Untouched};
-ghost use Rattle.mail_tree.specs.declared.places.FolderPlace.{FolderPlace};
+ghost use Rattle.mail_searches.specs.Searching.{Searching};
 ghost use Rattle.file_open.specs.Opening.{IsFileRefused, ReadsFresh};
 ghost use Rattle.file_open.specs.declared.stops.FileRefusal.{FileRefusal as Refusals};
 ghost use Rattle.store_session.specs.Session.{HasCause};
@@ -12,6 +12,7 @@ ghost use Rattle.file_session.specs.FileRun.{FileRunEnds};
 use file_open::{FileRefusal, FileStop, FoundStore, open_file};
 use mail_store::Store;
 use pst_outside::Outside;
+use search_store::SearchStore;
 use std::alloc::Global;
 use store_session::{SessionEnd, run_session};
 
@@ -47,7 +48,7 @@ fn unopened(stop: FileStop) -> FileRun
 /// Opens the two files, and answers the lines of the input over the tree that they are read as: takes lines until the input ends, a line is `quit`, a device fails, something changed, or 2^32 lines were taken. Each reply is made before its command is committed, and said after it.
 pub fn run_file<W: Outside, S: FoundStore<W> + Drop>(alloc: Global, world: &mut W) -> FileRun
     ensures refused { (refusal : Refusals) → result ≡ FileRun.Refused refusal → Untouched (W.view world.old) (W.view world.new)
-        × ((W.view world.new).tells → IsFileRefused (W.view world.old).here refusal × ((places : List FolderPlace) → ReadsFresh (W.view world.old).here places → ⊥)) }
+        × ((W.view world.new).tells → IsFileRefused (W.view world.old).here refusal × ((X : Searching) → ReadsFresh (W.view world.old).here X → ⊥)) }
     // The replies are those of a run from the file as it was, and a stop at any moment leaves the tree after some of its turns.
     ensures ends { (end : End) → result ≡ FileRun.Ended end → Settled (W.view world.old) → (W.view world.new).tells → FileRunEnds S.becomes (W.view world.old) (W.view world.new) end }
     ensures cause { (end : End) → result ≡ FileRun.Ended end → HasCause true (W.view world.old) (W.view world.new) end }
@@ -56,9 +57,12 @@ pub fn run_file<W: Outside, S: FoundStore<W> + Drop>(alloc: Global, world: &mut 
 {
     match open_file::<W, S>(alloc, world) {
         Ok(opened) => {
-            let store = Store {
-                keeper: opened.keeper,
-                known: opened.known,
+            let store = SearchStore {
+                store: Store {
+                    keeper: opened.keeper,
+                    known: opened.tree.known,
+                },
+                searches: opened.tree.searches,
             };
             FileRun::Ended(run_session(alloc, store, world))
         }

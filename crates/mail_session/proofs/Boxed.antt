@@ -82,7 +82,7 @@ no_hindrance other small D h = h
 -- what a refusal does
 refused_by : (new : SearchStore MapKeeper) (c : Command) (said : List ℕ) (refusal : CommandRefusal) {P : Type 0} (plans : Coming → P → Type 0) (X : Searching) (answer : Answer Coming)
     → outcome X c ≡ answer → ((D : Changes) → IsHindered ample D (Refused refusal) → ⊥) → said ≡ refused refusal → Holds new X
-    → Fine answer (λ o. InOrder (after X o)) → PlansComing {P = P} ample plans answer (Err (Refused refusal)) → (Y : Searching) × Steps X c said Y × Holds new Y
+    → Fine answer (λ o. InOrder true (after X o)) → PlansComing {P = P} ample plans answer (Err (Refused refusal)) → (Y : Searching) × Steps X c said Y × Holds new Y
 refused_by new c said refusal plans X (Ok o) is free gave h fine answer = absurd (free o.outcome.changed answer)
 refused_by new c said refusal plans X (Err (Some r)) is free gave h fine answer =
     (X, (replied (last.Refused r), ap (stepped X) is, gave ∙ ap refused answer), h)
@@ -92,12 +92,12 @@ pub refuses : (old new : SearchStore MapKeeper) (c : Command) (said : List ℕ) 
     → is_full refusal ≡ false → ((X : Searching) → Has old X → PlansComing {P = P} ample (plans X) (outcome X c) (Err (Refused refusal)))
     → said ≡ refused refusal → StaysAs old new → DoesStep old c said new
 refuses old new c said refusal plans small answers gave stays X h =
-    refused_by new c said refusal (plans X) X (outcome X c) refl (no_hindrance refusal small) gave (stays X h) (stays_in_order X c h.order) (answers X h.stores)
+    refused_by new c said refusal (plans X) X (outcome X c) refl (no_hindrance refusal small) gave (stays X h) (stays_in_order true X c h.order) (answers X h.stores)
 
 -- what an answer does
 done_by : (new : SearchStore MapKeeper) (c : Command) {P : Type 0} (planned : P) (plans : Coming → P → Type 0) (said : List ℕ) (X : Searching) (answer : Answer Coming)
     → outcome X c ≡ answer → ((o : Coming) → plans o planned → said ≡ text o.outcome.reply) → ((o : Coming) → plans o planned → Has new (after X o))
-    → Fine answer (λ o. InOrder (after X o)) → PlansComing {P = P} ample plans answer (Ok planned) → (Y : Searching) × Steps X c said Y × Holds new Y
+    → Fine answer (λ o. InOrder true (after X o)) → PlansComing {P = P} ample plans answer (Ok planned) → (Y : Searching) × Steps X c said Y × Holds new Y
 done_by new c planned plans said X (Ok o) is gives makes fine answer =
     (after X o, (o.outcome.reply, ap (stepped X) is, gives o answer.0), record { stores = makes o answer.0; order = fine })
 done_by new c planned plans said X (Err (Some r)) is gives makes fine answer = absurd answer
@@ -108,7 +108,7 @@ pub does : (old new : SearchStore MapKeeper) (c : Command) {P : Type 0} (planned
     → ((X : Searching) (o : Coming) → plans X o planned → said ≡ text o.outcome.reply)
     → ((X : Searching) (o : Coming) → Has old X → plans X o planned → Has new (after X o)) → DoesStep old c said new
 does old new c planned plans said answers gives makes X h =
-    done_by new c planned (plans X) said X (outcome X c) refl (gives X) (λ o p. makes X o h.stores p) (stays_in_order X c h.order) (answers X h.stores)
+    done_by new c planned (plans X) said X (outcome X c) refl (gives X) (λ o p. makes X o h.stores p) (stays_in_order true X c h.order) (answers X h.stores)
 
 -- what holds where a commit succeeds: without a disk it does
 pub committed : {A E Done : Type 0} (Cause : Type 0) (result : Result A E) → OnOk result Done → OnErr result (Cause × (false ≡ true)) → Done

@@ -1,5 +1,5 @@
 -- How `run` and `new` over a file end, put together from their calls and from what they say.
-use Rattle.std.proofs.Common.{◌≡◌, ◌⊎◌, ◌∙◌, ◌++◌, ◌≤◌, ℕ, true, List, take, inl, inr, refl, sym, ap, subst, arith}
+use Rattle.std.proofs.Common.{◌≡◌, ◌⊎◌, ◌∙◌, ◌++◌, ◌≤◌, ℕ, Bool, true, false, List, take, inl, inr, refl, sym, ap, subst, arith}
 use Rattle.std.proofs.lemmas.List.{append-nil}
 use Rattle.pst_outside.specs.World.{Image, SameDisk, World}
 use Rattle.pst_outside.specs.Calls.{NeverFall, Rose, Settled, Untouched}
@@ -7,9 +7,7 @@ use Rattle.pst_commit.specs.Laws.{stands_on}
 use Rattle.lays_kept.specs.Stands.{Stands}
 use Rattle.line_server.proofs.Hearing.{falls_along}
 use Rattle.empty_file.specs.Empty.{HasBytes}
-use Rattle.mail_tree.specs.Start.{IsStart}
-use Rattle.mail_tree.specs.Tree.{Tree}
-use Rattle.mail_tree.specs.declared.places.FolderPlace.{FolderPlace}
+use Rattle.mail_searches.specs.Searching.{Searching, StartsSearching}
 use Rattle.file_open.specs.Opening.{IsFileRefused, ReadsFresh}
 use Rattle.file_open.specs.declared.stops.FileRefusal.{FileRefusal}
 use Rattle.file_planner.specs.Becomes.{IsMade}
@@ -88,7 +86,7 @@ rose_since a b n less rose = omega (arith, less, rose)
 -- ---- a refused opening
 
 module _ {old mid : World} (refusal : FileRefusal) (call : Untouched old mid)
-    (holds : mid.tells → IsFileRefused old.here refusal × ((places : List FolderPlace) → ReadsFresh old.here places → ⊥)) where
+    (holds : mid.tells → IsFileRefused old.here refusal × ((X : Searching) → ReadsFresh old.here X → ⊥)) where
   -- and then its line
   pub refused_says : {new : World} {text : List ℕ} {status : Status} → text ≡ file_line refusal → Says text Refused mid new status → EndsRefused old new status
   refused_says {new} {text} {status} is says = record {
@@ -120,19 +118,15 @@ module _ {old mid : World} (refusal : FileRefusal) (call : Untouched old mid)
 front_on : {a b : Image} → SameDisk a b → front_of b ≡ front_of a
 front_on {a} {b} same = λ i. front_of (record { main = same.main i; side = same.side i; copy = b.copy; said = b.said })
 
-pub reads_on : {a b : Image} {T : Tree} → SameDisk a b → ReadsAs (front_of a) a T → ReadsAs (front_of b) b T
-reads_on {a} {b} {T} same h =
-    let s = h.stands in
-    let held = stands_on (front_of a) a b same s.nodes T.last s.held in
-    record {
-      stands = record { nodes = s.nodes; held = subst (λ f. Stands f b s.nodes T.last) (sym (front_on same)) held; at = s.at; counters = s.counters };
-      whole = h.whole;
-      is_found = h.is_found;
-    }
+pub reads_on : {tidy : Bool} {a b : Image} {X : Searching} → SameDisk a b → ReadsAs tidy (front_of a) a X → ReadsAs tidy (front_of b) b X
+reads_on {a = a} {b = b} {X = X} same h =
+    let s = h.0 in
+    let held = stands_on (front_of a) a b same s.nodes X.tree.last s.held in
+    (record { nodes = s.nodes; held = subst (λ f. Stands f b s.nodes X.tree.last) (sym (front_on same)) held; at = s.at; counters = s.counters }, h.1)
 
 module _ (name : List ℕ) {old mid : World} (counts : NeverFall old mid) (told : mid.tells → old.tells) (input : mid.tells → mid.input ≡ old.input) where
   -- the store was made, and then that was said
-  pub new_made : {new : World} {status : Status} → (mid.tells → (T : Tree) × IsStart name T × ReadsAs (front_of mid.here) mid.here T) → (Settled old → mid.tells → mid.here.said ≡ old.here.said)
+  pub new_made : {new : World} {status : Status} → (mid.tells → (X : Searching) × StartsSearching name X × ReadsAs true (front_of mid.here) mid.here X) → (Settled old → mid.tells → mid.here.said ≡ old.here.said)
       → (old.tells → HasBytes old.here → ⊥) → Says made_line Done mid new status → NewEnds name old new status
   new_made {new} {status} made said none says = record {
     counts = falls_along counts says.keeps.counts;
@@ -261,7 +255,7 @@ end_not_memory ib stored computed is = cc
 -- nothing changes under a session
 end_unchanged : (old new : World) (ib stored computed : ℕ) → FileRunEnds IsMade old new (ends.Changed ib stored computed) → ⊥
 end_unchanged old new ib stored computed (inl unopened) = elim unopened.ends [ inl e ↦ end_not_disk ib stored computed e | inr e ↦ end_not_memory ib stored computed e ]
-end_unchanged old new ib stored computed (inr opened) = opened.session.not_changed ib stored computed refl
+end_unchanged old new ib stored computed (inr opened) = (opened.session false opened.reads).not_changed ib stored computed refl
 
 -- a session that ended so while no device failed is done, or it is at the last line, or found no memory
 ends_calmly : (old new : World) (end : SessionEnd) (status : Status) → status ≡ status_of_end end → HasCause true old new end → FileRunEnds IsMade old new end → NoneFailed old new

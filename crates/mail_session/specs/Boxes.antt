@@ -16,10 +16,10 @@ use Rattle.mail_session.specs.Run.{Answers, Run, Steps}
 abbrev pub Has : SearchStore MapKeeper → Searching → Type 0
 Has s X = StoresSearches (Keeps s.store.keeper.nodes) s.store.keeper.counts.last s.store.known s.searches X
 
--- the store has this tree with its searches, and all is in order
+-- the store has this tree with its searches, and all is in order and tidy
 pub record Holds (store : SearchStore MapKeeper) (X : Searching) : Type 0 where
   pub stores : Has store X
-  pub order : InOrder X
+  pub order : InOrder true X
 
 -- whatever tree the store had, it has it still
 abbrev pub StaysAs : SearchStore MapKeeper → SearchStore MapKeeper → Type 0
@@ -37,10 +37,10 @@ Answering old piece said new = (X : Searching) → Holds old X → (Y : Searchin
 abbrev pub NAME : List ℕ
 NAME = codes "scratch"
 
--- each of these trees with searches is in order
+-- each of these trees with searches is in order, and tidy
 abbrev pub AllInOrder : List Searching → Type 0
 AllInOrder [] = Unit {0}
-AllInOrder (X ∷ Xs) = InOrder X × AllInOrder Xs
+AllInOrder (X ∷ Xs) = InOrder true X × AllInOrder Xs
 
 -- the replies to lines are those of a run from a new store, and its tree and each after a reply is in order: each running search lists what filtering lists; or there were no lines
 abbrev pub IsSession : List Piece → List (List ℕ) → Type 0

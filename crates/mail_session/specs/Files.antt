@@ -3,9 +3,7 @@ use Rattle.std.specs.Prelude.{◌≡◌, ◌⊎◌, ℕ, true, List, ◌++◌, t
 use Rattle.pst_outside.specs.World.{World}
 use Rattle.pst_outside.specs.Calls.{NeverFall, Rose, Settled}
 use Rattle.empty_file.specs.Empty.{HasBytes}
-use Rattle.mail_tree.specs.Start.{IsStart}
-use Rattle.mail_tree.specs.Tree.{Tree}
-use Rattle.mail_tree.specs.declared.places.FolderPlace.{FolderPlace}
+use Rattle.mail_searches.specs.Searching.{Searching, StartsSearching}
 use Rattle.file_open.specs.Opening.{IsFileRefused, ReadsFresh}
 use Rattle.file_open.specs.declared.stops.FileRefusal.{FileRefusal}
 use Rattle.store_session.specs.Session.{HasCause}
@@ -36,7 +34,7 @@ pub record EndsRefused (old new : World) (status : Status) : Type 0 where
   pub keeps : KeepsDisk old new
   pub input : new.tells → new.input ≡ old.input
   pub refusal : FileRefusal
-  pub holds : new.tells → IsFileRefused old.here refusal × ((places : List FolderPlace) → ReadsFresh old.here places → ⊥)
+  pub holds : new.tells → IsFileRefused old.here refusal × ((X : Searching) → ReadsFresh old.here X → ⊥)
   pub statuses : (status ≡ Refused) ⊎ ((status ≡ Output) × Rose old.out_faults new.out_faults) ⊎ (status ≡ Memory)
   pub front : new.tells → (k : ℕ) × (new.here.said ≡ old.here.said ++ take k (file_line refusal))
   pub whole : status ≡ Refused → new.tells → new.here.said ≡ old.here.said ++ file_line refusal
@@ -52,9 +50,9 @@ pub record NoneFailed (old new : World) : Type 0 where
   pub output : Rose old.out_faults new.out_faults → ⊥
   pub disk : Rose old.disk_faults new.disk_faults → ⊥
 
--- Over files that are read as a tree with numbers left, while no device fails, a call of `run FILE` is done, or has answered as many lines as a session takes, or found no memory before it took one.
+-- Over files that are read as a tree with its searches, with numbers left, while no device fails, a call of `run FILE` is done, or has answered as many lines as a session takes, or found no memory before it took one.
 abbrev pub EndsWell : World → World → Status → Type 0
-EndsWell old new status = Settled old → new.tells → (places : List FolderPlace) → ReadsFresh old.here places → NoneFailed old new → (status ≡ Done) ⊎ ((status ≡ Lines) ⊎ (status ≡ Memory))
+EndsWell old new status = Settled old → new.tells → (X : Searching) → ReadsFresh old.here X → NoneFailed old new → (status ≡ Done) ⊎ ((status ≡ Lines) ⊎ (status ≡ Memory))
 
 -- ---- new
 
@@ -62,7 +60,7 @@ EndsWell old new status = Settled old → new.tells → (places : List FolderPla
 pub record NewEnds (name : List ℕ) (old new : World) (status : Status) : Type 0 where
   pub counts : NeverFall old new
   pub input : new.tells → new.input ≡ old.input
-  pub made : status ≡ Done → new.tells → (T : Tree) × IsStart name T × ReadsAs (front_of new.here) new.here T
+  pub made : status ≡ Done → new.tells → (X : Searching) × StartsSearching name X × ReadsAs true (front_of new.here) new.here X
   pub said : Settled old → status ≡ Done → new.tells → new.here.said ≡ old.here.said ++ made_line
   pub refused : status ≡ Refused → new.tells → HasBytes old.here × (new.here.said ≡ old.here.said ++ not_empty_line)
   pub kept : old.tells → HasBytes old.here → KeepsDisk old new × (status ≡ Done → ⊥)

@@ -22,6 +22,10 @@ use Rattle.tree_look.specs.declared.stops.LookRefusal.{LookRefusal}
 use Rattle.tree_look.specs.declared.stops.LookRefusal.TheVariants as looks
 use Rattle.tree_look.specs.declared.stops.TreeFault.{TreeFault}
 use Rattle.tree_look.specs.declared.stops.TreeFault.TheVariants as trees
+use Rattle.search_look.specs.declared.stops.SearchRefusal.{SearchRefusal}
+use Rattle.search_look.specs.declared.stops.SearchRefusal.TheVariants as searches
+use Rattle.store_open.specs.declared.stops.TreeRefusal.{TreeRefusal}
+use Rattle.store_open.specs.declared.stops.TreeRefusal.TheVariants as stores
 use Rattle.file_open.specs.declared.stops.FileRefusal.{FileRefusal}
 use Rattle.file_open.specs.declared.stops.FileRefusal.TheVariants as files
 
@@ -132,10 +136,21 @@ look_line (looks.Node nid fault) = line (codes "refused node " ++ hex nid.bits +
 look_line (looks.Tree nid fault) = line (codes "refused tree " ++ hex nid.bits ++ codes " " ++ tree_word fault)
 look_line looks.Names = line (codes "refused node 0x61 names")
 
+-- the line of what is wrong with a search of the store's own
+abbrev pub search_line : SearchRefusal → List ℕ
+search_line (searches.Node nid fault) = line (codes "refused node " ++ hex nid.bits ++ codes " " ++ form_word fault)
+search_line (searches.Criteria nid) = line (codes "refused node " ++ hex nid.bits ++ codes " criteria")
+search_line (searches.Stale folder) = line (codes "refused stale " ++ hex folder.bits)
+
+-- the line of why nodes are no store
+abbrev pub store_line : TreeRefusal → List ℕ
+store_line (stores.Folders refusal) = look_line refusal
+store_line (stores.Searches refusal) = search_line refusal
+
 -- the line of an opening's refusal
 abbrev pub file_line : FileRefusal → List ℕ
 file_line (files.Scan refusal) = refusal_line refusal
-file_line (files.Look refusal) = look_line refusal
+file_line (files.Tree refusal) = store_line refusal
 file_line files.Ids = line (codes "refused ids")
 
 -- what `new` says of a file that is there, and of one that it made

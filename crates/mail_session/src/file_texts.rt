@@ -1,13 +1,15 @@
 //! What the program says of a file that isn't opened.
 ghost use Rattle.std.specs.Prelude.{◌≡◌, IfOk};
 ghost use Rattle.std.specs.String.{string_bytes};
-ghost use Rattle.mail_session.specs.Texts.{file_line, form_word, look_line, tree_word};
+ghost use Rattle.mail_session.specs.Texts.{file_line, form_word, look_line, search_line, store_line, tree_word};
 
 use crate::texts::refusal_line;
 use file_open::FileRefusal;
 use message_obj::MessageFault;
+use search_look::SearchRefusal;
 use std::alloc::{AllocError, Global};
 use std::fmt::Write;
+use store_open::TreeRefusal;
 use tree_look::{LookRefusal, TreeFault};
 
 /// The line of an opening's refusal.
@@ -16,13 +18,42 @@ pub(crate) fn file_line(alloc: Global, refusal: FileRefusal) -> Result<String, A
 {
     match refusal {
         FileRefusal::Scan(refusal) => refusal_line(alloc, refusal),
-        FileRefusal::Look(refusal) => look_line(alloc, refusal),
+        FileRefusal::Tree(refusal) => store_line(alloc, refusal),
         FileRefusal::Ids => {
             let mut text = String::new(alloc);
             writeln!(text, "refused ids")?;
             Ok(text)
         }
     }
+}
+
+/// The line of why nodes are no store.
+fn store_line(alloc: Global, refusal: TreeRefusal) -> Result<String, AllocError>
+    ensures { IfOk result (λ text. string_bytes text ≡ store_line refusal) }
+{
+    match refusal {
+        TreeRefusal::Folders(refusal) => look_line(alloc, refusal),
+        TreeRefusal::Searches(refusal) => search_line(alloc, refusal),
+    }
+}
+
+/// The line of what is wrong with a search of the store's own.
+fn search_line(alloc: Global, refusal: SearchRefusal) -> Result<String, AllocError>
+    ensures { IfOk result (λ text. string_bytes text ≡ search_line refusal) }
+{
+    let mut text = String::new(alloc);
+    match refusal {
+        SearchRefusal::Node { nid, fault } => {
+            writeln!(text, "refused node 0x{:x} {}", nid.bits, form_word(fault))?
+        }
+        SearchRefusal::Criteria { nid } => writeln!(
+            text,
+            "refused node 0x{:x} criteria",
+            nid.bits
+        )?,
+        SearchRefusal::Stale { folder } => writeln!(text, "refused stale 0x{:x}", folder.bits)?,
+    }
+    Ok(text)
 }
 
 /// The line of what is wrong with folders, tables and messages.

@@ -1,14 +1,6 @@
 //! The store of a session in memory.
-ghost use Rattle.std.specs.Prelude.{◌≡◌, ℕ, false, List, Option, IfOk, OnErr, IsTrue};
-ghost use Rattle.std.specs.Option.{ForSome};
-ghost use Rattle.pst_base.specs.declared.ids.Nid.{Nid as Id};
-ghost use Rattle.node_port.specs.declared.node.NodeRec.{NodeRec as Rec};
-ghost use Rattle.mail_draft.specs.Answers.{Looks};
-ghost use Rattle.mail_store.specs.Planning.{PlansTo, SameKnown};
+ghost use Rattle.std.specs.Prelude.{◌≡◌, false, IfOk, OnErr, IsTrue};
 ghost use Rattle.mail_searches.specs.Searching.{Searching, StartsSearching};
-ghost use Rattle.mail_searches.specs.Step.{outcome};
-ghost use Rattle.search_folders.specs.Comings.{new_or_old};
-ghost use Rattle.search_store.specs.Planning.{PlansComing, StoresSearches};
 ghost use Rattle.node_port.specs.Nodes.{ascend, changed, no_nodes};
 ghost use Rattle.node_port.specs.Slots.{Keeps};
 ghost use Rattle.command_text.specs.declared.reply.CommandRefusal.{CommandRefusal as Refusal};
@@ -26,12 +18,12 @@ use mail_tree::{Flags, Known};
 use mapi_values::Units;
 use new_store::new_store;
 use node_port::{Changes, Keeper, MapKeeper};
-use pst_base::{Bytes, Ledger, Steps};
-use pst_outside::Outside;
-use search_store::{PlannedSearch, SearchStore, commit, plan};
+use pst_base::Bytes;
+use search_store::{SearchStore, commit};
 use std::alloc::{AllocError, Global};
 use std::marker::Brand;
 use std::sync::ledger::Blank;
+use store_session::plan_counted;
 
 /// The store of a session in memory. It always has a tree, with its searches in order.
 #[derive(Drop)]
@@ -86,29 +78,6 @@ fn stopped_text(alloc: Global, stop: Stop) -> Result<Bytes, AllocError>
         Stop::Refused(refusal) => refusal_text(alloc, refusal),
         _ => Err(AllocError),
     }
-}
-
-/// Plans a command, with a count of its steps of its own.
-fn plan_counted<W: Outside, K: Keeper<W>, L: Ledger>(
-    alloc: Global,
-    store: &mut SearchStore<K>,
-    w: &mut W,
-    command: &Command,
-    blank: Blank,
-) -> Result<PlannedSearch<K::Ready>, Stop>
-    requires name { blank.name ≡ L.name }
-    requires parts { blank.parts ≡ L.parts }
-    requires some { blank.parts ≡ 1 }
-    ensures answer { (X : Searching) → StoresSearches (K.holds store.old.store.keeper (W.view w.old)) (K.last store.old.store.keeper) store.old.store.known store.old.searches X
-        → PlansComing (K.room store.old.store.keeper) (λ o planned. PlansTo (K.fits store.new.store.keeper (W.view w.new)) X.tree o.outcome planned.tree.change planned.tree.places planned.tree.flags.items planned.tree.reply
-        × (o.own ≡ new_or_old X.own planned.own) × (o.searches ≡ new_or_old X.searches planned.searches)) (outcome X command.now) result }
-    ensures fits { IfOk result (λ planned. ForSome planned.tree.change (λ ready. (after : List ℕ) × (cs : List (Id × Option Rec)) × K.fits store.new.store.keeper (W.view w.new) ready after cs)) }
-    ensures known { SameKnown store.old.store.known store.new.store.known × (store.new.searches ≡ store.old.searches) }
-    ensures looks { Looks (K.holds store.old.store.keeper (W.view w.old)) (K.holds store.new.store.keeper (W.view w.new)) (K.last store.old.store.keeper) (K.last store.new.store.keeper) (K.room store.old.store.keeper) (K.room store.new.store.keeper) (W.view w.old) (W.view w.new) }
-{
-    let (book, share) = blank.open::<L>();
-    let mut steps = Steps::new(book, share);
-    plan(alloc, store, w, command, &mut steps)
 }
 
 impl Mailbox {

@@ -7,7 +7,7 @@ pub returns-in-Ok-lay_empty-clause-made : goal.returns-in-Ok-lay_empty-clause-ma
 returns-in-Ok-lay_empty-clause-made g c = λ is tells.
     let shows = c.in-Ok.ensures.shows in
     let now = g.W.Outside.view c.commit_nodes.new.w in
-    (shows.0, shows.1, made_reads c.args.name.now now.here (changed no_nodes c.in-Ok.store.nodes.items) c.in-Ok.store.counts.last shows.0 shows.1 shows.2 c.in-Ok.ensures.counts (c.commit_nodes.ensures.made is tells))
+    made_reads c.args.name.now now.here (changed no_nodes c.in-Ok.store.nodes.items) c.in-Ok.store.counts.last shows.0 shows.1 shows.2 c.in-Ok.ensures.counts (c.commit_nodes.ensures.made is tells)
 
 pub returns-in-Ok-lay_empty-clause-said : goal.returns-in-Ok-lay_empty-clause-said
 returns-in-Ok-lay_empty-clause-said g c = λ settled is tells. c.commit_nodes.ensures.said (c.in-Ok-lay_empty.ensures.settled settled) is tells ∙ c.in-Ok-lay_empty.ensures.said (c.commit_nodes.ensures.told tells)

@@ -11,7 +11,7 @@ returns-in-Ok-clause-ends g c = λ end is settled tells.
     let told : now.tells → mid.tells = c.run_session.ensures.told in
     let o = c.in-Ok.opened.keeper in
     subst (λ e. FileRunEnds g.S.NodeStore.becomes first now e) (same_end c.run_session.result end is)
-    (inr (ends_opened (g.S.NodeStore.knows o.store) g.S.NodeStore.becomes o.found o.header c.in-Ok.opened.known first mid now c.run_session.result
+    (inr (ends_opened (g.S.NodeStore.knows o.store) g.S.NodeStore.becomes o.found o.header c.in-Ok.opened.tree first mid now c.run_session.result
     (c.in-Ok.ensures.opened (told tells)) tells told c.in-Ok.ensures.input (c.in-Ok.ensures.store (told tells)) (c.in-Ok.ensures.settled settled) c.in-Ok.ensures.shut (c.in-Ok.ensures.any_moment settled) c.run_session.ensures.ends))
 
 pub returns-in-Err-clause-refused : goal.returns-in-Err-clause-refused
