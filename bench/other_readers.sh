@@ -1,5 +1,5 @@
 #!/bin/sh
-# Makes a store of several regions with mail in it, and has other readers of .pst files read it: libpst's `readpst` and libpff's `pffexport`, where they are installed (Debian: pst-utils and pff-tools).
+# Makes a store of several regions with mail and a search folder in it, and has other readers of .pst files read it: libpst's `readpst` and libpff's `pffexport`, where they are installed (Debian: pst-utils and pff-tools).
 # Says of each what of the mail it found, and what not.
 # Needs crates/pstore/out/pstore, which ./pstore builds, or the program named by PSTORE.
 cd "$(dirname "$0")/.." || exit 1
@@ -14,6 +14,7 @@ LINES = [
     "set 0x200024 0x0037001f Hello", "set 0x200024 0x1000001f Body of the first", "set 0x200024 0x0c1a001f Alice", "set 0x200024 0x0042001f Alice",
     "rcpt 0x200024 1 bob@example.org Bob", "rcpt 0x200024 2 carol@example.org Carol", "attach 0x200024 note.txt 48656c6c6f",
     "new 0x80a2 IPM.Note 133500000000000000", "set 0x200044 0x0037001f Second", "attach 0x200044 big.bin " + DATA[:400_000].hex(), "append 0x200044 0x8025 " + DATA[400_000:].hex(),
+    "mksearch 0x8042 Greetings", "criteria 0x80023 0x6 0x8082 03010001001f0037001f00370068000000",  # the subject begins with `h`
     "name 0329060000000000c000000000000046 0x8554",  # libpff wants a name that is known
     "save",
 ]
@@ -51,6 +52,6 @@ def lines_of(data):
 
 SAID = {"folders": b"Projects", "subjects": b"Second", "body": b"Body of the first", "sender": b"Alice"}
 tell("readpst", lambda to: ["-q", "-M", "-o", to], SAID | {"attachment": base64.b64encode(b"Hello"), "long attachment": lines_of(DATA)})
-tell("pffexport", lambda to: ["-q", "-t", os.path.join(to, "all")], SAID | {"recipients": b"carol@example.org", "attachment": b"Hello", "long attachment": DATA})
+tell("pffexport", lambda to: ["-q", "-t", os.path.join(to, "all")], SAID | {"search folder": b"Greetings", "recipients": b"carol@example.org", "attachment": b"Hello", "long attachment": DATA})
 shutil.rmtree(folder)
 END
