@@ -1,5 +1,6 @@
 pub mod AddLaws
 pub mod BelowLaws
+pub mod FaultLaws
 pub mod FindLaws
 pub mod KeptLaws
 pub mod OneLaws

@@ -1,6 +1,5 @@
 -- A node is one message at most, and none where something is wrong with it.
-use Rattle.std.proofs.Common.{◌≡◌, ◌∙◌, ℕ, ◌<◌, suc, zero, false, List, [], ◌∷◌, length, Option, None, Some, Err, refl, sym, ap, subst, inl, inr, ⊎_elim, slice_index_or, arith}
-use Rattle.std.specs.List.{Contains}
+use Rattle.std.proofs.Common.{◌≡◌, ◌∙◌, ℕ, false, List, [], ◌∷◌, Option, None, Some, Err, refl, sym, ap, subst, inl, inr, ⊎_elim}
 use Rattle.pst_base.specs.Flat.{Flat}
 use Rattle.pst_base.specs.declared.stops.MemOr.{MemOr}
 use Rattle.pst_base.specs.declared.stops.MemOr.TheVariants.{Memory, Refused}
@@ -17,14 +16,14 @@ use Rattle.table_context.proofs.ContextLaws.{no-table, one-table}
 use Rattle.table_context.specs.declared.fault.TcFault.TheVariants as tcs
 use Rattle.message_obj.specs.Answers.{Refuses}
 use Rattle.message_obj.specs.Message.{ShowsMessage, ShowsPart, ShowsParts, ShowsTable}
-use Rattle.message_obj.specs.Reading.{LacksBelow, LacksContext, LacksMessage, LacksPart, LacksTable, ReadsMessage}
+use Rattle.message_obj.specs.Reading.{FirstLacks, LacksAttachments, LacksBelow, LacksContext, LacksMessage, LacksPart, LacksTable, ReadsMessage}
 use Rattle.message_obj.specs.Subnodes.{is_table}
 use Rattle.message_obj.specs.declared.fault.MessageFault.{MessageFault}
 use Rattle.message_obj.specs.declared.fault.MessageFault.TheVariants.{Heap, Bth, Pc, Tc, Attach}
 
 -- ---- one at most
 
-same-table : (sub : Option (List (List ℕ) × List Flat)) (t u : Option Tab) → ShowsTable sub t → ShowsTable sub u → t ≡ u
+pub same-table : (sub : Option (List (List ℕ) × List Flat)) (t u : Option Tab) → ShowsTable sub t → ShowsTable sub u → t ≡ u
 same-table None None None a b = refl
 same-table None None (Some u) a b = absurd b
 same-table None (Some t) u a b = absurd a
@@ -83,14 +82,14 @@ same-message nid node m n a b =
 
 -- ---- none where something is wrong
 
-no-context : (blocks : List (List ℕ)) (subs : List Flat) (values : List Val) (rest : List Flat) (fault : MessageFault) → LacksContext blocks subs fault → IsPropertyContext blocks subs values rest → ⊥
+pub no-context : (blocks : List (List ℕ)) (subs : List Flat) (values : List Val) (rest : List Flat) (fault : MessageFault) → LacksContext blocks subs fault → IsPropertyContext blocks subs values rest → ⊥
 no-context blocks subs values rest Heap lacks shows = no-fault blocks subs values rest pcs.Heap lacks shows
 no-context blocks subs values rest Bth lacks shows = no-fault blocks subs values rest pcs.Bth lacks shows
 no-context blocks subs values rest Pc lacks shows = no-fault blocks subs values rest pcs.Pc lacks shows
 no-context blocks subs values rest Tc lacks shows = lacks
 no-context blocks subs values rest Attach lacks shows = lacks
 
-no-table-at : (sub : Option (List (List ℕ) × List Flat)) (t : Option Tab) (fault : MessageFault) → LacksTable sub fault → ShowsTable sub t → ⊥
+pub no-table-at : (sub : Option (List (List ℕ) × List Flat)) (t : Option Tab) (fault : MessageFault) → LacksTable sub fault → ShowsTable sub t → ⊥
 no-table-at None t fault lacks shows = lacks
 no-table-at (Some sub) None fault lacks shows = shows
 no-table-at (Some sub) (Some t) Heap lacks shows = no-table sub.0 sub.1 t tcs.Heap lacks shows
@@ -99,30 +98,27 @@ no-table-at (Some sub) (Some t) Tc lacks shows = no-table sub.0 sub.1 t tcs.Tc l
 no-table-at (Some sub) (Some t) Pc lacks shows = lacks
 no-table-at (Some sub) (Some t) Attach lacks shows = lacks
 
-no-part : (sub : Option (List (List ℕ) × List Flat)) (id : ℕ) (part : Part) (fault : MessageFault) → LacksPart sub fault → ShowsPart sub id part → ⊥
+pub no-part : (sub : Option (List (List ℕ) × List Flat)) (id : ℕ) (part : Part) (fault : MessageFault) → LacksPart sub fault → ShowsPart sub id part → ⊥
 no-part None id part fault lacks shows = shows
 no-part (Some sub) id part fault lacks shows = no-context sub.0 sub.1 part.props part.kept fault lacks shows.1
 
--- the attachment with one of the ids is shown
-part-at : (subs : List Flat) (ids : List ℕ) (parts : List Part) (k id : ℕ) → k < length ids → slice_index_or ids k id ≡ id → ShowsParts subs ids parts → (part : Part) × ShowsPart (subnode subs id) id part
-part-at subs [] parts k id lt is shows = absurd (omega arith)
-part-at subs (x ∷ ids) [] k id lt is shows = absurd shows
-part-at subs (x ∷ ids) (p ∷ parts) zero id lt is shows = (p, subst (λ (n : ℕ). ShowsPart (subnode subs n) n p) is shows.0)
-part-at subs (x ∷ ids) (p ∷ parts) (suc k) id lt is shows = part-at subs ids parts k id (omega arith) is shows.1
+no-parts : (subs : List Flat) (ids : List ℕ) (parts : List Part) (fault : MessageFault) → FirstLacks subs ids fault → ShowsParts subs ids parts → ⊥
+no-parts subs [] parts fault lacks shows = lacks
+no-parts subs (id ∷ ids) [] fault lacks shows = shows
+no-parts subs (id ∷ ids) (p ∷ parts) fault (inl here) shows = no-part (subnode subs id) id p fault here shows.0
+no-parts subs (id ∷ ids) (p ∷ parts) fault (inr behind) shows = no-parts subs ids parts fault behind.2 shows.1
+
+no-attachments : (rest : List Flat) (fault : MessageFault) (attachments : Option Tab) (parts : List Part) → LacksAttachments rest fault → ShowsTable (subnode rest 0x671) attachments
+    → ShowsParts (without is_table false rest) (row_ids attachments) parts → ⊥
+no-attachments rest fault attachments parts (inl table) a p = no-table-at (subnode rest 0x671) attachments fault table a
+no-attachments rest fault attachments parts (inr part) a p =
+    let same : part.0 ≡ attachments = same-table (subnode rest 0x671) part.0 attachments part.1 a in
+    no-parts (without is_table false rest) (row_ids attachments) parts fault (subst (λ (t : Option Tab). FirstLacks (without is_table false rest) (row_ids t) fault) same part.2) p
 
 no-below : (rest : List Flat) (fault : MessageFault) (recipients attachments : Option Tab) (parts : List Part) → LacksBelow rest fault → ShowsTable (subnode rest 0x692) recipients → ShowsTable (subnode rest 0x671) attachments
     → ShowsParts (without is_table false rest) (row_ids attachments) parts → ⊥
-no-below rest fault recipients attachments parts lacks r a p = ⊎_elim
-    (λ of_recipients. no-table-at (subnode rest 0x692) recipients fault of_recipients r)
-    (λ others. ⊎_elim
-    (λ of_attachments. no-table-at (subnode rest 0x671) attachments fault of_attachments a)
-    (λ of_part.
-    let same : Some of_part.0 ≡ attachments = same-table (subnode rest 0x671) (Some of_part.0) attachments of_part.2 a in
-    let has : Contains (row_ids attachments) of_part.1 = subst (λ (t : Option Tab). Contains (row_ids t) of_part.1) same of_part.3 in
-    let found = part-at (without is_table false rest) (row_ids attachments) parts has.0 of_part.1 has.1 has.2 p in
-    no-part (subnode (without is_table false rest) of_part.1) of_part.1 found.0 fault of_part.4 found.1)
-    others)
-    lacks
+no-below rest fault recipients attachments parts (inl table) r a p = no-table-at (subnode rest 0x692) recipients fault table r
+no-below rest fault recipients attachments parts (inr behind) r a p = no-attachments rest fault attachments parts behind.2 a p
 
 pub no-message : (nid : ℕ) (node : NodeRec) (m : Mes) (fault : MessageFault) → LacksMessage node fault → ShowsMessage nid node m → ⊥
 no-message nid node m fault lacks shows = ⊎_elim
@@ -144,3 +140,18 @@ below-stops nid node values rest Memory context lacks = tt
 below-stops nid node values rest (Refused fault) context lacks =
     let why : LacksMessage node fault = inr (values, rest, context, lacks) in
     (why, λ m. no-message nid node m fault why)
+
+-- what a reader of the subnodes gives up for
+
+pub recipients-stop : (rest : List Flat) (e : MemOr MessageFault) → Refuses (LacksTable (subnode rest 0x692)) e → Refuses (LacksBelow rest) e
+recipients-stop rest Memory lacks = tt
+recipients-stop rest (Refused fault) lacks = inl lacks
+
+pub attachments-stop : (rest : List Flat) (recipients : Option Tab) (e : MemOr MessageFault) → ShowsTable (subnode rest 0x692) recipients → Refuses (LacksTable (subnode rest 0x671)) e → Refuses (LacksBelow rest) e
+attachments-stop rest recipients Memory r lacks = tt
+attachments-stop rest recipients (Refused fault) r lacks = inr (recipients, r, inl lacks)
+
+pub parts-stop : (rest : List Flat) (recipients attachments : Option Tab) (e : MemOr MessageFault) → ShowsTable (subnode rest 0x692) recipients → ShowsTable (subnode rest 0x671) attachments
+    → Refuses (FirstLacks (without is_table false rest) (row_ids attachments)) e → Refuses (LacksBelow rest) e
+parts-stop rest recipients attachments Memory r a lacks = tt
+parts-stop rest recipients attachments (Refused fault) r a lacks = inr (recipients, r, inr (attachments, a, lacks))

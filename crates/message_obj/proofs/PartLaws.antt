@@ -1,6 +1,5 @@
 -- Tables and attachments in subnodes.
-use Rattle.std.proofs.Common.{◌≡◌, ◌∙◌, ℕ, ◌+◌, ◌<◌, ◌≤◌, List, [], ◌∷◌, ◌++◌, length, map, get_or, drop, Option, None, Some, refl, sym, ap, subst, append_assoc, arith, suc, zero}
-use Rattle.std.specs.List.{Contains}
+use Rattle.std.proofs.Common.{◌≡◌, ◌∙◌, ℕ, ◌+◌, ◌<◌, ◌≤◌, List, [], ◌∷◌, ◌++◌, length, map, get_or, drop, Option, None, Some, refl, sym, ap, subst, append_assoc, inl, inr, arith}
 use Rattle.std.proofs.lemmas.List.{append-nil, drop_all, drop_more}
 use Rattle.pst_base.specs.Flat.{Flat}
 use Rattle.mapi_values.specs.declared.part.Part.{Part}
@@ -9,9 +8,12 @@ use Rattle.mapi_values.specs.Values.{Val}
 use Rattle.table_context.specs.Context as tc
 use Rattle.table_context.specs.declared.fault.TcFault.{TcFault}
 use Rattle.table_context.specs.declared.fault.TcFault.TheVariants.{Heap, Bth, Tc}
-use Rattle.message_obj.specs.Answers.{table_fault}
+use Rattle.pst_base.specs.declared.stops.MemOr.{MemOr}
+use Rattle.pst_base.specs.declared.stops.MemOr.TheVariants.{Memory, Refused}
+use Rattle.message_obj.specs.Answers.{Refuses, table_fault}
 use Rattle.message_obj.specs.Message.{ShowsPart, ShowsParts}
-use Rattle.message_obj.specs.Reading.{LacksTable}
+use Rattle.message_obj.specs.Reading.{FirstLacks, LacksPart, LacksTable}
+use Rattle.message_obj.specs.declared.fault.MessageFault.{MessageFault}
 use Rattle.node_values.specs.Subnodes.{subnode}
 
 pub lacks-table : (sub : List (List ℕ) × List Flat) (fault : TcFault) → tc.Lacks sub.0 sub.1 fault → LacksTable (Some sub) (table_fault fault)
@@ -41,13 +43,24 @@ parts-all subs rows i parts le so_far =
     subst (λ (ps : List Part). ShowsParts subs (ids_of rows) ps) (append-nil parts)
     (so_far [] (subst (λ (rs : List (ℕ × List Val)). ShowsParts subs (ids_of rs) []) (sym (drop_all i rows le)) tt))
 
--- the id of a row is among those of all
-pub has-id : (rows : List (ℕ × List Val)) (i : ℕ) (row : ℕ × List Val) → i < length rows → row ≡ get_or rows i row → Contains (ids_of rows) row.0
-has-id [] i row lt is = absurd (omega arith)
-has-id (r ∷ rows) zero row lt is = (0, omega arith, ap (λ (x : ℕ × List Val). x.0) (sym is))
-has-id (r ∷ rows) (suc i) row lt is =
-    let h = has-id rows i row (omega arith) is in
-    (suc h.0, omega (arith, h.1), h.2)
+-- where the attachments of the other rows have a fault, it is that of all
+abbrev pub StopsRest : List Flat → List (ℕ × List Val) → List (ℕ × List Val) → Type 0
+StopsRest subs rows others = (fault : MessageFault) → FirstLacks subs (ids_of others) fault → FirstLacks subs (ids_of rows) fault
+
+-- one attachment more that is well
+pub stops-more : (subs : List Flat) (rows : List (ℕ × List Val)) (i : ℕ) (row : ℕ × List Val) (part : Part) → i < length rows → row ≡ get_or rows i row
+    → ShowsPart (subnode subs row.0) row.0 part → StopsRest subs rows (drop i rows) → StopsRest subs rows (drop (i + 1) rows)
+stops-more subs rows i row part lt is shows so_far = λ fault lacks.
+    let front : drop i rows ≡ row ∷ drop (i + 1) rows = drop_more rows i row lt ∙ ap (λ (r : ℕ × List Val). r ∷ drop (i + 1) rows) (sym is) in
+    so_far fault (subst (λ (rs : List (ℕ × List Val)). FirstLacks subs (ids_of rs) fault) (sym front) (inr (part, shows, lacks)))
+
+-- the first that isn't
+pub stops-here : (subs : List Flat) (rows : List (ℕ × List Val)) (i : ℕ) (row : ℕ × List Val) (e : MemOr MessageFault) → i < length rows → row ≡ get_or rows i row
+    → Refuses (LacksPart (subnode subs row.0)) e → StopsRest subs rows (drop i rows) → Refuses (FirstLacks subs (ids_of rows)) e
+stops-here subs rows i row Memory lt is lacks so_far = tt
+stops-here subs rows i row (Refused fault) lt is lacks so_far =
+    let front : drop i rows ≡ row ∷ drop (i + 1) rows = drop_more rows i row lt ∙ ap (λ (r : ℕ × List Val). r ∷ drop (i + 1) rows) (sym is) in
+    so_far fault (subst (λ (rs : List (ℕ × List Val)). FirstLacks subs (ids_of rs) fault) (sym front) (inl lacks))
 
 part-named : (sub : Option (List (List ℕ) × List Flat)) (id : ℕ) (part : Part) → ShowsPart sub id part → part_id part ≡ id
 part-named None id part shows = absurd shows

@@ -1,6 +1,5 @@
 -- What the reader's parts answer.
 use Rattle.std.specs.Prelude.{ℕ, false, List, Option, Result, Ok, Err}
-use Rattle.std.specs.List.{Contains}
 use Rattle.pst_base.specs.Flat.{Flat}
 use Rattle.pst_base.specs.declared.stops.MemOr.{MemOr}
 use Rattle.pst_base.specs.declared.stops.MemOr.TheVariants.{Memory, Refused}
@@ -13,7 +12,6 @@ use Rattle.property_context.specs.declared.read.PcFault.TheVariants as pcs
 use Rattle.table_context.specs.declared.fault.TcFault.{TcFault}
 use Rattle.table_context.specs.declared.fault.TcFault.TheVariants as tcs
 use Rattle.message_obj.specs.Message.{ShowsParts, ShowsTable}
-use Rattle.message_obj.specs.Reading.{LacksPart}
 use Rattle.message_obj.specs.Subnodes.{is_table}
 use Rattle.message_obj.specs.declared.fault.MessageFault.{MessageFault}
 use Rattle.message_obj.specs.declared.fault.MessageFault.TheVariants.{Heap, Bth, Pc, Tc}
@@ -39,10 +37,6 @@ Refuses IsWrong (Refused fault) = IsWrong fault
 abbrev pub Reads : {X : Type 0} → (X → Type 0) → (MessageFault → Type 0) → Result X (MemOr MessageFault) → Type 0
 Reads IsSo IsWrong (Ok x) = IsSo x
 Reads IsSo IsWrong (Err e) = Refuses IsWrong e
-
--- one of the attachments with these ids isn't there, or is none for this reason
-abbrev pub LacksOne : List Flat → List ℕ → MessageFault → Type 0
-LacksOne subs ids fault = (id : ℕ) × Contains ids id × LacksPart (subnode subs id) fault
 
 -- the tables and the attachments of a message that leaves these subnodes to them
 pub record ShowsBelow (rest : List Flat) (recipients attachments : Option Tab) (parts : List Part) : Type 0 where

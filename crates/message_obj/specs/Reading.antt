@@ -1,9 +1,9 @@
 -- What a reader of messages answers.
-use Rattle.std.specs.Prelude.{◌≡◌, ◌⊎◌, ℕ, false, List, Option, None, Some, Result, Ok, Err}
-use Rattle.std.specs.List.{Contains}
+use Rattle.std.specs.Prelude.{◌≡◌, ◌⊎◌, ℕ, false, List, [], ◌∷◌, Option, None, Some, Result, Ok, Err}
 use Rattle.pst_base.specs.Flat.{Flat}
 use Rattle.pst_base.specs.declared.stops.MemOr.{MemOr}
 use Rattle.pst_base.specs.declared.stops.MemOr.TheVariants.{Memory, Refused}
+use Rattle.mapi_values.specs.declared.part.Part.{Part}
 use Rattle.mapi_values.specs.Messages.{Mes, nid_attachment_table, nid_recipient_table, row_ids}
 use Rattle.mapi_values.specs.Tables.{Tab}
 use Rattle.mapi_values.specs.Values.{Val}
@@ -13,7 +13,7 @@ use Rattle.node_values.specs.Subnodes.{subnode, without}
 use Rattle.property_context.specs.declared.read.PcFault.TheVariants as pcs
 use Rattle.table_context.specs.Context as tc
 use Rattle.table_context.specs.declared.fault.TcFault.TheVariants as tcs
-use Rattle.message_obj.specs.Message.{ShowsMessage, ShowsTable}
+use Rattle.message_obj.specs.Message.{ShowsMessage, ShowsPart, ShowsTable}
 use Rattle.message_obj.specs.Subnodes.{is_table}
 use Rattle.message_obj.specs.declared.fault.MessageFault.{MessageFault}
 use Rattle.message_obj.specs.declared.fault.MessageFault.TheVariants.{Heap, Bth, Pc, Tc, Attach}
@@ -40,12 +40,23 @@ abbrev pub LacksPart : Option (List (List ℕ) × List Flat) → MessageFault �
 LacksPart None fault = fault ≡ Attach
 LacksPart (Some sub) fault = LacksContext sub.0 sub.1 fault
 
--- what is wrong among the subnodes that no value uses: with the recipients, with the table of attachments, or with an attachment that the table names
-abbrev pub LacksBelow : List Flat → MessageFault → Type 0
-LacksBelow rest fault = LacksTable (subnode rest nid_recipient_table) fault ⊎ LacksTable (subnode rest nid_attachment_table) fault
-    ⊎ ((t : Tab) × (id : ℕ) × ShowsTable (subnode rest nid_attachment_table) (Some t) × Contains (row_ids (Some t)) id × LacksPart (subnode (without is_table false rest) id) fault)
+-- the first attachment that isn't well, of those with these ids in their order, isn't for this reason
+abbrev pub FirstLacks : List Flat → List ℕ → MessageFault → Type 0
+FirstLacks subs [] fault = ⊥
+FirstLacks subs (id ∷ ids) fault = LacksPart (subnode subs id) fault
+    ⊎ ((part : Part) × ShowsPart (subnode subs id) id part × FirstLacks subs ids fault)
 
--- what is wrong with a node that is no message
+-- the table of attachments is none for this reason; or it is well or absent, and of the attachments that its rows name the first that isn't well
+abbrev pub LacksAttachments : List Flat → MessageFault → Type 0
+LacksAttachments rest fault = LacksTable (subnode rest nid_attachment_table) fault
+    ⊎ ((t : Option Tab) × ShowsTable (subnode rest nid_attachment_table) t × FirstLacks (without is_table false rest) (row_ids t) fault)
+
+-- what is wrong among the subnodes that no value uses: the table of recipients is none for this reason; or it is well or absent, and then it is the attachments' fault
+abbrev pub LacksBelow : List Flat → MessageFault → Type 0
+LacksBelow rest fault = LacksTable (subnode rest nid_recipient_table) fault
+    ⊎ ((t : Option Tab) × ShowsTable (subnode rest nid_recipient_table) t × LacksAttachments rest fault)
+
+-- what is wrong with a node that is no message, by the first part that is at fault: its own values, the table of recipients, the table of attachments, then each attachment in the order of the rows
 abbrev pub LacksMessage : NodeRec → MessageFault → Type 0
 LacksMessage node fault = LacksContext node.blocks node.subs fault
     ⊎ ((values : List Val) × (rest : List Flat) × pc.IsPropertyContext node.blocks node.subs values rest × LacksBelow rest fault)

@@ -3,8 +3,15 @@ ghost use Rattle.std.specs.Prelude.{◌≡◌, ℕ};
 ghost use Rattle.mapi_values.specs.Messages.{Mes};
 ghost use Rattle.node_port.specs.declared.node.NodeRec.{NodeRec};
 ghost use Rattle.message_obj.specs.Message.{ShowsMessage};
+ghost use Rattle.message_obj.specs.Reading.{LacksMessage};
+ghost use Rattle.message_obj.specs.declared.fault.MessageFault.{MessageFault};
 
 /// A node is at most one message, so that a message that was written is read again.
 pub fn one_message()
     ensures { (nid : ℕ) (node : NodeRec) (m n : Mes) → ShowsMessage nid node m → ShowsMessage nid node n → m ≡ n }
+{}
+
+/// A node that is no message has one fault: that of the first part that is at fault.
+pub fn one_fault()
+    ensures { (node : NodeRec) (fault other : MessageFault) → LacksMessage node fault → LacksMessage node other → fault ≡ other }
 {}

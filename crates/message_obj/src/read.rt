@@ -4,9 +4,9 @@ ghost use Rattle.std.specs.Option.{option_map};
 ghost use Rattle.mapi_values.specs.Messages.{is_own, row_ids};
 ghost use Rattle.node_values.specs.Subnodes.{contents, subnode, without};
 ghost use Rattle.property_context.specs.Context.{IsPropertyContext};
-ghost use Rattle.message_obj.specs.Answers.{LacksOne, Reads, ShowsBelow, context_fault, table_fault};
+ghost use Rattle.message_obj.specs.Answers.{Reads, ShowsBelow, context_fault, table_fault};
 ghost use Rattle.message_obj.specs.Message.{ShowsPart, ShowsParts, ShowsTable};
-ghost use Rattle.message_obj.specs.Reading.{LacksBelow, LacksContext, LacksPart, LacksTable, ReadsMessage};
+ghost use Rattle.message_obj.specs.Reading.{FirstLacks, LacksBelow, LacksContext, LacksPart, LacksTable, ReadsMessage};
 ghost use Rattle.message_obj.specs.Subnodes.{is_table};
 
 use crate::fault::MessageFault;
@@ -96,13 +96,13 @@ fn read_part(alloc: Global, finder: &Finder, id: u32) -> Result<Part, MemOr<Mess
     })
 }
 
-/// The attachments that the rows of their table name.
+/// The attachments that the rows of their table name, or the fault of the first that has one.
 fn read_parts(
     alloc: Global,
     finder: &Finder,
     rows: &[(u32, Props)],
 ) -> Result<Vec<Part>, MemOr<MessageFault>>
-    ensures { Reads (λ parts. ShowsParts (without is_table false finder.now) (map (λ r. r.0) rows.now) parts.items) (LacksOne (without is_table false finder.now) (map (λ r. r.0) rows.now)) result }
+    ensures { Reads (λ parts. ShowsParts (without is_table false finder.now) (map (λ r. r.0) rows.now) parts.items) (FirstLacks (without is_table false finder.now) (map (λ r. r.0) rows.now)) result }
 {
     let mut parts = Vec::with_capacity(alloc, rows.len())?;
     for row in rows {
@@ -117,7 +117,7 @@ fn read_named(
     finder: &Finder,
     attachments: &Option<Table>,
 ) -> Result<Vec<Part>, MemOr<MessageFault>>
-    ensures { Reads (λ parts. ShowsParts (without is_table false finder.now) (row_ids attachments.now) parts.items) (LacksOne (without is_table false finder.now) (row_ids attachments.now)) result }
+    ensures { Reads (λ parts. ShowsParts (without is_table false finder.now) (row_ids attachments.now) parts.items) (FirstLacks (without is_table false finder.now) (row_ids attachments.now)) result }
 {
     match attachments {
         Some(table) => read_parts(alloc, finder, table.rows()),
@@ -125,7 +125,7 @@ fn read_named(
     }
 }
 
-/// The tables of recipients and of attachments, and the attachments, among the subnodes that no value of the message uses.
+/// The tables of recipients and of attachments, and the attachments, among the subnodes that no value of the message uses. The fault is that of the first of these that has one.
 fn read_below(
     alloc: Global,
     rest: &Subs,
@@ -139,7 +139,7 @@ fn read_below(
     Ok((recipients, attachments, parts))
 }
 
-/// The message that the node with this id is. The folder is the node's parent. A refusal comes exactly where the node is no message, and names what is wrong with the first part that is: the message's own values, the table of recipients, the table of attachments, and each attachment in the order of the rows.
+/// The message that the node with this id is. The folder is the node's parent. A refusal comes exactly where the node is no message, and names what is wrong with the first part that is at fault: the message's own values, the table of recipients, the table of attachments, then each attachment in the order of the rows.
 pub fn read_message(alloc: Global, nid: Nid, node: &NodeRec) -> Result<Message, MemOr<MessageFault>>
     ensures { ReadsMessage nid.bits node.now result }
 {
