@@ -1,13 +1,12 @@
 //! What is known of a file, and of a file after a commit.
 ghost use Rattle.std.specs.Prelude.{◌≡◌};
-ghost use Rattle.node_port.specs.Nodes.{content_of};
 ghost use Rattle.file_planner.specs.Stopping.{prepare_stop};
 
 use crate::room::decide;
 use alloc_map::Slots;
 use node_port::{Changes, KeepStop, NodeRec, PrepareStop};
-use node_store::{PageCaches, next_node, read_node};
-use pst_base::{Nid, Place, Subs};
+use node_store::{PageCaches, next_node, read_node, read_node_data};
+use pst_base::{Nid, Place};
 use pst_commit::{CommitPlan, NodeStore};
 use pst_header::Header;
 use pst_outside::Outside;
@@ -75,10 +74,7 @@ impl<W: Outside> NodeStore<W> for FilePlanner {
         header: &Header,
         nid: Nid,
     ) -> Result<Option<NodeRec>, KeepStop> {
-        match read_node(alloc, w, header, nid, &mut self.caches) {
-            Ok(node) => Ok(without_subs(alloc, node)),
-            Err(stop) => Err(stop),
-        }
+        read_node_data(alloc, w, header, nid, &mut self.caches)
     }
 
     fn next(
@@ -130,20 +126,6 @@ impl<W: Outside> NodeStore<W> for FilePlanner {
     }
 
     ghost known_right = { known_right };
-}
-
-/// A node without its subnodes.
-fn without_subs(alloc: Global, node: Option<NodeRec>) -> Option<NodeRec>
-    ensures { result ≡ content_of node }
-{
-    match node {
-        Some(node) => Some(NodeRec {
-            parent: node.parent,
-            blocks: node.blocks,
-            subs: Subs::new(alloc),
-        }),
-        None => None,
-    }
 }
 
 /// A stop of a reading, as a plan gives it.

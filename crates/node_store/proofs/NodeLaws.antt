@@ -27,7 +27,9 @@ use Rattle.file_layout.proofs.Underway.{untouched_then}
 use Rattle.file_pages.proofs.SourceLaws.{caches-still}
 use Rattle.node_store.proofs.BlockLaws.{tells-on}
 use Rattle.node_store.proofs.NextLaws.{first-some, first-none}
-use Rattle.node_store.specs.Told.{AsksBlocks, Begins, CachesBoth, KeepsTelling, IsNodeOf, TellsBlocks, TellsNodes}
+use Rattle.node_store.specs.Told.{AsksBlocks, Begins, CachesBoth, KeepsTelling, IsNodeOf, TellsBlocks, TellsNodes, part_of, reached}
+use Rattle.node_store.specs.declared.node.Reach.{Reach}
+use Rattle.node_store.specs.declared.node.Reach.TheVariants.{Whole, Data}
 
 abbrev pub node_id : NodeEntry → ℕ
 node_id e = (e.nid).bits
@@ -98,15 +100,55 @@ node-some find eof k (e ∷ es) nodes found are some = by_key (eqb (node_id e) k
         let more = rest some in
         (more.0, more.1, ap (node_with k) are.2 ∙ rw (ap (λ (n : ℕ). eqb n k) (node-id find eof e are.0 are.3) ∙ is) more.2)
 
--- a keeper's node is that of an entry
-pub kept-node : (N : port.Nodes) (m : NodeMap) (find : ℕ → Option (List ℕ)) (eof k : ℕ) (es : List NodeEntry) (e : NodeEntry) (rec : NodeRec) → AreThose m N → AreNodes find eof es m.nodes → Some e ≡ entry_with node_id k es → IsNodeOf find eof e rec → Some rec ≡ port.node_at N k
-kept-node N m find eof k es e rec those are here is =
-    let n = node-some find eof k es m.nodes e are (sym here) in
-    let same : is.node ≡ n.0 = ok-same is.node n.0 (sym is.reads ∙ n.1) in
-    sym (those k ∙ n.2 ∙ ap Some (ap rec_of (sym same) ∙ sym is.is))
+-- what an entry's node reads as has the data that the entry leads to
+data-read : (find : ℕ → Option (List ℕ)) (eof : ℕ) (e : NodeEntry) (n : Node) → node_at find eof e ≡ Ok n → (blocks_of find eof e.content ≡ Ok n.blocks) × ((e.nid).bits ≡ n.nid) × ((e.parent).bits ≡ n.parent)
+unfolding node_at
+data-read find eof e n is = by_blocks (blocks_of find eof e.content) refl is
+  where
+    by_subs : (blocks : List (List ℕ)) (r : Result (List Flat) TreeStop) → and_then r (λ subs. Ok (record { nid = (e.nid).bits; parent = (e.parent).bits; blocks = blocks; subs = subs })) ≡ Ok n
+        → (blocks ≡ n.blocks) × ((e.nid).bits ≡ n.nid) × ((e.parent).bits ≡ n.parent)
+    by_subs blocks (Ok subs) is = let same = ok-same _ _ is in (ap (λ (n : Node). n.blocks) same, ap (λ (n : Node). n.nid) same, ap (λ (n : Node). n.parent) same)
+    by_subs blocks (Err fault) is = absurd (cc)
 
-pub kept-none : (N : port.Nodes) (m : NodeMap) (find : ℕ → Option (List ℕ)) (eof k : ℕ) (es : List NodeEntry) → AreThose m N → AreNodes find eof es m.nodes → None ≡ entry_with node_id k es → None ≡ port.node_at N k
-kept-none N m find eof k es those are here = sym (those k ∙ node-none find eof k es m.nodes are (sym here))
+    by_blocks : (r : Result (List (List ℕ)) TreeStop) → blocks_of find eof e.content ≡ r → and_then r (λ blocks. and_then (subs_of find eof e.subnodes) (λ subs. Ok (record { nid = (e.nid).bits; parent = (e.parent).bits; blocks = blocks; subs = subs }))) ≡ Ok n
+        → (blocks_of find eof e.content ≡ Ok n.blocks) × ((e.nid).bits ≡ n.nid) × ((e.parent).bits ≡ n.parent)
+    by_blocks (Ok blocks) here is = let p = by_subs blocks (subs_of find eof e.subnodes) is in (here ∙ ap Ok p.0, p.1, p.2)
+    by_blocks (Err fault) here is = absurd (cc)
+
+no-subs : (find : ℕ → Option (List ℕ)) (eof : ℕ) → subs_of find eof (record { bits = 0 }) ≡ Ok []
+unfolding subs_of
+no-subs find eof = refl
+
+-- a node of a file as far as it is read
+abbrev node-part : Reach → Node → Node
+node-part Whole n = n
+node-part Data n = record n { subs = [] }
+
+part-rec : (reach : Reach) (n : Node) → Some (rec_of (node-part reach n)) ≡ part_of reach (Some (rec_of n))
+part-rec Whole n = refl
+part-rec Data n = refl
+
+-- an entry's node reads so far as it is read
+part-read : (find : ℕ → Option (List ℕ)) (eof : ℕ) (e : NodeEntry) (n : Node) (reach : Reach) → node_at find eof e ≡ Ok n → node_at find eof (reached reach e) ≡ Ok (node-part reach n)
+part-read find eof e n Whole is = is
+part-read find eof e n Data is =
+    let d = data-read find eof e n is in
+    node-made find eof (reached Data e) n.blocks [] d.0 (no-subs find eof) ∙ ap Ok (rw (d.1, d.2) refl)
+
+-- a keeper's node, so far as it is read, is that of an entry
+pub part-kept : (N : port.Nodes) (m : NodeMap) (find : ℕ → Option (List ℕ)) (eof k : ℕ) (es : List NodeEntry) (e : NodeEntry) (rec : NodeRec) (reach : Reach) → AreThose m N → AreNodes find eof es m.nodes → Some e ≡ entry_with node_id k es
+    → IsNodeOf find eof (reached reach e) rec → Some rec ≡ part_of reach (port.node_at N k)
+part-kept N m find eof k es e rec reach those are here is =
+    let n = node-some find eof k es m.nodes e are (sym here) in
+    let same : is.node ≡ node-part reach n.0 = ok-same is.node (node-part reach n.0) (sym is.reads ∙ part-read find eof e n.0 reach n.1) in
+    ap Some (is.is ∙ ap rec_of same) ∙ part-rec reach n.0 ∙ sym (ap (part_of reach) (those k ∙ n.2))
+
+part-of-none : (reach : Reach) → None ≡ part_of reach None
+part-of-none Whole = refl
+part-of-none Data = refl
+
+pub part-none : (N : port.Nodes) (m : NodeMap) (find : ℕ → Option (List ℕ)) (eof k : ℕ) (es : List NodeEntry) (reach : Reach) → AreThose m N → AreNodes find eof es m.nodes → None ≡ entry_with node_id k es → None ≡ part_of reach (port.node_at N k)
+part-none N m find eof k es reach those are here = part-of-none reach ∙ sym (ap (part_of reach) (those k ∙ node-none find eof k es m.nodes are (sym here)))
 
 -- ---- worlds
 
@@ -127,12 +169,13 @@ pub blocks-then : {old mid : World} {header : Header} {caches : PageCaches} {m :
     → TellsBlocks mid (record { kind = 0x80; root = header.bbt; eof = header.eof }) caches.blocks (found_in (file_of old.here) (blocks_in told.lays.blocks))
 blocks-then {old} {mid} {header} {caches} {m} first told = tells-on first (λ c. caches-still first c) (found_in (file_of old.here) (blocks_in told.lays.blocks)) (blocks-told told)
 
--- the node of an entry that is there reads
-pub no-fault : {header : Header} {file : List ℕ} {m : NodeMap} (is : Lays header file m) (k : ℕ) (e : NodeEntry) (fault : TreeStop) → Some e ≡ entry_with node_id k (nodes_in is.nodes)
-    → node_at (found_in file (blocks_in is.blocks)) header.eof e ≡ Err fault → ⊥
-no-fault {header} {file} {m} is k e fault here bad =
-    let n = node-some (found_in file (blocks_in is.blocks)) header.eof k (nodes_in is.nodes) m.nodes e is.are (sym here) in
-    let both_are : ◌≡◌ {A = Result Node TreeStop} (Ok n.0) (Err fault) = sym n.1 ∙ bad in
+-- the node of an entry that is there reads, so far as it is read
+pub part-reads : {header : Header} {file : List ℕ} {m : NodeMap} (is : Lays header file m) (k : ℕ) (e : NodeEntry) (reach : Reach) (fault : TreeStop) → Some e ≡ entry_with node_id k (nodes_in is.nodes)
+    → node_at (found_in file (blocks_in is.blocks)) header.eof (reached reach e) ≡ Err fault → ⊥
+part-reads {header} {file} {m} is k e reach fault here bad =
+    let find = found_in file (blocks_in is.blocks) in
+    let n = node-some find header.eof k (nodes_in is.nodes) m.nodes e is.are (sym here) in
+    let both_are : ◌≡◌ {A = Result Node TreeStop} (Ok (node-part reach n.0)) (Err fault) = sym (part-read find header.eof e n.0 reach n.1) ∙ bad in
     cc
 
 -- ---- the next node

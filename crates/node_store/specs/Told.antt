@@ -23,6 +23,9 @@ use Rattle.lays_kept.specs.Stands.{rec_of}
 use Rattle.node_port.specs.declared.node.NodeRec.{NodeRec}
 use Rattle.node_port.specs.declared.keeper.KeepStop.{KeepStop}
 use Rattle.node_port.specs.declared.keeper.KeepStop.TheVariants as keep
+use Rattle.node_port.specs.Nodes.{content_of}
+use Rattle.node_store.specs.declared.node.Reach.{Reach}
+use Rattle.node_store.specs.declared.node.Reach.TheVariants.{Whole as Wholly, Data}
 use Rattle.node_store.specs.declared.node.PageCaches.{PageCaches}
 
 -- ---- blocks
@@ -55,6 +58,16 @@ pub record IsNodeOf (find : ℕ → Option (List ℕ)) (eof : ℕ) (e : NodeEntr
   pub node : Node
   pub reads : node_at find eof e ≡ Ok node
   pub is : rec ≡ rec_of node
+
+-- an entry as far as its node is read
+abbrev pub reached : Reach → NodeEntry → NodeEntry
+reached Wholly e = e
+reached Data e = record e { subnodes = record { bits = 0 } }
+
+-- a node as far as it is read
+abbrev pub part_of : Reach → Option NodeRec → Option NodeRec
+part_of Wholly node = node
+part_of Data node = content_of node
 
 -- the caches have no other pages than the file's
 pub record CachesBoth (world : World) (header : Header) (caches : PageCaches) : Type 0 where

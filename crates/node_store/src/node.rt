@@ -3,8 +3,8 @@ ghost use Rattle.std.specs.Prelude.{◌≡◌, IfOk, IfErr};
 ghost use Rattle.pst_outside.specs.Calls.{Untouched};
 ghost use Rattle.file_layout.specs.Nodes.{NodeMap};
 ghost use Rattle.lays_kept.specs.Stands.{AreThose};
-ghost use Rattle.node_port.specs.Nodes.{IsNext, Nodes, node_at};
-ghost use Rattle.node_store.specs.Told.{Begins, KeepsTelling, StopsKeeping, TellsNodes, keep_stop, tree_stop};
+ghost use Rattle.node_port.specs.Nodes.{IsNext, Nodes, content_of, node_at};
+ghost use Rattle.node_store.specs.Told.{Begins, KeepsTelling, StopsKeeping, TellsNodes, keep_stop, part_of, reached, tree_stop};
 
 use crate::content::read_content;
 use btree_pages::NodeEntry;
@@ -12,7 +12,7 @@ use data_tree::TreeStop;
 use file_pages::{FileTree, entry_at, entry_from};
 use node_port::{KeepStop, NodeRec};
 use page_cache::PageCache;
-use pst_base::{MemOr, Nid, SourceStop};
+use pst_base::{Bid, MemOr, Nid, SourceStop};
 use pst_header::Header;
 use pst_outside::Outside;
 use std::alloc::Global;
@@ -66,17 +66,38 @@ pub fn tree_stop(ib: u64, stop: MemOr<TreeStop>) -> KeepStop
     }
 }
 
-/// The node with an id in the file behind a header; `None` where it has none.
-///
-/// `Fault` comes where the disk failed, `Changed` where the file doesn't lay nodes under the header: at a page or a block that isn't there or isn't whole, or, with two zeros, at the root of the block tree where blocks don't make data and subnodes.
-pub fn read_node<W: Outside>(
+/// How far a node is read.
+#[derive(Clone, Copy, Debug, PartialEq, Eq)]
+pub(crate) enum Reach {
+    /// With its subnodes.
+    Whole,
+    /// Its data alone.
+    Data,
+}
+
+/// An entry as far as its node is read: one that names no subnodes leads to none.
+fn reached(entry: NodeEntry, reach: Reach) -> NodeEntry
+    ensures { result ≡ reached reach entry }
+{
+    match reach {
+        Reach::Whole => entry,
+        Reach::Data => NodeEntry {
+            subnodes: Bid { bits: 0 },
+            ..entry
+        },
+    }
+}
+
+/// The node with an id in the file behind a header, so far as it is to be read; `None` where it has none.
+fn read_part<W: Outside>(
     alloc: Global,
     w: &mut W,
     header: &Header,
     nid: Nid,
+    reach: Reach,
     caches: &mut PageCaches,
 ) -> Result<Option<NodeRec>, KeepStop>
-    ensures node { IfOk result (λ node. (m : NodeMap) (N : Nodes) → TellsNodes (W.view w.old) header.now caches.old m → AreThose m N → node ≡ node_at N nid.bits) }
+    ensures node { IfOk result (λ node. (m : NodeMap) (N : Nodes) → TellsNodes (W.view w.old) header.now caches.old m → AreThose m N → node ≡ part_of reach (node_at N nid.bits)) }
     ensures stops { IfErr result (StopsKeeping (W.view w.old) (W.view w.new) ((m : NodeMap) × TellsNodes (W.view w.old) header.now caches.old m)) }
     ensures keeps { KeepsTelling (W.view w.old) (W.view w.new) header.now caches.old caches.new }
     ensures untouched { Untouched (W.view w.old) (W.view w.new) }
@@ -96,10 +117,45 @@ pub fn read_node<W: Outside>(
         root: header.bbt,
         eof: header.eof,
     };
+    let entry = reached(entry, reach);
     match read_content(alloc, w, &mut caches.blocks, blocks, entry) {
         Ok(node) => Ok(Some(node)),
         Err(stop) => Err(tree_stop(header.bbt.ib, stop)),
     }
+}
+
+/// The node with an id in the file behind a header; `None` where it has none.
+///
+/// `Fault` comes where the disk failed, `Changed` where the file doesn't lay nodes under the header: at a page or a block that isn't there or isn't whole, or, with two zeros, at the root of the block tree where blocks don't make data and subnodes.
+pub fn read_node<W: Outside>(
+    alloc: Global,
+    w: &mut W,
+    header: &Header,
+    nid: Nid,
+    caches: &mut PageCaches,
+) -> Result<Option<NodeRec>, KeepStop>
+    ensures node { IfOk result (λ node. (m : NodeMap) (N : Nodes) → TellsNodes (W.view w.old) header.now caches.old m → AreThose m N → node ≡ node_at N nid.bits) }
+    ensures stops { IfErr result (StopsKeeping (W.view w.old) (W.view w.new) ((m : NodeMap) × TellsNodes (W.view w.old) header.now caches.old m)) }
+    ensures keeps { KeepsTelling (W.view w.old) (W.view w.new) header.now caches.old caches.new }
+    ensures untouched { Untouched (W.view w.old) (W.view w.new) }
+{
+    read_part(alloc, w, header, nid, Reach::Whole, caches)
+}
+
+/// The same without its subnodes: the record has none, and no block of theirs is read. It stops as `read_node`.
+pub fn read_node_data<W: Outside>(
+    alloc: Global,
+    w: &mut W,
+    header: &Header,
+    nid: Nid,
+    caches: &mut PageCaches,
+) -> Result<Option<NodeRec>, KeepStop>
+    ensures node { IfOk result (λ node. (m : NodeMap) (N : Nodes) → TellsNodes (W.view w.old) header.now caches.old m → AreThose m N → node ≡ content_of (node_at N nid.bits)) }
+    ensures stops { IfErr result (StopsKeeping (W.view w.old) (W.view w.new) ((m : NodeMap) × TellsNodes (W.view w.old) header.now caches.old m)) }
+    ensures keeps { KeepsTelling (W.view w.old) (W.view w.new) header.now caches.old caches.new }
+    ensures untouched { Untouched (W.view w.old) (W.view w.new) }
+{
+    read_part(alloc, w, header, nid, Reach::Data, caches)
 }
 
 /// The least key above an id, or of all.

@@ -3,23 +3,24 @@ use Rattle.file_blocks.specs.Blocks.{file_of, found_in}
 use Rattle.file_layout.specs.Nodes.{NodeMap, blocks_in, node_at, nodes_in}
 use Rattle.tree_edit.specs.Edits.{entry_with}
 use Rattle.file_pages.proofs.SourceLaws.{caches-still}
-use Rattle.node_store.specs.Told.{StopsKeeping, TellsNodes}
+use Rattle.node_store.specs.Told.{IsNodeOf, StopsKeeping, TellsNodes, reached}
 use Rattle.node_store.proofs.BlockLaws.{keep-stops, tree-stops}
-use Rattle.node_store.proofs.NodeLaws.{blocks-then, node_id, has-nodes, kept-node, kept-none, no-fault, nodes-on, nodes-then}
-use Rattle.node_store.proofs.node.read_node.Goals as goal
+use Rattle.node_store.proofs.NodeLaws.{blocks-then, node_id, has-nodes, nodes-on, nodes-then, part-kept, part-none, part-reads}
+use Rattle.node_store.proofs.node.read_part.Goals as goal
 
 pub returns-in-Ok-None-clause-node : goal.returns-in-Ok-None-clause-node
 returns-in-Ok-None-clause-node g c = λ m N told those.
     let old = g.W.Outside.view c.args.w.now in
-    kept-none N m (found_in (file_of old.here) (blocks_in told.lays.blocks)) c.args.header.now.eof c.args.nid.bits (nodes_in told.lays.nodes) those told.lays.are
+    part-none N m (found_in (file_of old.here) (blocks_in told.lays.blocks)) c.args.header.now.eof c.args.nid.bits (nodes_in told.lays.nodes) c.args.reach those told.lays.are
     (sym c.in-Ok-None.field-0-is ∙ c.in-Ok-None.ensures.found told.cached.nodes (nodes_in told.lays.nodes) (has-nodes told.lays) ∙ ap (λ (k : ℕ). entry_with node_id k (nodes_in told.lays.nodes)) c.from.ensures)
 
 pub returns-in-Ok-clause-node : goal.returns-in-Ok-clause-node
 returns-in-Ok-clause-node g c = λ m N told those.
     let old = g.W.Outside.view c.args.w.now in
     let find = found_in (file_of old.here) (blocks_in told.lays.blocks) in
-    kept-node N m find c.args.header.now.eof c.args.nid.bits (nodes_in told.lays.nodes) c.in-Ok-Some.entry c.in-Ok.node those told.lays.are
-    (sym c.in-Ok-Some.field-0-is ∙ c.in-Ok-Some.ensures.found told.cached.nodes (nodes_in told.lays.nodes) (has-nodes told.lays) ∙ ap (λ (k : ℕ). entry_with node_id k (nodes_in told.lays.nodes)) c.from.ensures) (c.in-Ok.ensures.node find (blocks-then c.in-Ok-Some.ensures.same told))
+    part-kept N m find c.args.header.now.eof c.args.nid.bits (nodes_in told.lays.nodes) c.in-Ok-Some.entry c.in-Ok.node c.args.reach those told.lays.are
+    (sym c.in-Ok-Some.field-0-is ∙ c.in-Ok-Some.ensures.found told.cached.nodes (nodes_in told.lays.nodes) (has-nodes told.lays) ∙ ap (λ (k : ℕ). entry_with node_id k (nodes_in told.lays.nodes)) c.from.ensures)
+    (subst (λ e. IsNodeOf find c.args.header.now.eof e c.in-Ok.node) c.reached-entry.ensures (c.in-Ok.ensures.node find (blocks-then c.in-Ok-Some.ensures.same told)))
 
 pub returns-in-Ok-None-clause-keeps : goal.returns-in-Ok-None-clause-keeps
 returns-in-Ok-None-clause-keeps g c = nodes-on c.in-Ok-None.ensures.same (λ both. record { blocks = caches-still c.in-Ok-None.ensures.same both.blocks; nodes = c.in-Ok-None.ensures.caches both.nodes })
@@ -47,10 +48,10 @@ returns-in-Err-read_content-clause-stops g c =
     let entry = c.in-Ok-Some.entry in
     let Whole : Type 0 = (m : NodeMap) × TellsNodes old c.args.header.now c.args.caches.now m in
     subst (StopsKeeping old new Whole) (sym c.tree_stop.ensures)
-    (tree-stops old mid new (record { kind = 0x80; root = c.args.header.now.bbt; eof = eof }) c.args.caches.now.blocks (λ find. node_at find eof entry) Whole c.args.header.now.bbt.ib c.entry_at.ensures.same.counts.disk_faults
+    (tree-stops old mid new (record { kind = 0x80; root = c.args.header.now.bbt; eof = eof }) c.args.caches.now.blocks (λ find. node_at find eof c.reached-entry.result) Whole c.args.header.now.bbt.ib c.entry_at.ensures.same.counts.disk_faults
     (λ is. (
       found_in (file_of old.here) (blocks_in is.1.lays.blocks),
       blocks-then c.entry_at.ensures.same is.1,
-      (λ fault bad. no-fault is.1.lays c.args.nid.bits entry fault (sym c.in-Ok-Some.field-0-is ∙ c.in-Ok-Some.ensures.found is.1.cached.nodes (nodes_in is.1.lays.nodes) (has-nodes is.1.lays) ∙ ap (λ (k : ℕ). entry_with node_id k (nodes_in is.1.lays.nodes)) c.from.ensures) bad),
+      (λ fault bad. part-reads is.1.lays c.args.nid.bits entry c.args.reach fault (sym c.in-Ok-Some.field-0-is ∙ c.in-Ok-Some.ensures.found is.1.cached.nodes (nodes_in is.1.lays.nodes) (has-nodes is.1.lays) ∙ ap (λ (k : ℕ). entry_with node_id k (nodes_in is.1.lays.nodes)) c.from.ensures) (sym (ap (node_at _ eof) c.reached-entry.ensures) ∙ bad)),
     ))
     c.in-Err-read_content.stop c.in-Err-read_content.ensures.stops)
