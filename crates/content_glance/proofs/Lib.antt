@@ -1,3 +1,4 @@
 pub mod EntryLaws
 pub mod FindLaws
+pub mod RowLaws
 pub mod TellLaws

@@ -1,6 +1,6 @@
-//! What a node's own data tells of the values of its property context, without its subnodes ([MS-PST] 2.3.3).
+//! What a node's own data tells of the values of its property context ([MS-PST] 2.3.3) or of the rows of its table (2.3.4), without its subnodes.
 //!
-//! Promises: `glance_at` tells of one value, as `Tells` says: the value itself where the heap holds it, that there is none, or that its bytes stand in a subnode. What it tells is so whatever the subnodes are, and so it is of a message's node (`told_of_message`).
+//! Promises: `glance_at` tells of one value, as `Tells` says: the value itself where the heap holds it, that there is none, or that its bytes stand in a subnode. `has_row_at` tells whether a table has a row, without reading any (`TellsRow`). What they tell is so whatever the subnodes are, and so it is of a message's node (`told_of_message`).
 //!
 //! What the properties mean is left to others.
 #![tactic(auto)]
@@ -8,6 +8,8 @@
 mod content;
 mod held;
 mod law;
+mod rows;
 
 pub use content::{Glance, glance_at};
 pub use law::told_of_message;
+pub use rows::has_row_at;

@@ -1,26 +1,30 @@
 -- What a message's node tells, and what the tree has.
-use Rattle.std.proofs.Common.{◌≡◌, ℕ, List, [], ◌∷◌, Option, None, Some, Result, refl, sym, ap, ◌∙◌, subst}
+use Rattle.std.proofs.Common.{◌≡◌, ℕ, Bool, is_some, false, List, [], ◌∷◌, Option, None, Some, Result, Ok, Err, refl, sym, ap, ◌∙◌, subst}
 use Rattle.std.proofs.lemmas.Option.{same_Some}
 use Rattle.std.proofs.lemmas.Bool.{ne_eqb}
 use Rattle.std.specs.Option.{option_and_then, unwrap_or}
 use Rattle.pst_base.specs.Fields.{number_at}
 use Rattle.value_text.specs.UnitBytes.{units_in}
 use Rattle.mapi_values.specs.Messages.{Mes}
+use Rattle.mapi_values.specs.Tables.{find_row}
 use Rattle.mapi_values.specs.Values.{Val, in_field}
 use Rattle.node_port.specs.Nodes.{content_of}
 use Rattle.node_port.specs.declared.node.NodeRec.{NodeRec}
 use Rattle.content_glance.specs.declared.content.Glance.{Glance}
 use Rattle.content_glance.specs.declared.content.Glance.TheVariants.{Held, Absent, Below}
 use Rattle.content_glance.specs.Glances.{IsTold, Tells}
-use Rattle.mail_objects.specs.Objects.{ShowsMail}
+use Rattle.content_glance.specs.Rows.{TellsRow}
+use Rattle.mail_objects.specs.Forms.{Tbl}
+use Rattle.mail_objects.specs.Objects.{ShowsMail, ShowsTable}
 use Rattle.mail_objects.specs.declared.object.Object.{Object}
 use Rattle.mail_objects.specs.declared.object.Object.TheVariants.{Context, Table, Message, Bare}
-use Rattle.mail_tree.specs.Changing.{Answer, ◌>>=◌, as_message, known}
-use Rattle.mail_tree.specs.Tree.{StandsAt}
+use Rattle.mail_tree.specs.Changing.{Answer, ◌>>=◌, as_message, as_table, known, nothing, now_at}
+use Rattle.mail_tree.proofs.AfterTree.{now_nothing}
+use Rattle.mail_tree.specs.Tree.{StandsAt, Tree, object_at}
 use Rattle.mail_tree.specs.Values.{bytes_of, number_of, of_kind, text_of}
 use Rattle.mail_draft.specs.declared.stop.Stop.{Stop}
 use Rattle.mail_draft.specs.Answers.{Says}
-use Rattle.mail_draft.specs.Glancing.{IsContent, told_bytes}
+use Rattle.mail_draft.specs.Glancing.{AreOfTable, IsContent, TellsHas, told_bytes}
 
 -- the content of a node that stands where the tree has a message
 pub content-message : (q : ℕ) (node : NodeRec) (whole : Option NodeRec) (object : Option Object) (other : Option NodeRec) (m : Mes) → Some node ≡ content_of whole → StandsAt q whole object other
@@ -79,3 +83,42 @@ number-told id props glance bytes is told =
 
 pub text-told : (id : ℕ) (props : List Val) (glance : Glance) → (glance ≡ Below → ⊥) → IsTold id props (Some glance) → units_in (unwrap_or (told_bytes 0x001F glance) []) ≡ text_of id props
 text-told id props glance out told = ap (λ (o : Option (List ℕ)). units_in (unwrap_or o [])) (told-bytes id 0x001F props glance told (λ below none. out below))
+
+-- the content of a node that stands where the tree has a table
+pub content-table : (q : ℕ) (node : NodeRec) (whole : Option NodeRec) (object : Option Object) (other : Option NodeRec) (t : Tbl) → Some node ≡ content_of whole → StandsAt q whole object other
+    → as_table object ≡ Some t → AreOfTable node t
+content-table q node whole None other t is stands here = cc
+content-table q node whole (Some (Context c)) other t is stands here = cc
+content-table q node whole (Some (Message n)) other t is stands here = cc
+content-table q node whole (Some (Bare above)) other t is stands here = cc
+content-table q node whole (Some (Table u)) other t is stands here =
+    let same : u ≡ t = same_Some u t here in
+    let e : Some node ≡ content_of (Some stands.1.0) = is ∙ ap content_of stands.1.1 in
+    record {
+      whole = stands.1.0;
+      shows = subst (λ (k : Tbl). ShowsTable stands.1.0 k) same stands.1.2;
+      blocks = ap (λ (rec : NodeRec). rec.blocks) (same_Some node (record { parent = (stands.1.0).parent; blocks = (stands.1.0).blocks; subs = [] }) e);
+    }
+
+-- there is a node where the tree has a table
+pub content-there : (q : ℕ) (whole : Option NodeRec) (object : Option Object) (other : Option NodeRec) (t : Tbl) → None ≡ content_of whole → StandsAt q whole object other → as_table object ≡ Some t → ⊥
+content-there q whole None other t is stands here = cc
+content-there q whole (Some (Context c)) other t is stands here = cc
+content-there q whole (Some (Message n)) other t is stands here = cc
+content-there q whole (Some (Bare above)) other t is stands here = cc
+content-there q whole (Some (Table u)) other t is stands here = let e : None ≡ content_of (Some stands.1.0) = is ∙ ap content_of stands.1.1 in cc
+
+-- what is told of a row by a table's blocks is so of the table
+pub told-row : (node : NodeRec) (t : Tbl) (row : ℕ) (told : Option Bool) → TellsRow node.blocks row told → AreOfTable node t → told ≡ Some (is_some (find_row row t.table.rows))
+told-row node t row told tells are =
+    let there : TellsRow are.whole.blocks row told = subst (λ (blocks : List (List ℕ)). TellsRow blocks row told) are.blocks tells in
+    there are.whole.subs t.table are.shows.table
+
+-- before any change, what stands at an id is what the tree has there
+pub table-there : (T : Tree) (q : ℕ) (t : Tbl) → as_table (now_at T nothing q) ≡ Some t → as_table (object_at T q) ≡ Some t
+table-there T q t here = ap as_table (sym (ap (λ at. at q) (now_nothing T false))) ∙ here
+
+-- what is told of a row is the answer
+pub has-said : (row : ℕ) (t : Tbl) (result : Result Bool Stop) → TellsHas row t result → Says (λ (b : Bool). b) (Ok (is_some (find_row row t.table.rows))) result
+has-said row t (Ok has) told = told
+has-said row t (Err stop) told = told

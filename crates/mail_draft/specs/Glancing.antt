@@ -1,5 +1,7 @@
 -- What is read of a message's node without its subnodes.
-use Rattle.std.specs.Prelude.{◌≡◌, ℕ, List, Option, None, Some, Result, Ok, Err}
+use Rattle.std.specs.Prelude.{◌≡◌, ℕ, Bool, List, Option, None, Some, Result, Ok, Err}
+use Rattle.std.specs.Option.{is_some}
+use Rattle.mapi_values.specs.Tables.{find_row}
 use Rattle.mapi_values.specs.Messages.{Mes}
 use Rattle.mapi_values.specs.Values.{Val}
 use Rattle.node_port.specs.Nodes.{content_of, node_at}
@@ -7,7 +9,8 @@ use Rattle.node_port.specs.declared.node.NodeRec.{NodeRec}
 use Rattle.content_glance.specs.declared.content.Glance.{Glance}
 use Rattle.content_glance.specs.declared.content.Glance.TheVariants.{Held, Absent, Below}
 use Rattle.content_glance.specs.Glances.{IsTold}
-use Rattle.mail_objects.specs.Objects.{ShowsMail}
+use Rattle.mail_objects.specs.Forms.{Tbl}
+use Rattle.mail_objects.specs.Objects.{ShowsMail, ShowsTable}
 use Rattle.mail_tree.specs.Changing.{as_message}
 use Rattle.mail_tree.specs.Tree.{StandsAt, Tree, object_at}
 use Rattle.mail_tree.specs.Values.{of_kind}
@@ -46,3 +49,14 @@ told_bytes kind Below = None
 abbrev pub TellsText : Glance → List ℕ → Option (List ℕ) → Type 0
 TellsText glance text None = glance ≡ Below
 TellsText glance text (Some told) = told ≡ text
+
+-- the node's data is that of a node which shows the table
+pub record AreOfTable (node : NodeRec) (t : Tbl) : Type 0 where
+  pub whole : NodeRec
+  pub shows : ShowsTable whole t
+  pub blocks : node.blocks ≡ whole.blocks
+
+-- so it is told whether the table has a row
+abbrev pub TellsHas : ℕ → Tbl → Result Bool Stop → Type 0
+TellsHas row t (Ok has) = has ≡ is_some (find_row row t.table.rows)
+TellsHas row t (Err stop) = IsNoMatter stop

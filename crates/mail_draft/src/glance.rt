@@ -1,18 +1,20 @@
-//! What a message's node tells of the message without its subnodes.
+//! What a node tells of a message, or of a table's rows, without its subnodes.
 ghost use Rattle.std.specs.Prelude.{◌≡◌, ℕ, List, Bool, IfErr, IfOk, IfSome, IsTrue, Some, [], length, option_copied};
 ghost use Rattle.std.specs.Option.{unwrap_or};
 ghost use Rattle.value_text.specs.UnitBytes.{units_in};
 ghost use Rattle.mapi_values.specs.Messages.{Mes};
 ghost use Rattle.mapi_values.specs.Values.{Val, fits};
 ghost use Rattle.content_glance.specs.Glances.{IsTold};
+ghost use Rattle.mail_objects.specs.Forms.{Tbl};
 ghost use Rattle.mail_tree.specs.Tree.{Shown, Tree, object_at};
 ghost use Rattle.mail_tree.specs.Values.{number_of, text_of};
-ghost use Rattle.mail_draft.specs.Answers.{IsCaused, Looks, Says};
-ghost use Rattle.mail_draft.specs.Glancing.{HasContent, HoldsMessage, IsContent, TellsText, TellsValue, told_bytes};
+ghost use Rattle.mail_draft.specs.Answers.{IsCalm, IsCaused, Looks, Says};
+ghost use Rattle.mail_draft.specs.Glancing.{AreOfTable, HasContent, HoldsMessage, IsContent, TellsHas, TellsText, TellsValue, told_bytes};
+ghost use Rattle.mail_draft.specs.Listed.{has_row};
 ghost use Rattle.mail_draft.specs.Unread.{unread_of};
 
 use crate::stop::Stop;
-use content_glance::{Glance, glance_at};
+use content_glance::{Glance, glance_at, has_row_at};
 use mapi_values::Units;
 use mapi_values::tags::{PID_TAG_MESSAGE_FLAGS, PTYP_INTEGER_32, PTYP_STRING};
 use node_port::{NodeReader, NodeRec};
@@ -122,4 +124,33 @@ pub fn unread_at<W: Outside, K: NodeReader<W>>(
     let node = message_content(alloc, keeper, w, nid)?;
     let flags = glance_of(alloc, &node, PID_TAG_MESSAGE_FLAGS.id)?;
     Ok(number_told(&flags) % 2 != 1)
+}
+
+/// Whether the table whose data a node has has a row.
+fn row_told(node: &NodeRec, row: Nid) -> Result<bool, Stop>
+    ensures told { (t : Tbl) → AreOfTable node.now t → TellsHas row.bits t result }
+    ensures calm { IfErr result IsCalm }
+{
+    match has_row_at(node.blocks.as_slice(), row.bits) {
+        Some(has) => Ok(has),
+        None => Err(Stop::formless()),
+    }
+}
+
+/// Whether the table at an id of the nodes has a row. Neither the other rows nor the table's subnodes are read.
+pub fn has_row<W: Outside, K: NodeReader<W>>(
+    alloc: Global,
+    keeper: &mut K,
+    w: &mut W,
+    table: Nid,
+    row: Nid,
+) -> Result<bool, Stop>
+    ensures answer { (T : Tree) → Shown (K.holds keeper.old (W.view w.old)) (K.last keeper.old) T → Says (λ b. b) (has_row T table.bits row.bits) result }
+    ensures looks { Looks (K.holds keeper.old (W.view w.old)) (K.holds keeper.new (W.view w.new)) (K.last keeper.old) (K.last keeper.new) (K.room keeper.old) (K.room keeper.new) (W.view w.old) (W.view w.new) }
+    ensures cause { IfErr result (IsCaused K.has_disk (W.view w.old).disk_faults (W.view w.new).disk_faults) }
+{
+    match content_at(alloc, keeper, w, table)? {
+        Some(node) => row_told(&node, row),
+        None => Err(Stop::formless()),
+    }
 }

@@ -28,7 +28,7 @@ pub use beside::{associated, contents, hierarchy};
 pub use draft::Draft;
 pub use ending::{finish, within_limits};
 pub use flags::{flag_changes, flag_of};
-pub use glance::{content_at, glance_of, message_content, number_told, text_told};
+pub use glance::{content_at, glance_of, has_row, message_content, number_told, text_told};
 pub use ids::{new_id, next_index};
 pub use listed::message_ids_at;
 pub use outcome::Outcome;

@@ -4,13 +4,13 @@ ghost use Rattle.mail_tree.specs.Tree.{Shown, Tree};
 ghost use Rattle.mail_tree.specs.Changing.{contents, found};
 ghost use Rattle.mail_tree.specs.Messages.{message_in, parent_at};
 ghost use Rattle.mail_draft.specs.Answers.{IsCalm, IsCaused, Looks, Says};
-ghost use Rattle.mail_messages.specs.Finding.{message_among, plain_at};
+ghost use Rattle.mail_messages.specs.Finding.{message_if, plain_at};
 ghost use Rattle.mail_messages.specs.Pieces.{listed_message, message_below};
 ghost use Rattle.command_text.specs.declared.reply.CommandRefusal.TheVariants as refusal;
 
 use command_text::CommandRefusal;
-use mail_draft::{Draft, Stop, message_at, table_at};
-use mail_objects::{Mail, TableNode};
+use mail_draft::{Draft, Stop, has_row, message_at};
+use mail_objects::Mail;
 use mail_tree::{Places, Sort};
 use node_port::NodeReader;
 use pst_base::{Nid, make_nid};
@@ -59,25 +59,25 @@ fn parent_at<W: Outside, K: NodeReader<W>>(
     }
 }
 
-/// The message with this id. Refused where the table, that of its folder's messages, doesn't list it.
-fn message_among<W: Outside, K: NodeReader<W>>(
+/// The message with this id. Refused where its folder doesn't list it.
+fn message_if<W: Outside, K: NodeReader<W>>(
     alloc: Global,
     keeper: &mut K,
     w: &mut W,
-    table: &TableNode,
+    listed: bool,
     message: Nid,
 ) -> Result<Mail, Stop>
-    ensures answer { (T : Tree) → Shown (K.holds keeper.old (W.view w.old)) (K.last keeper.old) T → Says (λ m. m) (message_among T message.bits table.now) result }
+    ensures answer { (T : Tree) → Shown (K.holds keeper.old (W.view w.old)) (K.last keeper.old) T → Says (λ m. m) (message_if T message.bits listed) result }
     ensures looks { Looks (K.holds keeper.old (W.view w.old)) (K.holds keeper.new (W.view w.new)) (K.last keeper.old) (K.last keeper.new) (K.room keeper.old) (K.room keeper.new) (W.view w.old) (W.view w.new) }
     ensures cause { IfErr result (IsCaused K.has_disk (W.view w.old).disk_faults (W.view w.new).disk_faults) }
 {
-    if table.table().row(message.bits).is_none() {
+    if !listed {
         return Err(Stop::Refused(CommandRefusal::Object));
     }
     message_at(alloc, keeper, w, &Draft::new(alloc), message)
 }
 
-/// The message with this id. Refused where the folder doesn't list it.
+/// The message with this id. Refused where the folder doesn't list it: its table is asked for the one row, and no other is read.
 fn listed_message<W: Outside, K: NodeReader<W>>(
     alloc: Global,
     keeper: &mut K,
@@ -89,8 +89,8 @@ fn listed_message<W: Outside, K: NodeReader<W>>(
     ensures looks { Looks (K.holds keeper.old (W.view w.old)) (K.holds keeper.new (W.view w.new)) (K.last keeper.old) (K.last keeper.new) (K.room keeper.old) (K.room keeper.new) (W.view w.old) (W.view w.new) }
     ensures cause { IfErr result (IsCaused K.has_disk (W.view w.old).disk_faults (W.view w.new).disk_faults) }
 {
-    let table = table_at(alloc, keeper, w, &Draft::new(alloc), contents(folder))?;
-    message_among(alloc, keeper, w, &table, message)
+    let listed = has_row(alloc, keeper, w, contents(folder), message)?;
+    message_if(alloc, keeper, w, listed, message)
 }
 
 /// The message with this id. Refused where the folder isn't plain, or doesn't list it.
