@@ -1,6 +1,6 @@
 -- How many pages and pieces there are.
 use Rattle.std.proofs.Common.{Bool, true, false, not, ◌≡◌, ◌⊎◌, inl, inr, ⊎_elim, ℕ, zero, suc, ◌+◌, ◌*◌, ◌-◌, ◌<◌, ◌≤◌, eqb, leb, ltb, ◌&&◌, if◌then◌else◌, List, [], ◌∷◌, ◌++◌, length, Option, Some, None, Ok, Err, refl, sym, ap, subst, ◌∙◌, arith, length-append}
-use Rattle.std.proofs.lemmas.Bool.{and_parts, leb-true, lt-ltb, le-ltb, cases_lt}
+use Rattle.std.proofs.lemmas.Bool.{and_parts, ne_eqb, leb-true, lt-ltb, le-ltb, cases_lt}
 use Rattle.std.proofs.lemmas.Nat.{mul-le}
 use Rattle.pst_base.specs.declared.stops.PageFault.TheVariants.{Count, Level, Key}
 use Rattle.pst_base.specs.Fields.{number_at}
@@ -8,33 +8,46 @@ use Rattle.btree_pages.specs.Pages.{Page, pieces, size_at, is_counted, ascend, k
 use Rattle.btree_pages.proofs.PageLaws.{length-pieces, size_at-inner}
 use Rattle.tree_edit.specs.Edits.{under, over, given, edited}
 use Rattle.tree_edit.specs.Steps.{AreFew}
+use Rattle.tree_edit.specs.declared.plan.Child.{Child}
+use Rattle.tree_edit.specs.Joins.{size_of}
 
--- ---- pieces of so many elements, of which `done` are in `out` pieces and `rest` are left
-pub record Full (most out done rest : ℕ) : Type 0 where
-  pub few : (out ≤ 1) ⊎ (most + out ≤ done + 1)
-  pub some : 1 ≤ done → 1 ≤ out
-  pub half : (out ≤ 1) ⊎ (2 * out ≤ done)
-  pub more : 1 ≤ rest → (out ≡ 0) ⊎ ((most + out ≤ done + 1) × (2 * out + 1 ≤ done))
+-- ---- what a page of children has
 
-pub full-start : (most rest : ℕ) → Full most 0 0 rest
-full-start most rest = record { few = inl (omega arith); some = λ le. absurd (omega arith); half = inl (omega arith); more = λ some. inl refl }
+pub size-inner : {E : Type 0} (n : ℕ) (entries : List E) (children : List (ℕ × Child)) → size_of (suc n) entries children ≡ length children
+size-inner n entries children = rw (ne_eqb (suc n) 0 (λ z. absurd (omega (arith, z)))) refl
 
-pub full-next : (most out done rest k : ℕ) → 3 ≤ most → Full most out done rest → 1 ≤ k → k ≤ rest → (k < rest → k ≡ most) → Full most (out + 1) (done + k) (rest - k)
-full-next most out done rest k big f some within whole =
-    let now = f.more (omega arith) in
-    record {
-      some = λ le. omega arith;
-      few = ⊎_elim (λ (z : out ≡ 0). inl (omega arith)) (λ (h : (most + out ≤ done + 1) × (2 * out + 1 ≤ done)). let a = h.0 in inr (omega arith)) now;
-      half = ⊎_elim (λ (z : out ≡ 0). inl (omega arith)) (λ (h : (most + out ≤ done + 1) × (2 * out + 1 ≤ done)). let a = h.1 in inr (omega arith)) now;
-      more = λ left. let e : k ≡ most = whole (omega arith) in
-          ⊎_elim (λ (z : out ≡ 0). inr (omega arith, omega arith)) (λ (h : (most + out ≤ done + 1) × (2 * out + 1 ≤ done)). let a = h.0 in let b = h.1 in inr (omega arith, omega arith)) now;
-    }
+-- ---- how many pieces
 
-pub full-few : (most out done rest e : ℕ) → Full most out done rest → done ≤ most + e → out ≤ 1 + e
-full-few most out done rest e f le = ⊎_elim (λ (a : out ≤ 1). let r : out ≤ 1 + e = omega arith in r) (λ (a : most + out ≤ done + 1). let r : out ≤ 1 + e = omega arith in r) f.few
+-- pieces that are no more than it takes, where so many elements are left for more of them
+abbrev pub FewSoFar : ℕ → ℕ → ℕ → ℕ → Type 0
+FewSoFar most all out rest = (k : ℕ) → all ≤ k * most → (out ≤ k) × (rest ≤ (k - out) * most)
 
-pub full-half : (most out done rest : ℕ) → Full most out done rest → 2 ≤ done → 2 * out ≤ done
-full-half most out done rest f le = ⊎_elim (λ (a : out ≤ 1). let r : 2 * out ≤ done = omega arith in r) (λ (a : 2 * out ≤ done). a) f.half
+pub few-start : (most all out : ℕ) → out ≡ 0 → FewSoFar most all out all
+few-start most all out none k le = (omega (arith, none), let e : k - out ≡ k = omega (arith, none) in subst (λ (m : ℕ). all ≤ m * most) (sym e) le)
+
+pub few-next : (most all out rest taken out_now rest_now : ℕ) → FewSoFar most all out rest → ((k : ℕ) → rest ≤ suc k * most → rest - taken ≤ k * most) → out_now ≡ out + 1 → rest_now ≡ rest - taken → 1 ≤ rest → FewSoFar most all out_now rest_now
+few-next most all out rest taken out_now rest_now so_far share more less some k le = by (k - out) refl (so_far k le).1
+  where
+    by : (j : ℕ) → k - out ≡ j → rest ≤ (k - out) * most → (out_now ≤ k) × (rest_now ≤ (k - out_now) * most)
+    by zero e le = absurd (let f : rest ≤ zero * most = subst (λ (m : ℕ). rest ≤ m * most) e le in let z : zero * most ≡ 0 = omega arith in omega (arith, f, z, some))
+    by (suc j) e le =
+        let f : rest - taken ≤ j * most = share j (subst (λ (m : ℕ). rest ≤ m * most) e le) in
+        let same : k - out_now ≡ j = omega (arith, e, more) in
+        (omega (arith, e, more), subst (λ (n : ℕ). n ≤ (k - out_now) * most) (sym less) (subst (λ (m : ℕ). rest - taken ≤ m * most) (sym same) f))
+
+pub few-end : (most all out rest : ℕ) → FewSoFar most all out rest → (k : ℕ) → all ≤ k * most → out ≤ k
+few-end most all out rest so_far k le = (so_far k le).0
+
+-- what the next page takes leaves no more than the pages after it hold
+pub share-all : (most left : ℕ) → (k : ℕ) → left ≤ suc k * most → left - left ≤ k * most
+share-all most left k le = let z : left - left ≡ 0 = omega arith in omega (arith, z)
+
+pub share-some : (most left taken : ℕ) → most < left → left - taken ≤ most → (k : ℕ) → left ≤ suc k * most → left - taken ≤ k * most
+share-some most left taken over few zero le = absurd (omega (arith, over, le))
+share-some most left taken over few (suc k) le = let one : suc k * most ≡ most + k * most = omega arith in omega (arith, one, few)
+
+pub share-most : (most left : ℕ) (k : ℕ) → left ≤ suc k * most → left - most ≤ k * most
+share-most most left k le = let one : suc k * most ≡ most + k * most = omega arith in omega (arith, one, le)
 
 -- ---- a page's entries fit
 
@@ -100,10 +113,6 @@ pub times-one : (w e : ℕ) → 1 ≤ e → w ≤ w * e
 times-one w zero h = absurd (omega arith)
 times-one w (suc e) h = let x : suc e ≡ 1 + e = omega arith in let y : w * suc e ≡ w * 1 + w * e = ap (λ (n : ℕ). w * n) x ∙ times-plus w 1 e in omega (arith, y)
 
-pub full-same : (most a b c x y z : ℕ) → Full most a b c → x ≡ a → y ≡ b → z ≡ c → Full most x y z
-full-same most a b c x y z f p q r =
-    subst (λ (n : ℕ). Full most n y z) (sym p) (subst (λ (n : ℕ). Full most a n z) (sym q) (subst (λ (n : ℕ). Full most a b n) (sym r) f))
-
 pub plus-times : (a b w : ℕ) → (a + b) * w ≡ a * w + b * w
 plus-times a b zero = let x : (a + b) * zero ≡ 0 = omega arith in let y : a * zero ≡ 0 = omega arith in let z : b * zero ≡ 0 = omega arith in omega (arith, x, y, z)
 plus-times a b (suc w) =
@@ -112,6 +121,17 @@ plus-times a b (suc w) =
     let y : a * suc w ≡ a * w + a = omega arith in
     let z : b * suc w ≡ b * w + b = omega arith in
     omega (arith, h, x, y, z)
+
+-- a page of children has room for twenty
+pub most-inner : (leaf level most : ℕ) → ((n : ℕ) → n * size_at leaf level ≤ 488 → n ≤ most) → 1 ≤ level → 20 ≤ most
+most-inner leaf level most all low = all 20 (subst (λ (s : ℕ). 20 * s ≤ 488) (sym (size_at-inner leaf level low)) (omega arith))
+
+pub some-more : (most n k e all : ℕ) → 1 ≤ most → n ≤ most → all ≤ k * n + e → all ≤ (k + e) * most
+some-more most n k e all some le few =
+    let a : k * n ≤ k * most = mul-le k n k most (omega arith) le in
+    let b : e ≤ e * most = times-one e most some in
+    let c : (k + e) * most ≡ k * most + e * most = plus-times k e most in
+    omega (arith, a, b, c, few)
 
 pub loop-grows : (level here e r m q old pages new : ℕ) → 1 ≤ level → here ≡ level → r ≡ m + q → r ≤ e → pages ≤ old + (2 * level) * (e - r) → new ≤ pages + (2 * (here - 1) + 2) * m → new ≤ old + (2 * level) * (e - q)
 loop-grows level here e r m q old pages new some is cut within so_far more =

@@ -8,6 +8,8 @@ pub mod EachLaws
 pub mod SpanLaws
 pub mod CutLaws
 pub mod StepLaws
+pub mod JoinLaws
+pub mod RoomLaws
 pub mod LoopLaws
 pub mod RootLaws
 pub mod CountLaws

@@ -1,23 +1,27 @@
 -- One page of a tree after edits, and one child of it.
-use Rattle.std.proofs.Common.{◌≡◌, ℕ, zero, suc, ◌+◌, ◌-◌, ◌≤◌, ◌<◌, List, [], ◌∷◌, ◌++◌, map, length, drop, get_or, refl, sym, ap, subst, ◌∙◌, arith, Option, Some, Result, Ok, inl, inr}
+use Rattle.std.proofs.Common.{◌≡◌, ℕ, zero, suc, ◌+◌, ◌-◌, ◌*◌, ◌^◌, ◌≤◌, ◌<◌, List, [], ◌∷◌, ◌++◌, map, length, drop, get_or, refl, sym, ap, subst, ◌∙◌, arith, append_assoc, Option, Some, Result, Ok, inl, inr}
 use Rattle.std.proofs.lemmas.Bool.{eq-eqb, ne_eqb, cases_lt}
-use Rattle.std.proofs.lemmas.List.{drop_all, length-map}
+use Rattle.std.proofs.lemmas.List.{append-nil, drop_all, length-map}
 use Rattle.pst_base.specs.declared.ids.Bref.{Bref}
 use Rattle.pst_base.specs.declared.stops.PageFault.{PageFault}
 use Rattle.pst_base.specs.Fields.{number_at}
 use Rattle.btree_pages.specs.Entries.{inner_of}
-use Rattle.btree_pages.specs.Pages.{Page, keys, key_in, page_of}
+use Rattle.btree_pages.specs.Pages.{Page, keys, key_in, page_of, size_at}
 use Rattle.tree_edit.specs.declared.plan.Child.{Child}
-use Rattle.tree_edit.specs.declared.plan.Child.TheVariants.{Old}
 use Rattle.tree_edit.specs.declared.plan.PlanPage.{PlanPage}
 use Rattle.tree_edit.specs.Shapes.{Shape, leaf, inner, RiseIn, heads, up_to, AreBelow, HasLeaf, HasInner, IsTree}
-use Rattle.tree_edit.specs.Edits.{edited, AreEdits}
-use Rattle.tree_edit.specs.Plans.{keys_of}
-use Rattle.tree_edit.specs.Steps.{Replaces, Lays, Packs}
+use Rattle.tree_edit.specs.Edits.{edited, puts, AreEdits}
+use Rattle.tree_edit.specs.Plans.{tally}
+use Rattle.tree_edit.specs.Joins.{IsMost, StandsFor, size_of}
+use Rattle.tree_edit.specs.Steps.{Becomes, IsRead, IsSpare, Replaces}
 use Rattle.tree_edit.specs.Pages.{child_in, shape_of, seen, shown, shapes}
-use Rattle.tree_edit.proofs.EditLaws.{edited-rise}
+use Rattle.tree_edit.proofs.PutLaws.{edited-length}
+use Rattle.tree_edit.proofs.PlanLaws.{tally-join}
+use Rattle.tree_edit.proofs.CountLaws.{size-inner}
 use Rattle.tree_edit.proofs.MergeLaws.{drop-here, rise-drop}
-use Rattle.tree_edit.proofs.EachLaws.{replaces-kept, replaces-leaf, replaces-inner}
+
+zero-first : (a b : ℕ) → a ≡ b → 0 + a ≡ b
+zero-first a b e = omega arith
 
 pub same_page : (r : Result Page PageFault) (page got : Page) → r ≡ Ok page → r ≡ Ok got → page ≡ got
 same_page r page got e h = let both_are : ◌≡◌ {A = Result Page PageFault} (Ok page) (Ok got) = sym e ∙ h in cc
@@ -48,31 +52,6 @@ pub inner-shape : {E : Type 0} (rule : ℕ → ℕ) (entry_of : List ℕ → E) 
 inner-shape {E} rule entry_of page n e = rw (ne_eqb page.level 0 (λ z. absurd (omega (arith, z, e)))) (ap (λ (m : ℕ). inner {E = E} m (map (child_in rule) page.entries)) e)
 
 module _ {E : Type 0} (rule : ℕ → ℕ) (size : ℕ) (entry_of : List ℕ → E) (key : E → ℕ) (find : Bref → Option (List ℕ)) (at : Bref) (body : List ℕ) (page : Page) (found : find at ≡ Some body) (reads : page_of rule size body ≡ Ok page) where
-  pub leaf-done : (level low high : ℕ) (old new : List (PlanPage E)) (freed gone : List Bref) (cs : List (ℕ × Child)) (edits : List (ℕ × Option E)) (es : List E) (ps : List Bref) → level ≡ 0 → page.level ≡ level
-      → gone ≡ freed ++ (at ∷ []) → AreEdits key low high edits → Lays key old new cs (edited key (map entry_of page.entries) edits)
-      → IsTree (shapes rule size entry_of find) key level low high at es ps → Replaces (shapes rule size entry_of find) key level high old new freed gone cs (edited key es edits) ps
-  leaf-done level low high old new freed gone cs edits es ps is same is_gone edits_in lays tree =
-      let t : HasLeaf (shapes rule size entry_of find) key 1 low high at es ps = subst (λ (m : ℕ). IsTree (shapes rule size entry_of find) key m low high at es ps) is tree in
-      let here : shapes rule size entry_of find at ≡ Some (leaf (map entry_of page.entries)) = shown-here rule size entry_of find at body page found reads ∙ ap Some (leaf-shape rule entry_of page (same ∙ is)) in
-      let entries : map entry_of page.entries ≡ es = ap (λ (s : Shape E). s.entries) (some-same _ (leaf (map entry_of page.entries)) (leaf es) here t.shown) in
-      subst (λ (m : ℕ). Replaces (shapes rule size entry_of find) key m high old new freed gone cs (edited key es edits) ps) (sym is)
-      (replaces-leaf (shapes rule size entry_of find) key low high old new freed gone at cs (edited key es edits) ps t.alone is_gone (edited-rise key low high es edits t.rises edits_in)
-      (subst (λ (l : List E). Lays key old new cs (edited key l edits)) entries lays))
-
-  pub inner-done : (n level low high : ℕ) (old mid new : List (PlanPage E)) (freed first gone : List Bref) (ds cs : List (ℕ × Child)) (edits : List (ℕ × Option E)) (es : List E) (ps : List Bref) → level ≡ suc n → page.level ≡ level
-      → first ≡ freed ++ (at ∷ []) → RiseIn low high (keys_of ds) → Packs key n mid new ds cs
-      → ((fs : List E) (qs : List Bref) → AreBelow (IsTree (shapes rule size entry_of find) key n) high (map (child_in rule) page.entries) fs qs
-      → Replaces (shapes rule size entry_of find) key n high old mid first gone ds (edited key fs edits) qs)
-      → IsTree (shapes rule size entry_of find) key level low high at es ps → Replaces (shapes rule size entry_of find) key level high old new freed gone cs (edited key es edits) ps
-  inner-done n level low high old mid new freed first gone ds cs edits es ps is same is_first rises packs children tree =
-      let t : HasInner (shapes rule size entry_of find) (IsTree (shapes rule size entry_of find) key n) (suc n) 1 low high at es ps = subst (λ (m : ℕ). IsTree (shapes rule size entry_of find) key m low high at es ps) is tree in
-      let here : shapes rule size entry_of find at ≡ Some (inner (suc n) (map (child_in rule) page.entries)) =
-      shown-here rule size entry_of find at body page found reads ∙ ap Some (inner-shape rule entry_of page n (same ∙ is)) in
-      let kids : t.children ≡ map (child_in rule) page.entries = ap (λ (s : Shape E). s.children) (some-same _ (inner (suc n) t.children) (inner (suc n) (map (child_in rule) page.entries)) t.shown here) in
-      let are = subst (λ (l : List (ℕ × Bref)). AreBelow (IsTree (shapes rule size entry_of find) key n) high l es t.below) kids t.are in
-      subst (λ (m : ℕ). Replaces (shapes rule size entry_of find) key m high old new freed gone cs (edited key es edits) ps) (sym is)
-      (replaces-inner (shapes rule size entry_of find) key n low high old mid new freed first gone at ds cs (edited key es edits) ps t.below t.first is_first rises (children es t.below are) packs)
-
   pub leaf-entries : (level low high : ℕ) (es : List E) (ps : List Bref) → level ≡ 0 → page.level ≡ level → IsTree (shapes rule size entry_of find) key level low high at es ps → map entry_of page.entries ≡ es
   leaf-entries level low high es ps is same tree =
       let t : HasLeaf (shapes rule size entry_of find) key 1 low high at es ps = subst (λ (m : ℕ). IsTree (shapes rule size entry_of find) key m low high at es ps) is tree in
@@ -87,6 +66,89 @@ module _ {E : Type 0} (rule : ℕ → ℕ) (size : ℕ) (entry_of : List ℕ →
       shown-here rule size entry_of find at body page found reads ∙ ap Some (inner-shape rule entry_of page n (same ∙ is)) in
       let kids : t.children ≡ map (child_in rule) page.entries = ap (λ (s : Shape E). s.children) (some-same _ (inner (suc n) t.children) (inner (suc n) (map (child_in rule) page.entries)) t.shown here) in
       (t.below, subst (λ (l : List (ℕ × Bref)). AreBelow (IsTree (shapes rule size entry_of find) key n) high l es t.below) kids t.are)
+
+  -- a leaf that is freed, and its entries after edits
+  pub leaf-read : (level low high : ℕ) (pages : List (PlanPage E)) (freed gone : List Bref) (made : List E) (children : List (ℕ × Child)) (edits : List (ℕ × Option E)) (es : List E) (ps : List Bref) → level ≡ 0 → page.level ≡ level → gone ≡ freed ++ (at ∷ [])
+      → made ≡ edited key (map entry_of page.entries) edits → IsTree (shapes rule size entry_of find) key level low high at es ps
+      → Becomes (shapes rule size entry_of find) (StandsFor key level high made children) pages pages freed gone (edited key es edits) ps
+  leaf-read level low high pages freed gone made children edits es ps is same is_gone is_made tree =
+      let t : HasLeaf (shapes rule size entry_of find) key 1 low high at es ps = subst (λ (m : ℕ). IsTree (shapes rule size entry_of find) key m low high at es ps) is tree in
+      let entries : edited key es edits ≡ made = ap (λ (l : List E). edited key l edits) (sym (leaf-entries level low high es ps is same tree)) ∙ sym is_made in
+      subst (λ (m : ℕ). Becomes (shapes rule size entry_of find) (StandsFor key m high made children) pages pages freed gone (edited key es edits) ps) (sym is) (record {
+        more = [];
+        gone = at ∷ [];
+        kept = [];
+        pages = sym (append-nil pages);
+        freed = is_gone;
+        counted = λ ib. zero-first _ _ (ap (tally ib) (sym t.alone));
+        tree = λ after name k s. ([], (entries, refl), λ ib. refl);
+      })
+
+  -- an inner page that is freed, and its children after edits
+  pub inner-read : (n level low high : ℕ) (old mid : List (PlanPage E)) (freed first gone : List Bref) (entries : List E) (ds : List (ℕ × Child)) (edits : List (ℕ × Option E)) (es : List E) (ps : List Bref) → level ≡ suc n → page.level ≡ level
+      → first ≡ freed ++ (at ∷ [])
+      → ((fs : List E) (qs : List Bref) → AreBelow (IsTree (shapes rule size entry_of find) key n) high (map (child_in rule) page.entries) fs qs
+      → Replaces (shapes rule size entry_of find) key n high old mid first gone ds (edited key fs edits) qs)
+      → IsTree (shapes rule size entry_of find) key level low high at es ps → Becomes (shapes rule size entry_of find) (StandsFor key level high entries ds) old mid freed gone (edited key es edits) ps
+  inner-read n level low high old mid freed first gone entries ds edits es ps is same is_first children tree =
+      let t : HasInner (shapes rule size entry_of find) (IsTree (shapes rule size entry_of find) key n) (suc n) 1 low high at es ps = subst (λ (m : ℕ). IsTree (shapes rule size entry_of find) key m low high at es ps) is tree in
+      let here : shapes rule size entry_of find at ≡ Some (inner (suc n) (map (child_in rule) page.entries)) =
+      shown-here rule size entry_of find at body page found reads ∙ ap Some (inner-shape rule entry_of page n (same ∙ is)) in
+      let kids : t.children ≡ map (child_in rule) page.entries = ap (λ (s : Shape E). s.children) (some-same _ (inner (suc n) t.children) (inner (suc n) (map (child_in rule) page.entries)) t.shown here) in
+      let r = children es t.below (subst (λ (l : List (ℕ × Bref)). AreBelow (IsTree (shapes rule size entry_of find) key n) high l es t.below) kids t.are) in
+      subst (λ (m : ℕ). Becomes (shapes rule size entry_of find) (StandsFor key m high entries ds) old mid freed gone (edited key es edits) ps) (sym is) (record {
+        more = r.more;
+        gone = at ∷ r.gone;
+        kept = r.kept;
+        pages = r.pages;
+        freed = r.freed ∙ ap (λ (l : List Bref). l ++ r.gone) is_first ∙ append_assoc freed (at ∷ []) r.gone;
+        counted = λ ib. let a = r.counted ib in let b = tally-join ib (at ∷ []) r.gone in let d = tally-join ib (at ∷ []) t.below in let e = ap (tally ib) t.first in
+            gone_sum (tally ib r.kept) (tally ib r.gone) (tally ib t.below) (tally ib (at ∷ [])) (tally ib (at ∷ r.gone)) (tally ib (at ∷ t.below)) (tally ib ps) a b d e;
+        tree = r.tree;
+      })
+    where
+      gone_sum : (k g b o og ob p : ℕ) → k + g ≡ b → og ≡ o + g → ob ≡ o + b → p ≡ ob → k + og ≡ p
+      gone_sum k g b o og ob p x y z w = omega arith
+
+  -- how many there are
+  pub leaf-count : (level low high pages freed gone : ℕ) (made : List E) (children : List (ℕ × Child)) (edits : List (ℕ × Option E)) (es : List E) (ps : List Bref) → level ≡ 0 → page.level ≡ level → length page.entries * size_at size page.level ≤ 488 → AreEdits key 0 (2 ^ 64) edits
+      → gone ≡ freed + 1 → made ≡ edited key (map entry_of page.entries) edits → IsTree (shapes rule size entry_of find) key level low high at es ps → IsRead size level (puts key es edits) (size_of level made children) pages pages freed gone
+  leaf-count level low high pages freed gone made children edits es ps is same fits are one is_made tree =
+      let entries = leaf-entries level low high es ps is same tree in
+      let short = edited-length key 0 (2 ^ 64) (map entry_of page.entries) edits are in
+      let len = length-map page.entries entry_of in
+      let long = ap (λ (l : List E). length l) is_made in
+      let put = ap (λ (l : List E). puts key l edits) entries in
+      subst (λ (m : ℕ). IsRead size m (puts key es edits) (size_of m made children) pages pages freed gone) (sym is) (record {
+        few = λ most all. let whole = all.whole (length page.entries) (subst (λ (m : ℕ). length page.entries * size_at size m ≤ 488) (same ∙ is) fits) in omega (arith, short, len, long, put, whole);
+        spare = omega (arith, one);
+      })
+
+  pub inner-count : (n level low high old mid freed first gone : ℕ) (entries : List E) (ds : List (ℕ × Child)) (edits : List (ℕ × Option E)) (es : List E) (ps : List Bref) → level ≡ suc n → page.level ≡ level → length page.entries * size_at size page.level ≤ 488 → first ≡ freed + 1
+      → ((fs : List E) (qs : List Bref) → AreBelow (IsTree (shapes rule size entry_of find) key n) high (map (child_in rule) page.entries) fs qs → IsSpare n (length page.entries) (puts key fs edits) old mid first gone (length ds))
+      → IsTree (shapes rule size entry_of find) key level low high at es ps → IsRead size level (puts key es edits) (size_of level entries ds) old mid freed gone
+  inner-count n level low high old mid freed first gone entries ds edits es ps is same fits one children tree =
+      let below = inner-below n level low high es ps is same tree in
+      let s = children es below.0 below.1 in
+      let few = s.few in
+      let spare = s.spare in
+      subst (λ (m : ℕ). IsRead size m (puts key es edits) (size_of m entries ds) old mid freed gone) (sym is) (record {
+        few = λ most all. let whole = all.whole (length page.entries) (subst (λ (m : ℕ). length page.entries * size_at size m ≤ 488) (same ∙ is) fits) in let here = size-inner n entries ds in omega (arith, few, whole, here);
+        spare = omega (arith, spare, one);
+      })
+
+-- by the edits alone
+pub leaf-few : {E : Type 0} (size level entries e : ℕ) (made : List E) (children : List (ℕ × Child)) → level ≡ 0 → entries * size_at size level ≤ 488 → length made ≤ entries + e → (most : ℕ) → IsMost size level most → size_of level made children ≤ most + e
+leaf-few {E} size level entries e made children is fits short most all =
+    let whole = all.whole entries fits in
+    let here : size_of level made children ≡ length made = subst (λ (m : ℕ). size_of m made children ≡ length made) (sym is) refl in
+    omega (arith, whole, short, here)
+
+pub inner-few : {E : Type 0} (size n level entries e : ℕ) (made : List E) (children : List (ℕ × Child)) → level ≡ suc n → entries * size_at size level ≤ 488 → length children ≤ entries + e → (most : ℕ) → IsMost size level most → size_of level made children ≤ most + e
+inner-few {E} size n level entries e made children is fits short most all =
+    let whole = all.whole entries fits in
+    let here : size_of level made children ≡ length children = subst (λ (m : ℕ). size_of m made children ≡ length children) (sym is) (size-inner n made children) in
+    omega (arith, whole, short, here)
 
 -- ---- one child
 
@@ -159,11 +221,3 @@ child-seated rule low high entries i key seat_low seat_high at inside rises is f
       | inl more ↦ let e = ap (up_to (high + 1)) (drop-here (child_in rule) entries (i + 1) [] more) in let f = next more in omega (arith, e, f, less)
       | inr end ↦ let len = length-map entries (child_in rule) in let e = ap (up_to (high + 1)) (drop_all (i + 1) (map (child_in rule) entries) (omega (arith, len, end))) in let f = last (omega arith) in omega (arith, e, f)
     ]
-
--- ---- a child without edits
-
-pub nothing-edited : {E : Type 0} (find : Bref → Option (Shape E)) (key : E → ℕ) (n high k : ℕ) (pages : List (PlanPage E)) (freed : List Bref) (at : Bref) (es : List E) (ps : List Bref) (edits : List (ℕ × Option E))
-    (cs : List (ℕ × Child)) → length edits ≡ 0 → cs ≡ ((k, Old at) ∷ []) → IsTree find key n k high at es ps → Replaces find key n high pages pages freed freed cs (edited key es edits) ps
-nothing-edited find key n high k pages freed at es ps [] cs none is t =
-    subst (λ (l : List (ℕ × Child)). Replaces find key n high pages pages freed freed l es ps) (sym is) (replaces-kept find key n high k pages freed at es ps t)
-nothing-edited find key n high k pages freed at es ps (d ∷ ds) cs none is t = absurd (omega arith)

@@ -17,9 +17,10 @@ use Rattle.tree_edit.specs.Shapes.{Shape, leaf, inner, RiseIn, heads, up_to, One
 use Rattle.tree_edit.specs.Pages.{child_in, shape_of, seen, shown, shapes}
 use Rattle.tree_edit.specs.Source.{Source, Rose, Later, SourceStops, Gave, StopsOn}
 use Rattle.tree_edit.specs.Steps.{TellsBelow, TellsTree}
-use Rattle.tree_edit.proofs.EachLaws.{Underway}
+use Rattle.tree_edit.specs.declared.page.Seat.{Seat}
+use Rattle.tree_edit.proofs.JoinLaws.{IsKept}
 use Rattle.tree_edit.proofs.StepLaws.{Seated, floor_at, some-same, leaf-shape, inner-shape, same-keys, same-heads}
-use Rattle.tree_edit.proofs.LoopLaws.{EditLoop}
+use Rattle.tree_edit.proofs.LoopLaws.{EditLoop, Underway}
 use Rattle.tree_edit.proofs.RootLaws.{shape-level}
 
 -- ---- stops
@@ -111,21 +112,33 @@ any-page {E} rule size entry_of key law find at body found (suc n) least low hig
 
 -- ---- a child's stop
 
-pub loop-stops : {A E : Type 0} (rule : ℕ → ℕ) (size : ℕ) (entry_of : List ℕ → E) (key : E → ℕ) (first now next : Source A) (page : Page) (low high i : ℕ) (old new : List (PlanPage E)) (freed gone : List Bref)
-    (cs : List (ℕ × Child)) (edits rest : List (ℕ × Option E)) (c : ℕ × Bref) (seat_low seat_high level : ℕ) (stop : MemOr SourceStop)
-    → EditLoop rule size entry_of key first now page low high i old new freed gone cs edits rest → Seated low high (map (child_in rule) page.entries) i c seat_low seat_high → page.level ≡ suc level
-    → StopsOn (TellsTree rule size entry_of key level c.0 (seat_high + 1) c.1) now next stop → StopsOn (TellsBelow rule size entry_of key page (high + 1)) first next stop
-loop-stops {A} {E} rule size entry_of key first now next page low high i old new freed gone cs edits rest c seat_low seat_high level stop loop seated is =
-    stops-then (TellsBelow rule size entry_of key page (high + 1)) (TellsTree rule size entry_of key level c.0 (seat_high + 1) c.1) first now next stop loop.later (λ find told t.
-    let kids : List (ℕ × Bref) = map (child_in rule) page.entries in
-    let floor : ℕ = floor_at low (high + 1) kids i in
-    let end : ℕ = up_to (high + 1) (drop (i + 1) kids) in
-    let s = seated.stands in
-    let u = subst (λ (l : List (ℕ × Bref)). Underway (shapes rule size entry_of find) key t.0 floor (high + 1) l old new freed gone cs t.2 t.3 edits rest) s.here (loop.so_far find told t.0 t.1 t.2 t.3 t.4) in
-    let o : OneThen (IsTree (shapes rule size entry_of find) key t.0) (AreBelow (IsTree (shapes rule size entry_of find) key t.0) (high + 1) (drop (i + 1) kids)) c.0 end c.1 u.behind u.left_pages = u.others in
-    let same : t.0 ≡ level = let a = t.1 in omega (arith, a, is) in (
-      o.first,
-      o.first_pages,
-      subst (λ (m : ℕ). IsTree (shapes rule size entry_of find) key m c.0 (seat_high + 1) c.1 o.first o.first_pages) same
-          (subst (λ (m : ℕ). IsTree (shapes rule size entry_of find) key t.0 c.0 m c.1 o.first o.first_pages) (sym seated.high_is) o.one),
-    ))
+module _ {A E : Type 0} (rule : ℕ → ℕ) (size : ℕ) (entry_of : List ℕ → E) (key : E → ℕ) (first now next : Source A) (page : Page) (low high most i : ℕ) (old new : List (PlanPage E)) (freed gone : List Bref) (out : List (ℕ × Child)) (kept : Option Seat) (entries : List E) (children : List (ℕ × Child))
+    (edits rest : List (ℕ × Option E)) (level : ℕ) (stop : MemOr SourceStop) (loop : EditLoop rule size entry_of key first now page low high most i old new freed gone out kept entries children edits rest) (is : page.level ≡ suc level) where
+  pub loop-stops : (c : ℕ × Bref) (seat_low seat_high : ℕ) → Seated low high (map (child_in rule) page.entries) i c seat_low seat_high
+      → StopsOn (TellsTree rule size entry_of key level c.0 (seat_high + 1) c.1) now next stop → StopsOn (TellsBelow rule size entry_of key page (high + 1)) first next stop
+  loop-stops c seat_low seat_high seated =
+      stops-then (TellsBelow rule size entry_of key page (high + 1)) (TellsTree rule size entry_of key level c.0 (seat_high + 1) c.1) first now next stop loop.later (λ find told t.
+      let kids : List (ℕ × Bref) = map (child_in rule) page.entries in
+      let floor : ℕ = floor_at low (high + 1) kids i in
+      let end : ℕ = up_to (high + 1) (drop (i + 1) kids) in
+      let s = seated.stands in
+      let u = subst (λ (l : List (ℕ × Bref)). Underway (shapes rule size entry_of find) key most t.0 i loop.order.cut floor (high + 1) l old new freed gone out kept entries children t.2 t.3 edits rest) s.here (loop.so_far find told t.0 t.1 t.2 t.3 t.4) in
+      let o : OneThen (IsTree (shapes rule size entry_of find) key t.0) (AreBelow (IsTree (shapes rule size entry_of find) key t.0) (high + 1) (drop (i + 1) kids)) c.0 end c.1 u.behind u.left_pages = u.others in
+      let same : t.0 ≡ level = let a = t.1 in omega (arith, a, is) in (
+        o.first,
+        o.first_pages,
+        subst (λ (m : ℕ). IsTree (shapes rule size entry_of find) key m c.0 (seat_high + 1) c.1 o.first o.first_pages) same
+            (subst (λ (m : ℕ). IsTree (shapes rule size entry_of find) key t.0 c.0 m c.1 o.first o.first_pages) (sym seated.high_is) o.one),
+      ))
+
+  -- that of the child which stayed
+  pub kept-stops : (seat : Seat) → kept ≡ Some seat → StopsOn (TellsTree rule size entry_of key level seat.key (seat.high + 1) seat.at) now next stop → StopsOn (TellsBelow rule size entry_of key page (high + 1)) first next stop
+  kept-stops seat kept_is =
+      stops-then (TellsBelow rule size entry_of key page (high + 1)) (TellsTree rule size entry_of key level seat.key (seat.high + 1) seat.at) first now next stop loop.later (λ find told t.
+      let g = (loop.so_far find told t.0 t.1 t.2 t.3 t.4).stage in
+      let same : t.0 ≡ level = let a = t.1 in omega (arith, a, is) in (
+        g.stayed,
+        g.stayed_pages,
+        subst (λ (m : ℕ). IsTree (shapes rule size entry_of find) key m seat.key (seat.high + 1) seat.at g.stayed g.stayed_pages) same
+            (subst (λ (k : Option Seat). IsKept (shapes rule size entry_of find) key t.0 k g.stayed g.stayed_pages) kept_is g.stays),
+      ))

@@ -1,7 +1,6 @@
 -- Pages that may be written.
-use Rattle.std.proofs.Common.{◌≡◌, ℕ, zero, suc, ◌+◌, ◌*◌, ◌/◌, ◌≤◌, List, [], ◌∷◌, ◌++◌, map, length, take, drop, get_or, sym, ap, subst, ◌∙◌, arith, Option}
+use Rattle.std.proofs.Common.{◌≡◌, ℕ, zero, suc, ◌+◌, ◌*◌, ◌≤◌, List, [], ◌∷◌, ◌++◌, map, length, take, drop, get_or, sym, ap, subst, ◌∙◌, arith, Option}
 use Rattle.std.proofs.lemmas.Nat.{mul-le}
-use Rattle.std.proofs.Math.Nat.{div-mul-le_self}
 use Rattle.tree_edit.specs.declared.plan.Child.{Child}
 use Rattle.tree_edit.specs.declared.plan.PlanPage.{PlanPage}
 use Rattle.tree_edit.specs.Shapes.{RiseIn}
@@ -17,8 +16,8 @@ rise-take key low high zero xs r = tt
 rise-take key low high (suc n) [] r = tt
 rise-take key low high (suc n) (x ∷ xs) r = (r.0, r.1, rise-take key (key x + 1) high n xs r.2)
 
-pub fits-page : (n size : ℕ) → n ≤ 488 / size → n * size ≤ 488
-fits-page n size le = let a : n * size ≤ (488 / size) * size = mul-le n size (488 / size) size le (omega arith) in let b = div-mul-le_self 488 size in omega (arith, a, b)
+pub fits-page : (n most size : ℕ) → n ≤ most → most * size ≤ 488 → n * size ≤ 488
+fits-page n most size le fits = let a : n * size ≤ most * size = mul-le n size most size le (omega arith) in omega (arith, a, fits)
 
 pub edits-widen : {E : Type 0} (key : E → ℕ) (low high low' high' : ℕ) (ds : List (ℕ × Option E)) → low' ≤ low → high ≤ high' → AreEdits key low high ds → AreEdits key low' high' ds
 edits-widen key low high low' high' [] a b d = tt

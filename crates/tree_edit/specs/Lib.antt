@@ -3,4 +3,5 @@ pub mod Edits
 pub mod Plans
 pub mod Pages
 pub mod Source
+pub mod Joins
 pub mod Steps

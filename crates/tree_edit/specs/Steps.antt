@@ -6,12 +6,13 @@ use Rattle.tree_edit.specs.declared.plan.Child.{Child}
 use Rattle.tree_edit.specs.declared.plan.Child.TheVariants.{New}
 use Rattle.tree_edit.specs.declared.plan.PlanPage.{PlanPage}
 use Rattle.tree_edit.specs.Shapes.{Shape, leaf, RiseIn, AreBelow, IsTree}
+use Rattle.tree_edit.specs.Joins.{IsMost}
 use Rattle.tree_edit.specs.Pages.{child_in, shapes}
 use Rattle.tree_edit.specs.Plans.{resolved, keys_of, shape_in, AreShown, names, AreKept, tally}
 
--- What became of some children with these entries and pages: more new pages, old pages that are gone and others that are kept, such that the new children have the entries.
-pub record Replaces {E : Type 0} (find : Bref → Option (Shape E)) (key : E → ℕ) (n high : ℕ) (old_pages new_pages : List (PlanPage E)) (old_freed new_freed : List Bref)
-    (cs : List (ℕ × Child)) (es : List E) (ps : List Bref) : Type 0 where
+-- What became of pages with these entries: more new pages, old pages that are gone and others that are kept, such that what stands for the entries now is there, with just these pages.
+pub record Becomes {E : Type 0} (find : Bref → Option (Shape E)) (Now : (Bref → Option (Shape E)) → (ℕ → Bref) → List E → List Bref → Type 0) (old_pages new_pages : List (PlanPage E)) (old_freed new_freed : List Bref)
+    (es : List E) (ps : List Bref) : Type 0 where
   pub more : List (PlanPage E)
   pub gone : List Bref
   pub kept : List Bref
@@ -19,7 +20,11 @@ pub record Replaces {E : Type 0} (find : Bref → Option (Shape E)) (key : E →
   pub freed : new_freed ≡ old_freed ++ gone
   pub counted : (ib : ℕ) → tally ib kept + tally ib gone ≡ tally ib ps
   pub tree : (after : Bref → Option (Shape E)) (name : ℕ → Bref) → AreKept find after kept → AreShown after name (length old_pages) more
-      → (qs : List Bref) × AreBelow (IsTree after key n) high (resolved name cs) es qs × ((ib : ℕ) → tally ib qs ≡ tally ib kept + tally ib (names name (length old_pages) more))
+      → (qs : List Bref) × Now after name es qs × ((ib : ℕ) → tally ib qs ≡ tally ib kept + tally ib (names name (length old_pages) more))
+
+-- children of level n became others, which have the entries
+abbrev pub Replaces : {E : Type 0} → (Bref → Option (Shape E)) → (E → ℕ) → ℕ → ℕ → List (PlanPage E) → List (PlanPage E) → List Bref → List Bref → List (ℕ × Child) → List E → List Bref → Type 0
+Replaces find key n high old_pages new_pages old_freed new_freed cs es ps = Becomes find (λ after name fs qs. AreBelow (IsTree after key n) high (resolved name cs) fs qs) old_pages new_pages old_freed new_freed es ps
 
 -- what new pages make of some entries: leaves
 pub record Lays {E : Type 0} (key : E → ℕ) (old_pages new_pages : List (PlanPage E)) (cs : List (ℕ × Child)) (es : List E) : Type 0 where
@@ -89,6 +94,11 @@ weigh (suc n) u = weigh n u + u
 pub record IsSpare (n k u old_pages new_pages old_freed new_freed pieces : ℕ) : Type 0 where
   pub few : pieces ≤ k + u
   pub spare : new_pages + old_freed ≤ old_pages + new_freed + weigh n u
+
+-- A page was read, and its entries or children weren't packed yet: they are so many, where u entries were put that weren't there.
+pub record IsRead (leaf level u size old_pages new_pages old_freed new_freed : ℕ) : Type 0 where
+  pub few : (most : ℕ) → IsMost leaf level most → size ≤ most + u
+  pub spare : new_pages + old_freed + 1 + u ≤ old_pages + new_freed + weigh level u
 
 -- the same below a root: of a root that is a leaf or has no child there are only new leaves, else it has at most twenty children of level n
 abbrev pub AreSpare : ℕ → ℕ → ℕ → ℕ → ℕ → ℕ → ℕ → Type 0

@@ -1,12 +1,13 @@
-//! Edits of a tree of pages ([MS-PST] 2.2.2.7.7) by copies: the pages on the way to the edited keys are written anew, and all others stay where they are.
+//! Edits of a tree of pages ([MS-PST] 2.2.2.7.7) by copies: the pages on the way to the edited keys are written anew, and what becomes too small is joined with a neighbour; all other pages stay where they are.
 //!
-//! A tree is said over what its pages show (`specs/Shapes.antt`), so that a clause may speak of any source of pages. `change` plans the new pages and names those that they stand for: with the pages that stay, the new ones are the tree of the edited entries (`IsPlan`), whatever ids and places they get. `look_up` finds one entry. Both read the pages on the way alone, from a `PageSource`.
+//! A tree is said over what its pages show (`specs/Shapes.antt`), so that a clause may speak of any source of pages. `change` plans the new pages and names those that they stand for: with the pages that stay, the new ones are the tree of the edited entries (`IsPlan`), whatever ids and places they get. `look_up` finds one entry. Both read from a `PageSource`, `look_up` the pages on the way alone, `change` also the neighbours that are joined.
 //!
 //! The ids and places of new pages, and the bytes that are written, are the caller's.
 #![tactic(auto)]
 
 mod descent;
 mod edits;
+mod join;
 mod look;
 mod merge;
 mod pack;

@@ -117,7 +117,7 @@ fn root_of<E: Entry>(
     Ok(root)
 }
 
-/// Plans the tree of a root after edits, whose keys ascend: new pages, the pages that are freed, and the new root. An edit puts its entry in its key's place, or takes the entry there away; `None` for a key that isn't there changes nothing. It reads the pages on the way to the edits alone, and copies each of them.
+/// Plans the tree of a root after edits, whose keys ascend: new pages, the pages that are freed, and the new root. An edit puts its entry in its key's place, or takes the entry there away; `None` for a key that isn't there changes nothing. It reads the pages on the way to the edits, and copies each of them. A page that edits leave less than a quarter full, though not empty, is joined with the page before it below the same inner page, or with the one behind it where it is the first; those neighbours are read and copied too. An only child and the root stay as they are.
 ///
 /// `Failed` and `Changed` are the source's own stops. `Changed` also comes at a page whose entries, level or keys aren't those of its place in the tree, with two zeros for its numbers. Memory is also wanted where the tree would pass level 7.
 ///

@@ -39,7 +39,8 @@ impl PageSource for OnePage {
     }
 }
 
-fn block(n: u32) -> BlockEntry {
+/// The block with a number.
+pub(crate) fn block(n: u32) -> BlockEntry {
     BlockEntry {
         at: Bref {
             bid: Bid {
@@ -63,10 +64,10 @@ fn node(n: u32) -> NodeEntry
     }
 }
 
-type Edits<E> = Vec<(u64, Option<E>)>;
+pub(crate) type Edits<E> = Vec<(u64, Option<E>)>;
 
 /// Edits that put blocks with the numbers from 1 on.
-fn blocks(alloc: Global, count: u32) -> Result<Edits<BlockEntry>, AllocError> {
+pub(crate) fn blocks(alloc: Global, count: u32) -> Result<Edits<BlockEntry>, AllocError> {
     let mut out = Vec::new(alloc);
     for n in 0..count {
         let entry = block(n + 1);
@@ -86,7 +87,7 @@ fn nodes(alloc: Global, count: u32) -> Result<Edits<NodeEntry>, AllocError> {
 }
 
 /// The level of a plan's root, where that is new.
-fn level_of<E: Entry>(plan: &Plan<E>) -> Option<u8> {
+pub(crate) fn level_of<E: Entry>(plan: &Plan<E>) -> Option<u8> {
     match plan.root {
         Child::Old(_) => None,
         Child::New(i) => match plan.pages.get(i) {

@@ -9,6 +9,7 @@ mod pages;
 mod references;
 mod slots;
 mod subnodes;
+mod thinning;
 
 use std::alloc::Global;
 use std::io;
@@ -28,6 +29,7 @@ impl Answerer for Trees {
             "place" | "lend" | "map" => slots::answer(alloc, kind, words),
             "leaf" | "inner" | "find" => pages::answer(alloc, kind, words),
             "change" | "edit" | "look" => edits::answer(alloc, kind, words),
+            "thin" | "narrow" => thinning::answer(alloc, kind, words),
             "data" | "data-kept" => lists::answer(alloc, kind, words),
             "subnodes" | "subnodes-kept" => subnodes::answer(alloc, kind, words),
             "references" => references::answer(alloc, words),

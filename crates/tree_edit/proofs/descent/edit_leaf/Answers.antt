@@ -12,7 +12,7 @@ returns-clause-few g c = λ fits.
     let made = ap (λ (l : List _). length l) (c.as_slice.ensures.value ∙ c.in_ok-entries.ensures) in
     let short = edited-short g.E.Entry.key (map g.E.Entry.entry_of c.args.page.now.entries) c.args.edits.now in
     let len = length-map c.args.page.now.entries g.E.Entry.entry_of in
-    c.in_ok-leaves.ensures.few (length c.args.page.now.entries) (length c.args.edits.now) fits (omega (arith, made, short, len))
+    c.in_ok-leaves.ensures.few (length c.args.page.now.entries) 1 (length c.args.edits.now) fits (omega (arith, made, short, len))
 
 pub pack_leaves-requires : goal.pack_leaves-requires
 pack_leaves-requires g c =
@@ -23,4 +23,4 @@ returns-clause-news g c = λ fits.
     let made = ap (λ (l : List _). length l) (c.as_slice.ensures.value ∙ c.in_ok-entries.ensures) in
     let short = edited-length g.E.Entry.key 0 (2 ^ 64) (map g.E.Entry.entry_of c.args.page.now.entries) c.args.edits.now c.requires.edits in
     let len = length-map c.args.page.now.entries g.E.Entry.entry_of in
-    c.in_ok-leaves.ensures.few (length c.args.page.now.entries) (puts g.E.Entry.key (map g.E.Entry.entry_of c.args.page.now.entries) c.args.edits.now) fits (omega (arith, made, short, len))
+    c.in_ok-leaves.ensures.few (length c.args.page.now.entries) 1 (puts g.E.Entry.key (map g.E.Entry.entry_of c.args.page.now.entries) c.args.edits.now) fits (omega (arith, made, short, len))

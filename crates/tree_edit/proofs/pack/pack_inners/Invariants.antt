@@ -1,7 +1,6 @@
-use Rattle.std.proofs.Common.{◌≡◌, ◌≤◌, ◌+◌, ◌-◌, ◌^◌, length}
+use Rattle.std.proofs.Common.{◌≡◌, ◌≤◌, ◌+◌, ◌-◌, ◌*◌, ◌^◌, ℕ, length}
 use Rattle.tree_edit.specs.Shapes.{RiseIn}
 use Rattle.tree_edit.specs.Plans.{AreKeys, AreWritable, keys_of}
-use Rattle.tree_edit.proofs.CountLaws.{Full}
 use Rattle.tree_edit.proofs.PackLaws.{InnersSoFar}
 use Rattle.tree_edit.proofs.pack.pack_inners.Given as goal
 
@@ -14,7 +13,8 @@ invariant-loop-rest g l = record {
   writable : AreWritable g.E.Entry.key g.E.Entry.rule g.E.Entry.size l.fn.pages.items → AreWritable g.E.Entry.key g.E.Entry.rule g.E.Entry.size l.pages.items;
   grows : length l.pages.items ≡ length l.fn.pages.items + length l.out.items;
   within : length l.rest ≤ length l.children;
-  full : Full 20 (length l.out.items) (length l.children - length l.rest) (length l.rest);
+  few : (k : ℕ) → length l.children ≤ k * l.most → (length l.out.items ≤ k) × (length l.rest ≤ (k - length l.out.items) * l.most);
+  some : 1 ≤ length l.children → 1 ≤ length l.out.items + length l.rest;
 }
 
 abbrev pub decreases-loop-rest : goal.decreases-loop-rest

@@ -1,9 +1,8 @@
-use Rattle.std.proofs.Common.{◌≡◌, ◌≤◌, ◌+◌, ◌∷◌, [], ℕ, List, length, rules, refl, subst, sym, ap, ◌∙◌, arith, length-append, ◌^◌, map, ◌*◌, ◌/◌, ◌-◌}
+use Rattle.std.proofs.Common.{◌≡◌, ◌≤◌, ◌+◌, ◌∷◌, [], ℕ, List, length, rules, subst, sym, ap, ◌∙◌, arith, length-append, ◌^◌, map, ◌*◌}
 use Rattle.std.proofs.lemmas.Grind.{common_steps}
 use Rattle.tree_edit.specs.Shapes.{leaf, RiseIn}
 use Rattle.tree_edit.specs.Plans.{AreKeys, AreWritable, keys_of}
-use Rattle.std.proofs.lemmas.Nat.{le-div}
-use Rattle.tree_edit.proofs.CountLaws.{full-start, full-next, full-same, full-few}
+use Rattle.tree_edit.proofs.CountLaws.{few-start, few-next, few-end, some-more}
 use Rattle.tree_edit.specs.declared.plan.Child.{Child}
 use Rattle.tree_edit.proofs.MergeLaws.{rise-drop}
 use Rattle.tree_edit.proofs.WriteLaws.{writable-push, rise-take, fits-page, keys-more, own-key}
@@ -20,7 +19,7 @@ loop-rest-init g c =
       writable = λ h. h;
       grows = omega (arith, none);
       within = omega arith;
-      full = full-same (488 / c.size-most.result) 0 0 (length c.args.entries.now) _ _ _ (full-start (488 / c.size-most.result) (length c.args.entries.now)) none (omega arith) refl;
+      few = few-start c.most_at-most.result (length c.args.entries.now) _ none;
     }
 
 pub loop-rest-preserved : goal.loop-rest-preserved
@@ -37,33 +36,28 @@ loop-rest-preserved g c =
       so_far = leaves-next g.E.Entry.key c.args.pages.now.items c.loop-rest.pages.items _ c.loop-rest.out.items _ c.args.entries.now c.loop-rest.rest.now c.split_at.result.0.now c.split_at.result.1.now c.index-here-0.result _ _ _ c.loop-rest.invariant.so_far
           (cut-again _ c.loop-rest.rest.now c.split_at.result.0.now c.split_at.result.1.now c.split_at.ensures.front c.split_at.ensures.back) some c.index-here-0.is c.in_ok-push-2.ensures.items c.in_ok-push.ensures.items number
           c.key.ensures.value (λ name. ap leaf c.in_ok-from_slice.ensures.items);
-      rises = subst (λ (l : List _). RiseIn 0 (2 ^ 64) (map g.E.Entry.key l)) (sym c.split_at.ensures.back) (rise-drop g.E.Entry.key 0 (2 ^ 64) c.min.result c.loop-rest.rest.now c.loop-rest.invariant.rises);
+      rises = subst (λ (l : List _). RiseIn 0 (2 ^ 64) (map g.E.Entry.key l)) (sym c.split_at.ensures.back) (rise-drop g.E.Entry.key 0 (2 ^ 64) c.share.result c.loop-rest.rest.now c.loop-rest.invariant.rises);
       keys = keys-more g.E.Entry.rule c.loop-rest.out.items ((c.key.result, _) ∷ []) c.push.new.self.items c.loop-rest.invariant.keys
           (own-key g.E.Entry.rule _ _ c.key.result g.met.E.Entry.steady (g.met.E.Entry.keyed c.index-here-0.result c.key.ensures.fits) c.key.ensures.value, tt) c.in_ok-push.ensures.items;
       writable = λ h. subst (AreWritable g.E.Entry.key g.E.Entry.rule g.E.Entry.size) (sym c.in_ok-push-2.ensures.items) (writable-push g.E.Entry.key g.E.Entry.rule g.E.Entry.size c.loop-rest.pages.items _ (c.loop-rest.invariant.writable h)
           (subst (λ (l : List _). (length l * g.E.Entry.size ≤ 488) × RiseIn 0 (2 ^ 64) (map g.E.Entry.key l)) (sym c.in_ok-from_slice.ensures.items) (
-            let m = c.min.ensures in let k : length c.split_at.result.0.now ≤ 488 / c.size-most.result = omega (arith, m, front) in
-                subst (λ (n : ℕ). length c.split_at.result.0.now * n ≤ 488) c.size-most.ensures.value (fits-page (length c.split_at.result.0.now) c.size-most.result k),
-            subst (λ (l : List _). RiseIn 0 (2 ^ 64) (map g.E.Entry.key l)) (sym c.split_at.ensures.front) (rise-take g.E.Entry.key 0 (2 ^ 64) c.min.result c.loop-rest.rest.now c.loop-rest.invariant.rises),
+            let m = c.share.ensures.fits in fits-page (length c.split_at.result.0.now) c.most_at-most.result g.E.Entry.size (omega (arith, m, front)) c.most_at-most.ensures.holds,
+            subst (λ (l : List _). RiseIn 0 (2 ^ 64) (map g.E.Entry.key l)) (sym c.split_at.ensures.front) (rise-take g.E.Entry.key 0 (2 ^ 64) c.share.result c.loop-rest.rest.now c.loop-rest.invariant.rises),
           )));
       grows = omega (arith, out, pages, grows);
       within = omega (arith, back, within);
-      full = full-same (488 / c.size-most.result) (length c.loop-rest.out.items + 1) (length c.args.entries.now - length c.loop-rest.rest.now + c.min.result) (length c.loop-rest.rest.now - c.min.result) _ _ _
-          (full-next (488 / c.size-most.result) (length c.loop-rest.out.items) (length c.args.entries.now - length c.loop-rest.rest.now) (length c.loop-rest.rest.now) c.min.result (let h = c.size-most.ensures.high in let l = c.size-most.ensures.low in le-div 3 488 c.size-most.result (omega arith) (omega arith)) c.loop-rest.invariant.full (omega (arith, some, front)) (omega (arith, back))
-          (λ more. let m = c.min.ensures in omega (arith, m, more))) (omega (arith, out)) (omega (arith, back, within)) (omega (arith, back));
+      few = few-next c.most_at-most.result (length c.args.entries.now) (length c.loop-rest.out.items) (length c.loop-rest.rest.now) c.share.result _ _ c.loop-rest.invariant.few c.share.ensures.few
+          (omega (arith, out)) (omega (arith, back)) (let s = c.loop-rest-test.true in omega (arith, s));
     }
 
 pub returns-clause-grows : goal.returns-clause-grows
 returns-clause-grows g c = c.loop-rest.invariant.grows
 
 pub returns-clause-few : goal.returns-clause-few
-returns-clause-few g c = λ n e fits le.
-    let l = c.size-most.ensures.low in
-    let value = c.size-most.ensures.value in
-    let whole : n ≤ 488 / c.size-most.result = le-div n 488 c.size-most.result (omega arith) (subst (λ (m : ℕ). n * m ≤ 488) (sym value) fits) in
-    let none = c.loop-rest-test.false in
-    full-few (488 / c.size-most.result) (length c.loop-rest.out.items) (length c.args.entries.now) (length c.loop-rest.rest.now) e
-    (full-same (488 / c.size-most.result) (length c.loop-rest.out.items) (length c.args.entries.now - length c.loop-rest.rest.now) (length c.loop-rest.rest.now) _ _ _ c.loop-rest.invariant.full refl (omega (arith, none)) refl) (omega (arith, whole, le))
+returns-clause-few g c = λ n k e fits le.
+    let low = c.most_at-most.ensures.low in
+    few-end c.most_at-most.result (length c.args.entries.now) (length c.loop-rest.out.items) (length c.loop-rest.rest.now) c.loop-rest.invariant.few (k + e)
+    (some-more c.most_at-most.result n k e (length c.args.entries.now) (omega (arith, low)) (c.most_at-most.ensures.most n fits) le)
 
 pub returns-clause-keys : goal.returns-clause-keys
 returns-clause-keys g c = c.loop-rest.invariant.keys

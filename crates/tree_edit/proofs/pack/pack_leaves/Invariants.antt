@@ -1,7 +1,6 @@
-use Rattle.std.proofs.Common.{◌≡◌, ◌≤◌, ◌+◌, ◌-◌, ◌^◌, map, length}
+use Rattle.std.proofs.Common.{◌≡◌, ◌≤◌, ◌+◌, ◌-◌, ◌*◌, ◌^◌, ℕ, map, length}
 use Rattle.tree_edit.specs.Shapes.{RiseIn}
 use Rattle.tree_edit.specs.Plans.{AreKeys, AreWritable, keys_of}
-use Rattle.tree_edit.proofs.CountLaws.{Full}
 use Rattle.tree_edit.proofs.PackLaws.{LeavesSoFar}
 use Rattle.tree_edit.proofs.pack.pack_leaves.Given as goal
 
@@ -13,7 +12,7 @@ invariant-loop-rest g l = record {
   writable : AreWritable g.E.Entry.key g.E.Entry.rule g.E.Entry.size l.fn.pages.items → AreWritable g.E.Entry.key g.E.Entry.rule g.E.Entry.size l.pages.items;
   grows : length l.pages.items ≡ length l.fn.pages.items + length l.out.items;
   within : length l.rest ≤ length l.entries;
-  full : Full l.most (length l.out.items) (length l.entries - length l.rest) (length l.rest);
+  few : (k : ℕ) → length l.entries ≤ k * l.most → (length l.out.items ≤ k) × (length l.rest ≤ (k - length l.out.items) * l.most);
 }
 
 abbrev pub decreases-loop-rest : goal.decreases-loop-rest

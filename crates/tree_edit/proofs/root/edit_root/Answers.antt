@@ -70,7 +70,7 @@ pub returns-then-count-eq0-clause-few : goal.returns-then-count-eq0-clause-few
 returns-then-count-eq0-clause-few g c =
     let made = ap (λ (l : List _). length l) (c.as_slice.ensures.value ∙ c.in_ok-entries.ensures) in
     let short = edited-short g.E.Entry.key [] c.args.edits.now in
-    inl (c.in_ok-children-2.ensures.few 0 (length c.args.edits.now) (omega arith) (omega (arith, made, short)), c.in_ok-children-2.ensures.grows)
+    inl (c.in_ok-children-2.ensures.few 0 1 (length c.args.edits.now) (omega arith) (omega (arith, made, short)), c.in_ok-children-2.ensures.grows)
 
 pub returns-clause-few : goal.returns-clause-few
 returns-clause-few g c =
@@ -103,7 +103,7 @@ returns-then-count-eq0-clause-spare g c = λ find told es ps under.
     subst (λ (l : List (List ℕ)). AreBelow (IsTree (shapes g.E.Entry.rule g.E.Entry.size g.E.Entry.entry_of find) g.E.Entry.key (c.args.page.now.level - 1)) (2 ^ 64) (map (child_in g.E.Entry.rule) l) es ps) none (under.of_inner (c.args.page.now.level - 1) level) in
     let made = ap (λ (l : List _). length l) (c.as_slice.ensures.value ∙ c.in_ok-entries.ensures) in
     let short = edited-length g.E.Entry.key 0 (2 ^ 64) [] c.args.edits.now c.requires.edits in
-    let news = c.in_ok-children-2.ensures.few 0 (puts g.E.Entry.key [] c.args.edits.now) (omega arith) (omega (arith, made, short)) in
+    let news = c.in_ok-children-2.ensures.few 0 1 (puts g.E.Entry.key [] c.args.edits.now) (omega arith) (omega (arith, made, short)) in
     inl (subst (λ (l : List _). length c.in_ok-children-2.children.items ≤ 1 + puts g.E.Entry.key l c.args.edits.now) (sym here.0) news, c.in_ok-children-2.ensures.grows, refl)
 
 pub returns-clause-spare : goal.returns-clause-spare

@@ -1,4 +1,4 @@
-use Rattle.std.proofs.Common.{◌≡◌, ◌⊎◌, inl, inr, ◌≤◌, ◌+◌, ◌*◌, ◌^◌, ℕ, suc, List, length, subst, sym, ap, refl, arith, rules}
+use Rattle.std.proofs.Common.{◌≡◌, ◌⊎◌, inl, inr, ◌≤◌, ◌+◌, ◌*◌, ◌/◌, ◌^◌, ℕ, suc, List, length, subst, sym, ap, refl, arith, rules}
 use Rattle.std.proofs.lemmas.Bool.{cases_lt}
 use Rattle.tree_edit.specs.declared.plan.Child.{Child}
 use Rattle.tree_edit.specs.Shapes.{RiseIn}
@@ -22,7 +22,10 @@ up-preserved g c =
     let test = c.up-test.true in
     let two : 2 ≤ length c.up.children.items = omega (arith, number, test) in
     let grows = c.in_ok-children.ensures.grows in
-    let half : 2 * length c.in_ok-children.children.items ≤ length c.up.children.items = let h = c.in_ok-children.ensures.half (omega (arith, two, value)) in omega (arith, h, value) in
+    let half : 2 * length c.in_ok-children.children.items ≤ length c.up.children.items =
+    let k : ℕ = length c.up.children.items / 2 in
+    let h = c.in_ok-children.ensures.few k 0 (omega (arith, two, value)) in
+    omega (arith, h) in
     let plain = c.up.invariant.plain in
     let new_some = c.in_ok-children.ensures.some in
     record {
@@ -36,7 +39,7 @@ up-preserved g c =
       plain = omega (arith, plain, grows, half);
       grown = λ e le.
           let step = lift-step (length c.args.pages.now.items) (length c.args.children.items) (length c.up.pages.items) (length c.up.children.items) e (length c.in_ok-children.children.items) two half
-          (λ less. c.in_ok-children.ensures.few e (omega (arith, less, value))) le (c.up.invariant.grown e le) in
+          (λ less. c.in_ok-children.ensures.few 1 e (omega (arith, less, value))) le (c.up.invariant.grown e le) in
           subst (λ (n : ℕ). ((n ≡ length c.args.pages.now.items) × (length c.in_ok-children.children.items ≡ length c.args.children.items)) ⊎ (n + length c.in_ok-children.children.items ≤ length c.args.pages.now.items + 2 + 2 * e)) (sym grows) step;
     }
 
