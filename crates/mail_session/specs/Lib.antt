@@ -1,13 +1,3 @@
 pub mod Asking
-pub mod Boxes
 pub mod Ends
-pub mod Files
-pub mod Info
-pub mod Mailboxes
-pub mod Nodes
-pub mod Run
-pub mod Scratch
-pub mod Statuses
-pub mod Texts
 pub mod Words
-pub mod Worlds

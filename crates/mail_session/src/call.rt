@@ -2,19 +2,15 @@
 ghost use Rattle.std.specs.Prelude.{◌≡◌, ◌↔◌, ◌⊎◌, ℕ, true, List, None, Some, IsSome};
 ghost use Rattle.mail_session.specs.Asking.{is_naming};
 ghost use Rattle.mail_session.specs.Ends.{EndsFor};
-ghost use Rattle.mail_session.specs.Files.{EndsWell, NewEnds, RunEnds};
+ghost use Rattle.call_forms.specs.Files.{EndsWell, NewEnds, RunEnds};
 ghost use Rattle.mail_session.specs.Words.{form_of, spelled, third_name};
-ghost use Rattle.mail_session.specs.Statuses.{EndsAs};
-ghost use Rattle.mail_session.specs.Info.{InfoEnds};
-ghost use Rattle.mail_session.specs.Nodes.{NodesEnds};
-ghost use Rattle.mail_session.specs.Scratch.{ScratchEnds};
+ghost use Rattle.call_forms.specs.Statuses.{EndsAs};
+ghost use Rattle.call_forms.specs.Info.{InfoEnds};
+ghost use Rattle.call_forms.specs.Nodes.{NodesEnds};
+ghost use Rattle.call_forms.specs.Scratch.{ScratchEnds};
 
-use crate::exit::{Exit, Status};
-use crate::files::{make, run_lines};
-use crate::info::info;
-use crate::nodes::nodes;
-use crate::scratch::scratch;
 use crate::words::{Asked, Form, read_words};
+use call_forms::{Exit, Status, make, run_lines, say_info, say_nodes, serve_memory};
 use pst_base::{Ledger, Steps};
 use pst_outside::Outside;
 use std::alloc::{AllocError, Global};
@@ -24,10 +20,10 @@ fn answer<W: Outside>(alloc: Global, world: &mut W, asked: Asked) -> Status
     ensures { EndsFor asked world.old world.new (W.view world.old) (W.view world.new) result }
 {
     match asked {
-        Asked::Plain(Form::Info) => info(alloc, world),
-        Asked::Plain(Form::Nodes) => nodes(alloc, world),
+        Asked::Plain(Form::Info) => say_info(alloc, world),
+        Asked::Plain(Form::Nodes) => say_nodes(alloc, world),
         Asked::Plain(Form::Run) => run_lines(alloc, world),
-        Asked::Plain(Form::Scratch) => scratch(alloc, world),
+        Asked::Plain(Form::Scratch) => serve_memory(alloc, world),
         Asked::Plain(Form::New) | Asked::Nothing => Status::Words,
         Asked::New(name) => make(alloc, world, &name),
     }

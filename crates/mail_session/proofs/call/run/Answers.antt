@@ -1,6 +1,6 @@
 use Rattle.std.proofs.Common.{inr, refl, rules}
-use Rattle.mail_session.specs.declared.exit.Status.TheVariants.{Memory}
-use Rattle.mail_session.proofs.FileLaws.{new_unread, well_as}
+use Rattle.call_forms.specs.declared.exit.Status.TheVariants.{Memory}
+use Rattle.call_forms.proofs.FileLaws.{new_unread, well_as}
 use Rattle.mail_session.proofs.call.run.Goals as goal
 
 pub returns-in_default-clause-new : goal.returns-in_default-clause-new

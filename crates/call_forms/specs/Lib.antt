@@ -1,0 +1,10 @@
+pub mod Boxes
+pub mod Files
+pub mod Info
+pub mod Mailboxes
+pub mod Nodes
+pub mod Run
+pub mod Scratch
+pub mod Statuses
+pub mod Texts
+pub mod Worlds
