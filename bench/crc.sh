@@ -1,9 +1,9 @@
 #!/bin/sh
 # Prints the rates of the checksum's kernels and of Python's zlib, in MB/s, each over a buffer of 64 MiB.
 # A rate comes from the time between 1 pass and 9 passes, so that the start and the filling of the buffer don't count.
-# Needs crates/crc_rates/out/crc_rates, which `rt run` in crates/crc_rates builds.
+# Needs crates/rates/out/rates, which `rt run` in crates/rates builds.
 cd "$(dirname "$0")/.." || exit 1
-exec python3 - crates/crc_rates/out/crc_rates <<'END'
+exec python3 - crates/rates/out/rates <<'END'
 import subprocess, sys, time, zlib
 
 MIB, FEW, MANY, TRIES = 64, 1, 9, 3
@@ -16,7 +16,7 @@ def seconds(run):
 
 
 def passes(kernel, count):
-    words = [sys.argv[1], kernel, str(MIB), str(count)]
+    words = [sys.argv[1], "crc", kernel, str(MIB), str(count)]
     return lambda: subprocess.run(words, check=True, stdout=subprocess.DEVNULL)
 
 

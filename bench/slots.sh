@@ -1,9 +1,9 @@
 #!/bin/sh
 # Prints the seconds that 100,000 blocks of 8192 bytes take over 8192 nearly full regions, and how many a second.
 # Each row leaves some bytes free at the end of each region: what making the set takes is measured by giving one block, and taken off.
-# Needs crates/slots_rates/out/slots_rates, which `rt run` in crates/slots_rates builds.
+# Needs crates/rates/out/rates, which `rt run` in crates/rates builds.
 cd "$(dirname "$0")/.." || exit 1
-exec python3 - crates/slots_rates/out/slots_rates <<'END'
+exec python3 - crates/rates/out/rates <<'END'
 import subprocess, sys, time
 
 REGIONS, BLOCKS, TRIES = 8192, 100_000, 3
@@ -12,7 +12,7 @@ REGIONS, BLOCKS, TRIES = 8192, 100_000, 3
 def seconds(free, blocks):
     def once():
         start = time.perf_counter()
-        subprocess.run([sys.argv[1], str(REGIONS), str(free), str(blocks)], check=True, stdout=subprocess.DEVNULL)
+        subprocess.run([sys.argv[1], "slots", str(REGIONS), str(free), str(blocks)], check=True, stdout=subprocess.DEVNULL)
         return time.perf_counter() - start
 
     return min(once() for _ in range(TRIES))

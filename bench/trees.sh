@@ -1,9 +1,9 @@
 #!/bin/sh
 # Prints the milliseconds that one change of 1, 100 and 10,000 new keys takes in block trees of 1,000 to 1,000,000 keys, over pages in memory.
 # What making the tree, looking its keys up and taking them away takes is measured without a change, and taken off.
-# Needs crates/tree_rates/out/tree_rates, which `rt run` in crates/tree_rates builds.
+# Needs crates/rates/out/rates, which `rt run` in crates/rates builds.
 cd "$(dirname "$0")/.." || exit 1
-exec python3 - crates/tree_rates/out/tree_rates <<'END'
+exec python3 - crates/rates/out/rates <<'END'
 import subprocess, sys, time
 
 TRIES = 3
@@ -12,7 +12,7 @@ TRIES = 3
 def seconds(keys, each, changes):
     def once():
         start = time.perf_counter()
-        subprocess.run([sys.argv[1], str(keys), str(each), str(changes)], check=True, stdout=subprocess.DEVNULL)
+        subprocess.run([sys.argv[1], "tree", str(keys), str(each), str(changes)], check=True, stdout=subprocess.DEVNULL)
         return time.perf_counter() - start
 
     return min(once() for _ in range(TRIES))

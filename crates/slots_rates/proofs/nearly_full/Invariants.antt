@@ -1,7 +1,0 @@
-use Rattle.std.specs.List.{All}
-use Rattle.alloc_map.specs.Slots.{IsLaid}
-use Rattle.slots_rates.proofs.nearly_full.Given as goal
-
--- the places so far are laid in the regions
-abbrev pub invariant-loop-region : goal.invariant-loop-region
-invariant-loop-region l = All (IsLaid l.regions) l.places.items
