@@ -1,5 +1,5 @@
 -- Own search folders in the order of their ids.
-use Rattle.std.proofs.Common.{◌≡◌, ◌∙◌, ℕ, ◌==◌, ◌&&◌, true, arith, List, [], ◌∷◌, map, suc, ap, refl, sym, inl, inr}
+use Rattle.std.proofs.Common.{◌≡◌, ◌∙◌, ℕ, ◌==◌, ◌&&◌, true, arith, List, [], ◌∷◌, Result, Ok, Err, OnOk, OnErr, map, suc, ap, refl, sym, inl, inr}
 use Rattle.std.specs.Prelude.{nat_le, nat_lt}
 use Rattle.std.proofs.lemmas.Bool.{cases_Bool}
 use Rattle.mapi_values.specs.Keyed.{drop_key, keys_ascend, put_key}
@@ -24,6 +24,11 @@ put_map key x (y ∷ ys) = elim (cases_Bool (nat_lt (key y) (key x))) [
 -- the keys ascend still with one more
 pub put_ascends : {E : Type 0} (key : E → ℕ) (x : E) (old new : List E) → new ≡ put_key key x old → keys_ascend (λ k. k) 0 (map key old) ≡ true → keys_ascend (λ k. k) 0 (map key new) ≡ true
 put_ascends key x old new put a = ascend_map key 0 new ∙ ap (keys_ascend key 0) put ∙ put-ascends key 0 x old (omega arith) (sym (ascend_map key 0 old) ∙ a)
+
+-- and where they are as before in case of an error
+pub put_kept : {A F E : Type 0} (r : Result A F) (key : E → ℕ) (x : E) (old new : List E) → OnOk r (new ≡ put_key key x old) → OnErr r (new ≡ old) → keys_ascend (λ k. k) 0 (map key old) ≡ true → keys_ascend (λ k. k) 0 (map key new) ≡ true
+put_kept (Ok u) key x old new ok err a = put_ascends key x old new ok a
+put_kept (Err e) key x old new ok err a = rw err a
 
 -- the keys without one are those of the elements without it
 pub drop_map : {E : Type 0} (key : E → ℕ) (k : ℕ) (xs : List E) → map key (drop_key key k xs) ≡ drop_key (λ j. j) k (map key xs)

@@ -1,5 +1,5 @@
 //! The search folders of a store that are its own.
-ghost use Rattle.std.specs.Prelude.{◌≡◌, [], IfOk};
+ghost use Rattle.std.specs.Prelude.{◌≡◌, [], IfOk, OnErr, OnOk};
 ghost use Rattle.mapi_values.specs.Keyed.{drop_key, put_key};
 ghost use Rattle.mail_searches.specs.Searching.{is_own};
 
@@ -61,14 +61,23 @@ impl OwnFolders {
         false
     }
 
-    /// These and one more.
+    /// Has one more. An `Err` changes nothing.
     #[tactic(auto, using(crate::proofs::OwnLaws::ascend_map, crate::proofs::OwnLaws::put_map))]
+    pub fn put(&mut self, folder: Nid) -> Result<(), AllocError>
+        ensures ok { OnOk result (self.new ≡ put_key (λ f. f) folder.bits self.old) }
+        ensures err { OnErr result (self.new ≡ self.old) }
+    {
+        put_keyed(&mut self.folders, OwnFolder { nid: folder })
+    }
+
+    /// These and one more.
     pub fn with(&self, alloc: Global, folder: Nid) -> Result<OwnFolders, AllocError>
         ensures { IfOk result (λ o. o ≡ put_key (λ f. f) folder.bits self.now) }
     {
-        let mut folders = Vec::from_slice(alloc, self.folders.as_slice())?;
-        put_keyed(&mut folders, OwnFolder { nid: folder })?;
-        Ok(OwnFolders { folders })
+        let folders = Vec::from_slice(alloc, self.folders.as_slice())?;
+        let mut own = OwnFolders { folders };
+        own.put(folder)?;
+        Ok(own)
     }
 
     /// These without one.

@@ -110,7 +110,6 @@ fn look_search<W: Outside, K: NodeReader<W>>(
 
 /// Keeps an own search folder, and its search where criteria are set. Nothing is said after an `Err`.
 fn keep_search(
-    alloc: Global,
     own: &mut OwnFolders,
     searches: &mut Searches,
     folder: Nid,
@@ -118,7 +117,7 @@ fn keep_search(
 ) -> Result<(), AllocError>
     ensures { OnOk result ((own.new ≡ put_key (λ f. f) folder.bits own.old) × (searches.new ≡ with_set folder.bits set searches.old)) }
 {
-    *own = own.with(alloc, folder)?;
+    own.put(folder)?;
     match set {
         Some(set) => searches.put(OwnSearch::new(folder, set)),
         None => Ok(()),
@@ -146,7 +145,7 @@ fn look_place<W: Outside, K: NodeReader<W>>(
     let Some(criteria) = look_search(alloc, keeper, w, flags, place.nid)? else {
         return Ok(());
     };
-    Ok(keep_search(alloc, own, searches, place.nid, criteria.set)?)
+    Ok(keep_search(own, searches, place.nid, criteria.set)?)
 }
 
 /// The searches that nodes have beside their tree, which is known: its own search folders, and of these the searches with criteria; or what is wrong with the first that isn't in order.
