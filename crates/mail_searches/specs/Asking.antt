@@ -1,11 +1,9 @@
 -- What becomes of a message in the lists of searches, and what it takes to see it.
 use Rattle.std.specs.Prelude.{ℕ, ◌+◌, List, [], ◌∷◌, Option, None, Some, if◌then◌else◌}
-use Rattle.pst_base.specs.declared.ids.Nid.{Nid}
 use Rattle.mapi_values.specs.Messages.{Mes}
 use Rattle.live_search.specs.Touching.{delta, reached_for, work_for}
 use Rattle.live_search.specs.declared.touching.Delta.{Delta}
 use Rattle.mail_tree.specs.declared.places.FolderPlace.{FolderPlace}
-use Rattle.mail_tree.specs.Folders.{nid}
 use Rattle.mail_searches.specs.Searches.{Search, in_scope, is_listed, runs}
 use Rattle.mail_searches.specs.Relisting.{Around, Touch}
 
@@ -26,17 +24,7 @@ steps_in d s old new = reached_for s.restriction (looked_at d.before s old) + re
 abbrev pub work_in : Around → Search → Option Mes → Option Mes → ℕ
 work_in d s old new = work_for s.restriction (looked_at d.before s old) + work_for s.restriction (looked_at d.after s new)
 
--- what becomes of a message in the list of each running search
-abbrev pub deltas : Around → Option Mes → Option Mes → List Search → List (Nid × Delta)
-deltas d old new [] = []
-deltas d old new (s ∷ ss) = if runs s then (nid s.nid, delta_in d s old new) ∷ deltas d old new ss else deltas d old new ss
-
--- how many restrictions are reached to see that
-abbrev pub steps_among : Around → Option Mes → Option Mes → List Search → ℕ
-steps_among d old new [] = 0
-steps_among d old new (s ∷ ss) = if runs s then steps_in d s old new + steps_among d old new ss else steps_among d old new ss
-
--- how many that are at most
+-- how many restrictions are reached at most to see what becomes of a message in the list of each running search
 abbrev pub work_among : Around → Option Mes → Option Mes → List Search → ℕ
 work_among d old new [] = 0
 work_among d old new (s ∷ ss) = if runs s then work_in d s old new + work_among d old new ss else work_among d old new ss

@@ -13,7 +13,6 @@ use Rattle.mail_tree.specs.Places.{children, is_within, moves_deep, place_id}
 use Rattle.mail_tree.specs.Settling.{mirrored, settled, with_context}
 use Rattle.mail_tree.specs.Tree.{Tree}
 use Rattle.mail_tree.specs.Values.{name_of, text}
-use Rattle.mail_tree.specs.declared.places.FolderPlace.{FolderPlace}
 use Rattle.mail_searches.specs.Criteria.{Coming, search_place}
 use Rattle.mail_searches.specs.Searches.{criteria_node, results, search_id, updates}
 use Rattle.mail_searches.specs.Searching.{Searching}

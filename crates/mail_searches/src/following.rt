@@ -1,13 +1,13 @@
 //! The searches of a store, and what becomes of a message in their lists.
 ghost use Rattle.std.specs.Prelude.{◌≡◌, ◌≤◌, ◌+◌, [], length, IfOk, OnErr, OnOk, option_copied};
-ghost use Rattle.mapi_values.specs.Keyed.{drop_key, find_key, put_key};
-ghost use Rattle.mail_searches.specs.Asking.{delta_in, deltas, looked_at, places_around, steps_among, steps_in, work_among, work_in};
+ghost use Rattle.mapi_values.specs.Keyed.{drop_key, put_key};
+ghost use Rattle.mail_searches.specs.Asking.{delta_in, looked_at, places_around, steps_in, work_in};
 ghost use Rattle.mail_searches.specs.Searches.{in_scope, runs, search_of};
 
 use crate::scoping::is_reached;
 use live_search::{Delta, touch};
 use mail_tree::Places;
-use mapi_values::{Keyed, Message, drop_keyed, find_keyed, put_keyed};
+use mapi_values::{Keyed, Message, drop_keyed, put_keyed};
 use pst_base::{Ledger, Nid, Steps};
 use restr_codec::Restriction;
 use search_obj::{CriteriaSet, SearchState};
@@ -165,13 +165,6 @@ impl Searches {
         self.searches.as_slice()
     }
 
-    /// The search with this folder.
-    pub fn find(&self, folder: Nid) -> Option<&OwnSearch>
-        ensures { option_copied result ≡ find_key (λ s. s.nid) folder.bits self.now }
-    {
-        find_keyed(self.searches.as_slice(), folder.bits)
-    }
-
     /// Puts a search in place of the one with its folder. An `Err` changes nothing.
     pub fn put(&mut self, search: OwnSearch) -> Result<(), AllocError>
         ensures ok { OnOk result (self.new ≡ put_key (λ s. s.nid) search self.old) }
@@ -209,36 +202,5 @@ impl Searches {
         }
         let _was_there = drop_keyed(&mut searches, folder.bits);
         Ok(Searches { searches })
-    }
-
-    /// Takes out the search with this folder. Takes no memory.
-    pub fn remove(&mut self, folder: Nid)
-        ensures { self.new ≡ drop_key (λ s. s.nid) folder.bits self.old }
-    {
-        let _was_there = drop_keyed(&mut self.searches, folder.bits);
-    }
-
-    /// What becomes of a message in the list of each running search, by the searches' folders. Stopped and static searches are asked nothing.
-    pub fn touch<L: Ledger>(
-        &self,
-        alloc: Global,
-        before: &Places,
-        after: &Places,
-        old: Option<&Message>,
-        new: Option<&Message>,
-        steps: &mut Steps<L>,
-    ) -> Result<Vec<(Nid, Delta)>, AllocError>
-        ensures deltas { IfOk result (λ ds. ds.items ≡ deltas (places_around before.now after.now) (option_copied old.entry) (option_copied new.entry) self.now) }
-        ensures steps { IfOk result (λ ds. steps.new ≡ steps.old + steps_among (places_around before.now after.now) (option_copied old.entry) (option_copied new.entry) self.now) }
-        ensures most { steps.new ≤ steps.old + work_among (places_around before.now after.now) (option_copied old.entry) (option_copied new.entry) self.now }
-    {
-        let mut deltas = Vec::new(alloc);
-        for search in &self.searches {
-            if search.runs() {
-                let delta = search.touch(before, after, old, new, steps);
-                deltas.push((search.nid, delta))?;
-            }
-        }
-        Ok(deltas)
     }
 }
