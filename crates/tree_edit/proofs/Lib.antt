@@ -17,3 +17,5 @@ pub mod SpareLaws
 pub mod StopLaws
 pub mod WriteLaws
 pub mod LookLaws
+pub mod GatherLaws
+pub mod AnewLaws

@@ -43,24 +43,33 @@ at-above key low high k x xs r h =
       over = rw (lt-ltb _ _ h) (ap (λ (l : List _). x ∷ l) (over-all key k (k + 1) xs (omega arith) over_all));
     }
 
-module _ {A : Type 0} (f : List ℕ → A) (key : A → ℕ) (bs : List (List ℕ)) (i k : ℕ) (x : A) (inside : i < length bs) (is : x ≡ f (get_or bs i [])) where
-  here : drop i (map f bs) ≡ x ∷ drop (i + 1) (map f bs)
-  here = drop-here f bs i [] inside ∙ ap (λ (y : A). y ∷ drop (i + 1) (map f bs)) (sym is)
+pub drop-at : {A : Type 0} (xs : List A) (i : ℕ) (d : A) → i < length xs → drop i xs ≡ get_or xs i d ∷ drop (i + 1) xs
+drop-at [] i d h = absurd (omega arith)
+drop-at (x ∷ xs) zero d h = refl
+drop-at (x ∷ xs) (suc i) d h =
+    let e : suc (i + 1) ≡ suc i + 1 = omega arith in subst (λ (n : ℕ). drop i xs ≡ get_or xs i d ∷ drop n (x ∷ xs)) e (drop-at xs i d (omega arith))
 
-  rises-here : RiseIn 0 (2 ^ 64) (map key (map f bs)) → RiseIn 0 (2 ^ 64) (map key (x ∷ drop (i + 1) (map f bs)))
-  rises-here r = subst (λ (l : List A). RiseIn 0 (2 ^ 64) (map key l)) here (rise-drop key 0 (2 ^ 64) i (map f bs) r)
+module _ {A : Type 0} (key : A → ℕ) (xs : List A) (i k : ℕ) (x : A) (inside : i < length xs) (is : x ≡ get_or xs i x) where
+  here : drop i xs ≡ x ∷ drop (i + 1) xs
+  here = drop-at xs i x inside ∙ ap (λ (y : A). y ∷ drop (i + 1) xs) (sym is)
 
-  pub below-step : key x < k → Here key k (drop i (map f bs)) (x ∷ under key k (drop (i + 1) (map f bs))) (over key k (drop (i + 1) (map f bs)))
-  below-step h = subst (λ (l : List A). Here key k l (x ∷ under key k (drop (i + 1) (map f bs))) (over key k (drop (i + 1) (map f bs)))) (sym here) (at-below key k x (drop (i + 1) (map f bs)) h)
+  rises-here : RiseIn 0 (2 ^ 64) (map key xs) → RiseIn 0 (2 ^ 64) (map key (x ∷ drop (i + 1) xs))
+  rises-here r = subst (λ (l : List A). RiseIn 0 (2 ^ 64) (map key l)) here (rise-drop key 0 (2 ^ 64) i xs r)
 
-  pub equal-step : RiseIn 0 (2 ^ 64) (map key (map f bs)) → key x ≡ k → Here key k (drop i (map f bs)) [] (drop (i + 1) (map f bs))
-  equal-step r h = subst (λ (l : List A). Here key k l [] (drop (i + 1) (map f bs))) (sym here) (at-equal key 0 (2 ^ 64) k x (drop (i + 1) (map f bs)) (rises-here r) h)
+  pub below-step : key x < k → Here key k (drop i xs) (x ∷ under key k (drop (i + 1) xs)) (over key k (drop (i + 1) xs))
+  below-step h = subst (λ (l : List A). Here key k l (x ∷ under key k (drop (i + 1) xs)) (over key k (drop (i + 1) xs))) (sym here) (at-below key k x (drop (i + 1) xs) h)
 
-  pub above-step : RiseIn 0 (2 ^ 64) (map key (map f bs)) → k < key x → Here key k (drop i (map f bs)) [] (drop i (map f bs))
-  above-step r h = subst (λ (l : List A). Here key k l [] l) (sym here) (at-above key 0 (2 ^ 64) k x (drop (i + 1) (map f bs)) (rises-here r) h)
+  pub equal-step : RiseIn 0 (2 ^ 64) (map key xs) → key x ≡ k → Here key k (drop i xs) [] (drop (i + 1) xs)
+  equal-step r h = subst (λ (l : List A). Here key k l [] (drop (i + 1) xs)) (sym here) (at-equal key 0 (2 ^ 64) k x (drop (i + 1) xs) (rises-here r) h)
 
-  pub rest-step : (out new : List A) → new ≡ out ++ (x ∷ []) → new ++ drop (i + 1) (map f bs) ≡ out ++ drop i (map f bs)
-  rest-step out new e = ap (λ (l : List A). l ++ drop (i + 1) (map f bs)) e ∙ append_assoc out (x ∷ []) (drop (i + 1) (map f bs)) ∙ ap (λ (l : List A). out ++ l) (sym here)
+  pub above-step : RiseIn 0 (2 ^ 64) (map key xs) → k < key x → Here key k (drop i xs) [] (drop i xs)
+  above-step r h = subst (λ (l : List A). Here key k l [] l) (sym here) (at-above key 0 (2 ^ 64) k x (drop (i + 1) xs) (rises-here r) h)
+
+-- one entry of a page more
+pub rest-step : {A : Type 0} (f : List ℕ → A) (bs : List (List ℕ)) (i : ℕ) (x : A) → i < length bs → x ≡ f (get_or bs i []) → (out new : List A) → new ≡ out ++ (x ∷ []) → new ++ drop (i + 1) (map f bs) ≡ out ++ drop i (map f bs)
+rest-step {A} f bs i x inside is out new e =
+    let here : drop i (map f bs) ≡ x ∷ drop (i + 1) (map f bs) = drop-here f bs i [] inside ∙ ap (λ (y : A). y ∷ drop (i + 1) (map f bs)) (sym is) in
+    ap (λ (l : List A). l ++ drop (i + 1) (map f bs)) e ∙ append_assoc out (x ∷ []) (drop (i + 1) (map f bs)) ∙ ap (λ (l : List A). out ++ l) (sym here)
 
 -- one edit more
 pub edit-step : {A : Type 0} (key : A → ℕ) (out next last xs ys all : List A) (d : ℕ × Option A) (ds es : List (ℕ × Option A)) → out ++ edited key xs es ≡ all → es ≡ d ∷ ds

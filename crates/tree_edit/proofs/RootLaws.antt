@@ -19,15 +19,16 @@ use Rattle.tree_edit.proofs.StepLaws.{shown-here, some-same, leaf-shape, inner-s
 zero-first : (a b : ℕ) → a ≡ b → 0 + a ≡ b
 zero-first a b e = omega arith
 
-pub replaces-root : {E : Type 0} (find : Bref → Option (Shape E)) (key : E → ℕ) (high : ℕ) (old new : List (PlanPage E)) (freed : List Bref) (cs : List (ℕ × Child)) (es : List E) (ps : List Bref)
-    → ps ≡ [] → RiseIn 0 high (map key es) → Lays key old new cs es → Replaces find key 0 high old new freed freed cs es ps
-replaces-root find key high old new freed cs es ps none rises lays = record {
+-- all pages are freed, and leaves with the entries come in their place
+pub replaces-root : {E : Type 0} (find : Bref → Option (Shape E)) (key : E → ℕ) (high : ℕ) (old new : List (PlanPage E)) (freed gone : List Bref) (cs : List (ℕ × Child)) (es : List E) (ps : List Bref)
+    → gone ≡ freed ++ ps → RiseIn 0 high (map key es) → Lays key old new cs es → Replaces find key 0 high old new freed gone cs es ps
+replaces-root find key high old new freed gone cs es ps is rises lays = record {
   more = lays.more;
-  gone = [];
+  gone = ps;
   kept = [];
   pages = lays.pages;
-  freed = sym (append-nil freed);
-  counted = λ ib. zero-first _ _ (ap (tally ib) (sym none));
+  freed = is;
+  counted = λ ib. zero-first _ _ refl;
   tree = λ after name k s. let t = lays.tree after name 0 high s rises in (t.0, t.1, λ ib. t.2 ib ∙ sym (zero-first _ _ refl));
 }
 

@@ -33,7 +33,7 @@ from-of key low high m (e ∷ es) r le = let a = r.0 in (omega (arith, a, le), f
 
 -- ---- the root
 
-weigh-is : (n u : ℕ) → weigh n u ≡ (n + 1) * u
+pub weigh-is : (n u : ℕ) → weigh n u ≡ (n + 1) * u
 weigh-is zero u = let one : (0 + 1) * u ≡ u = omega arith in omega (arith, one)
 weigh-is (suc n) u =
     let h = weigh-is n u in

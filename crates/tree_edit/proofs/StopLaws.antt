@@ -73,7 +73,7 @@ pub any-of-root : {E : Type 0} (find : Bref → Option (Shape E)) (key : E → �
 any-of-root find key zero low high at es ps t = t
 any-of-root find key (suc n) low high at es ps t = t
 
-seen-page : {E : Type 0} (rule : ℕ → ℕ) (entry_of : List ℕ → E) (r : Result Page PageFault) (s : Shape E) → seen rule entry_of r ≡ Some s → (page : Page) × (r ≡ Ok page) × (shape_of rule entry_of page ≡ s)
+pub seen-page : {E : Type 0} (rule : ℕ → ℕ) (entry_of : List ℕ → E) (r : Result Page PageFault) (s : Shape E) → seen rule entry_of r ≡ Some s → (page : Page) × (r ≡ Ok page) × (shape_of rule entry_of page ≡ s)
 seen-page rule entry_of (Ok page) s e = (page, refl, some-same _ (shape_of rule entry_of page) s refl e)
 seen-page rule entry_of (Err fault) s e = absurd (cc)
 

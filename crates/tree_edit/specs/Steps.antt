@@ -1,5 +1,5 @@
 -- The steps of a plan: what becomes of the children of one page, and of a root.
-use Rattle.std.specs.Prelude.{◌≡◌, ◌⊎◌, ℕ, zero, suc, ◌+◌, ◌^◌, ◌*◌, ◌≤◌, List, [], ◌∷◌, ◌++◌, map, length, Option}
+use Rattle.std.specs.Prelude.{◌≡◌, ◌⊎◌, ℕ, zero, suc, ◌+◌, ◌-◌, ◌^◌, ◌*◌, ◌≤◌, ◌<◌, List, [], ◌∷◌, ◌++◌, map, length, Option}
 use Rattle.pst_base.specs.declared.ids.Bref.{Bref}
 use Rattle.btree_pages.specs.Pages.{Page}
 use Rattle.tree_edit.specs.declared.plan.Child.{Child}
@@ -104,3 +104,20 @@ pub record IsRead (leaf level u size old_pages new_pages old_freed new_freed : �
 abbrev pub AreSpare : ℕ → ℕ → ℕ → ℕ → ℕ → ℕ → ℕ → Type 0
 AreSpare n u old_pages new_pages old_freed new_freed pieces =
     ((pieces ≤ 1 + u) × (new_pages ≡ old_pages + pieces) × (new_freed ≡ old_freed)) ⊎ IsSpare n 20 u old_pages new_pages old_freed new_freed pieces
+
+-- ---- a tree that is written anew
+
+-- A tree whose root has this level was written anew after so many edits: they are so many that it might pass level 7, and each of its pages is freed.
+pub record IsAnew (level edits : ℕ) (freed ps : List Bref) : Type 0 where
+  pub many : 20 ^ (7 - (level - 1)) < 20 + edits
+  pub all : (ib : ℕ) → tally ib freed ≡ tally ib ps
+
+-- so many pages, and these numbers of pages above them, level by level, of which none names more than twenty, up to a single one
+abbrev pub Narrows : ℕ → List ℕ → Type 0
+Narrows n [] = n ≤ 1
+Narrows n (m ∷ ms) = (n ≤ m * 20) × Narrows m ms
+
+-- how many pages stand above a level at most, where up to u more than these stand in each level, and no more than u above the last
+abbrev pub room : ℕ → List ℕ → ℕ
+room u [] = u
+room u (m ∷ ms) = m + u + room u ms

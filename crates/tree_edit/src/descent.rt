@@ -11,7 +11,7 @@ ghost use Rattle.tree_edit.specs.Pages.{shapes, child_in};
 ghost use Rattle.tree_edit.specs.Source.{Later, StopsOn};
 
 use crate::join::{Content, behind, held_child, in_front, reached, settle, stays};
-use crate::merge::merged;
+use crate::merge::merged_leaf;
 use crate::pack::{most_at, pack_leaves, quarter};
 use crate::page::{Seat, child_page, child_seat};
 use crate::plan::{Child, PlanPage};
@@ -61,7 +61,7 @@ pub(crate) fn edit_leaf<E: Entry>(
     ensures few { IfOk result (λ cs. length page.now.entries * E.size ≤ 488 → length cs.items ≤ 1 + length edits.now) }
     ensures news { IfOk result (λ cs. length page.now.entries * E.size ≤ 488 → length cs.items ≤ 1 + puts E.key (map E.entry_of page.now.entries) edits.now) }
 {
-    let entries = merged(alloc, page, edits)?;
+    let entries = merged_leaf(alloc, page, edits)?;
     let leaves = pack_leaves(alloc, entries.as_slice(), pages)?;
     Ok(leaves)
 }
@@ -103,7 +103,7 @@ fn edit_below<E: Entry, S: PageSource>(
     freed.push(seat.at)?;
     if level == 0 {
         return Ok(Content {
-            entries: merged(alloc, &page, edits)?,
+            entries: merged_leaf(alloc, &page, edits)?,
             children: Vec::new(alloc),
         });
     }

@@ -1,6 +1,7 @@
 //! New pages for a list of entries or children.
 ghost use Rattle.std.specs.Prelude.{◌≡◌, ◌⊎◌, ◌≤◌, ◌+◌, ◌-◌, ◌*◌, ◌/◌, ◌^◌, ℕ, suc, IfOk, length, map};
 ghost use Rattle.btree_pages.specs.Pages.{size_at};
+ghost use Rattle.tree_edit.specs.Joins.{IsMost};
 ghost use Rattle.tree_edit.specs.Plans.{AreKeys, AreWritable, keys_of};
 ghost use Rattle.tree_edit.specs.Shapes.{RiseIn};
 ghost use Rattle.tree_edit.specs.Steps.{Lays, Packs};
@@ -72,6 +73,7 @@ pub(crate) fn pack_leaves<E: Entry>(
     ensures lays { IfOk result (λ cs. Lays E.key pages.old.items pages.new.items cs.items entries.now) }
     ensures grows { IfOk result (λ cs. length pages.new.items ≡ length pages.old.items + length cs.items) }
     ensures few { IfOk result (λ cs. (n k e : ℕ) → n * E.size ≤ 488 → length entries.now ≤ k * n + e → length cs.items ≤ k + e) }
+    ensures most { IfOk result (λ _. (most : ℕ) × IsMost E.size 0 most) }
 {
     let most = most_at::<E>(0);
     let mut out = Vec::new(alloc);

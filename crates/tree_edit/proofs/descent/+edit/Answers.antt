@@ -24,14 +24,14 @@ use Rattle.tree_edit.proofs.descent.+edit.Goals as goal
 
 -- ---- one page
 
-pub edit_below-merged-requires-clause-rises : goal.edit_below-merged-requires-clause-rises
-edit_below-merged-requires-clause-rises g t c =
+pub edit_below-merged_leaf-requires-clause-rises : goal.edit_below-merged_leaf-requires-clause-rises
+edit_below-merged_leaf-requires-clause-rises g t c =
     subst (RiseIn 0 (2 ^ 64)) (sym (same-keys g.E.Entry.rule g.E.Entry.entry_of g.E.Entry.key g.met.E.Entry.key_read c.in-Some.page.entries))
     (rise-widen c.args.seat.low (c.args.seat.high + 1) 0 (2 ^ 64) (keys g.E.Entry.rule c.in-Some.page.entries) c.in-Some.ensures.rises (omega arith) (omega arith))
 
 pub edit_below-returns-then-level-eq0-clause-entries : goal.edit_below-returns-then-level-eq0-clause-entries
 edit_below-returns-then-level-eq0-clause-entries g t c =
-    subst (λ (l : List _). RiseIn c.args.seat.low (c.args.seat.high + 1) (map g.E.Entry.key l)) (sym c.in_ok-merged.ensures)
+    subst (λ (l : List _). RiseIn c.args.seat.low (c.args.seat.high + 1) (map g.E.Entry.key l)) (sym c.in_ok-merged_leaf.ensures)
     (edited-rise g.E.Entry.key c.args.seat.low (c.args.seat.high + 1) (map g.E.Entry.entry_of c.in-Some.page.entries) c.args.edits.now
     (subst (RiseIn c.args.seat.low (c.args.seat.high + 1)) (sym (same-keys g.E.Entry.rule g.E.Entry.entry_of g.E.Entry.key g.met.E.Entry.key_read c.in-Some.page.entries)) c.in-Some.ensures.rises) c.requires.edits)
 
@@ -43,24 +43,24 @@ edit_below-returns-then-level-eq0-clause-keys g t c = subst (λ (l : List (ℕ �
 
 pub edit_below-returns-then-level-eq0-clause-few : goal.edit_below-returns-then-level-eq0-clause-few
 edit_below-returns-then-level-eq0-clause-few g t c =
-    let made = ap (λ (l : List _). length l) c.in_ok-merged.ensures in
+    let made = ap (λ (l : List _). length l) c.in_ok-merged_leaf.ensures in
     let short = edited-short g.E.Entry.key (map g.E.Entry.entry_of c.in-Some.page.entries) c.args.edits.now in
     let len = length-map c.in-Some.page.entries g.E.Entry.entry_of in
-    leaf-few g.E.Entry.size c.args.level (length c.in-Some.page.entries) (length c.args.edits.now) c.in_ok-merged.field-0.items c.new.result.items c.if-level-eq0.true
+    leaf-few g.E.Entry.size c.args.level (length c.in-Some.page.entries) (length c.args.edits.now) c.in_ok-merged_leaf.field-0.items c.new.result.items c.if-level-eq0.true
     (subst (λ (n : ℕ). length c.in-Some.page.entries * size_at g.E.Entry.size n ≤ 488) c.in-Some.ensures.level c.in-Some.ensures.few) (omega (arith, made, short, len))
 
 pub edit_below-returns-then-level-eq0-clause-becomes : goal.edit_below-returns-then-level-eq0-clause-becomes
 edit_below-returns-then-level-eq0-clause-becomes g t c = λ find told es ps tree.
     leaf-read g.E.Entry.rule g.E.Entry.size g.E.Entry.entry_of g.E.Entry.key find c.args.seat.at c.in_ok-body.body c.in-Some.page (c.in_ok-body.ensures.found find told) c.in-Some.ensures.page
-    c.args.level c.args.seat.key (c.args.seat.high + 1) c.args.pages.now.items c.args.freed.now.items c.push.new.self.items c.in_ok-merged.field-0.items c.new.result.items c.args.edits.now es ps
-    c.if-level-eq0.true c.in-Some.ensures.level c.in_ok-push.ensures.items c.in_ok-merged.ensures tree
+    c.args.level c.args.seat.key (c.args.seat.high + 1) c.args.pages.now.items c.args.freed.now.items c.push.new.self.items c.in_ok-merged_leaf.field-0.items c.new.result.items c.args.edits.now es ps
+    c.if-level-eq0.true c.in-Some.ensures.level c.in_ok-push.ensures.items c.in_ok-merged_leaf.ensures tree
 
 pub edit_below-returns-then-level-eq0-clause-spare : goal.edit_below-returns-then-level-eq0-clause-spare
 edit_below-returns-then-level-eq0-clause-spare g t c = λ find told es ps tree.
     let one = ap (λ (l : List Brefs). length l) c.in_ok-push.ensures.items ∙ length-append c.args.freed.now.items (c.args.seat.at ∷ []) in
     leaf-count g.E.Entry.rule g.E.Entry.size g.E.Entry.entry_of g.E.Entry.key find c.args.seat.at c.in_ok-body.body c.in-Some.page (c.in_ok-body.ensures.found find told) c.in-Some.ensures.page
-    c.args.level c.args.seat.key (c.args.seat.high + 1) (length c.args.pages.now.items) (length c.args.freed.now.items) (length c.push.new.self.items) c.in_ok-merged.field-0.items c.new.result.items c.args.edits.now es ps
-    c.if-level-eq0.true c.in-Some.ensures.level c.in-Some.ensures.few (edits-widen g.E.Entry.key c.args.seat.low (c.args.seat.high + 1) 0 (2 ^ 64) c.args.edits.now (omega arith) (omega arith) c.requires.edits) (omega (arith, one)) c.in_ok-merged.ensures tree
+    c.args.level c.args.seat.key (c.args.seat.high + 1) (length c.args.pages.now.items) (length c.args.freed.now.items) (length c.push.new.self.items) c.in_ok-merged_leaf.field-0.items c.new.result.items c.args.edits.now es ps
+    c.if-level-eq0.true c.in-Some.ensures.level c.in-Some.ensures.few (edits-widen g.E.Entry.key c.args.seat.low (c.args.seat.high + 1) 0 (2 ^ 64) c.args.edits.now (omega arith) (omega arith) c.requires.edits) (omega (arith, one)) c.in_ok-merged_leaf.ensures tree
 
 pub edit_below-returns-clause-later : goal.edit_below-returns-clause-later
 edit_below-returns-clause-later g t c = later-then c.page.ensures.later c.edit_children.ensures.later

@@ -64,3 +64,6 @@ returns-clause-keys g c = c.loop-rest.invariant.keys
 
 pub returns-clause-writable : goal.returns-clause-writable
 returns-clause-writable g c = c.loop-rest.invariant.writable
+
+pub returns-clause-most : goal.returns-clause-most
+returns-clause-most g c = (c.most_at-most.result, record { holds = c.most_at-most.ensures.holds; whole = c.most_at-most.ensures.most })

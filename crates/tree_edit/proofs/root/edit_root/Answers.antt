@@ -1,4 +1,5 @@
-use Rattle.std.proofs.Common.{◌≡◌, ◌+◌, ◌-◌, ◌^◌, ◌≤◌, [], ℕ, suc, List, length, map, subst, sym, ap, refl, ◌∙◌, arith, inl, inr, ◌*◌, Option}
+use Rattle.std.proofs.Common.{◌≡◌, ◌+◌, ◌++◌, ◌-◌, ◌^◌, ◌≤◌, [], ℕ, suc, List, length, map, subst, sym, ap, refl, ◌∙◌, arith, inl, inr, ◌*◌, Option}
+use Rattle.std.proofs.lemmas.List.{append-nil}
 use Rattle.pst_base.specs.declared.ids.Bref.{Bref as Brefs}
 use Rattle.btree_pages.specs.Pages.{size_at}
 use Rattle.tree_edit.specs.Shapes.{RiseIn, AreBelow, IsTree}
@@ -30,8 +31,8 @@ returns-then-level-eq0-clause-replaces g c = λ find told es ps under.
     let rises = edited-rise g.E.Entry.key 0 (2 ^ 64) (map g.E.Entry.entry_of c.args.page.now.entries) c.args.edits.now
     (subst (RiseIn 0 (2 ^ 64)) (sym (same-keys g.E.Entry.rule g.E.Entry.entry_of g.E.Entry.key g.met.E.Entry.key_read c.args.page.now.entries)) c.requires.rises) c.requires.edits in
     subst (λ (l : List _). Replaces (shapes g.E.Entry.rule g.E.Entry.size g.E.Entry.entry_of find) g.E.Entry.key 0 (2 ^ 64) c.args.pages.now.items c.edit_leaf.new.pages.items c.args.freed.now.items c.args.freed.now.items c.in_ok-children.children.items (edited g.E.Entry.key l c.args.edits.now) ps) (sym here.0)
-    (replaces-root (shapes g.E.Entry.rule g.E.Entry.size g.E.Entry.entry_of find) g.E.Entry.key (2 ^ 64) c.args.pages.now.items c.edit_leaf.new.pages.items c.args.freed.now.items c.in_ok-children.children.items
-    (edited g.E.Entry.key (map g.E.Entry.entry_of c.args.page.now.entries) c.args.edits.now) ps here.1 rises c.in_ok-children.ensures.lays)
+    (replaces-root (shapes g.E.Entry.rule g.E.Entry.size g.E.Entry.entry_of find) g.E.Entry.key (2 ^ 64) c.args.pages.now.items c.edit_leaf.new.pages.items c.args.freed.now.items c.args.freed.now.items c.in_ok-children.children.items
+    (edited g.E.Entry.key (map g.E.Entry.entry_of c.args.page.now.entries) c.args.edits.now) ps (sym (append-nil c.args.freed.now.items) ∙ ap (λ (l : List Brefs). c.args.freed.now.items ++ l) (sym here.1)) rises c.in_ok-children.ensures.lays)
 
 pub returns-then-count-eq0-clause-rises : goal.returns-then-count-eq0-clause-rises
 returns-then-count-eq0-clause-rises g c =
@@ -48,8 +49,8 @@ returns-then-count-eq0-clause-replaces g c = λ find told es ps under.
     subst (λ (l : List (List ℕ)). AreBelow (IsTree (shapes g.E.Entry.rule g.E.Entry.size g.E.Entry.entry_of find) g.E.Entry.key (c.args.page.now.level - 1)) (2 ^ 64) (map (child_in g.E.Entry.rule) l) es ps) none (under.of_inner (c.args.page.now.level - 1) level) in
     let made : c.as_slice.result.now ≡ edited g.E.Entry.key [] c.args.edits.now = c.as_slice.ensures.value ∙ c.in_ok-entries.ensures in
     subst (λ (l : List _). Replaces (shapes g.E.Entry.rule g.E.Entry.size g.E.Entry.entry_of find) g.E.Entry.key 0 (2 ^ 64) c.args.pages.now.items c.pack_leaves.new.pages.items c.args.freed.now.items c.args.freed.now.items c.in_ok-children-2.children.items (edited g.E.Entry.key l c.args.edits.now) ps) (sym here.0)
-    (replaces-root (shapes g.E.Entry.rule g.E.Entry.size g.E.Entry.entry_of find) g.E.Entry.key (2 ^ 64) c.args.pages.now.items c.pack_leaves.new.pages.items c.args.freed.now.items c.in_ok-children-2.children.items
-    (edited g.E.Entry.key [] c.args.edits.now) ps here.1 (edited-rise g.E.Entry.key 0 (2 ^ 64) [] c.args.edits.now tt c.requires.edits)
+    (replaces-root (shapes g.E.Entry.rule g.E.Entry.size g.E.Entry.entry_of find) g.E.Entry.key (2 ^ 64) c.args.pages.now.items c.pack_leaves.new.pages.items c.args.freed.now.items c.args.freed.now.items c.in_ok-children-2.children.items
+    (edited g.E.Entry.key [] c.args.edits.now) ps (sym (append-nil c.args.freed.now.items) ∙ ap (λ (l : List Brefs). c.args.freed.now.items ++ l) (sym here.1)) (edited-rise g.E.Entry.key 0 (2 ^ 64) [] c.args.edits.now tt c.requires.edits)
     (subst (λ (l : List _). Lays g.E.Entry.key c.args.pages.now.items c.pack_leaves.new.pages.items c.in_ok-children-2.children.items l) made c.in_ok-children-2.ensures.lays))
 
 pub returns-clause-replaces : goal.returns-clause-replaces

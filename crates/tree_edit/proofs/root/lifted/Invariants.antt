@@ -1,7 +1,8 @@
-use Rattle.std.proofs.Common.{◌-◌, ◌≡◌, ◌⊎◌, ◌≤◌, ◌+◌, ◌*◌, ◌^◌, ℕ, length}
+use Rattle.std.proofs.Common.{◌-◌, ◌≡◌, ◌⊎◌, ◌≤◌, ◌+◌, ◌*◌, ◌^◌, ℕ, List, length}
 use Rattle.tree_edit.specs.Shapes.{RiseIn}
 use Rattle.tree_edit.specs.Plans.{AreKeys, AreWritable, keys_of}
-use Rattle.tree_edit.specs.Steps.{Lifts}
+use Rattle.tree_edit.specs.Steps.{Lifts, Narrows, room}
+use Rattle.tree_edit.proofs.AnewLaws.{Within}
 use Rattle.tree_edit.proofs.root.lifted.Given as goal
 
 abbrev pub invariant-up : goal.invariant-up
@@ -15,6 +16,8 @@ invariant-up g l = record {
   plain : length l.pages.items + length l.children.items ≤ length l.fn.pages.items + length l.fn.children.items;
   grown : (e : ℕ) → length l.fn.children.items ≤ 20 + e
       → ((length l.pages.items ≡ length l.fn.pages.items) × (length l.children.items ≡ length l.fn.children.items)) ⊎ (length l.pages.items + length l.children.items ≤ length l.fn.pages.items + 2 + 2 * e);
+  narrow : (n u : ℕ) (ms : List ℕ) → Narrows n ms → length l.fn.children.items ≤ n + u → Within u (length l.children.items) (length l.pages.items) (length l.fn.pages.items + room u ms);
+  many : length l.fn.children.items ≤ 20 ^ (7 - l.fn.level) → length l.children.items ≤ 20 ^ (7 - l.level);
 }
 
 abbrev pub decreases-up : goal.decreases-up
