@@ -1,5 +1,5 @@
 -- A file as a source of pages.
-use Rattle.std.proofs.Common.{◌≡◌, ◌≤◌, ◌+◌, ◌-◌, ◌*◌, ℕ, List, length, Option, Some, None, Result, Ok, Err, IfOk, IfErr, refl, sym, ap, subst, ◌∙◌, arith, inl}
+use Rattle.std.proofs.Common.{◌≡◌, ◌⊎◌, ◌≤◌, ◌+◌, ◌-◌, ◌*◌, ℕ, List, length, Option, Some, None, Result, Ok, Err, IfOk, IfErr, refl, sym, ap, subst, ◌∙◌, arith, inl}
 use Rattle.std.proofs.Math.Nat.{mul-le-mul_right}
 use Rattle.pst_base.specs.declared.ids.Bref.{Bref}
 use Rattle.pst_base.specs.declared.stops.PageFault.TheVariants.{Count}
@@ -21,6 +21,7 @@ use Rattle.tree_edit.specs.declared.plan.Child.{Child}
 use Rattle.tree_edit.specs.declared.plan.PlanPage.{PlanPage}
 use Rattle.tree_edit.specs.Edits.{edited, puts}
 use Rattle.tree_edit.specs.Plans.{IsPlan}
+use Rattle.tree_edit.specs.Steps.{IsAnew}
 use Rattle.tree_edit.specs.Source.{Source, StopsOn}
 use Rattle.tree_search.specs.Search.{StopsIn}
 use Rattle.file_pages.specs.InFile.{bodies}
@@ -68,6 +69,9 @@ PlansOver {E} find key root ds pages freed top = (es : List E) (ps : List Bref) 
 abbrev pub SparesOver : {E : Type 0} → (Bref → Option (Shape E)) → (E → ℕ) → Bref → List (ℕ × Option E) → List (PlanPage E) → List Bref → Type 0
 SparesOver {E} find key root ds pages freed = (es : List E) (ps : List Bref) → (whole : IsWhole find key root es ps) → length pages ≤ length freed + (whole.level - 1 + 3) * puts key es ds
 
+abbrev pub BoundsOver : {E : Type 0} → (Bref → Option (Shape E)) → (E → ℕ) → Bref → List (ℕ × Option E) → List (PlanPage E) → List Bref → Type 0
+BoundsOver {E} find key root ds pages freed = (es : List E) (ps : List Bref) → (whole : IsWhole find key root es ps) → (length pages ≤ (2 * (whole.level + 2)) * length ds) ⊎ IsAnew whole.level (length ds) freed ps
+
 spare-most : (level few pages freed : ℕ) → level ≤ 7 → pages ≤ freed + (level - 1 + 3) * few → pages ≤ freed + 9 * few
 spare-most level few pages freed low spare =
     let nine : level - 1 + 3 ≤ 9 = omega arith in
@@ -77,14 +81,16 @@ spare-most level few pages freed low spare =
 -- of what a file gives it is planned for the file
 pub plans-in : {E : Type 0} (rule : ℕ → ℕ) (size : ℕ) (entry_of : List ℕ → E) (key : E → ℕ) (file : List ℕ) (eof kind : ℕ) (root : Bref) (ds : List (ℕ × Option E)) (pages : List (PlanPage E)) (freed : List Bref) (top : Child)
     → PlansOver (shapes rule size entry_of (given file eof kind)) key root ds pages freed top → SparesOver (shapes rule size entry_of (given file eof kind)) key root ds pages freed
+    → BoundsOver (shapes rule size entry_of (given file eof kind)) key root ds pages freed
     → PlansIn rule size entry_of key file eof kind root ds pages freed top
-plans-in {E} rule size entry_of key file eof kind root ds pages freed top plans spares =
+plans-in {E} rule size entry_of key file eof kind root ds pages freed top plans spares bounds =
     let same : shapes rule size entry_of (given file eof kind) ≡ shapes rule size entry_of (bodies file eof kind) = shapes-total rule size entry_of (given file eof kind) (bodies file eof kind) (λ at. refl) in
     let over : PlansOver (shapes rule size entry_of (bodies file eof kind)) key root ds pages freed top = subst (λ (f : Bref → Option (Shape E)). PlansOver f key root ds pages freed top) same plans in
     let spare : SparesOver (shapes rule size entry_of (bodies file eof kind)) key root ds pages freed = subst (λ (f : Bref → Option (Shape E)). SparesOver f key root ds pages freed) same spares in
     record {
       plan = over;
       spare = λ es ps whole. spare-most whole.level (puts key es ds) (length pages) (length freed) whole.low_enough (spare es ps whole);
+      bound = subst (λ (f : Bref → Option (Shape E)). BoundsOver f key root ds pages freed) same bounds;
     }
 
 -- what a world tells of its pages it tells on

@@ -1,5 +1,5 @@
 -- What a world tells of a file's pages, and why a look into one of its trees stops.
-use Rattle.std.specs.Prelude.{◌≡◌, ◌≤◌, ◌+◌, ◌*◌, ℕ, List, length, replicate, Option, None, Some}
+use Rattle.std.specs.Prelude.{◌≡◌, ◌⊎◌, ◌≤◌, ◌+◌, ◌*◌, ℕ, List, length, replicate, Option, None, Some}
 use Rattle.pst_base.specs.declared.ids.Bref.{Bref}
 use Rattle.pst_base.specs.declared.stops.MemOr.{MemOr}
 use Rattle.pst_base.specs.declared.stops.MemOr.TheVariants.{Memory, Refused}
@@ -17,6 +17,7 @@ use Rattle.tree_edit.specs.declared.plan.Child.{Child}
 use Rattle.tree_edit.specs.declared.plan.PlanPage.{PlanPage}
 use Rattle.tree_edit.specs.Edits.{edited, puts}
 use Rattle.tree_edit.specs.Plans.{IsPlan}
+use Rattle.tree_edit.specs.Steps.{IsAnew}
 use Rattle.file_pages.specs.InFile.{bodies}
 
 -- a content that is no page of a tree
@@ -42,11 +43,12 @@ pub record Gives (world : World) (eof kind : ℕ) (cached : List (ℕ × Cached)
 abbrev pub HasTree : {E : Type 0} → (ℕ → ℕ) → ℕ → (List ℕ → E) → (E → ℕ) → List ℕ → ℕ → ℕ → Bref → List E → Type 0
 HasTree rule size entry_of key file eof kind root es = (ps : List Bref) × IsWhole (shapes rule size entry_of (bodies file eof kind)) key root es ps
 
--- What edits come to is right for the tree of a root in a file, and has few pages: at most nine for each entry that is put under a new key, beside as many as are freed.
+-- What edits come to is right for the tree of a root in a file, and has few pages: at most nine for each entry that is put under a new key, beside as many as are freed; and, unless the tree is written anew, at most two for each edit at each level and two more levels.
 pub record PlansIn {E : Type 0} (rule : ℕ → ℕ) (size : ℕ) (entry_of : List ℕ → E) (key : E → ℕ) (file : List ℕ) (eof kind : ℕ) (root : Bref) (ds : List (ℕ × Option E)) (pages : List (PlanPage E)) (freed : List Bref) (top : Child) : Type 0 where
   pub plan : (es : List E) (ps : List Bref) → IsWhole (shapes rule size entry_of (bodies file eof kind)) key root es ps
       → IsPlan (shapes rule size entry_of (bodies file eof kind)) key pages freed top (edited key es ds) ps
   pub spare : (es : List E) (ps : List Bref) → IsWhole (shapes rule size entry_of (bodies file eof kind)) key root es ps → length pages ≤ length freed + 9 * puts key es ds
+  pub bound : (es : List E) (ps : List Bref) → (whole : IsWhole (shapes rule size entry_of (bodies file eof kind)) key root es ps) → (length pages ≤ (2 * (whole.level + 2)) * length ds) ⊎ IsAnew whole.level (length ds) freed ps
 
 -- a fault shows in the disk's count, and what was found changed never comes where this is so
 abbrev pub StopsUnless : World → World → Type 0 → MemOr SourceStop → Type 0

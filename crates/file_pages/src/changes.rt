@@ -36,7 +36,7 @@ fn change_in<E: Entry, W: Outside>(
 
 /// Plans a tree of a file after edits, whose keys ascend: new pages, the pages that it has no more, and the new root. An edit puts its entry in its key's place, or takes the entry there away. It writes nothing.
 ///
-/// `Failed` comes where the disk failed, `Changed` at a page that isn't there or isn't one of the tree, with two zeros for its numbers. Memory is also wanted where the tree would pass level 7.
+/// `Failed` comes where the disk failed, `Changed` at a page that isn't there or isn't one of the tree, with two zeros for its numbers. Memory is also wanted where even a packed tree would pass level 7.
 pub fn change_at<E: Entry, W: Outside>(
     alloc: Global,
     w: &mut W,

@@ -1,11 +1,11 @@
 -- The slots before and after a commit.
-use Rattle.std.proofs.Common.{true, false, ◌≡◌, ◌∙◌, ◌⊎◌, inl, inr, ℕ, zero, suc, ◌+◌, ◌-◌, ◌*◌, ◌/◌, ◌%◌, ◌<◌, ◌≤◌, max, Bool, List, [], ◌∷◌, ◌++◌, length, map, refl, sym, ap, subst, arith}
+use Rattle.std.proofs.Common.{true, false, ◌≡◌, ◌∙◌, inl, inr, ℕ, zero, suc, ◌+◌, ◌*◌, ◌/◌, ◌<◌, ◌≤◌, Bool, List, [], ◌∷◌, ◌++◌, length, sym, ap, subst, arith}
 use Rattle.std.specs.List.{All}
 use Rattle.std.proofs.lemmas.Bool.{cases_lt}
 use Rattle.std.proofs.lemmas.List.Elements.{All-cons}
 use Rattle.pst_base.specs.declared.places.Place.{Place}
-use Rattle.alloc_map.specs.Slots.{IsLaid, is_used, regions_of, slot_of, slots_in}
-use Rattle.alloc_map.specs.Standing.{Covers, SomeCovers, IsCovered, amap_place, amap_places, fixed_places, fixed_slots, occupied, standing}
+use Rattle.alloc_map.specs.Slots.{IsLaid, regions_of, slot_of, slots_in}
+use Rattle.alloc_map.specs.Standing.{Covers, SomeCovers, IsCovered, amap_place, amap_places, fixed_places, occupied, standing}
 use Rattle.alloc_map.specs.Covered.{IsTwice, Once}
 use Rattle.alloc_map.specs.Taken.{Taken}
 use Rattle.alloc_map.specs.Tally.{one_at, tally}
@@ -13,7 +13,7 @@ use Rattle.alloc_map.proofs.CoverLaws.{covers_either, covers_first, covers_last,
 use Rattle.alloc_map.proofs.FreeLaws.{others-left}
 use Rattle.alloc_map.proofs.TakenLaws.{covered-beside}
 use Rattle.alloc_map.proofs.TallyLaws.{once_reordered, some_tally, tally_append, tally_some}
-use Rattle.file_planner.specs.Freed.{all_behind, behind_fixed, fixed_end}
+use Rattle.file_planner.specs.Freed.{all_behind, behind_fixed}
 use Rattle.file_planner.proofs.SlotLaws.{AllTame, IsFixed, IsTame, all-fixed, all-free, amap-fixed, covers-fixed, covers-none, covers-one, fixed-cases, fixed-covers, fixed-once, once-of, one-covers, tally-none, tally-of}
 
 -- ---- AMap pages

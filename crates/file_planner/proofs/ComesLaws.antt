@@ -1,5 +1,5 @@
 -- What a drawn plan comes to, for what holds a file.
-use Rattle.std.proofs.Common.{Bool, true, ◌≡◌, ◌∙◌, ℕ, ◌+◌, ◌*◌, ◌^◌, ◌<◌, ◌≤◌, List, [], ◌++◌, length, map, take, drop, Option, Some, None, Ok, refl, sym, ap, subst, arith, length-append}
+use Rattle.std.proofs.Common.{Bool, true, ◌≡◌, ◌∙◌, ℕ, ◌+◌, ◌^◌, ◌<◌, ◌≤◌, List, [], ◌++◌, length, drop, Option, refl, sym, ap, subst, arith, length-append}
 use Rattle.std.proofs.lemmas.List.{length-map}
 use Rattle.pst_base.specs.declared.ids.Nid.{Nid}
 use Rattle.pst_base.specs.declared.places.Place.{Place}
@@ -18,7 +18,6 @@ use Rattle.file_blocks.specs.Blocks.{file_of}
 use Rattle.file_blocks.specs.Stops.{Tells}
 use Rattle.file_blocks.proofs.FileLaws.{same_length}
 use Rattle.file_layout.specs.Nodes.{Lays, NodeMap, nodes_in, places_of}
-use Rattle.file_pages.specs.Told.{Caches}
 use Rattle.lays_kept.specs.declared.Piece.{Piece}
 use Rattle.lays_kept.specs.Kept.{HoldsEach, Scattered}
 use Rattle.lays_kept.specs.Renewed.{Renews}
@@ -36,8 +35,10 @@ use Rattle.ref_counts.specs.Changes.{HasRoomFor}
 use Rattle.file_planner.specs.declared.planner.FilePlanner.{FilePlanner}
 use Rattle.file_planner.specs.declared.planner.PlanEffects.{PlanEffects}
 use Rattle.file_planner.specs.Becomes.{IsMade}
+use Rattle.file_planner.specs.Cost.{IsWithin}
 use Rattle.file_planner.specs.Drawn.{IsDrawn, blocks_drawn, nodes_drawn}
 use Rattle.file_planner.specs.Knowing.{AreCached, IsKnown, Knows, KnowsAfter, cells_of, spent}
+use Rattle.file_planner.proofs.CostLaws.{drawn-within}
 use Rattle.file_planner.proofs.DrawnLaws
 use Rattle.file_planner.proofs.KnownLaws
 use Rattle.file_planner.proofs.NewLaws.{sealed-count}
@@ -65,7 +66,7 @@ lays-renewed {next} {bytes} {N} r =
 pub comes : (p : FilePlanner) (found file : List ℕ) (N : port.Nodes) (last : List ℕ) (stands : FileStands found file N last) (cs : List (Nid × Option NodeRec)) (pieces : List Piece) (sealed : List ℕ) (next : Header) (e : PlanEffects)
     → port.ascend 0 cs ≡ true → (known : IsKnown stands.lays p.slots (refs_in p.refs) p.pages p.next_block p.next_page) → p.next_block < 2 ^ 61 → p.next_page < 2 ^ 61 → HasRoomFor p.refs e.refs.items
     → IsDrawn stands.lays p.slots (refs_in p.refs) p.pages p.next_block p.next_page cs pieces sealed next e
-    → Comes (KnowsAfter p e) IsMade found file pieces sealed next cs N last
+    → Comes (KnowsAfter p e) IsMade IsWithin found file pieces sealed next cs N last
 comes p found file N last stands cs pieces sealed next e up known low page_low room d =
     let is : Lays stands.header file stands.m = stands.lays in
     let all : List Piece = d.growth ++ DrawnLaws.drawn_pieces is known low d in
@@ -77,6 +78,7 @@ comes p found file N last stands cs pieces sealed next e up known low page_low r
           (planned-commits found file N last stands next sealed d.growth (DrawnLaws.drawn_pieces is known low d) (blocks_drawn d) (nodes_drawn d) cs up (DrawnLaws.planned is known low d) (DrawnLaws.next-header is known low d) (DrawnLaws.has-room is known low d)
           (λ bytes long kept stood. DrawnLaws.shows is known low d bytes kept stood));
       read = d.read;
+      cost = drawn-within is stands.read d;
       known = λ mid scattered each.
           let writes : Scattered all file mid = subst (λ (ps : List Piece). Scattered ps file mid) are scattered in
           let holds : HoldsEach mid all = subst (HoldsEach mid) are each in
@@ -165,7 +167,7 @@ held-before {knows} {found} {header} {v} {w} {N} same held = (same.stays.told he
 pub plans-when : (p : FilePlanner) (found : List ℕ) (header : Header) (v w : World) (caches : PageCaches) (cs : List (Nid × Option NodeRec)) (pieces : List Piece) (sealed : List ℕ) (next : Header) (e : PlanEffects)
     → caches.blocks ≡ [] → caches.nodes ≡ [] → Untouched v w → port.ascend 0 cs ≡ true → p.next_block < 2 ^ 61 → p.next_page < 2 ^ 61 → HasRoomFor p.refs e.refs.items
     → ((m : NodeMap) (tells : TellsNodes v header caches m) → IsDrawn tells.lays p.slots (refs_in p.refs) p.pages p.next_block p.next_page cs pieces sealed next e)
-    → PlansFor (Knows p) (KnowsAfter p e) IsMade found header w pieces sealed next cs
+    → PlansFor (Knows p) (KnowsAfter p e) IsMade IsWithin found header w pieces sealed next cs
 plans-when p found header v w caches cs pieces sealed next e no_blocks no_nodes same up low page_low room drawn N held =
     let file : List ℕ = file_of w.here in
     let is : FileStands found file N header.indexes = (held.1.stands).file in

@@ -1,9 +1,6 @@
 -- How a plan is put together, and why its steps stop.
-use Rattle.std.proofs.Common.{Bool, ◌≡◌, ◌∙◌, inl, inr, ℕ, ◌+◌, ◌-◌, ◌*◌, ◌/◌, ◌%◌, ◌^◌, ◌<◌, ◌≤◌, min, List, [], ◌∷◌, ◌++◌, length, map, Option, None, Some, Ok, refl, sym, ap, subst, arith, length-append, append_assoc}
+use Rattle.std.proofs.Common.{Bool, ◌≡◌, ◌∙◌, ℕ, ◌+◌, ◌-◌, ◌*◌, ◌/◌, ◌%◌, ◌^◌, ◌<◌, ◌≤◌, List, [], ◌∷◌, ◌++◌, length, map, Option, Ok, refl, sym, ap, subst, arith, length-append}
 use Rattle.std.specs.List.{All}
-use Rattle.std.proofs.lemmas.List.{length-map, map-append}
-use Rattle.std.proofs.lemmas.List.Sums.{count_by-le-length}
-use Rattle.pst_base.specs.declared.ids.Bid.{Bid}
 use Rattle.pst_base.specs.declared.ids.Bref.{Bref}
 use Rattle.pst_base.specs.declared.ids.Nid.{Nid}
 use Rattle.pst_base.specs.declared.places.Place.{Place}
@@ -16,31 +13,29 @@ use Rattle.alloc_map.specs.Slots.{IsLaid, regions_of}
 use Rattle.alloc_map.specs.Taken.{IsBlockPlace, IsPagePlace, Taken, Takes}
 use Rattle.btree_pages.specs.declared.entry.BlockEntry.{BlockEntry}
 use Rattle.btree_pages.specs.declared.entry.NodeEntry.{NodeEntry}
-use Rattle.btree_pages.specs.Entries.{block_of, node_of, node_key}
+use Rattle.btree_pages.specs.Entries.{block_of, node_of}
 use Rattle.btree_pages.specs.EntryLaws.{key-block_of, key-node_of}
 use Rattle.content_plan.specs.Plan.{puts_in}
 use Rattle.file_blocks.specs.Blocks.{entry_key, file_of}
-use Rattle.file_layout.specs.Nodes.{Lays, NodeMap, block_tree, blocks_in, node_tree, nodes_in, place_of}
+use Rattle.file_layout.specs.Nodes.{Lays, NodeMap, block_tree, blocks_in, node_tree, nodes_in}
 use Rattle.file_layout.specs.Trees.{page_place}
 use Rattle.file_pages.proofs.Bridge.{shaped-root}
-use Rattle.file_pages.specs.InFile.{shapes_in}
 use Rattle.file_pages.specs.Told.{PlansIn}
 use Rattle.lays_kept.specs.declared.Piece.{Piece}
 use Rattle.node_layout.specs.Growth.{EndsAt}
 use Rattle.node_layout.specs.Joined.{node_id}
+use Rattle.node_layout.specs.Lookups.{sum_of}
 use Rattle.node_layout.specs.Pieces.{piece_place}
 use Rattle.node_layout.specs.Sealed.{AreSealed}
-use Rattle.node_layout.proofs.TreeLaws.{same-sums, sum_at}
 use Rattle.node_port.specs.declared.node.NodeRec.{NodeRec}
-use Rattle.node_refs.specs.Counts.{sum_put}
 use Rattle.node_store.specs.declared.node.PageCaches.{PageCaches}
-use Rattle.node_store.specs.Told.{CachesBoth, TellsNodes}
 use Rattle.tree_edit.specs.declared.plan.Child.{Child}
 use Rattle.tree_edit.specs.declared.plan.PlanPage.{PlanPage}
-use Rattle.tree_edit.specs.Edits.{AreEdits, edited, entry_with, extra, of_some, puts}
-use Rattle.tree_edit.specs.Plans.{IsPlan, tally as times}
-use Rattle.tree_edit.specs.Shapes.{IsWhole, Shape}
+use Rattle.tree_edit.specs.Edits.{AreEdits, extra, puts}
+use Rattle.tree_edit.specs.Plans.{IsPlan}
+use Rattle.tree_edit.specs.Shapes.{Shape}
 use Rattle.tree_edit.proofs.PlanLaws.{tally-join}
+use Rattle.plan_pieces.specs.Growth.{regions_in}
 use Rattle.ref_counts.specs.declared.table.RefChange.{RefChange}
 use Rattle.file_planner.specs.declared.draw.Numbers.{Numbers}
 use Rattle.file_planner.specs.declared.draw.Sketch.{Sketch}
@@ -119,6 +114,7 @@ drawn-of {header} {file} {m} is slots counts cs numbers sketch trees pages block
       growth = out.growth;
       grows = out.grows;
       ends = λ lt. subst (λ (n : ℕ). EndsAt n out.growth) (sym top.eof) (out.ends (subst (λ (n : ℕ). header.eof < n) top.eof lt));
+      growth_few = subst (λ (n : ℕ). sum_of (λ (p : Piece). length p.bytes) out.growth ≤ 1537 * (regions_in n - regions_in header.eof)) (sym top.eof) out.growth_few;
       end = subst (λ (n : ℕ). IsEndFor header.eof ((out.first_places ++ out.last_places) ++ blocks) n) (sym top.eof) (subst (λ (ps : List Place). IsEndFor header.eof (ps ++ blocks) end) all out.end_for);
       few = let a = out.few in let b = top.eof in omega (arith, a, b);
       pieces_are = out.are;

@@ -1,11 +1,10 @@
 -- A plan in all its parts is one that can be committed.
-use Rattle.std.proofs.Common.{Bool, true, false, ◌≡◌, ◌∙◌, ◌⊎◌, inl, inr, ℕ, zero, suc, ◌+◌, ◌-◌, ◌*◌, ◌%◌, ◌^◌, ◌<◌, ◌≤◌, ltb, List, [], ◌∷◌, ◌++◌, length, map, take, drop, Option, Some, None, Ok, refl, sym, ap, subst, arith, if◌then◌else◌}
+use Rattle.std.proofs.Common.{Bool, true, ◌≡◌, ◌∙◌, inl, inr, ℕ, ◌+◌, ◌-◌, ◌%◌, ◌^◌, ◌<◌, ◌≤◌, ltb, List, [], ◌∷◌, ◌++◌, length, map, Option, Some, None, refl, sym, ap, subst, arith, if◌then◌else◌}
 use Rattle.std.specs.List.{All}
 use Rattle.std.proofs.lemmas.Bool.{cases_eq, cases_lt, eq-eqb, lt-ltb, ne_eqb}
 use Rattle.std.proofs.lemmas.List.{map-append}
 use Rattle.std.proofs.lemmas.List.Elements.{All-head, All-tail}
 use Rattle.pst_base.specs.declared.ids.Bid.{Bid}
-use Rattle.pst_base.specs.declared.ids.Bref.{Bref}
 use Rattle.pst_base.specs.declared.ids.Nid.{Nid}
 use Rattle.pst_base.specs.declared.places.Place.{Place}
 use Rattle.pst_base.specs.Ids.{key_of}
@@ -15,43 +14,37 @@ use Rattle.alloc_map.specs.Covered.{Once}
 use Rattle.alloc_map.specs.Taken.{Taken}
 use Rattle.alloc_map.proofs.TakenLaws.{taken-both}
 use Rattle.btree_pages.specs.declared.entry.BlockEntry.{BlockEntry}
-use Rattle.btree_pages.specs.declared.entry.NodeEntry.{NodeEntry}
 use Rattle.btree_pages.specs.Entries.{block_of, node_of, node_key}
-use Rattle.btree_pages.specs.EntryLaws.{key-block_of, key-node_of}
 use Rattle.data_tree.specs.Keys.{count_of, keys_of}
-use Rattle.data_tree.specs.Plan.{IsFound, bids_in, bytes_in, contents}
+use Rattle.data_tree.specs.Plan.{IsFound, bids_in}
 use Rattle.file_blocks.specs.Blocks.{AllStand, Stands, data_of, entry_key, found_in}
-use Rattle.file_layout.specs.Nodes.{LARGEST, Lays, NodeMap, block_tree, blocks_in, node_tree, nodes_in, place_of, places_of, regions_to}
+use Rattle.file_layout.specs.Nodes.{Lays, NodeMap, block_tree, blocks_in, node_tree, nodes_in, place_of, places_of, regions_to}
 use Rattle.file_layout.specs.Trees.{IsPlace, page_place}
 use Rattle.lays_kept.specs.declared.Piece.{Piece}
-use Rattle.lays_kept.specs.Kept.{Each as EachPlace, HoldsEach, SameAt, Scattered}
-use Rattle.lays_kept.specs.Stands.{FileStands, IsPlan}
+use Rattle.lays_kept.specs.Kept.{Each as EachPlace, SameAt}
 use Rattle.lays_kept.specs.Tally.{one_at, tally}
 use Rattle.lays_kept.proofs.Beside.{IsWhole}
 use Rattle.lays_kept.proofs.Kept.{all_kept, each_back, each_front}
 use Rattle.lays_kept.proofs.Places.{blocks_places, each_append, lays_places}
 use Rattle.lays_kept.proofs.Tally.{once_reordered, tally_append}
 use Rattle.node_port.specs.declared.node.NodeRec.{NodeRec}
-use Rattle.node_port.specs.Nodes as port
 use Rattle.node_layout.specs.Commit.{HasRoom, IsNext, Shows}
-use Rattle.node_layout.specs.Growth.{AllGrow, EndsAt}
-use Rattle.node_layout.specs.Joined.{AreChanged, IsPlanned, TreePlan, found_after, node_id, places_in}
-use Rattle.node_layout.specs.Lookups.{Each, EachPut, edit_at, or_old, sum_of}
+use Rattle.node_layout.specs.Joined.{AreChanged, IsPlanned, found_after, places_in}
+use Rattle.node_layout.specs.Lookups.{Each, EachPut, edit_at}
 use Rattle.node_layout.specs.Pieces.{EachStands, piece_place}
 use Rattle.node_layout.proofs.DataLaws.{all-here}
 use Rattle.node_layout.proofs.GrowthLaws.{growth-beside, grown-long}
 use Rattle.node_layout.proofs.LookupLaws.{each-edited, sum-edited, with-edited}
 use Rattle.node_layout.proofs.NodeLaws.{still-found}
-use Rattle.node_layout.proofs.PlannedLaws.{planned-commits}
 use Rattle.node_layout.proofs.SealedLaws.{all-sealed}
 use Rattle.node_layout.proofs.WrittenLaws.{pages-shown}
-use Rattle.node_refs.specs.Counts.{AreRefs, put, refs_after, taken as taken_in}
+use Rattle.node_refs.specs.Counts.{put}
 use Rattle.node_refs.proofs.CountLaws.{left-needs}
 use Rattle.node_refs.proofs.FitLaws.{data-fit}
-use Rattle.tree_edit.specs.Edits.{AreEdits, edited, entry_with, extra}
+use Rattle.tree_edit.specs.Edits.{AreEdits, edited, entry_with}
 use Rattle.ref_counts.specs.declared.table.RefChange.{RefChange}
 use Rattle.ref_counts.specs.Changes.{AreRefChanges, IsRefChange, change_of, number_after, number_by}
-use Rattle.content_plan.specs.Plan.{Bounds, PlansContents, StayFound}
+use Rattle.content_plan.specs.Plan.{Bounds, StayFound}
 use Rattle.plan_pieces.specs.Names.{named}
 use Rattle.plan_pieces.proofs.JoinLaws.{names-placed}
 use Rattle.file_planner.specs.declared.planner.PlanEffects.{PlanEffects}

@@ -1,12 +1,12 @@
 -- What a planner knows of a file that was scanned.
-use Rattle.std.proofs.Common.{Bool, ◌≡◌, ◌∙◌, ℕ, ◌+◌, List, [], ◌∷◌, ◌++◌, length, Option, refl, sym, ap, subst, length-append}
+use Rattle.std.proofs.Common.{Bool, ◌≡◌, ◌∙◌, ℕ, ◌+◌, List, [], ◌∷◌, length, Option, refl, sym, ap, subst, length-append}
 use Rattle.pst_outside.specs.World.{Image}
 use Rattle.pst_header.specs.declared.header.Header.{Header}
 use Rattle.alloc_map.specs.Standing.{IsCovered, occupied}
 use Rattle.btree_pages.specs.declared.entry.NodeEntry.{NodeEntry}
 use Rattle.data_tree.specs.Keys.{count_of}
 use Rattle.file_blocks.specs.Blocks.{file_of, found_in}
-use Rattle.file_layout.specs.Nodes.{Lays, NodeMap, block_tree, blocks_in, node_tree, nodes_in, places_of}
+use Rattle.file_layout.specs.Nodes.{block_tree, blocks_in, node_tree, nodes_in, places_of}
 use Rattle.file_layout.specs.Trees.{Found}
 use Rattle.file_pages.specs.InFile.{bodies}
 use Rattle.file_scan.proofs.ScanLaws.{whole-once}
@@ -17,7 +17,7 @@ use Rattle.node_reach.specs.Reach.{node_keys, uses_of}
 use Rattle.node_refs.specs.Counts.{uses}
 use Rattle.ref_counts.specs.Tables.{refs_in}
 use Rattle.file_planner.specs.declared.planner.FilePlanner.{FilePlanner}
-use Rattle.file_planner.specs.Knowing.{IsKnown, IsKnownBy, Knows}
+use Rattle.file_planner.specs.Knowing.{IsKnownBy, Knows}
 use Rattle.file_planner.proofs.ComesLaws.{none-wrong}
 
 -- how often nodes reach a block, counted as a sum

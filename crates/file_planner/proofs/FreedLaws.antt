@@ -1,16 +1,14 @@
 -- What edits of the block tree free.
-use Rattle.std.proofs.Common.{Bool, true, false, ◌≡◌, ◌∙◌, inl, inr, ℕ, zero, suc, ◌+◌, ◌^◌, ◌<◌, ◌≤◌, eqb, List, [], ◌∷◌, ◌++◌, map, Option, Some, None, refl, sym, ap, subst, arith, if◌then◌else◌}
+use Rattle.std.proofs.Common.{Bool, true, false, ◌≡◌, inl, inr, ℕ, zero, suc, ◌+◌, ◌^◌, ◌≤◌, eqb, List, [], ◌∷◌, ◌++◌, map, Option, Some, None, refl, ap, subst, arith, if◌then◌else◌}
 use Rattle.std.proofs.lemmas.Bool.{cases_lt, lt-ltb, le-ltb}
 use Rattle.pst_base.specs.declared.ids.Bref.{Bref}
 use Rattle.pst_base.specs.declared.places.Place.{Place}
 use Rattle.btree_pages.specs.declared.entry.BlockEntry.{BlockEntry}
 use Rattle.file_blocks.specs.Blocks.{entry_key}
 use Rattle.file_layout.specs.Nodes.{place_of}
-use Rattle.file_layout.specs.Trees.{page_place}
 use Rattle.lays_kept.specs.Tally.{one_at, tally}
 use Rattle.lays_kept.proofs.Tally.{tally_append}
 use Rattle.tree_edit.specs.Edits.{AreEdits, entry_with, of_some}
-use Rattle.tree_edit.specs.Plans.{tally as times}
 use Rattle.tree_edit.specs.Shapes.{IsWhole, IsRootOf, IsTree, RiseIn, Shape}
 use Rattle.tree_edit.proofs.ShapeLaws.{below-rise, tree-rise}
 use Rattle.node_layout.specs.Lookups.{sum_of}

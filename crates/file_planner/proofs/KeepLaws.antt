@@ -1,12 +1,8 @@
 -- What a planner answers, as a keeper of its file gives it.
-use Rattle.std.proofs.Common.{Bool, true, false, ◌≡◌, ◌∙◌, ℕ, ◌+◌, ◌*◌, ◌/◌, ◌^◌, ◌<◌, ◌≤◌, ◌||◌, leb, min, max, List, Option, None, Some, Result, Ok, Err, IfOk, IfErr, refl, sym, ap, subst, arith, inl, inr}
-use Rattle.std.proofs.lemmas.Bool.{cases_lt, le-leb, leb-true}
+use Rattle.std.proofs.Common.{Bool, true, false, ◌≡◌, ◌∙◌, ℕ, ◌+◌, ◌*◌, ◌/◌, ◌^◌, ◌<◌, ◌≤◌, ◌||◌, leb, min, List, Option, Result, Ok, Err, IfErr, refl, sym, ap, subst, arith, inl, inr}
+use Rattle.std.proofs.lemmas.Bool.{cases_lt, le-leb}
 use Rattle.pst_base.specs.declared.ids.Nid.{Nid}
 use Rattle.pst_outside.specs.World.{World}
-use Rattle.pst_outside.specs.Calls.{Untouched}
-use Rattle.pst_header.specs.declared.header.Header.{Header}
-use Rattle.file_layout.specs.Nodes.{NodeMap}
-use Rattle.lays_kept.specs.Stands.{AreThose}
 use Rattle.node_port.specs.declared.keeper.KeepStop.{KeepStop}
 use Rattle.node_port.specs.declared.keeper.KeepStop.TheVariants as keep
 use Rattle.node_port.specs.declared.keeper.PrepareStop.{PrepareStop}
@@ -14,12 +10,9 @@ use Rattle.node_port.specs.declared.keeper.PrepareStop.TheVariants as prepare
 use Rattle.node_port.specs.declared.node.NodeRec.{NodeRec}
 use Rattle.node_port.specs.Nodes as port
 use Rattle.node_port.specs.Stops.{KeepStops, PrepareStops, Room, RoomDecides, need, size}
-use Rattle.node_store.specs.declared.node.PageCaches.{PageCaches}
-use Rattle.node_store.specs.Told.{StopsKeeping, TellsNodes}
-use Rattle.pst_commit.specs.Keeping.{Holds}
-use Rattle.file_planner.specs.Knowing.{Knows, spent}
+use Rattle.node_store.specs.Told.{StopsKeeping}
+use Rattle.file_planner.specs.Knowing.{spent}
 use Rattle.file_planner.specs.Stopping.{IsRoomStop, prepare_stop}
-use Rattle.file_planner.specs.declared.planner.FilePlanner.{FilePlanner}
 
 -- ---- stops
 

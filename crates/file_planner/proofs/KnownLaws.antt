@@ -1,25 +1,23 @@
 -- What is known after a plan, of the file that has its pieces.
-use Rattle.std.proofs.Common.{Bool, true, false, ◌≡◌, ◌∙◌, ◌⊎◌, inl, inr, ℕ, zero, suc, ◌+◌, ◌-◌, ◌*◌, ◌%◌, ◌^◌, ◌<◌, ◌≤◌, eqb, ltb, List, [], ◌∷◌, ◌++◌, length, map, take, drop, Option, Some, None, Ok, refl, sym, ap, subst, arith, length-append, if◌then◌else◌}
-use Rattle.std.specs.List.{All}
+use Rattle.std.proofs.Common.{Bool, true, false, ◌≡◌, ◌∙◌, inl, inr, ℕ, ◌+◌, ◌-◌, ◌*◌, ◌^◌, ◌<◌, ◌≤◌, eqb, ltb, List, [], ◌∷◌, ◌++◌, length, map, drop, Option, Some, None, refl, sym, ap, subst, arith, if◌then◌else◌}
 use Rattle.std.proofs.lemmas.Bool.{cases_eq, cases_lt, eq-eqb, le-ltb, lt-ltb, ne_eqb}
-use Rattle.std.proofs.lemmas.List.{map-append}
 use Rattle.pst_base.specs.declared.ids.Bid.{Bid}
 use Rattle.pst_base.specs.declared.ids.Bref.{Bref}
 use Rattle.pst_base.specs.declared.ids.Nid.{Nid}
 use Rattle.pst_base.specs.declared.places.Place.{Place}
 use Rattle.pst_header.specs.declared.header.Header.{Header}
-use Rattle.alloc_map.specs.Standing.{IsCovered, amap_places, occupied, standing}
+use Rattle.alloc_map.specs.Standing.{IsCovered, occupied, standing}
 use Rattle.alloc_map.specs.Taken.{Taken}
 use Rattle.btree_pages.specs.declared.entry.BlockEntry.{BlockEntry}
 use Rattle.btree_pages.specs.declared.entry.NodeEntry.{NodeEntry}
-use Rattle.btree_pages.specs.Entries.{block_of, node_of, node_key}
+use Rattle.btree_pages.specs.Entries.{block_of, node_of}
 use Rattle.btree_pages.specs.EntryLaws.{key-block_of, key-node_of}
 use Rattle.data_tree.specs.Keys.{count_of}
 use Rattle.data_tree.specs.Plan.{Rise}
 use Rattle.file_blocks.specs.Blocks.{entry_key, found_in}
-use Rattle.file_layout.specs.Nodes.{Lays, Node, NodeMap, AreNodes, block_tree, blocks_in, node_at, node_tree, nodes_in, place_of, places_of, regions_to}
+use Rattle.file_layout.specs.Nodes.{Lays, Node, NodeMap, AreNodes, block_tree, blocks_in, node_tree, nodes_in, place_of, places_of, regions_to}
 use Rattle.file_layout.specs.Numbers.{next_block, next_page}
-use Rattle.file_layout.specs.Trees.{Found, IsWhole as IsFileWhole, page_place, page_places}
+use Rattle.file_layout.specs.Trees.{Found, IsWhole as IsFileWhole, page_place}
 use Rattle.file_pages.proofs.Bridge.{shaped-root}
 use Rattle.file_pages.specs.InFile.{shapes_in}
 use Rattle.file_scan.proofs.ScanLaws.{whole-once}
@@ -32,9 +30,9 @@ use Rattle.lays_kept.proofs.Rows.{pages_tally}
 use Rattle.lays_kept.proofs.Tally.{tally_append}
 use Rattle.node_port.specs.declared.node.NodeRec.{NodeRec}
 use Rattle.node_layout.specs.Changed.{IsChangedTree}
-use Rattle.node_layout.specs.Joined.{HasPlanned, TreePlan, found_after, node_id, places_in}
+use Rattle.node_layout.specs.Joined.{HasPlanned, found_after, node_id}
 use Rattle.node_layout.specs.Lookups.{Each, EachPut, IsPut, edit_at, sum_of}
-use Rattle.node_layout.specs.Pieces.{EachStands, piece_place}
+use Rattle.node_layout.specs.Pieces.{EachStands}
 use Rattle.node_layout.specs.Sealed.{AreSealed}
 use Rattle.node_layout.proofs.LookupLaws.{each-edited}
 use Rattle.node_layout.proofs.NodeLaws.{found-edited}
@@ -44,26 +42,25 @@ use Rattle.node_layout.proofs.TreeLaws.{tree-changed}
 use Rattle.node_refs.specs.Counts.{AreRefs, put, refs_after, taken as taken_in}
 use Rattle.node_refs.proofs.AfterLaws.{refs-kept}
 use Rattle.tree_edit.specs.declared.plan.PlanPage.{PlanPage}
-use Rattle.tree_edit.specs.Edits.{AreEdits, edited, entry_with}
-use Rattle.tree_edit.specs.Plans.{IsPlan, names, tally as times}
+use Rattle.tree_edit.specs.Edits.{edited, entry_with}
+use Rattle.tree_edit.specs.Plans.{IsPlan, tally as times}
 use Rattle.tree_edit.specs.Shapes.{RiseIn}
 use Rattle.tree_edit.proofs.PlanLaws.{tally-join}
-use Rattle.ref_counts.specs.Changes.{HasRoomFor, change_of, number_after, number_by}
+use Rattle.ref_counts.specs.Changes.{change_of, number_after, number_by}
 use Rattle.plan_pieces.specs.Names.{named}
 use Rattle.plan_pieces.proofs.PageLaws.{named-within}
 use Rattle.file_planner.specs.declared.planner.PlanEffects.{PlanEffects}
 use Rattle.file_planner.specs.Drawn.{IsDrawn, blocks_drawn, nodes_drawn}
-use Rattle.file_planner.specs.Freed.{all_behind}
 use Rattle.file_planner.specs.Knowing.{IsKnown, IsKnownBy}
-use Rattle.file_planner.specs.Recounts.{edit_of, left_places, puts_of, recounted, recounts, with_refs}
+use Rattle.file_planner.specs.Recounts.{edit_of, left_places, puts_of, recounts, with_refs}
 use Rattle.ref_counts.specs.declared.table.RefChange.{RefChange}
-use Rattle.file_planner.proofs.AfterLaws.{AllLaid, slots-after, tame-standing}
+use Rattle.file_planner.proofs.AfterLaws.{slots-after, tame-standing}
 use Rattle.file_planner.proofs.DrawnLaws
 use Rattle.file_planner.proofs.FreedLaws.{left-tame, olds-append, puts-olds, puts-sum, recounts-sum, tame-back, tame-both, tame-front, whole-rise}
-use Rattle.file_planner.proofs.NewLaws.{next-is, next-known, sealed-count, sum-exact, sum_olds}
+use Rattle.file_planner.proofs.NewLaws.{next-is, next-known, sum-exact}
 use Rattle.file_planner.proofs.PageLaws.{RefBelow, changed-below, page-is, page-known, pages-count}
 use Rattle.file_planner.proofs.PlacedLaws.{laid-places, standing-once}
-use Rattle.file_planner.proofs.RecountLaws.{each-with, entry-has, put-sum-append, puts-append, sum-places}
+use Rattle.file_planner.proofs.RecountLaws.{each-with, put-sum-append, puts-append, sum-places}
 use Rattle.file_planner.proofs.SlotLaws.{AllTame, IsTame}
 
 -- ---- lists

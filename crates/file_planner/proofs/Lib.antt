@@ -6,6 +6,7 @@ pub mod PageLaws
 pub mod PlacedLaws
 pub mod DrawnLaws
 pub mod FreedLaws
+pub mod CostLaws
 pub mod KnownLaws
 pub mod ComesLaws
 pub mod RoomLaws

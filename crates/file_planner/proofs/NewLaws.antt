@@ -1,29 +1,27 @@
 -- Entries of new blocks, and the numbers that follow them.
-use Rattle.std.proofs.Common.{Bool, true, false, ◌≡◌, ◌∙◌, ◌⊎◌, inl, inr, ℕ, ◌+◌, ◌-◌, ◌*◌, ◌/◌, ◌%◌, ◌^◌, ◌<◌, ◌≤◌, eqb, ltb, min, max, List, [], ◌∷◌, ◌++◌, length, map, take, drop, Option, Some, None, refl, sym, ap, subst, arith, if◌then◌else◌}
+use Rattle.std.proofs.Common.{Bool, ◌≡◌, ◌∙◌, ◌⊎◌, inl, inr, ℕ, ◌+◌, ◌-◌, ◌*◌, ◌%◌, ◌^◌, ◌<◌, ◌≤◌, eqb, max, List, [], ◌∷◌, ◌++◌, length, map, take, drop, Option, Some, None, refl, sym, ap, subst, arith, if◌then◌else◌}
 use Rattle.std.specs.List.{All}
-use Rattle.std.proofs.lemmas.Bool.{cases_lt, cases_eq, lt-ltb, le-ltb, eq-eqb, ne_eqb}
+use Rattle.std.proofs.lemmas.Bool.{cases_lt, lt-ltb, le-ltb, eq-eqb, ne_eqb}
 use Rattle.std.proofs.lemmas.List.Elements.{All-cons, All-nil}
 use Rattle.pst_base.specs.declared.ids.Bid.{Bid}
-use Rattle.pst_base.specs.declared.places.Place.{Place}
 use Rattle.pst_base.specs.Ids.{key_of}
 use Rattle.pst_header.specs.declared.header.Header.{Header}
 use Rattle.btree_pages.specs.declared.entry.BlockEntry.{BlockEntry}
 use Rattle.data_tree.specs.Plan.{Rise}
-use Rattle.file_blocks.specs.Blocks.{Stands, entry_key}
-use Rattle.file_layout.specs.Nodes.{place_of}
+use Rattle.file_blocks.specs.Blocks.{entry_key}
 use Rattle.file_layout.specs.Numbers.{counted_to, next_block, past_blocks}
 use Rattle.lays_kept.specs.declared.Piece.{Piece}
 use Rattle.tree_edit.specs.Edits.{AreEdits, edited, entry_with, of_some, over, under, given}
 use Rattle.tree_edit.specs.Shapes.{RiseIn}
 use Rattle.node_layout.specs.Joined.{IsHere}
-use Rattle.node_layout.specs.Lookups.{Each, EachPut, IsPut, edit_at, sum_of}
+use Rattle.node_layout.specs.Lookups.{Each, edit_at, sum_of}
 use Rattle.node_layout.specs.Pieces.{EachStands}
 use Rattle.node_layout.specs.Sealed.{AreSealed, IsSealed}
-use Rattle.node_layout.proofs.LookupLaws.{each-edited, sum-append, sum-given}
+use Rattle.node_layout.proofs.LookupLaws.{sum-append, sum-given}
 use Rattle.node_layout.proofs.SealedLaws.{sealed-data}
 use Rattle.node_refs.specs.Counts.{sum_put}
-use Rattle.file_planner.specs.Recounts.{puts_of, recounts, with_refs}
-use Rattle.file_planner.proofs.RecountLaws.{edit-back, recounts-edits}
+use Rattle.file_planner.specs.Recounts.{puts_of}
+use Rattle.file_planner.proofs.RecountLaws.{edit-back}
 
 -- ---- new blocks
 

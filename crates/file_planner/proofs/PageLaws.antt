@@ -1,17 +1,16 @@
 -- The pages of a tree after edits: how many there are, and their ids.
-use Rattle.std.proofs.Common.{Bool, true, false, ◌≡◌, ◌∙◌, ◌⊎◌, inl, inr, ℕ, zero, suc, ◌+◌, ◌-◌, ◌%◌, ◌^◌, ◌<◌, ◌≤◌, eqb, min, max, List, [], ◌∷◌, ◌++◌, length, map, take, drop, Option, Some, None, Result, Ok, Err, refl, sym, ap, subst, arith, if◌then◌else◌, length-append}
+use Rattle.std.proofs.Common.{Bool, true, false, ◌≡◌, ◌∙◌, inl, inr, ℕ, zero, suc, ◌+◌, ◌^◌, ◌<◌, ◌≤◌, eqb, List, [], ◌∷◌, ◌++◌, length, map, take, drop, Option, Some, None, Result, Ok, Err, refl, sym, ap, subst, arith, if◌then◌else◌, length-append}
 use Rattle.std.proofs.lemmas.Bool.{cases_eq, eq-eqb, ne_eqb}
 use Rattle.pst_base.specs.declared.ids.Bref.{Bref}
 use Rattle.pst_base.specs.declared.places.Place.{Place}
 use Rattle.pst_base.specs.declared.stops.PageFault.{PageFault}
 use Rattle.pst_base.specs.Fields.{number_at}
 use Rattle.pst_header.specs.declared.header.Header.{Header}
-use Rattle.btree_pages.specs.Pages.{Page, page_of}
 use Rattle.page_frame.specs.Page.{reading}
 use Rattle.page_frame.proofs.PageLaws.{passed-reading}
 use Rattle.file_layout.specs.declared.tree_pages.Seat.{Seat}
-use Rattle.file_layout.specs.Numbers.{counted_to, next_page, past_pages}
-use Rattle.file_layout.specs.Trees.{AreChildren, FileTree, Found, IsTree, IsTreePage, IsWhole as IsFileWhole, child_of, is_placed, page_place, page_places, root_seat}
+use Rattle.file_layout.specs.Numbers.{next_page, past_pages}
+use Rattle.file_layout.specs.Trees.{AreChildren, FileTree, Found, IsTree, IsWhole as IsFileWhole, child_of, is_placed, page_place, page_places, root_seat}
 use Rattle.lays_kept.specs.Kept.{Each as EachPlace, SameAt}
 use Rattle.lays_kept.specs.Moved.{moved}
 use Rattle.tree_edit.specs.declared.plan.Child.{Child}
@@ -20,7 +19,7 @@ use Rattle.tree_edit.specs.Plans.{AreShown, names, resolve, shape_in, tally}
 use Rattle.tree_edit.specs.Shapes.{Shape}
 use Rattle.tree_edit.specs.Pages.{shown}
 use Rattle.tree_edit.proofs.PlanLaws.{tally-join}
-use Rattle.file_pages.specs.InFile.{bodies, body_at, ok_of, shapes_in}
+use Rattle.file_pages.specs.InFile.{body_at, ok_of, shapes_in}
 use Rattle.node_layout.specs.Changed.{IsChangedTree}
 use Rattle.node_layout.specs.Lookups.{Each}
 use Rattle.node_layout.proofs.TreeLaws.{same-sums, sum_at}

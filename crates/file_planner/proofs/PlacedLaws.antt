@@ -1,31 +1,27 @@
 -- Where a plan's pages and blocks stand.
-use Rattle.std.proofs.Common.{Bool, true, false, ◌≡◌, ◌∙◌, ◌⊎◌, inl, inr, ℕ, zero, suc, ◌+◌, ◌-◌, ◌*◌, ◌/◌, ◌%◌, ◌^◌, ◌<◌, ◌≤◌, max, get_or, List, [], ◌∷◌, ◌++◌, length, map, take, drop, Option, Some, None, refl, sym, ap, subst, arith, length-append}
+use Rattle.std.proofs.Common.{Bool, ◌≡◌, ℕ, zero, suc, ◌+◌, ◌-◌, ◌*◌, ◌<◌, ◌≤◌, List, [], ◌∷◌, ◌++◌, length, map, sym, subst, arith}
 use Rattle.std.specs.List.{All}
-use Rattle.std.proofs.lemmas.Bool.{cases_lt}
-use Rattle.std.proofs.lemmas.List.{map-append}
 use Rattle.std.proofs.lemmas.List.Elements.{All-cons, All-head, All-nil, All-tail}
 use Rattle.pst_base.specs.declared.ids.Bid.{Bid}
 use Rattle.pst_base.specs.declared.ids.Bref.{Bref}
 use Rattle.pst_base.specs.declared.places.Place.{Place}
 use Rattle.pst_header.specs.declared.header.Header.{Header}
-use Rattle.alloc_map.specs.Ends.{IsEndFor, Reaches}
 use Rattle.alloc_map.specs.Slots.{IsLaid, regions_of}
-use Rattle.alloc_map.specs.Standing.{amap_places, standing}
+use Rattle.alloc_map.specs.Standing.{standing}
 use Rattle.alloc_map.specs.Covered.{Once}
 use Rattle.alloc_map.specs.Taken.{Taken}
 use Rattle.block_frame.specs.Size.{disk_size_of}
 use Rattle.btree_pages.specs.declared.entry.BlockEntry.{BlockEntry}
 use Rattle.file_layout.specs.declared.tree_pages.Seat.{Seat}
-use Rattle.file_layout.specs.Nodes.{LARGEST, Lays, NodeMap, block_tree, blocks_in, places_of, regions_to}
-use Rattle.file_layout.specs.Trees.{FileTree, Found, IsPlace, IsTree, page_place, root_seat}
+use Rattle.file_layout.specs.Nodes.{Lays, NodeMap, block_tree, places_of, regions_to}
+use Rattle.file_layout.specs.Trees.{FileTree, Found, IsPlace, IsTree, root_seat}
 use Rattle.lays_kept.specs.declared.Piece.{Piece}
 use Rattle.lays_kept.specs.Kept.{Each}
 use Rattle.lays_kept.proofs.Beside.{IsWhole}
-use Rattle.lays_kept.proofs.Kept.{each_weaker}
 use Rattle.lays_kept.proofs.Once.{apart_once}
-use Rattle.lays_kept.proofs.Places.{each_append, lays_places, lays_wholes}
+use Rattle.lays_kept.proofs.Places.{lays_places, lays_wholes}
 use Rattle.node_layout.specs.Pieces.{EachStands, piece_place}
-use Rattle.node_layout.specs.Sealed.{AreSealed, IsSealed}
+use Rattle.node_layout.specs.Sealed.{AreSealed}
 use Rattle.node_layout.specs.Written.{AreWritten}
 use Rattle.tree_edit.specs.declared.plan.PlanPage.{PlanPage}
 use Rattle.file_planner.proofs.AfterLaws.{AllLaid, standing-more}

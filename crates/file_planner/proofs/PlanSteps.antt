@@ -1,20 +1,17 @@
 -- A plan of what was read before, over a file that is as it was.
-use Rattle.std.proofs.Common.{Bool, ◌≡◌, ◌∙◌, ℕ, ◌+◌, ◌*◌, ◌/◌, ◌^◌, ◌<◌, ◌≤◌, min, List, length, Option, sym, ap, subst, arith}
+use Rattle.std.proofs.Common.{Bool, ◌≡◌, ℕ, ◌+◌, ◌*◌, ◌/◌, ◌^◌, ◌<◌, ◌≤◌, min, List, length, Option, sym, subst, arith}
 use Rattle.std.specs.List.{range_with_len}
 use Rattle.std.proofs.lemmas.List.FromFn.{length-range_with_len}
 use Rattle.std.proofs.lemmas.List.Sums.{count_by-le-length}
 use Rattle.pst_base.specs.declared.ids.Nid.{Nid}
-use Rattle.pst_base.specs.declared.places.Place.{Place}
 use Rattle.pst_outside.specs.World.{Image, World}
 use Rattle.pst_outside.specs.Calls.{Untouched}
 use Rattle.pst_header.specs.declared.header.Header.{Header}
 use Rattle.alloc_map.specs.Cells.{are_free, cell_slot, free_cells_of}
 use Rattle.btree_pages.specs.declared.entry.BlockEntry.{BlockEntry}
-use Rattle.btree_pages.specs.declared.entry.NodeEntry.{NodeEntry}
-use Rattle.content_plan.specs.Plan.{IsContentPlan, puts_in}
-use Rattle.content_plan.specs.declared.plan.ContentPlan.{ContentPlan}
+use Rattle.content_plan.specs.Plan.{puts_in}
 use Rattle.file_blocks.specs.Blocks.{file_of}
-use Rattle.file_layout.specs.Nodes.{Lays, NodeMap, blocks_in}
+use Rattle.file_layout.specs.Nodes.{Lays, NodeMap}
 use Rattle.lays_kept.specs.declared.Piece.{Piece}
 use Rattle.node_port.specs.declared.node.NodeRec.{NodeRec}
 use Rattle.node_store.specs.declared.node.PageCaches.{PageCaches}

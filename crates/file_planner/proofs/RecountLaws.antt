@@ -1,25 +1,19 @@
 -- Edits of the block tree: numbers of references that change, and new blocks.
-use Rattle.std.proofs.Common.{Bool, true, false, ◌≡◌, ◌∙◌, ◌⊎◌, inl, inr, ℕ, ◌+◌, ◌-◌, ◌*◌, ◌/◌, ◌%◌, ◌^◌, ◌<◌, ◌≤◌, eqb, ltb, min, List, [], ◌∷◌, ◌++◌, length, map, Option, Some, None, refl, sym, ap, subst, arith, if◌then◌else◌}
-use Rattle.std.proofs.lemmas.Bool.{cases_lt, cases_eq, lt-ltb, le-ltb, eq-eqb, ne_eqb, eqb-true}
-use Rattle.pst_base.specs.declared.ids.Bid.{Bid}
-use Rattle.pst_base.specs.declared.places.Place.{Place}
-use Rattle.pst_base.specs.Ids.{key_of}
+use Rattle.std.proofs.Common.{Bool, true, false, ◌≡◌, ◌∙◌, inl, inr, ℕ, ◌+◌, ◌^◌, ◌<◌, ◌≤◌, eqb, ltb, List, [], ◌∷◌, ◌++◌, length, map, Option, Some, None, refl, sym, ap, subst, arith, if◌then◌else◌}
+use Rattle.std.proofs.lemmas.Bool.{cases_lt, cases_eq, lt-ltb, le-ltb, eq-eqb, ne_eqb}
 use Rattle.btree_pages.specs.declared.entry.BlockEntry.{BlockEntry}
-use Rattle.data_tree.specs.Plan.{Rise}
 use Rattle.file_blocks.specs.Blocks.{Stands, data_at, entry_key, misplaced}
 use Rattle.file_layout.specs.Nodes.{place_of}
-use Rattle.lays_kept.specs.declared.Piece.{Piece}
 use Rattle.lays_kept.specs.Tally.{one_at, tally}
-use Rattle.tree_edit.specs.Edits.{AreEdits, Keyed, edited, entry_with, extra, of_some, over, under}
+use Rattle.tree_edit.specs.Edits.{AreEdits, Keyed, entry_with, extra, of_some}
 use Rattle.node_layout.specs.Joined.{AreLeft, Recounts}
 use Rattle.node_layout.specs.Lookups.{Each, EachPut, IsPut, edit_at, or_old, sum_of}
-use Rattle.node_layout.specs.Sealed.{AreSealed, IsSealed}
-use Rattle.node_layout.proofs.LookupLaws.{edits-none, sum-append, sum-given}
+use Rattle.node_layout.proofs.LookupLaws.{edits-none}
 use Rattle.node_refs.specs.Counts.{sum_put}
 use Rattle.ref_counts.specs.declared.table.RefChange.{RefChange}
 use Rattle.ref_counts.specs.Changes.{change_of, key_in, number_by}
-use Rattle.ref_counts.specs.Tables.{Rises, entry_at}
-use Rattle.file_planner.specs.Recounts.{edit_of, left_places, place_left, puts_of, recounted, recounts, with_refs}
+use Rattle.ref_counts.specs.Tables.{Rises}
+use Rattle.file_planner.specs.Recounts.{edit_of, puts_of, recounted, recounts, with_refs}
 
 -- ---- entries by their keys
 

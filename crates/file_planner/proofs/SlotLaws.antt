@@ -1,13 +1,13 @@
 -- Slots of places, counted; those of the fixed pages; and what is left of places behind them.
-use Rattle.std.proofs.Common.{Bool, true, false, ◌≡◌, ◌∙◌, ◌⊎◌, inl, inr, ℕ, zero, suc, ◌+◌, ◌-◌, ◌*◌, ◌/◌, ◌%◌, ◌<◌, ◌≤◌, max, leb, ltb, ◌&&◌, List, [], ◌∷◌, ◌++◌, map, refl, sym, ap, subst, arith, if◌then◌else◌}
+use Rattle.std.proofs.Common.{Bool, true, false, ◌≡◌, ◌∙◌, ◌⊎◌, inl, inr, ℕ, zero, suc, ◌+◌, ◌-◌, ◌*◌, ◌/◌, ◌%◌, ◌<◌, ◌≤◌, max, leb, ltb, ◌&&◌, List, [], ◌∷◌, refl, sym, subst, arith, if◌then◌else◌}
 use Rattle.std.proofs.lemmas.Bool.{cases_lt, leb-true, le-leb, lt-ltb, ltb-true}
 use Rattle.pst_base.specs.declared.places.Place.{Place}
-use Rattle.alloc_map.specs.Slots.{slot_of, slots_in, start_of}
-use Rattle.alloc_map.specs.Standing.{Covers, SomeCovers, IsCovered, fixed_place, fixed_places, fixed_slots, amap_places, occupied}
+use Rattle.alloc_map.specs.Slots.{slot_of, slots_in}
+use Rattle.alloc_map.specs.Standing.{Covers, SomeCovers, fixed_place, fixed_places, fixed_slots, amap_places}
 use Rattle.alloc_map.specs.Covered.{IsTwice, Once}
 use Rattle.alloc_map.specs.Tally.{one_at, tally}
 use Rattle.alloc_map.proofs.CoverLaws.{fixed_slots_small, fixed_slots_some}
-use Rattle.alloc_map.proofs.TallyLaws.{some_tally, tally_append, tally_some, tally_twice}
+use Rattle.alloc_map.proofs.TallyLaws.{some_tally, tally_some, tally_twice}
 use Rattle.file_planner.specs.Freed.{all_behind, behind_fixed}
 
 -- ---- one place

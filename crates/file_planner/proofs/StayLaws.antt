@@ -1,14 +1,12 @@
 -- What a planner knows once a plan was adopted, and while the trees stay.
 use Rattle.std.proofs.Common.{Bool, ◌≡◌, ◌∙◌, ℕ, ◌-◌, ◌%◌, List, [], ◌++◌, length, Option, max, sym, ap, subst}
-use Rattle.pst_base.specs.declared.places.Place.{Place}
 use Rattle.pst_header.specs.declared.header.Header.{Header}
 use Rattle.alloc_map.specs.Standing.{IsCovered, occupied}
 use Rattle.alloc_map.specs.Taken.{Taken}
-use Rattle.btree_pages.specs.declared.entry.BlockEntry.{BlockEntry}
 use Rattle.file_blocks.specs.Blocks.{found_in}
-use Rattle.file_layout.specs.Nodes.{Lays, NodeMap, block_tree, blocks_in, node_tree, nodes_in, place_of, places_of}
+use Rattle.file_layout.specs.Nodes.{block_tree, blocks_in, node_tree, nodes_in, places_of}
 use Rattle.file_layout.specs.Numbers.{counted_to, past_blocks, past_pages}
-use Rattle.file_layout.specs.Trees.{Found, page_place}
+use Rattle.file_layout.specs.Trees.{Found}
 use Rattle.file_pages.specs.InFile.{bodies}
 use Rattle.file_scan.proofs.ScanLaws.{whole-once}
 use Rattle.lays_kept.specs.Kept.{SameAt}
@@ -19,7 +17,7 @@ use Rattle.ref_counts.specs.Tables.{refs_in}
 use Rattle.ref_counts.specs.Changes.{HasRoomFor}
 use Rattle.file_planner.specs.declared.planner.FilePlanner.{FilePlanner}
 use Rattle.file_planner.specs.declared.planner.PlanEffects.{PlanEffects}
-use Rattle.file_planner.specs.Knowing.{IsKnown, IsKnownBy, Knows, KnowsAfter, number_now}
+use Rattle.file_planner.specs.Knowing.{IsKnownBy, Knows, KnowsAfter, number_now}
 use Rattle.file_planner.proofs.ComesLaws.{none-wrong}
 
 -- the effects of a plan are taken over, and the caches emptied

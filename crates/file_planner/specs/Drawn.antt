@@ -31,11 +31,14 @@ use Rattle.tree_edit.specs.Plans.{resolve}
 use Rattle.ref_counts.specs.declared.table.RefChange.{RefChange}
 use Rattle.ref_counts.specs.Changes.{AreRefChanges}
 use Rattle.plan_pieces.specs.Names.{named}
-use Rattle.content_plan.specs.Plan.{PlansContents}
+use Rattle.node_port.specs.Stops.{size}
+use Rattle.content_plan.specs.Plan.{PlansContents, puts_in}
 use Rattle.file_planner.specs.Freed.{all_behind}
 use Rattle.file_planner.specs.Recounts.{left_places, puts_of, recounts}
 use Rattle.file_planner.specs.declared.planner.PlanEffects.{PlanEffects}
 use Rattle.lays_kept.specs.Stands.{last_map}
+use Rattle.plan_pieces.specs.Growth.{regions_in}
+use Rattle.node_layout.specs.Lookups.{sum_of}
 
 -- ---- what is known before anything has a place
 
@@ -47,6 +50,7 @@ pub record IsSketch {header : Header} {file : List ℕ} {m : NodeMap} (is : Lays
   pub changed : AreRefChanges counts taken put refs
   pub rise : Rise block blocks
   pub node_edits : AreEdits node_id 0 (2 ^ 64) edits
+  pub few : 2 * (length blocks + puts_in edits) ≤ 3 * size cs
 
 -- ---- places
 
@@ -100,6 +104,7 @@ pub record IsDrawn {header : Header} {file : List ℕ} {m : NodeMap} (is : Lays 
   pub growth : List Piece
   pub grows : AllGrow header.eof growth
   pub ends : header.eof < next.eof → EndsAt next.eof growth
+  pub growth_few : sum_of (λ (p : Piece). length p.bytes) growth ≤ 1537 * (regions_in next.eof - regions_in header.eof)
   pub end : IsEndFor header.eof ((first_places ++ last_places) ++ block_places) next.eof
   pub few : next.eof ≤ region_end 8192
   pub pieces_are : pieces ≡ growth ++ ((first_pieces ++ last_pieces) ++ block_pieces)

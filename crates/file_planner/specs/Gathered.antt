@@ -1,5 +1,5 @@
 -- The parts of a plan as they are put together.
-use Rattle.std.specs.Prelude.{◌≡◌, ◌≤◌, ◌<◌, ◌+◌, ◌-◌, ◌++◌, ℕ, Bool, List, map, length, Option}
+use Rattle.std.specs.Prelude.{◌≡◌, ◌≤◌, ◌<◌, ◌+◌, ◌-◌, ◌*◌, ◌++◌, ℕ, Bool, List, map, length, Option}
 use Rattle.pst_base.specs.declared.ids.Bref.{Bref}
 use Rattle.pst_base.specs.declared.ids.Nid.{Nid}
 use Rattle.pst_base.specs.declared.places.Place.{Place}
@@ -17,7 +17,9 @@ use Rattle.node_layout.specs.Sealed.{AreSealed}
 use Rattle.node_layout.specs.Written.{AreWritten}
 use Rattle.node_port.specs.declared.node.NodeRec.{NodeRec}
 use Rattle.tree_edit.specs.Plans.{resolve}
+use Rattle.plan_pieces.specs.Growth.{regions_in}
 use Rattle.plan_pieces.specs.Names.{named}
+use Rattle.node_layout.specs.Lookups.{sum_of}
 use Rattle.ref_counts.specs.declared.table.RefChange.{RefChange}
 use Rattle.file_planner.specs.declared.draw.Sketch.{Sketch}
 use Rattle.file_planner.specs.declared.planner.PlanEffects.{PlanEffects}
@@ -66,6 +68,7 @@ pub record AreWrittenOut (eof page : ℕ) (trees : Trees) (pages blocks : List P
   pub growth : List Piece
   pub grows : AllGrow eof growth
   pub ends : eof < end → EndsAt end growth
+  pub growth_few : sum_of (λ (p : Piece). length p.bytes) growth ≤ 1537 * (regions_in end - regions_in eof)
   pub end_for : IsEndFor eof (pages ++ blocks) end
   pub few : end ≤ region_end 8192
   pub are : pieces ≡ growth ++ ((first_pieces ++ last_pieces) ++ block_pieces)

@@ -1,5 +1,5 @@
 -- What a planner knows is right.
-use Rattle.std.specs.Prelude.{◌≡◌, refl}
+use Rattle.std.specs.Prelude.{refl}
 use Rattle.pst_commit.specs.Keeping.{IsKnowledge}
 use Rattle.file_planner.specs.declared.planner.FilePlanner.{FilePlanner}
 use Rattle.file_planner.specs.Knowing.{Knows, cells_of, spent}

@@ -3,6 +3,7 @@ pub mod Recounts
 pub mod Knowing
 pub mod Drawn
 pub mod Becomes
+pub mod Cost
 pub mod Trees
 pub mod Gathered
 pub mod Draws

@@ -1,5 +1,5 @@
 -- The edits of a block tree where numbers of references change and blocks are new.
-use Rattle.std.specs.Prelude.{◌≡◌, ◌<◌, ◌==◌, nat_lt, min, ℕ, ◌+◌, if◌then◌else◌, List, [], ◌∷◌, ◌++◌, map, Option, None, Some}
+use Rattle.std.specs.Prelude.{◌==◌, nat_lt, min, ℕ, ◌+◌, if◌then◌else◌, List, [], ◌∷◌, ◌++◌, map, Option, None, Some}
 use Rattle.pst_base.specs.declared.places.Place.{Place}
 use Rattle.btree_pages.specs.declared.entry.BlockEntry.{BlockEntry}
 use Rattle.file_blocks.specs.Blocks.{entry_key}

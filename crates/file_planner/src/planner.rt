@@ -42,6 +42,7 @@ pub struct PlanEffects {
 
 impl<W: Outside> NodeStore<W> for FilePlanner {
     ghost use Rattle.file_planner.specs.Becomes.{IsMade};
+    ghost use Rattle.file_planner.specs.Cost.{IsWithin};
     ghost use Rattle.file_planner.specs.Knowing.{Knows, KnowsAfter, cells_of};
     ghost use Rattle.file_planner.specs.Laws.{known_right};
 
@@ -52,6 +53,8 @@ impl<W: Outside> NodeStore<W> for FilePlanner {
     ghost knows_after = { KnowsAfter };
 
     ghost becomes = { IsMade };
+
+    ghost costs = { IsWithin };
 
     ghost used = { λ p. p.slots };
 

@@ -52,16 +52,16 @@ keeps_now knows found sealed rest header new N shut main size read stands known 
     }
 
 -- after a commit the keeper has the nodes after
-pub next_keeps : {after : Header → List ℕ → Type 0} {becomes : List ℕ → List ℕ → Type 0} {found sealed last : List ℕ} {header : Header} {pieces : List Piece} {cs : List (Nid × Option NodeRec)} {old new : Image} {N : Nodes} (knows : Header → List ℕ → Type 0)
-    → Comes after becomes found old.main pieces sealed header cs N last → length sealed ≡ 564 → ((file : List ℕ) → after header file → knows header file)
+pub next_keeps : {after : Header → List ℕ → Type 0} {becomes : List ℕ → List ℕ → Type 0} {costs : List ℕ → Header → List (Nid × Option NodeRec) → ℕ → Type 0} {found sealed last : List ℕ} {header : Header} {pieces : List Piece} {cs : List (Nid × Option NodeRec)} {old new : Image} {N : Nodes} (knows : Header → List ℕ → Type 0)
+    → Comes after becomes costs found old.main pieces sealed header cs N last → length sealed ≡ 564 → ((file : List ℕ) → after header file → knows header file)
     → IsApplied (λ mid. Scattered pieces old.main mid × HoldsEach mid pieces) sealed old new → Keeps knows found header new (changed N cs)
-next_keeps {after} {becomes} {found} {sealed} {last} {header} {pieces} {cs} {old} {new} {N} knows comes size adopts is =
+next_keeps {after} {becomes} {costs} {found} {sealed} {last} {header} {pieces} {cs} {old} {new} {N} knows comes size adopts is =
     keeps_now knows found sealed (drop 564 is.mid) header new (changed N cs) is.shut is.main size comes.read (comes.plan.makes is.mid is.file.0 is.file.1)
     (adopts (sealed ++ drop 564 is.mid) (comes.known is.mid is.file.0 is.file.1))
 
 -- and its file is what the plan makes of the one before
-pub next_becomes : {after : Header → List ℕ → Type 0} {becomes : List ℕ → List ℕ → Type 0} {found sealed last : List ℕ} {header : Header} {pieces : List Piece} {cs : List (Nid × Option NodeRec)} {old new : Image} {N : Nodes}
-    → IsShut old.side → Comes after becomes found old.main pieces sealed header cs N last → IsApplied (λ mid. Scattered pieces old.main mid × HoldsEach mid pieces) sealed old new → becomes (file_of old) (file_of new)
-next_becomes {after} {becomes} {found} {sealed} {last} {header} {pieces} {cs} {old} {new} {N} shut comes is =
+pub next_becomes : {after : Header → List ℕ → Type 0} {becomes : List ℕ → List ℕ → Type 0} {costs : List ℕ → Header → List (Nid × Option NodeRec) → ℕ → Type 0} {found sealed last : List ℕ} {header : Header} {pieces : List Piece} {cs : List (Nid × Option NodeRec)} {old new : Image} {N : Nodes}
+    → IsShut old.side → Comes after becomes costs found old.main pieces sealed header cs N last → IsApplied (λ mid. Scattered pieces old.main mid × HoldsEach mid pieces) sealed old new → becomes (file_of old) (file_of new)
+next_becomes {after} {becomes} {costs} {found} {sealed} {last} {header} {pieces} {cs} {old} {new} {N} shut comes is =
     subst (λ f. becomes f (file_of new)) (sym (shut_file old.main old.side shut))
     (subst (becomes old.main) (sym (shut_file new.main new.side is.shut ∙ is.main)) (comes.made is.mid is.file.0 is.file.1))

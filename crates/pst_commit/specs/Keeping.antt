@@ -19,6 +19,7 @@ use Rattle.lays_kept.specs.declared.Piece.{Piece}
 use Rattle.lays_kept.specs.Kept.{HoldsEach, Scattered}
 use Rattle.lays_kept.specs.Saved.{region_end, SameTrees, HasMaps}
 use Rattle.lays_kept.specs.Stands.{IsPlan, Stands}
+use Rattle.pst_commit.specs.Commit.{bytes_in}
 
 -- ---- what is held
 
@@ -68,16 +69,17 @@ pub record LooksOn (knows knows' : Header → List ℕ → Type 0) (header : Hea
 
 -- ---- a plan
 
--- A plan for a file of these nodes: it can be committed, its header is this one, it comes to the changed nodes and the header's counters, and it makes of the file what is said of plans.
-pub record Comes (knows : Header → List ℕ → Type 0) (becomes : List ℕ → List ℕ → Type 0) (found bytes : List ℕ) (pieces : List Piece) (sealed : List ℕ) (header : Header) (cs : List (Nid × Option NodeRec)) (N : Nodes) (last : List ℕ) : Type 0 where
+-- A plan for a file of these nodes: it can be committed, its header is this one, it comes to the changed nodes and the header's counters, it makes of the file what is said of plans, and its pieces have as many bytes as is said.
+pub record Comes (knows : Header → List ℕ → Type 0) (becomes : List ℕ → List ℕ → Type 0) (costs : List ℕ → Header → List (Nid × Option NodeRec) → ℕ → Type 0) (found bytes : List ℕ) (pieces : List Piece) (sealed : List ℕ) (header : Header) (cs : List (Nid × Option NodeRec)) (N : Nodes) (last : List ℕ) : Type 0 where
   pub plan : IsPlan found bytes pieces sealed N last (changed N cs) header.indexes
   pub read : reading sealed ≡ Ok header
   pub known : (mid : List ℕ) → Scattered pieces bytes mid → HoldsEach mid pieces → knows header (sealed ++ drop 564 mid)
   pub made : (mid : List ℕ) → Scattered pieces bytes mid → HoldsEach mid pieces → becomes bytes (sealed ++ drop 564 mid)
+  pub cost : costs bytes header cs (bytes_in pieces)
 
 -- whatever nodes a world's file stands for under the old header, the plan is one for it; `before` is known of the file, and `after` will be
-abbrev pub PlansFor : (before after : Header → List ℕ → Type 0) → (List ℕ → List ℕ → Type 0) → List ℕ → Header → World → List Piece → List ℕ → Header → List (Nid × Option NodeRec) → Type 0
-PlansFor before after becomes found old world pieces sealed header cs = (N : Nodes) → Holds before found old world N → Comes after becomes found (file_of world.here) pieces sealed header cs N old.indexes
+abbrev pub PlansFor : (before after : Header → List ℕ → Type 0) → (List ℕ → List ℕ → Type 0) → (List ℕ → Header → List (Nid × Option NodeRec) → ℕ → Type 0) → List ℕ → Header → World → List Piece → List ℕ → Header → List (Nid × Option NodeRec) → Type 0
+PlansFor before after becomes costs found old world pieces sealed header cs = (N : Nodes) → Holds before found old world N → Comes after becomes costs found (file_of world.here) pieces sealed header cs N old.indexes
 
 -- ---- a save
 

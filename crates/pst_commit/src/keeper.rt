@@ -63,7 +63,7 @@ impl<W: Outside, S: NodeStore<W>> Keeper<W> for FileKeeper<S> {
     ghost use Rattle.pst_commit.specs.Keeping.{HasRoom, PlansFor};
     ghost use Rattle.pst_commit.specs.Laws.{held_measures, shut_on, stands_on};
 
-    ghost fits = { λ k v ready last cs. (ready.header.indexes ≡ last) × PlansFor (S.knows k.store) (S.knows_after k.store ready.adopts) S.becomes k.found k.header v ready.pieces.items ready.sealed ready.header cs };
+    ghost fits = { λ k v ready last cs. (ready.header.indexes ≡ last) × PlansFor (S.knows k.store) (S.knows_after k.store ready.adopts) S.becomes S.costs k.found k.header v ready.pieces.items ready.sealed ready.header cs };
 
     ghost stands = { Stands };
 

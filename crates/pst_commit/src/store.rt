@@ -1,5 +1,7 @@
 //! What is asked of what reads a file's nodes and plans changes.
-ghost use Rattle.std.specs.Prelude.{◌≡◌, ◌≤◌, ◌^◌, ℕ, List, Bool, true, IfOk, IfErr, IsTrue};
+ghost use Rattle.std.specs.Prelude.{◌≡◌, ◌≤◌, ◌^◌, ℕ, List, Bool, Option, true, IfOk, IfErr, IsTrue};
+ghost use Rattle.node_port.specs.declared.node.NodeRec.{NodeRec as Rec};
+ghost use Rattle.pst_base.specs.declared.ids.Nid.{Nid as Id};
 ghost use Rattle.pst_header.specs.declared.header.Header.{Header as Head};
 ghost use Rattle.pst_header.specs.Format.{IsWritable};
 ghost use Rattle.node_port.specs.Nodes.{Nodes, ascend, content_of, IsNext, node_at};
@@ -40,6 +42,9 @@ pub trait NodeStore<W: Outside> {
 
     /// What a plan makes of a file beside its nodes: the header's numbers, the blocks that are freed, and the places that are taken.
     ghost becomes: { List ℕ → List ℕ → Type 0 };
+
+    /// How many bytes the pieces of a plan have that makes these changes of a file, under the header that it gets.
+    ghost costs: { List ℕ → Head → List (Id × Option Rec) → ℕ → Type 0 };
 
     /// The slots that are used.
     ghost used: { Self → List Bool };
@@ -93,7 +98,7 @@ pub trait NodeStore<W: Outside> {
         requires order { IsTrue (ascend 0 changes.nodes.items) }
         requires room { changes.room ≤ 2 ^ 60 }
         requires writable { IsWritable header.now }
-        ensures plan { (found : List ℕ) → IfOk result (λ p. (p.header.indexes ≡ changes.counts.last) × PlansFor (knows self.new) (knows_after self.new p.adopts) becomes found header.now (W.view w.new) p.pieces.items p.sealed p.header changes.nodes.items) }
+        ensures plan { (found : List ℕ) → IfOk result (λ p. (p.header.indexes ≡ changes.counts.last) × PlansFor (knows self.new) (knows_after self.new p.adopts) becomes costs found header.now (W.view w.new) p.pieces.items p.sealed p.header changes.nodes.items) }
         ensures full { (found : List ℕ) → Tells (Holds (knows self.old) found header.now (W.view w.old)) (λ N. RoomDecides (room_with (cells self.old) found) changes.room changes.nodes.items result) }
         ensures stops { (found : List ℕ) → IfErr result (PrepareStops true (W.view w.old).disk_faults (W.view w.new).disk_faults (Holds (knows self.old) found header.now (W.view w.old))) }
         ensures looks { LooksOn (knows self.old) (knows self.new) header.now (used self.old) (used self.new) (cells self.old) (cells self.new) (W.view w.old) (W.view w.new) };

@@ -8,7 +8,7 @@ use Rattle.tree_edit.specs.Shapes.{IsWhole}
 use Rattle.tree_edit.specs.Pages.{shapes}
 use Rattle.tree_edit.specs.Source.{Source, TellsWhole}
 use Rattle.file_pages.specs.Told.{Caches, Gives, HasTree, PlansIn}
-use Rattle.file_pages.proofs.SourceLaws.{PlansOver, SparesOver, caches-of, given, gives, ok-both, plans-in, stops-on, tree-given, untouched-same}
+use Rattle.file_pages.proofs.SourceLaws.{BoundsOver, PlansOver, SparesOver, caches-of, given, gives, ok-both, plans-in, stops-on, tree-given, untouched-same}
 use Rattle.file_pages.proofs.changes.change_in.Goals as goal
 
 pub returns-clause-names : goal.returns-clause-names
@@ -32,13 +32,19 @@ returns-clause-plan g c =
     let root = c.args.root in
     IfOk-weaker c.change.result
     (λ plan. ((find : Bref → Option (List ℕ)) → Held find → PlansOver (shapes rule size entry_of find) key root ds plan.pages.items plan.freed.items plan.root)
-    × ((find : Bref → Option (List ℕ)) → Held find → SparesOver (shapes rule size entry_of find) key root ds plan.pages.items plan.freed.items))
+    × (((find : Bref → Option (List ℕ)) → Held find → SparesOver (shapes rule size entry_of find) key root ds plan.pages.items plan.freed.items)
+    × ((find : Bref → Option (List ℕ)) → Held find → BoundsOver (shapes rule size entry_of find) key root ds plan.pages.items plan.freed.items)))
     (λ plan. Caches old eof kind c.args.pages.now.cache.now → PlansIn rule size entry_of key file eof kind root ds plan.pages.items plan.freed.items plan.root)
-    (λ plan is caches. plans-in rule size entry_of key file eof kind root ds plan.pages.items plan.freed.items plan.root (is.0 (given file eof kind) (gives caches)) (is.1 (given file eof kind) (gives caches)))
+    (λ plan is caches. let all = given file eof kind in let held = gives caches in plans-in rule size entry_of key file eof kind root ds plan.pages.items plan.freed.items plan.root (is.0 all held) (is.1.0 all held) (is.1.1 all held))
     (ok-both c.change.result
     (λ plan. (find : Bref → Option (List ℕ)) → Held find → PlansOver (shapes rule size entry_of find) key root ds plan.pages.items plan.freed.items plan.root)
+    (λ plan. ((find : Bref → Option (List ℕ)) → Held find → SparesOver (shapes rule size entry_of find) key root ds plan.pages.items plan.freed.items)
+    × ((find : Bref → Option (List ℕ)) → Held find → BoundsOver (shapes rule size entry_of find) key root ds plan.pages.items plan.freed.items))
+    c.change.ensures.plan
+    (ok-both c.change.result
     (λ plan. (find : Bref → Option (List ℕ)) → Held find → SparesOver (shapes rule size entry_of find) key root ds plan.pages.items plan.freed.items)
-    c.change.ensures.plan c.change.ensures.spare)
+    (λ plan. (find : Bref → Option (List ℕ)) → Held find → BoundsOver (shapes rule size entry_of find) key root ds plan.pages.items plan.freed.items)
+    c.change.ensures.spare c.change.ensures.bound))
 
 pub returns-clause-stops : goal.returns-clause-stops
 returns-clause-stops g c =

@@ -1,11 +1,11 @@
-use Rattle.std.proofs.Common.{◌≡◌, ◌∙◌, ◌+◌, ◌≤◌, ℕ, List, length, sym, ap, subst, arith}
+use Rattle.std.proofs.Common.{◌+◌, List, length, sym, ap, subst, arith}
 use Rattle.pst_base.specs.declared.places.Place.{Place}
 use Rattle.alloc_map.specs.Cells.{free_cells_of}
 use Rattle.alloc_map.specs.Taken.{IsBlockPlace, Taken, Takes}
 use Rattle.file_pages.proofs.SourceLaws.{untouched-same}
 use Rattle.node_store.specs.Told.{StopsKeeping}
 use Rattle.file_planner.specs.Draws.{CanDraw}
-use Rattle.file_planner.proofs.DrawSteps.{can-more, can-place, can-reach}
+use Rattle.file_planner.proofs.DrawSteps.{can-more, can-reach}
 use Rattle.file_planner.proofs.OldLaws.{keeping-later}
 use Rattle.file_planner.proofs.place.draw.Goals as goal
 use Rattle.file_planner.proofs.place.draw.Goals.{then-header-le17408-via-then-header-le17408, then-header-le17408-via-else-header-le17408+then-header-gt-LARGEST}

@@ -1,4 +1,4 @@
-use Rattle.std.proofs.Common.{◌≡◌, ◌+◌, ◌*◌, ◌≤◌, ℕ, List, length, sym, subst, arith}
+use Rattle.std.proofs.Common.{◌+◌, List, length, sym, subst, arith}
 use Rattle.pst_base.specs.declared.places.Place.{Place}
 use Rattle.alloc_map.specs.Cells.{free_cells_of}
 use Rattle.alloc_map.specs.Taken.{IsPagePlace, Taken, Takes}

@@ -1,6 +1,6 @@
-use Rattle.std.proofs.Common.{ℕ, List, ◌+◌, ◌^◌, ◌≡◌, min, arith, rules, sym, ◌∙◌, ap, length}
+use Rattle.std.proofs.Common.{ℕ, List, ◌^◌, min, arith, ◌∙◌, ap, length}
 use Rattle.pst_base.specs.Flat.{Flat}
-use Rattle.file_planner.proofs.RoomLaws.{sub-less, subs-done, subs-next}
+use Rattle.file_planner.proofs.RoomLaws.{sub-less, subs-next}
 use Rattle.file_planner.proofs.room.+count_subs.Goals as goal
 
 pub count_subs-below-requires : goal.count_subs-below-requires

@@ -1,4 +1,4 @@
-use Rattle.std.proofs.Common.{ℕ, ◌^◌, List, sym, subst}
+use Rattle.std.proofs.Common.{◌^◌, sym, subst}
 use Rattle.file_blocks.specs.Blocks.{entry_key}
 use Rattle.file_layout.specs.Nodes.{NodeMap}
 use Rattle.node_store.specs.Told.{StopsKeeping, TellsNodes}

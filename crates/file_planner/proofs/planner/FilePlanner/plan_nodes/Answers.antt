@@ -1,4 +1,4 @@
-use Rattle.std.proofs.Common.{◌≡◌, ◌∙◌, ℕ, ◌%◌, Bool, List, Option, refl, sym, ap, subst, arith}
+use Rattle.std.proofs.Common.{ℕ, Bool, List, sym, ap, subst, arith}
 use Rattle.alloc_map.specs.Cells.{free_cells_of}
 use Rattle.file_layout.specs.Nodes.{NodeMap, blocks_in}
 use Rattle.node_port.specs.Stops.{size}

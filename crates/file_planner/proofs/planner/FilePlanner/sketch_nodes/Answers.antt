@@ -1,17 +1,14 @@
-use Rattle.std.proofs.Common.{◌≡◌, ◌∙◌, ℕ, List, Option, sym, ap, subst}
-use Rattle.pst_base.specs.declared.places.Place.{Place}
+use Rattle.std.proofs.Common.{◌≡◌, ◌∙◌, List, sym, ap, subst}
 use Rattle.pst_base.specs.Ids.{key_of}
 use Rattle.pst_outside.specs.World.{Image}
 use Rattle.btree_pages.specs.declared.entry.BlockEntry.{BlockEntry}
 use Rattle.btree_pages.specs.Entries.{block_of}
 use Rattle.file_blocks.specs.Blocks.{entry_key, file_of}
 use Rattle.file_layout.specs.Nodes.{NodeMap, blocks_in}
-use Rattle.file_layout.proofs.Underway.{untouched_then}
 use Rattle.file_pages.specs.declared.search.FileTree.{FileTree}
 use Rattle.file_pages.specs.Told.{Caches, HasTree}
 use Rattle.node_store.specs.Told.{StopsKeeping, TellsNodes}
 use Rattle.node_store.proofs.NodeLaws.{has-blocks}
-use Rattle.ref_counts.specs.declared.table.RefChange.{RefChange}
 use Rattle.file_planner.specs.Recounts.{left_places, recounts}
 use Rattle.file_planner.proofs.OldLaws.{keeping-later}
 use Rattle.file_planner.proofs.TreeSteps.{block-stops, block_tree_of, keeps-blocks, tree-is}
@@ -66,7 +63,7 @@ returns-clause-sketched g c = λ m tells.
     let plan = c.in-Ok.ensures.plan m tells in
     let same = c.as_slice-2.ensures.value in
     record {
-      contents = record { taken = _; put = _; contents = plan; changed = c.in_ok-refs.ensures; rise = c.in-Ok.ensures.numbered; node_edits = c.in-Ok.ensures.edits };
+      contents = record { taken = _; put = _; contents = plan; changed = c.in_ok-refs.ensures; rise = c.in-Ok.ensures.numbered; node_edits = c.in-Ok.ensures.edits; few = c.in-Ok.ensures.most };
       recounted = both.0 ∙ ap (recounts es next) same;
       left = both.1 ∙ ap (left_places es next) same;
     }

@@ -1,5 +1,4 @@
-use Rattle.std.proofs.Common.{◌≡◌, ◌∙◌, Bool, List, ℕ, sym, ap, subst}
-use Rattle.pst_base.specs.declared.places.Place.{Place}
+use Rattle.std.proofs.Common.{◌≡◌, ◌∙◌, Bool, List, sym, ap, subst}
 use Rattle.alloc_map.specs.Taken.{Taken}
 use Rattle.ref_counts.specs.declared.table.RefChange.{RefChange}
 use Rattle.ref_counts.specs.Changes.{HasRoomFor, change_of, number_by}

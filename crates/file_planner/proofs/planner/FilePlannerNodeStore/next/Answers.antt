@@ -1,10 +1,8 @@
-use Rattle.std.proofs.Common.{◌≡◌, ℕ, List, Option, refl}
+use Rattle.std.proofs.Common.{refl}
 use Rattle.std.proofs.lemmas.Result.{IfOk-weaker}
-use Rattle.pst_base.specs.declared.ids.Nid.{Nid}
 use Rattle.file_layout.specs.Nodes.{NodeMap}
 use Rattle.lays_kept.specs.Stands.{AreThose}
-use Rattle.node_port.specs.declared.node.NodeRec.{NodeRec}
-use Rattle.node_port.specs.Nodes.{IsNext, Nodes, node_at}
+use Rattle.node_port.specs.Nodes.{IsNext, Nodes}
 use Rattle.node_port.specs.Stops.{Tells}
 use Rattle.node_store.specs.Told.{TellsNodes}
 use Rattle.pst_commit.specs.Keeping.{Holds}

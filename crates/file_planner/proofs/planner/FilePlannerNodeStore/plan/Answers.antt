@@ -1,19 +1,18 @@
-use Rattle.std.proofs.Common.{◌≡◌, ◌∙◌, ℕ, ◌+◌, ◌*◌, ◌<◌, ◌≤◌, List, [], Option, true, Ok, Err, refl, ap, sym, subst, arith}
+use Rattle.std.proofs.Common.{◌≡◌, ◌∙◌, ℕ, List, [], Option, true, Ok, Err, ap, sym, subst, arith}
 use Rattle.pst_base.specs.declared.ids.Nid.{Nid}
 use Rattle.file_layout.specs.Nodes.{NodeMap}
 use Rattle.node_port.specs.declared.node.NodeRec.{NodeRec}
 use Rattle.node_port.specs.Nodes as port
-use Rattle.node_port.specs.Stops.{PrepareStops, RoomDecides, need, size}
+use Rattle.node_port.specs.Stops.{PrepareStops}
 use Rattle.alloc_map.specs.Cells.{free_cells_of}
 use Rattle.node_store.specs.Told.{TellsNodes}
 use Rattle.pst_commit.specs.Keeping.{Holds, PlansFor}
 use Rattle.ref_counts.specs.Tables.{refs_in}
-use Rattle.file_planner.specs.Drawn.{IsDrawn}
 use Rattle.file_planner.specs.Becomes.{IsMade}
-use Rattle.file_planner.specs.Knowing.{IsKnown, Knows, KnowsAfter, spent}
-use Rattle.file_planner.specs.Stopping.{prepare_stop}
-use Rattle.file_planner.proofs.ComesLaws.{cached-after, drawn-on, empty-caches, empty-tells, held-emptied, knows-on, looks-on, none-wrong, plans-when}
-use Rattle.file_planner.proofs.KeepLaws.{decides-on, decides-same, prepare-to, room-enough, room-to, stop-decides}
+use Rattle.file_planner.specs.Cost.{IsWithin}
+use Rattle.file_planner.specs.Knowing.{IsKnown, Knows, KnowsAfter}
+use Rattle.file_planner.proofs.ComesLaws.{cached-after, drawn-on, empty-tells, held-emptied, looks-on, plans-when}
+use Rattle.file_planner.proofs.KeepLaws.{decides-on, decides-same, prepare-to, room-enough}
 use Rattle.file_planner.proofs.planner.FilePlannerNodeStore.plan.Goals as goal
 
 pub returns-in-Err-clause-full : goal.returns-in-Err-clause-full
@@ -58,7 +57,7 @@ returns-in-Ok-plan_nodes-clause-plan g c = λ found.
     let w = g.W.Outside.view c.plan_nodes.new.w in
     let value = c.as_slice-nodes.ensures.value in (
       c.in-Ok-plan_nodes.ensures.indexes,
-      subst (λ (l : List (Nid × Option NodeRec)). PlansFor (Knows q) (KnowsAfter q plan.adopts) IsMade found header w plan.pieces.items plan.sealed plan.header l) value
+      subst (λ (l : List (Nid × Option NodeRec)). PlansFor (Knows q) (KnowsAfter q plan.adopts) IsMade IsWithin found header w plan.pieces.items plan.sealed plan.header l) value
           (plans-when q found header (g.W.Outside.view c.args.w.now) w c.clear.new.self.caches c.as_slice-nodes.result.now plan.pieces.items plan.sealed plan.header plan.adopts c.clear.ensures.blocks c.clear.ensures.nodes c.plan_nodes.ensures.untouched
           (subst (λ (l : List (Nid × Option NodeRec)). port.ascend 0 l ≡ true) (sym value) c.requires.order) (omega (arith, low, blocks)) (omega (arith, page_low, pages)) c.in-Ok-plan_nodes.ensures.room
           (λ m tells. drawn-on tells.lays c.clear.new.self q c.as_slice-nodes.result.now plan.pieces.items plan.sealed plan.header plan.adopts c.plan_nodes.ensures.slots c.plan_nodes.ensures.refs c.plan_nodes.ensures.pages c.plan_nodes.ensures.block c.plan_nodes.ensures.page (c.in-Ok-plan_nodes.ensures.drawn m tells))),

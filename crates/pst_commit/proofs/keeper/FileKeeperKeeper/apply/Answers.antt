@@ -19,8 +19,8 @@ returns-in_err-apply_pieces-clause-any_moment g c = λ last cs fits N held settl
     let old = g.W.Outside.view c.args.w.now in
     let ready = c.args.ready in
     let after = g.S.NodeStore.knows_after k.store ready.adopts in
-    let comes : Comes after g.S.NodeStore.becomes k.found old.here.main ready.pieces.items ready.sealed ready.header cs N k.header.indexes
-    = subst (λ f. Comes after g.S.NodeStore.becomes k.found f ready.pieces.items ready.sealed ready.header cs N k.header.indexes) (shut_file old.here.main old.here.side (rests held.0)) (fits.1 N held) in
+    let comes : Comes after g.S.NodeStore.becomes g.S.NodeStore.costs k.found old.here.main ready.pieces.items ready.sealed ready.header cs N k.header.indexes
+    = subst (λ f. Comes after g.S.NodeStore.becomes g.S.NodeStore.costs k.found f ready.pieces.items ready.sealed ready.header cs N k.header.indexes) (shut_file old.here.main old.here.side (rests held.0)) (fits.1 N held) in
     let slice = c.as_slice.result.now in
     let next = ready.header.indexes in
     let commits : Commits k.found (Scattered slice old.here.main) (λ mid. HoldsEach mid slice) ready.sealed N k.header.indexes (changed N cs) next
@@ -34,8 +34,8 @@ returns-clause-any_moment g c = λ last cs fits N held settled rests.
     let old = g.W.Outside.view c.args.w.now in
     let ready = c.args.ready in
     let after = g.S.NodeStore.knows_after k.store ready.adopts in
-    let comes : Comes after g.S.NodeStore.becomes k.found old.here.main ready.pieces.items ready.sealed ready.header cs N k.header.indexes
-    = subst (λ f. Comes after g.S.NodeStore.becomes k.found f ready.pieces.items ready.sealed ready.header cs N k.header.indexes) (shut_file old.here.main old.here.side (rests held.0)) (fits.1 N held) in
+    let comes : Comes after g.S.NodeStore.becomes g.S.NodeStore.costs k.found old.here.main ready.pieces.items ready.sealed ready.header cs N k.header.indexes
+    = subst (λ f. Comes after g.S.NodeStore.becomes g.S.NodeStore.costs k.found f ready.pieces.items ready.sealed ready.header cs N k.header.indexes) (shut_file old.here.main old.here.side (rests held.0)) (fits.1 N held) in
     let slice = c.as_slice.result.now in
     let next = ready.header.indexes in
     let commits : Commits k.found (Scattered slice old.here.main) (λ mid. HoldsEach mid slice) ready.sealed N k.header.indexes (changed N cs) next
@@ -50,8 +50,8 @@ returns-clause-made g c = λ last cs fits rests disk N held.
     let old = g.W.Outside.view c.args.w.now in
     let ready = c.args.ready in
     let after = g.S.NodeStore.knows_after k.store ready.adopts in
-    let comes : Comes after g.S.NodeStore.becomes k.found old.here.main ready.pieces.items ready.sealed ready.header cs N k.header.indexes
-    = subst (λ f. Comes after g.S.NodeStore.becomes k.found f ready.pieces.items ready.sealed ready.header cs N k.header.indexes) (shut_file old.here.main old.here.side (rests held.0)) (fits.1 N held) in
+    let comes : Comes after g.S.NodeStore.becomes g.S.NodeStore.costs k.found old.here.main ready.pieces.items ready.sealed ready.header cs N k.header.indexes
+    = subst (λ f. Comes after g.S.NodeStore.becomes g.S.NodeStore.costs k.found f ready.pieces.items ready.sealed ready.header cs N k.header.indexes) (shut_file old.here.main old.here.side (rests held.0)) (fits.1 N held) in
     let new = g.W.Outside.view c.apply_pieces.new.w in
     let is : IsApplied (λ mid. Scattered ready.pieces.items old.here.main mid × HoldsEach mid ready.pieces.items) ready.sealed old.here new.here
     = subst (λ ps. IsApplied (λ mid. Scattered ps old.here.main mid × HoldsEach mid ps) ready.sealed old.here new.here) c.as_slice.ensures.value (c.in_ok-apply_pieces.ensures.applied rests told) in
@@ -65,8 +65,8 @@ returns-clause-applied g c = λ N held rests told.
     let old = g.W.Outside.view c.args.w.now in
     let ready = c.args.ready in
     let after = g.S.NodeStore.knows_after k.store ready.adopts in
-    let comes : Comes after g.S.NodeStore.becomes k.found old.here.main ready.pieces.items ready.sealed ready.header cs N k.header.indexes
-    = subst (λ f. Comes after g.S.NodeStore.becomes k.found f ready.pieces.items ready.sealed ready.header cs N k.header.indexes) (shut_file old.here.main old.here.side (rests held.0)) (fits.1 N held) in
+    let comes : Comes after g.S.NodeStore.becomes g.S.NodeStore.costs k.found old.here.main ready.pieces.items ready.sealed ready.header cs N k.header.indexes
+    = subst (λ f. Comes after g.S.NodeStore.becomes g.S.NodeStore.costs k.found f ready.pieces.items ready.sealed ready.header cs N k.header.indexes) (shut_file old.here.main old.here.side (rests held.0)) (fits.1 N held) in
     let new = g.W.Outside.view c.apply_pieces.new.w in
     let is : IsApplied (λ mid. Scattered ready.pieces.items old.here.main mid × HoldsEach mid ready.pieces.items) ready.sealed old.here new.here
     = subst (λ ps. IsApplied (λ mid. Scattered ps old.here.main mid × HoldsEach mid ps) ready.sealed old.here new.here) c.as_slice.ensures.value (c.in_ok-apply_pieces.ensures.applied rests told) in
