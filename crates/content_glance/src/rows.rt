@@ -1,20 +1,10 @@
 //! Whether a table has a row, as far as the node's data tells of it.
-ghost use Rattle.std.specs.Prelude.{◌≡◌};
-ghost use Rattle.table_context.specs.Header.{names_index};
 ghost use Rattle.content_glance.specs.Rows.{TellsRow};
 
 use bth_tree::bth_find;
 use heap_on_node::HeapView;
-use pst_base::{Bytes, u8_at, u32_at};
-use table_context::TABLE_CONTEXT;
-
-/// Whether an item begins as the header of a table does, and is long enough to name a row index ([MS-PST] 2.3.4.1).
-#[tactic(auto, unfolding(table_context::specs::Header::names_index))]
-fn names_index(x: &[u8]) -> bool
-    ensures { result ≡ names_index x.now }
-{
-    x.len() >= 22 && u8_at(x, 0) == TABLE_CONTEXT
-}
+use pst_base::{Bytes, u32_at};
+use table_context::{TABLE_CONTEXT, names_index};
 
 /// Whether the table that the data blocks of a node are has a row with this id, whatever its subnodes are: the ids of rows stand in the blocks, whose other values aren't looked at ([MS-PST] 2.3.4.3). `None` comes only where the node is no table; that it is one isn't told by the rest. Takes no memory.
 pub fn has_row_at(blocks: &[Bytes], id: u32) -> Option<bool>

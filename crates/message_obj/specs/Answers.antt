@@ -1,5 +1,5 @@
 -- What the reader's parts answer.
-use Rattle.std.specs.Prelude.{ℕ, false, List, Option, Result, Ok, Err}
+use Rattle.std.specs.Prelude.{false, List, Option, Result, Ok, Err}
 use Rattle.pst_base.specs.Flat.{Flat}
 use Rattle.pst_base.specs.declared.stops.MemOr.{MemOr}
 use Rattle.pst_base.specs.declared.stops.MemOr.TheVariants.{Memory, Refused}

@@ -10,7 +10,7 @@ use node_values::Absent;
 use pst_base::{MemOr, u8_at, u16_at};
 use std::alloc::{AllocError, Global};
 
-/// Whether an item begins as the header of a table does, and is long enough to name a row index.
+/// Whether an item begins as the header of a table does, and is long enough to name a row index ([MS-PST] 2.3.4.1).
 #[tactic(auto, unfolding(crate::specs::Header::names_index))]
 pub fn names_index(x: &[u8]) -> bool
     ensures { result ≡ names_index x.now }

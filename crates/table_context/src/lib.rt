@@ -16,5 +16,6 @@ mod read;
 mod rows;
 
 pub use fault::TcFault;
+pub use header::names_index;
 pub use law::one_table;
 pub use read::{TABLE_CONTEXT, read_tc};
