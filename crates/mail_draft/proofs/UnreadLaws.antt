@@ -2,7 +2,10 @@
 use Rattle.std.proofs.Common.{◌≡◌, ℕ, ◌≤◌, ◌<◌, ◌+◌, Bool, true, false, not, if◌then◌else◌, refl, List, ◌∷◌, None, Some, Result, Ok, Err, drop, get_or, length, sym, ◌∙◌, ap, subst, zero-add, add-zero, add_assoc, add-one, drop-cons}
 use Rattle.std.proofs.lemmas.List.{drop_all}
 use Rattle.mapi_values.specs.Messages.{Mes}
-use Rattle.mail_tree.specs.Tree.{Tree}
+use Rattle.mail_tree.specs.Flags.{AreFlags, FlagList, known_flag}
+use Rattle.mail_tree.specs.Tree.{Tree, object_at}
+use Rattle.mail_tree.specs.declared.note.Note.TheVariants.{Unread}
+use Rattle.mail_tree.proofs.NoteLaws.{note_of_flag}
 use Rattle.mail_tree.specs.Changing.{Answer, Changed, ◌>>=◌, message_at, now_at}
 use Rattle.mail_tree.specs.Values.{is_read}
 use Rattle.mail_tree.specs.Settling.{one_if_unread, unread_among}
@@ -66,3 +69,7 @@ counts_stop T D ids i n stop within first before =
 pub counts_all : (T : Tree) (D : Changed) (ids : List ℕ) (i n : ℕ) → length ids ≤ i → Counts T D ids i n → Says (λ m. m) (unread_among T D ids) (Ok n)
 counts_all T D ids i n past before =
     before.goes_on (Ok n) (subst (λ xs. Says (λ m. m) (unread_among T D xs >>= λ m. Ok (n + m)) (Ok n)) (sym (drop_all i ids past)) (sym (add-zero n)))
+
+-- what is known of a message is so
+pub unread_known : (T : Tree) (m : ℕ) (unread : Bool) (flags : FlagList) → AreFlags (object_at T) flags → known_flag m flags ≡ Some unread → Says (λ b. b) (unread_of (object_at T m)) (Ok unread)
+unread_known T m unread flags are is = let k = are m (Unread unread) (note_of_flag m flags unread is) in rw k.1 (sym k.2)

@@ -40,6 +40,6 @@ pub use space::space_needed;
 pub use stop::Stop;
 pub use touch::touched;
 pub use values::{
-    bytes_of, crowds, is_read, name_of, number_of, put_number, put_text, put_time, put_truth,
-    text_of, with_counts,
+    bytes_of, crowds, folded_name, is_read, name_of, number_of, put_number, put_text, put_time,
+    put_truth, text_of, with_counts,
 };

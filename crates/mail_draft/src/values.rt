@@ -1,5 +1,6 @@
 //! Values of objects that the store reads and makes.
-ghost use Rattle.std.specs.Prelude.{◌≡◌, IfOk, IfSome, IsTrue, OnErr, OnOk, List, length, option_copied};
+ghost use Rattle.std.specs.Prelude.{◌≡◌, false, IfOk, IfSome, IsTrue, OnErr, OnOk, List, length, option_copied};
+ghost use Rattle.mapi_values.specs.Characters.{folded};
 ghost use Rattle.mapi_values.specs.Properties.{put};
 ghost use Rattle.mapi_values.specs.Values.{Val, fits};
 ghost use Rattle.mail_tree.specs.Values.{bytes_of, crowds, is_read, name_of, number, number_of, text, text_of, time_value, truth, with_counts};
@@ -42,6 +43,14 @@ pub fn name_of(alloc: Global, props: &Props) -> Result<Units, AllocError>
     ensures { IfOk result (λ units. units ≡ name_of props.now) }
 {
     text_of(alloc, props, PID_TAG_DISPLAY_NAME.id)
+}
+
+/// A folder's name, its case folded.
+pub fn folded_name(alloc: Global, props: &Props) -> Result<Units, AllocError>
+    ensures { IfOk result (λ units. units ≡ folded false (name_of props.now)) }
+{
+    let name = name_of(alloc, props)?;
+    name.fold(alloc, false)
 }
 
 /// The number of this id, 0 where there is none.

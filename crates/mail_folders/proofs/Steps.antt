@@ -1,31 +1,37 @@
 -- What a command says, from what its parts say.
-use Rattle.std.specs.Prelude.{filter}
-use Rattle.std.proofs.Common.{◌≡◌, ℕ, ◌+◌, ◌<◌, suc, List, [], ◌∷◌, ◌++◌, append_assoc, ap, ◌∙◌, length, get_or, drop, drop-cons, add-one, Option, None, Some, Result, Ok, Err, Bool, true, false, cond, ◌==◌, refl, subst}
+use Rattle.std.specs.Prelude.{filter, nat_eq}
+use Rattle.std.specs.Cmp.Lexicographic.{pointwise}
+use Rattle.std.proofs.Common.{◌≡◌, ℕ, ◌+◌, ◌<◌, suc, List, [], ◌∷◌, ◌++◌, append_assoc, ap, ◌∙◌, length, get_or, drop, drop-cons, add-one, Option, None, Some, Result, Ok, Err, Bool, true, false, cond, ◌==◌, refl, subst, sym}
 use Rattle.std.proofs.lemmas.Bool.{eq-eqb, eqb-true}
 use Rattle.std.specs.Result.{IsErrAnd}
 use Rattle.mail_tree.specs.declared.places.FolderPlace.{FolderPlace}
-use Rattle.mail_tree.specs.Changing.{Answer, Changed, ◌>>=◌, associated, contents, context_at, message_at, newest, nothing, now_at, table_at}
+use Rattle.mail_tree.specs.Changing.{Answer, Changed, ◌>>=◌, associated, contents, context_at, message_at, newest, nothing, now_at, refused_if, table_at}
 use Rattle.mail_tree.specs.Settling.{message_ids}
 use Rattle.mail_tree.specs.Places.{is_child, is_plain}
 use Rattle.mail_tree.specs.declared.places.Sort.TheVariants.{Plain}
+use Rattle.command_text.specs.declared.reply.CommandRefusal.TheVariants.{NameTaken}
 use Rattle.command_text.specs.declared.reply.Reply.{Reply}
 use Rattle.command_text.specs.declared.reply.LastLine.{LastLine}
 use Rattle.mail_objects.specs.Forms.{Ctx, Tbl}
 use Rattle.mail_objects.specs.declared.object.Object.{Object}
 use Rattle.std.specs.Ordering.{nat_cmp}
 use Rattle.std.specs.FinMap as map
+use Rattle.mapi_values.specs.Characters.{folded}
 use Rattle.mapi_values.specs.Messages.{Mes}
 use Rattle.command_text.specs.declared.reply.DataLine.{DataLine}
 use Rattle.command_text.specs.declared.reply.DataLine.TheVariants as lines
-use Rattle.mail_tree.specs.Values.{number_of, text_of}
+use Rattle.mail_tree.specs.Values.{name_of, number_of, text_of}
 use Rattle.mail_draft.specs.declared.draft.Draft.{Draft}
 use Rattle.mail_draft.specs.Drafts.{changed_of}
 use Rattle.mail_draft.specs.declared.stop.Stop.{Stop}
 use Rattle.mail_draft.specs.Answers.{Says}
+use Rattle.mail_tree.specs.Flags.{AreFlags, FlagList, known_name}
 use Rattle.mail_tree.specs.Tree.{Tree, object_at}
+use Rattle.mail_tree.specs.declared.note.Note.TheVariants.{Named}
+use Rattle.mail_tree.proofs.NoteLaws.{note_of_name}
 use Rattle.mail_tree.specs.Ids.{is_taken}
 use Rattle.mail_tree.specs.Folders.{Outcome, associated_in, folder_in, folder_line, folder_lines, listed, message_lines, nid, replied, unchanged, unless_named, unless_plain}
-use Rattle.mail_folders.specs.Pieces.{both_plain_in, each, line_of_folder, line_of_message, lines_in, plain_in, plain_listing, unless_has_name}
+use Rattle.mail_folders.specs.Pieces.{both_plain_in, each, line_of_folder, line_of_message, has_name, lines_in, plain_in, plain_listing, unless_has_name}
 use Rattle.mail_draft.proofs.Passes.{stop_says, then_says}
 
 -- a stop that is passed on
@@ -72,6 +78,33 @@ from_both {C} view T f h g result = find (folder_in T f) (folder_in T h)
     find (Ok p) (Ok q) said = test p (unless_plain p) (unless_plain q) said
     find (Ok p) (Err e) said = said
     find (Err e) b said = said
+
+-- what is known of a folder says whether it has the name
+pub name_known : (T : Tree) (name own : List ℕ) (f : ℕ) (flags : FlagList) → AreFlags (object_at T) flags → known_name f flags ≡ Some own → Says (λ b. b) (has_name T name f) (Ok (pointwise nat_eq own name))
+unfolding has_name
+name_known T name own f flags are is =
+    let k = are f (Named own) (note_of_name f flags own is) in
+    rw (map.get-empty nat_cmp f, k.1) (ap (λ (n : List ℕ). pointwise nat_eq n name) (sym k.2))
+
+-- it is refused by whether the folder has the name
+named_test : (T : Tree) (name : List ℕ) (f : ℕ) → unless_has_name T name f ≡ (has_name T name f >>= λ b. refused_if b NameTaken)
+unfolding has_name unless_has_name
+named_test T name f = test (context_at T nothing f)
+  where
+    test : (a : Answer Ctx)
+        → (a >>= λ c. refused_if (pointwise nat_eq (folded false (name_of c.props)) name) NameTaken) ≡ ((a >>= λ c. Ok (pointwise nat_eq (folded false (name_of c.props)) name)) >>= λ b. refused_if b NameTaken)
+    test (Ok c) = refl
+    test (Err e) = refl
+
+-- whether the folder has the name was told
+pub named_told : (T : Tree) (name : List ℕ) (f : ℕ) (has : Bool) (result : Result (Unit {0}) Stop) → Says (λ b. b) (has_name T name f) (Ok has) → Says (λ u. u) (refused_if has NameTaken) result
+    → Says (λ u. u) (unless_has_name T name f) result
+named_told T name f has result told then = rw (named_test T name f) (then_says (λ b. b) (λ u. u) (has_name T name f) (λ b. refused_if b NameTaken) has result told then)
+
+-- it wasn't told
+pub named_untold : (T : Tree) (name : List ℕ) (f : ℕ) (stop : Stop) → Says {A = Bool} {B = Bool} (λ b. b) (has_name T name f) (Err stop)
+    → Says {A = Unit {0}} {B = Unit {0}} (λ u. u) (unless_has_name T name f) (Err stop)
+named_untold T name f stop first = rw (named_test T name f) (stop_says (λ b. b) (λ u. u) (has_name T name f) (λ b. refused_if b NameTaken) stop first)
 
 -- the folder at i hasn't the name, nor have those after it
 pub named_on : (T : Tree) (name fs : List ℕ) (i : ℕ) (result : Result (Unit {0}) Stop) → i < length fs

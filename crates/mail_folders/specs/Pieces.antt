@@ -1,5 +1,5 @@
 -- The commands on folders, part by part.
-use Rattle.std.specs.Prelude.{ℕ, ◌||◌, ◌++◌, nat_eq, List, [], ◌∷◌, filter, Ok, false}
+use Rattle.std.specs.Prelude.{ℕ, ◌||◌, ◌++◌, nat_eq, Bool, List, [], ◌∷◌, filter, Ok, false}
 use Rattle.std.specs.Cmp.Lexicographic.{pointwise}
 use Rattle.mapi_values.specs.Characters.{folded}
 use Rattle.mapi_values.specs.Keyed.{drop_key, put_key}
@@ -25,6 +25,10 @@ plain_in T f = folder_in T f >>= λ p. unless_plain p >>= λ u. Ok p
 -- where the first of two such folders stands; what isn't there comes before what is of another sort
 unfoldable pub both_plain_in : Tree → ℕ → ℕ → Answer FolderPlace
 both_plain_in T f g = folder_in T f >>= λ p. folder_in T g >>= λ q. unless_plain p >>= λ u. unless_plain q >>= λ v. Ok p
+
+-- whether the folder has this name, whose case is folded
+unfoldable pub has_name : Tree → List ℕ → ℕ → Answer Bool
+has_name T name f = context_at T nothing f >>= λ c. Ok (pointwise nat_eq (folded false (name_of c.props)) name)
 
 -- the folder has this name, whose case is folded
 unfoldable pub unless_has_name : Tree → List ℕ → ℕ → Answer (Unit {0})

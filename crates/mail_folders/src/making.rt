@@ -51,7 +51,7 @@ pub fn make_folder<W: Outside, K: Keeper<W>>(
     ensures cause { IfErr result (IsCaused K.has_disk (W.view w.old).disk_faults (W.view w.new).disk_faults) }
 {
     let _place = plain_in(&known.places, parent)?;
-    unless_child_named(alloc, keeper, w, &known.places, parent, name)?;
+    unless_child_named(alloc, keeper, w, known, parent, name)?;
     unless_deep(alloc, &known.places, parent)?;
     unless_full(alloc, keeper, w, hierarchy(parent))?;
     let index = next_index(alloc, keeper, w, 2, &FOLDER_KINDS)?;

@@ -58,17 +58,17 @@ pub fn unless_crowds_name<W: Outside, K: NodeReader<W>>(
     alloc: Global,
     keeper: &mut K,
     w: &mut W,
-    places: &Places,
+    known: &Known,
     folder: Nid,
     parent: Nid,
 ) -> Result<(), Stop>
-    ensures answer { (T : Tree) → Shown (K.holds keeper.old (W.view w.old)) (K.last keeper.old) T → T.places ≡ places.now → Says (λ u. u) (unless_crowds_name T folder.bits parent.bits) result }
+    ensures answer { (T : Tree) → Shown (K.holds keeper.old (W.view w.old)) (K.last keeper.old) T → Knows T known.now → Says (λ u. u) (unless_crowds_name T folder.bits parent.bits) result }
     ensures looks { Looks (K.holds keeper.old (W.view w.old)) (K.holds keeper.new (W.view w.new)) (K.last keeper.old) (K.last keeper.new) (K.room keeper.old) (K.room keeper.new) (W.view w.old) (W.view w.new) }
     ensures cause { IfErr result (IsCaused K.has_disk (W.view w.old).disk_faults (W.view w.new).disk_faults) }
 {
     let context = context_in(alloc, keeper, w, folder)?;
     let name = name_of(alloc, context.props())?;
-    unless_child_named(alloc, keeper, w, places, parent, &name)
+    unless_child_named(alloc, keeper, w, known, parent, &name)
 }
 
 /// Moves a folder to another parent than it has.
@@ -86,7 +86,7 @@ fn moving_folder<W: Outside, K: NodeReader<W>>(
     ensures looks { Looks (K.holds keeper.old (W.view w.old)) (K.holds keeper.new (W.view w.new)) (K.last keeper.old) (K.last keeper.new) (K.room keeper.old) (K.room keeper.new) (W.view w.old) (W.view w.new) }
     ensures cause { IfErr result (IsCaused K.has_disk (W.view w.old).disk_faults (W.view w.new).disk_faults) }
 {
-    unless_crowds_name(alloc, keeper, w, &known.places, folder, to)?;
+    unless_crowds_name(alloc, keeper, w, known, folder, to)?;
     unless_moves_deep(alloc, &known.places, folder, to)?;
     placing_folder(alloc, keeper, w, known, folder, from, to)
 }

@@ -1,19 +1,19 @@
 //! Names of folders, compared with their case folded.
-ghost use Rattle.std.specs.Prelude.{false, ◌≡◌, ℕ, map, filter, not, ◌==◌, nat_eq, IfErr, IfOk};
-ghost use Rattle.std.specs.Cmp.Lexicographic.{pointwise};
+ghost use Rattle.std.specs.Prelude.{false, ◌≡◌, ℕ, map, filter, not, ◌==◌, IfErr, IfOk};
 ghost use Rattle.mapi_values.specs.Characters.{folded};
 ghost use Rattle.mail_tree.specs.Places.{children, is_child};
-ghost use Rattle.mail_tree.specs.Tree.{Shown, Tree};
-ghost use Rattle.mail_tree.specs.Values.{name_of};
+ghost use Rattle.mail_tree.specs.Flags.{AreFlags};
+ghost use Rattle.mail_tree.specs.Knowing.{Knows};
+ghost use Rattle.mail_tree.specs.Tree.{Shown, Tree, object_at};
 ghost use Rattle.mail_tree.specs.Folders.{siblings, unless_named};
-ghost use Rattle.mail_folders.specs.Pieces.{unless_has_name};
+ghost use Rattle.mail_folders.specs.Pieces.{has_name, unless_has_name};
 ghost use Rattle.mail_draft.specs.Answers.{IsCaused, Looks, Says};
 
 use crate::reading::context_in;
 use command_text::CommandRefusal;
-use mail_draft::{Stop, name_of};
-use mail_tree::{FolderPlace, Places};
-use mapi_values::{Props, Units};
+use mail_draft::{Stop, folded_name};
+use mail_tree::{Flags, FolderPlace, Known, Places};
+use mapi_values::Units;
 use node_port::NodeReader;
 use pst_base::Nid;
 use pst_outside::Outside;
@@ -57,30 +57,43 @@ pub(crate) fn siblings(
         .collect(alloc)
 }
 
-/// Whether the name among a folder's values is this one, which is folded already.
-fn has_name(alloc: Global, name: &Units, props: &Props) -> Result<bool, AllocError>
-    ensures { IfOk result (λ b. b ≡ pointwise nat_eq (folded false (name_of props.now)) name.now) }
+/// Whether a folder has this name, which is folded already. Its node is read only where its name isn't known.
+#[tactic(auto, unfolding(crate::specs::Pieces::has_name))]
+fn has_name<W: Outside, K: NodeReader<W>>(
+    alloc: Global,
+    keeper: &mut K,
+    w: &mut W,
+    flags: &Flags,
+    name: &Units,
+    folder: Nid,
+) -> Result<bool, Stop>
+    ensures answer { (T : Tree) → Shown (K.holds keeper.old (W.view w.old)) (K.last keeper.old) T → AreFlags (object_at T) flags.now → Says (λ b. b) (has_name T name.now folder.bits) result }
+    ensures looks { Looks (K.holds keeper.old (W.view w.old)) (K.holds keeper.new (W.view w.new)) (K.last keeper.old) (K.last keeper.new) (K.room keeper.old) (K.room keeper.new) (W.view w.old) (W.view w.new) }
+    ensures cause { IfErr result (IsCaused K.has_disk (W.view w.old).disk_faults (W.view w.new).disk_faults) }
 {
-    let own = name_of(alloc, props)?;
-    let own_folded = own.fold(alloc, false)?;
-    Ok(own_folded.as_slice() == name.as_slice())
+    if let Some(own) = flags.name(folder.bits) {
+        return Ok(own.as_slice() == name.as_slice());
+    }
+    let context = context_in(alloc, keeper, w, folder)?;
+    let own = folded_name(alloc, context.props())?;
+    Ok(own.as_slice() == name.as_slice())
 }
 
 /// Refused where a folder has this name, which is folded already.
-#[tactic(auto, unfolding(crate::specs::Pieces::unless_has_name))]
 fn unless_has_name<W: Outside, K: NodeReader<W>>(
     alloc: Global,
     keeper: &mut K,
     w: &mut W,
+    flags: &Flags,
     name: &Units,
     folder: Nid,
 ) -> Result<(), Stop>
-    ensures answer { (T : Tree) → Shown (K.holds keeper.old (W.view w.old)) (K.last keeper.old) T → Says (λ u. u) (unless_has_name T name.now folder.bits) result }
+    ensures answer { (T : Tree) → Shown (K.holds keeper.old (W.view w.old)) (K.last keeper.old) T → AreFlags (object_at T) flags.now → Says (λ u. u) (unless_has_name T name.now folder.bits) result }
     ensures looks { Looks (K.holds keeper.old (W.view w.old)) (K.holds keeper.new (W.view w.new)) (K.last keeper.old) (K.last keeper.new) (K.room keeper.old) (K.room keeper.new) (W.view w.old) (W.view w.new) }
     ensures cause { IfErr result (IsCaused K.has_disk (W.view w.old).disk_faults (W.view w.new).disk_faults) }
 {
-    let context = context_in(alloc, keeper, w, folder)?;
-    if has_name(alloc, name, context.props())? {
+    let is_taken = has_name(alloc, keeper, w, flags, name, folder)?;
+    if is_taken {
         return Err(Stop::Refused(CommandRefusal::NameTaken));
     }
     Ok(())
@@ -91,15 +104,16 @@ pub(crate) fn unless_named<W: Outside, K: NodeReader<W>>(
     alloc: Global,
     keeper: &mut K,
     w: &mut W,
+    flags: &Flags,
     name: &Units,
     folders: &[u32],
 ) -> Result<(), Stop>
-    ensures answer { (T : Tree) → Shown (K.holds keeper.old (W.view w.old)) (K.last keeper.old) T → Says (λ u. u) (unless_named T name.now folders.now) result }
+    ensures answer { (T : Tree) → Shown (K.holds keeper.old (W.view w.old)) (K.last keeper.old) T → AreFlags (object_at T) flags.now → Says (λ u. u) (unless_named T name.now folders.now) result }
     ensures looks { Looks (K.holds keeper.old (W.view w.old)) (K.holds keeper.new (W.view w.new)) (K.last keeper.old) (K.last keeper.new) (K.room keeper.old) (K.room keeper.new) (W.view w.old) (W.view w.new) }
     ensures cause { IfErr result (IsCaused K.has_disk (W.view w.old).disk_faults (W.view w.new).disk_faults) }
 {
     for folder in folders {
-        unless_has_name(alloc, keeper, w, name, Nid { bits: *folder })?;
+        unless_has_name(alloc, keeper, w, flags, name, Nid { bits: *folder })?;
     }
     Ok(())
 }
@@ -109,15 +123,15 @@ pub fn unless_child_named<W: Outside, K: NodeReader<W>>(
     alloc: Global,
     keeper: &mut K,
     w: &mut W,
-    places: &Places,
+    known: &Known,
     parent: Nid,
     name: &Units,
 ) -> Result<(), Stop>
-    ensures answer { (T : Tree) → Shown (K.holds keeper.old (W.view w.old)) (K.last keeper.old) T → T.places ≡ places.now → Says (λ u. u) (unless_named T (folded false name.now) (children parent.bits T.places)) result }
+    ensures answer { (T : Tree) → Shown (K.holds keeper.old (W.view w.old)) (K.last keeper.old) T → Knows T known.now → Says (λ u. u) (unless_named T (folded false name.now) (children parent.bits T.places)) result }
     ensures looks { Looks (K.holds keeper.old (W.view w.old)) (K.holds keeper.new (W.view w.new)) (K.last keeper.old) (K.last keeper.new) (K.room keeper.old) (K.room keeper.new) (W.view w.old) (W.view w.new) }
     ensures cause { IfErr result (IsCaused K.has_disk (W.view w.old).disk_faults (W.view w.new).disk_faults) }
 {
-    let ids = children(alloc, places, parent)?;
+    let ids = children(alloc, &known.places, parent)?;
     let folded = name.fold(alloc, false)?;
-    unless_named(alloc, keeper, w, &folded, ids.as_slice())
+    unless_named(alloc, keeper, w, &known.flags, &folded, ids.as_slice())
 }

@@ -1,5 +1,6 @@
 //! `rename`
 ghost use Rattle.std.specs.Prelude.{false, ◌≡◌, IfErr, IfOk};
+ghost use Rattle.mail_tree.specs.Knowing.{Knows};
 ghost use Rattle.mail_tree.specs.Tree.{Shown, Tree};
 ghost use Rattle.mail_tree.specs.Values.{text};
 ghost use Rattle.mail_tree.specs.Folders.{renamed_folder, siblings, unless_named};
@@ -15,7 +16,7 @@ use crate::names::{siblings, unless_named};
 use crate::protecting::unless_protected;
 use crate::reading::context_in;
 use mail_draft::{Draft, Outcome, Stop, changing, mirrored, put_text, with_context};
-use mail_tree::Places;
+use mail_tree::Known;
 use mapi_values::tags::PID_TAG_DISPLAY_NAME;
 use mapi_values::{Props, Units};
 use node_port::NodeReader;
@@ -29,17 +30,17 @@ pub fn rename_folder<W: Outside, K: NodeReader<W>>(
     alloc: Global,
     keeper: &mut K,
     w: &mut W,
-    places: &Places,
+    known: &Known,
     folder: Nid,
     name: &Units,
 ) -> Result<Outcome, Stop>
-    ensures answer { (T : Tree) → Shown (K.holds keeper.old (W.view w.old)) (K.last keeper.old) T → T.places ≡ places.now → Says (outcome_of T) (renamed_folder T folder.bits name.now) result }
+    ensures answer { (T : Tree) → Shown (K.holds keeper.old (W.view w.old)) (K.last keeper.old) T → Knows T known.now → Says (outcome_of T) (renamed_folder T folder.bits name.now) result }
     ensures looks { Looks (K.holds keeper.old (W.view w.old)) (K.holds keeper.new (W.view w.new)) (K.last keeper.old) (K.last keeper.new) (K.room keeper.old) (K.room keeper.new) (W.view w.old) (W.view w.new) }
     ensures cause { IfErr result (IsCaused K.has_disk (W.view w.old).disk_faults (W.view w.new).disk_faults) }
 {
-    let place = plain_in(places, folder)?;
+    let place = plain_in(&known.places, folder)?;
     unless_protected(alloc, keeper, w, folder)?;
-    unless_beside(alloc, keeper, w, places, place.parent, folder, name)?;
+    unless_beside(alloc, keeper, w, known, place.parent, folder, name)?;
     let draft = named_anew(alloc, keeper, w, folder, name)?;
     changing(alloc, draft)
 }
@@ -49,18 +50,18 @@ pub fn unless_beside<W: Outside, K: NodeReader<W>>(
     alloc: Global,
     keeper: &mut K,
     w: &mut W,
-    places: &Places,
+    known: &Known,
     parent: Nid,
     folder: Nid,
     name: &Units,
 ) -> Result<(), Stop>
-    ensures answer { (T : Tree) → Shown (K.holds keeper.old (W.view w.old)) (K.last keeper.old) T → T.places ≡ places.now → Says (λ u. u) (unless_named T (folded false name.now) (siblings T parent.bits folder.bits)) result }
+    ensures answer { (T : Tree) → Shown (K.holds keeper.old (W.view w.old)) (K.last keeper.old) T → Knows T known.now → Says (λ u. u) (unless_named T (folded false name.now) (siblings T parent.bits folder.bits)) result }
     ensures looks { Looks (K.holds keeper.old (W.view w.old)) (K.holds keeper.new (W.view w.new)) (K.last keeper.old) (K.last keeper.new) (K.room keeper.old) (K.room keeper.new) (W.view w.old) (W.view w.new) }
     ensures cause { IfErr result (IsCaused K.has_disk (W.view w.old).disk_faults (W.view w.new).disk_faults) }
 {
-    let ids = siblings(alloc, places, parent, folder)?;
+    let ids = siblings(alloc, &known.places, parent, folder)?;
     let folded = name.fold(alloc, false)?;
-    unless_named(alloc, keeper, w, &folded, ids.as_slice())
+    unless_named(alloc, keeper, w, &known.flags, &folded, ids.as_slice())
 }
 
 /// The values of a folder with another name.

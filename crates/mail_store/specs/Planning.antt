@@ -1,5 +1,5 @@
 -- What a store stands for, and what it plans.
-use Rattle.std.specs.Prelude.{◌≡◌, ℕ, Bool, true, List, Option, None, Some, Result, Ok, Err}
+use Rattle.std.specs.Prelude.{◌≡◌, ℕ, true, List, Option, None, Some, Result, Ok, Err}
 use Rattle.std.specs.FinMap as map
 use Rattle.pst_base.specs.declared.ids.Nid.{Nid}
 use Rattle.pst_outside.specs.World.{Image}
@@ -9,6 +9,7 @@ use Rattle.node_port.specs.Nodes.{Nodes, changed, node_at}
 use Rattle.node_port.specs.Stops.{Room}
 use Rattle.node_port.specs.declared.node.NodeRec.{NodeRec}
 use Rattle.mail_tree.specs.declared.known.Known.{Known}
+use Rattle.mail_tree.specs.declared.note.Note.{Note}
 use Rattle.mail_tree.specs.declared.places.FolderPlace.{FolderPlace}
 use Rattle.mail_tree.specs.Changing.{Answer, Changed as Changes}
 use Rattle.mail_tree.specs.Flags.{SameFlags}
@@ -28,7 +29,7 @@ pub record Stores (holds : Nodes → Type 0) (last : List ℕ) (known : Known) (
   pub shown : Shown holds last T
   pub knows : Knows T known
 
--- the same places, and the same is known of each message
+-- the same places, and the same is known of each object
 abbrev pub SameKnown : Known → Known → Type 0
 SameKnown old new = (new.places ≡ old.places) × SameFlags old.flags new.flags
 
@@ -64,8 +65,8 @@ abbrev pub cost_of : {R : Type 0} → (R → ℕ) → Option R → ℕ
 cost_of cost None = 0
 cost_of cost (Some ready) = cost ready
 
--- what was planned comes to this: the reply, the places, what is to be known of messages, and the changes
-pub record PlansTo {R : Type 0} (fits : R → List ℕ → List (Nid × Option NodeRec) → Type 0) (T : Tree) (o : Outcome) (change : Option R) (places : Option (List FolderPlace)) (flags : List (ℕ × Option Bool)) (reply : Reply) : Type 0 where
+-- what was planned comes to this: the reply, the places, what is to be known of objects, and the changes
+pub record PlansTo {R : Type 0} (fits : R → List ℕ → List (Nid × Option NodeRec) → Type 0) (T : Tree) (o : Outcome) (change : Option R) (places : Option (List FolderPlace)) (flags : List (ℕ × Option Note)) (reply : Reply) : Type 0 where
   pub reply_is : reply ≡ o.reply
   pub places_are : o.places ≡ places_after T.places places
   pub flags_are : flags ≡ flag_changes o.changed

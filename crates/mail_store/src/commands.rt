@@ -36,7 +36,7 @@ pub fn outcome<W: Outside, K: Keeper<W>>(
     match command {
         Command::MakeFolder { parent, name } => make_folder(alloc, keeper, w, known, *parent, name),
         Command::RenameFolder { folder, name } => {
-            rename_folder(alloc, keeper, w, &known.places, *folder, name)
+            rename_folder(alloc, keeper, w, known, *folder, name)
         }
         Command::MoveFolder { folder, parent } => {
             move_folder(alloc, keeper, w, known, *folder, *parent)

@@ -9,3 +9,4 @@ pub mod KindsOfPuts
 pub mod Settles
 pub mod PathLaws
 pub mod PartLaws
+pub mod NoteLaws

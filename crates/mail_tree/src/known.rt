@@ -1,23 +1,26 @@
 //! What a store knows of its tree beside the nodes.
-ghost use Rattle.std.specs.Prelude.{◌≡◌, ◌==◌, ◌&&◌, ◌||◌, ℕ, [], OnErr, OnOk, if◌then◌else◌, not};
+ghost use Rattle.std.specs.Prelude.{◌≡◌, ◌==◌, ◌&&◌, ◌||◌, ℕ, [], Some, OnErr, OnOk, if◌then◌else◌, not};
 
+use crate::note::Note;
 use crate::places::Places;
+use mapi_values::Units;
 use std::alloc::{AllocError, Global};
 use std::collections::BTreeMap;
 use std::marker::Model;
 
-/// Which messages of a store are unread, as far as it is known. Contracts see a list of what is known of each message.
+/// Which messages of a store are unread and what its folders are named, as far as it is known. Contracts see a list of what is known of each object.
 #[derive(Debug, Drop)]
 pub struct Flags {
-    unread: BTreeMap<u32, Option<bool>>,
+    notes: BTreeMap<u32, Option<Note>>,
 }
 
 impl Model for Flags {
-    ghost use Rattle.std.specs.Prelude.{ℕ, List, Option, Bool};
+    ghost use Rattle.std.specs.Prelude.{ℕ, List, Option};
+    ghost use Rattle.mail_tree.specs.declared.note.Note.{Note};
 
-    ghost Value = { List (ℕ × Option Bool) };
+    ghost Value = { List (ℕ × Option Note) };
 
-    ghost view = { λ f. f.unread.entries };
+    ghost view = { λ f. f.notes.entries };
 }
 
 /// What a store knows of its tree beside the nodes.
@@ -28,15 +31,15 @@ pub struct Known {
 }
 
 impl Flags {
-    ghost use Rattle.std.specs.Option.{is_some};
-    ghost use Rattle.mail_tree.specs.Flags.{SameFlags, has_room, known_flag};
+    ghost use Rattle.std.specs.Option.{is_some, option_copied};
+    ghost use Rattle.mail_tree.specs.Flags.{SameFlags, has_room, known_flag, known_name, known_note};
 
     /// Nothing is known. Takes no memory.
     pub fn new(alloc: Global) -> Flags
         ensures { result ≡ [] }
     {
         Flags {
-            unread: BTreeMap::new(alloc),
+            notes: BTreeMap::new(alloc),
         }
     }
 
@@ -44,44 +47,54 @@ impl Flags {
     pub fn get(&self, message: u32) -> Option<bool>
         ensures { result ≡ known_flag message self.now }
     {
-        match self.unread.get(&message) {
-            Some(unread) => *unread,
-            None => None,
+        match self.notes.get(&message) {
+            Some(Some(Note::Unread(unread))) => Some(*unread),
+            _ => None,
         }
     }
 
-    /// Makes an entry for a message, if there is none. What is known stays, and an `Err` changes nothing.
-    pub fn make_room(&mut self, message: u32) -> Result<(), AllocError>
+    /// The name of a folder, its case folded, or `None` where that isn't known.
+    pub fn name(&self, folder: u32) -> Option<&Units>
+        ensures { option_copied result ≡ known_name folder self.now }
+    {
+        match self.notes.get(&folder) {
+            Some(Some(Note::Named(name))) => Some(name),
+            _ => None,
+        }
+    }
+
+    /// Makes an entry for an object, if there is none. What is known stays, and an `Err` changes nothing.
+    pub fn make_room(&mut self, nid: u32) -> Result<(), AllocError>
         ensures known { SameFlags self.old self.new }
-        ensures ok { OnOk result ((q : ℕ) → has_room q self.new ≡ (q == message) || has_room q self.old) }
+        ensures ok { OnOk result ((q : ℕ) → has_room q self.new ≡ (q == nid) || has_room q self.old) }
         ensures err { OnErr result (self.new ≡ self.old) }
     {
-        if !self.unread.contains_key(&message) {
-            let _none_before = self.unread.insert(message, None)?;
+        if !self.notes.contains_key(&nid) {
+            let _none_before = self.notes.insert(nid, None)?;
         }
         Ok(())
     }
 
-    /// Has the entry of a message say whether it is unread, or takes it out for `None`. Where there is no entry nothing changes. Takes no memory.
-    pub fn set(&mut self, message: u32, unread: Option<bool>)
-        ensures known { (q : ℕ) → known_flag q self.new ≡ (if (q == message) && has_room message self.old then unread else known_flag q self.old) }
-        ensures room { (q : ℕ) → has_room q self.new ≡ has_room q self.old && (is_some unread || not (q == message)) }
+    /// Has the entry of an object say what is known of it, or takes it out for `None`. Where there is no entry nothing changes. Takes no memory.
+    pub fn set(&mut self, nid: u32, note: Option<Note>)
+        ensures known { (q : ℕ) → known_note q self.new ≡ (if (q == nid) && has_room nid self.old then note else known_note q self.old) }
+        ensures room { (q : ℕ) → has_room q self.new ≡ has_room q self.old && (is_some note || not (q == nid)) }
     {
-        match unread {
-            Some(_) => self.write(message, unread),
+        match note {
+            Some(note) => self.write(nid, note),
             None => {
-                let _taken_out = self.unread.remove(&message);
+                let _taken_out = self.notes.remove(&nid);
             }
         }
     }
 
-    /// Has the entry of a message say whether it is unread, if there is one.
-    fn write(&mut self, message: u32, unread: Option<bool>)
-        ensures known { (q : ℕ) → known_flag q self.new ≡ (if (q == message) && has_room message self.old then unread else known_flag q self.old) }
+    /// Has the entry of an object say what is known of it, if there is one.
+    fn write(&mut self, nid: u32, note: Note)
+        ensures known { (q : ℕ) → known_note q self.new ≡ (if (q == nid) && has_room nid self.old then Some note else known_note q self.old) }
         ensures room { (q : ℕ) → has_room q self.new ≡ has_room q self.old }
     {
-        if let Some(entry) = self.unread.get_mut(&message) {
-            *entry = unread;
+        if let Some(entry) = self.notes.get_mut(&nid) {
+            *entry = Some(note);
         }
     }
 }

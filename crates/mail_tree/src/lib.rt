@@ -7,8 +7,10 @@
 
 mod columns;
 mod known;
+mod note;
 mod places;
 
 pub use columns::{attachments_table, contents_table, hierarchy_table, recipients_table};
 pub use known::{Flags, Known};
+pub use note::Note;
 pub use places::{FolderPlace, Places, ROOT_FOLDER, Sort};

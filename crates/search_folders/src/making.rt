@@ -26,7 +26,7 @@ use mail_draft::{Draft, Outcome, Stop, add_shown, hierarchy, making, new_id, set
 use mail_folders::{folder_props, plain_in, unless_child_named, unless_deep, unless_full};
 use mail_objects::{Context, Object};
 use mail_searches::KnownSearches;
-use mail_tree::{Known, Places, contents_table};
+use mail_tree::{Known, contents_table};
 use mapi_values::{Props, Units};
 use node_port::{Keeper, NodeReader};
 use pst_base::{Nid, Subs};
@@ -49,7 +49,7 @@ pub fn make_search<W: Outside, K: Keeper<W>>(
     ensures looks { Looks (K.holds keeper.old (W.view w.old)) (K.holds keeper.new (W.view w.new)) (K.last keeper.old) (K.last keeper.new) (K.room keeper.old) (K.room keeper.new) (W.view w.old) (W.view w.new) }
     ensures cause { IfErr result (IsCaused K.has_disk (W.view w.old).disk_faults (W.view w.new).disk_faults) }
 {
-    unless_refused(alloc, keeper, w, &known.places, parent, name)?;
+    unless_refused(alloc, keeper, w, known, parent, name)?;
     let index = next_search_index(alloc, keeper, w, &known.places)?;
     let outcome = making_search(alloc, keeper, w, known, parent, name, index)?;
     let own = searches.own.with(alloc, new_id(3, index))?;
@@ -66,17 +66,17 @@ fn unless_refused<W: Outside, K: NodeReader<W>>(
     alloc: Global,
     keeper: &mut K,
     w: &mut W,
-    places: &Places,
+    known: &Known,
     parent: Nid,
     name: &Units,
 ) -> Result<(), Stop>
-    ensures answer { (T : Tree) → Shown (K.holds keeper.old (W.view w.old)) (K.last keeper.old) T → T.places ≡ places.now → Says (λ u. u) (unless_refused T parent.bits name.now) result }
+    ensures answer { (T : Tree) → Shown (K.holds keeper.old (W.view w.old)) (K.last keeper.old) T → Knows T known.now → Says (λ u. u) (unless_refused T parent.bits name.now) result }
     ensures looks { Looks (K.holds keeper.old (W.view w.old)) (K.holds keeper.new (W.view w.new)) (K.last keeper.old) (K.last keeper.new) (K.room keeper.old) (K.room keeper.new) (W.view w.old) (W.view w.new) }
     ensures cause { IfErr result (IsCaused K.has_disk (W.view w.old).disk_faults (W.view w.new).disk_faults) }
 {
-    let _place = plain_in(places, parent)?;
-    unless_child_named(alloc, keeper, w, places, parent, name)?;
-    unless_deep(alloc, places, parent)?;
+    let _place = plain_in(&known.places, parent)?;
+    unless_child_named(alloc, keeper, w, known, parent, name)?;
+    unless_deep(alloc, &known.places, parent)?;
     unless_full(alloc, keeper, w, hierarchy(parent))
 }
 

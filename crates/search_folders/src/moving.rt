@@ -23,7 +23,7 @@ use mail_folders::{
     unless_moves_deep, unless_protected, unless_within, without_place,
 };
 use mail_searches::KnownSearches;
-use mail_tree::{Known, Places};
+use mail_tree::Known;
 use mapi_values::Units;
 use node_port::NodeReader;
 use pst_base::Nid;
@@ -35,15 +35,15 @@ pub fn rename_search<W: Outside, K: NodeReader<W>>(
     alloc: Global,
     keeper: &mut K,
     w: &mut W,
-    places: &Places,
+    known: &Known,
     search: Nid,
     name: &Units,
 ) -> Result<Coming, Stop>
-    ensures answer { (X : Searching) → Shown (K.holds keeper.old (W.view w.old)) (K.last keeper.old) X.tree → X.tree.places ≡ places.now → Says (coming_of X) (stays_after X (renamed_search X.tree search.bits name.now)) result }
+    ensures answer { (X : Searching) → Shown (K.holds keeper.old (W.view w.old)) (K.last keeper.old) X.tree → Knows X.tree known.now → Says (coming_of X) (stays_after X (renamed_search X.tree search.bits name.now)) result }
     ensures looks { Looks (K.holds keeper.old (W.view w.old)) (K.holds keeper.new (W.view w.new)) (K.last keeper.old) (K.last keeper.new) (K.room keeper.old) (K.room keeper.new) (W.view w.old) (W.view w.new) }
     ensures cause { IfErr result (IsCaused K.has_disk (W.view w.old).disk_faults (W.view w.new).disk_faults) }
 {
-    let outcome = renamed_search(alloc, keeper, w, places, search, name)?;
+    let outcome = renamed_search(alloc, keeper, w, known, search, name)?;
     Ok(Coming::staying(outcome))
 }
 
@@ -53,17 +53,17 @@ fn renamed_search<W: Outside, K: NodeReader<W>>(
     alloc: Global,
     keeper: &mut K,
     w: &mut W,
-    places: &Places,
+    known: &Known,
     search: Nid,
     name: &Units,
 ) -> Result<Outcome, Stop>
-    ensures answer { (T : Tree) → Shown (K.holds keeper.old (W.view w.old)) (K.last keeper.old) T → T.places ≡ places.now → Says (outcome_of T) (renamed_search T search.bits name.now) result }
+    ensures answer { (T : Tree) → Shown (K.holds keeper.old (W.view w.old)) (K.last keeper.old) T → Knows T known.now → Says (outcome_of T) (renamed_search T search.bits name.now) result }
     ensures looks { Looks (K.holds keeper.old (W.view w.old)) (K.holds keeper.new (W.view w.new)) (K.last keeper.old) (K.last keeper.new) (K.room keeper.old) (K.room keeper.new) (W.view w.old) (W.view w.new) }
     ensures cause { IfErr result (IsCaused K.has_disk (W.view w.old).disk_faults (W.view w.new).disk_faults) }
 {
-    let place = folder_in(places, search)?;
+    let place = folder_in(&known.places, search)?;
     unless_protected(alloc, keeper, w, search)?;
-    unless_beside(alloc, keeper, w, places, place.parent, search, name)?;
+    unless_beside(alloc, keeper, w, known, place.parent, search, name)?;
     let draft = named_anew(alloc, keeper, w, search, name)?;
     changing(alloc, draft)
 }
@@ -125,7 +125,7 @@ fn moving_search<W: Outside, K: NodeReader<W>>(
     ensures looks { Looks (K.holds keeper.old (W.view w.old)) (K.holds keeper.new (W.view w.new)) (K.last keeper.old) (K.last keeper.new) (K.room keeper.old) (K.room keeper.new) (W.view w.old) (W.view w.new) }
     ensures cause { IfErr result (IsCaused K.has_disk (W.view w.old).disk_faults (W.view w.new).disk_faults) }
 {
-    unless_crowds_name(alloc, keeper, w, &known.places, search, to)?;
+    unless_crowds_name(alloc, keeper, w, known, search, to)?;
     unless_moves_deep(alloc, &known.places, search, to)?;
     placing_search(alloc, keeper, w, known, search, from, to)
 }

@@ -5,7 +5,9 @@ use Rattle.std.proofs.lemmas.Option.{none-some, same_Some}
 use Rattle.pst_base.specs.declared.ids.Nid.{Nid}
 use Rattle.mail_objects.specs.Forms.{Tbl}
 use Rattle.mail_tree.specs.Flags.{FlagList, known_flag}
+use Rattle.mail_tree.specs.declared.note.Note.TheVariants.{Unread}
 use Rattle.mail_tree.specs.declared.places.FolderPlace.{FolderPlace}
+use Rattle.mail_tree.proofs.NoteLaws.{note_of_flag}
 use Rattle.mail_tree.proofs.FineLaws.{cases_Option}
 use Rattle.node_port.specs.Nodes.{Nodes, node_at}
 use Rattle.node_port.specs.declared.node.NodeRec.{NodeRec}
@@ -34,7 +36,7 @@ some_of (Some x) b is f = refl
 names_messages : (N : Nodes) (places : List FolderPlace) (flags : FlagList) (t : Tbl) → AreListed N places flags → AllKnown flags t → NamesMessages N places t
 names_messages N places flags t listed known = λ r row. elim (cases_Option (known_flag r flags)) [
   | inl e ↦ absurd (not_some (known_flag r flags) e (known r row))
-  | inr u ↦ let at = listed r u.0 u.1 in (at.0, at.1, at.2)
+  | inr u ↦ let at = listed r (Unread u.0) (note_of_flag r flags u.0 u.1) in (at.0, at.1, at.2)
 ]
 
 -- and what isn't is none

@@ -8,6 +8,8 @@ use Rattle.mail_objects.specs.declared.object.Object.TheVariants.{Context, Table
 use Rattle.mail_tree.specs.Changing.{Changed, as_message}
 use Rattle.mail_tree.specs.Flags.{AreFlags, FlagList, known_flag}
 use Rattle.mail_tree.specs.Ids.{is_taken}
+use Rattle.mail_tree.specs.declared.note.Note.TheVariants.{Unread}
+use Rattle.mail_tree.proofs.NoteLaws.{note_of_flag}
 use Rattle.mail_tree.specs.Tree.{StandsAt, Tree, object_at}
 use Rattle.mail_tree.specs.Values.{is_read}
 use Rattle.node_port.specs.Nodes.{content_of, node_at}
@@ -62,8 +64,8 @@ flag_as_kept T D q e = rw e refl
 
 -- what is known of a message is so
 pub kept_known : (T : Tree) (q : ℕ) (unread : Bool) (flags : FlagList) → AreFlags (object_at T) flags → known_flag q flags ≡ Some unread → Says (λ f. f) (kept_flag T q) (Ok (Some unread))
-kept_known T q unread flags are e = let k = are q unread e in rw k.1 (ap Some (sym k.2))
+kept_known T q unread flags are e = let k = are q (Unread unread) (note_of_flag q flags unread e) in rw k.1 (ap Some (sym k.2))
 
 -- nothing is known
 pub none_known : (at : ℕ → Option Object) (flags : FlagList) → flags ≡ [] → AreFlags at flags
-none_known at flags e = rw e (λ m unread k. cc)
+none_known at flags e = rw e (λ q note k. cc)

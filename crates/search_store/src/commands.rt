@@ -103,7 +103,7 @@ pub(crate) fn outcome<W: Outside, K: Keeper<W>, L: Ledger>(
         }
         Command::RenameFolder { folder, name } => {
             if searches.own.contains(*folder) {
-                rename_search(alloc, keeper, w, &known.places, *folder, name)
+                rename_search(alloc, keeper, w, known, *folder, name)
             } else {
                 follow(alloc, keeper, w, known, searches, command, steps)
             }

@@ -5,8 +5,10 @@ use Rattle.std.proofs.lemmas.Option.{none-some}
 use Rattle.std.specs.Ordering.{nat_cmp}
 use Rattle.std.specs.FinMap as map
 use Rattle.mail_objects.specs.declared.object.Object.{Object}
-use Rattle.mail_objects.specs.declared.object.Object.TheVariants.{Message, Table}
-use Rattle.mail_tree.specs.Flags.{AreFlags, FlagList}
+use Rattle.mail_objects.specs.declared.object.Object.TheVariants.{Context, Message, Table}
+use Rattle.mail_tree.specs.Flags.{AreFlags, FlagList, IsNoted}
+use Rattle.mail_tree.specs.declared.note.Note.{Note}
+use Rattle.mail_tree.specs.declared.note.Note.TheVariants.{Named, Unread}
 use Rattle.mail_tree.specs.Found.{IsFound}
 use Rattle.mail_tree.specs.Standing.{HasTree}
 use Rattle.mail_tree.specs.Tree.{Objects, StandsAt, Tree, object_at}
@@ -80,8 +82,10 @@ module _ (N : Nodes) (X : Searching) (s : ShowsSearches N X) where
 pub has_tree : (N : Nodes) (X : Searching) → ShowsSearches N X → HasTree N X.tree.places
 has_tree N X s = (shows_without N X s).tree
 
--- what is known of messages of these nodes is so of it
+-- what is known of messages and folders of these nodes is so of it
 pub search_flags : (N : Nodes) (X : Searching) (flags : FlagList) → ShowsSearches N X → AreListed N X.tree.places flags → AreFlags (object_at X.tree) flags
-search_flags N X flags s listed = λ m unread known.
-    let M = shows_flags N (without N X) flags (shows_without N X s) listed m unread known in
-    (M.0, (was N X m (Message M.0) M.1).0, M.2)
+search_flags N X flags s listed = λ q note known. there note q (shows_flags N (without N X) flags (shows_without N X s) listed q note known)
+  where
+    there : (note : Note) (q : ℕ) → IsNoted note (object_at (without N X) q) → IsNoted note (object_at X.tree q)
+    there (Unread unread) q M = (M.0, (was N X q (Message M.0) M.1).0, M.2)
+    there (Named name) q c = (c.0, (was N X q (Context c.0) c.1).0, c.2)

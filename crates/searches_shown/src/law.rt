@@ -26,7 +26,7 @@ pub fn has_searches()
     ensures { (N : Nodes) (X : Searching) → ShowsSearches N X → HasSearches N X.tree.places X.own X.searches }
 {}
 
-/// What a look knows of the messages of these nodes is so of the tree that they show.
+/// What a look knows of the messages and folders of these nodes is so of the tree that they show.
 pub fn search_flags()
     ensures { (N : Nodes) (X : Searching) (flags : FlagList) → ShowsSearches N X → AreListed N X.tree.places flags → AreFlags (object_at X.tree) flags }
 {}

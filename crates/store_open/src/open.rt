@@ -52,7 +52,7 @@ fn find_stale_counted<W: Outside, K: NodeReader<W>, L: Ledger>(
     find_stale(alloc, keeper, w, places, searches, &mut steps)
 }
 
-/// Opens nodes as a store: finds its folders, which of its messages are unread, and its searches, and looks at every message once more where a search runs.
+/// Opens nodes as a store: finds its folders and their names, which of its messages are unread, and its searches, and looks at every message once more where a search runs.
 ///
 /// `Refused` names the first thing that is wrong with folders, tables and messages as `look_folders` finds it, then with the searches as `look_searches` does, and last a running search whose list isn't what it is to be. `Kept` comes as the keeper's own stops do, never `Changed` of a keeper that tells its nodes.
 pub fn open_store<W: Outside, K: NodeReader<W>>(

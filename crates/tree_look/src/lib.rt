@@ -1,6 +1,6 @@
 //! Finding the tree that nodes have: the folders from the root down, with their tables and messages.
 //!
-//! Promises: `look_folders` gives the places of the folders exactly where the nodes have a tree (`HasTree`), and beside them which messages are unread, of just those that its plain folders list (`AreListed`, `AreKnown`); and else what is wrong (`HasFault`), which excludes every tree (`fault_excludes`). It only looks (`Looks`), over any reader of nodes. `table_of` gives the table that a node is.
+//! Promises: `look_folders` gives the places of the folders exactly where the nodes have a tree (`HasTree`), and beside them which messages are unread, of just those that its plain folders list, and what the folders are named (`AreListed`, `AreKnown`); and else what is wrong (`HasFault`), which excludes every tree (`fault_excludes`). It only looks (`Looks`), over any reader of nodes. `table_of` gives the table that a node is.
 //!
 //! Leaves to others: where nodes come from, and what the commands make of a tree.
 #![tactic(auto)]

@@ -56,7 +56,7 @@ fn follow<W: Outside, K: NodeReader<W>>(
     ensures looks { Looks (K.holds keeper.old (W.view w.old)) (K.holds keeper.new (W.view w.new)) (K.last keeper.old) (K.last keeper.new) (K.room keeper.old) (K.room keeper.new) (W.view w.old) (W.view w.new) }
     ensures cause { IfErr result (IsCaused K.has_disk (W.view w.old).disk_faults (W.view w.new).disk_faults) }
 {
-    let Some(sort) = check_row(alloc, keeper, w, above, row, left)? else {
+    let Some(sort) = check_row(alloc, keeper, w, above, row, left, flags)? else {
         return Ok(());
     };
     let place = FolderPlace {
@@ -75,7 +75,7 @@ fn follow<W: Outside, K: NodeReader<W>>(
     Ok(())
 }
 
-/// The places of the folders of the tree that nodes have, by their ids, and which of its messages are unread; or what is wrong: the first thing that is met of the store's values, the names, and the folders in preorder by ascending ids. Of each folder its values are looked at, then its tables, its messages, and the folders below it.
+/// The places of the folders of the tree that nodes have, by their ids, which of its messages are unread, and what its folders are named; or what is wrong: the first thing that is met of the store's values, the names, and the folders in preorder by ascending ids. Of each folder its values are looked at, then its tables, its messages, and the folders below it.
 ///
 /// The root is at 122h. A row of a table of folders names a plain folder where its id is of kind 2, and a search folder where it is of kind 3 and its node is there; a row of a table of messages names one where its id is of kind 4 ([MS-PST] 2.2.2.1). All other rows name nothing here. `Fault` comes where the disk failed, `Memory` where there was none, and `Changed` never of a reader that tells its nodes.
 pub fn look_folders<W: Outside, K: NodeReader<W>>(

@@ -17,7 +17,7 @@ ghost use Rattle.tree_look.specs.Seeing.{IsKnown, Learns, StaysKnown};
 ghost use Rattle.tree_look.specs.Stops.{missed, sort_with};
 ghost use Rattle.tree_look.specs.Walk.{Checked, Comes, IsCaused, Looks};
 
-use crate::flags::keep_flag;
+use crate::flags::{keep_flag, keep_name};
 use crate::forms::{context_of, mail_of, table_of};
 use crate::stops::{LookStop, TreeFault};
 use mail_draft::is_read;
@@ -232,7 +232,7 @@ fn suits(above: Option<Nid>, node: &NodeRec) -> bool
     }
 }
 
-/// Looks at the folder itself that a row names, if it names one. So many folders more may stand one below another.
+/// Looks at the folder itself that a row names, if it names one, and keeps its name. So many folders more may stand one below another.
 pub(crate) fn check_row<W: Outside, K: NodeReader<W>>(
     alloc: Global,
     keeper: &mut K,
@@ -240,8 +240,11 @@ pub(crate) fn check_row<W: Outside, K: NodeReader<W>>(
     above: Option<Nid>,
     row: Nid,
     left: u8,
+    flags: &mut Flags,
 ) -> Result<Option<Sort>, LookStop>
     ensures found { (N : Nodes) → K.holds keeper.old (W.view w.old) N → (n : ℕ) → n + left ≡ 65 → Comes N above n row.bits → Finds N (Checked N above row.bits) result }
+    ensures flags { (N : Nodes) → K.holds keeper.old (W.view w.old) N → (n : ℕ) → Comes N above n row.bits → OnOk result (Learns N flags.old flags.new) }
+    ensures known { OnOk result (StaysKnown flags.old flags.new) }
     ensures left { IfOk result (λ s. IsSome s → 0 < left) }
     ensures looks { Looks (K.holds keeper.old (W.view w.old)) (K.holds keeper.new (W.view w.new)) (K.last keeper.old) (K.last keeper.new) (K.room keeper.old) (K.room keeper.new) (W.view w.old) (W.view w.new) }
     ensures cause { IfErr result (IsCaused K.has_disk (W.view w.old).disk_faults (W.view w.new).disk_faults) }
@@ -262,7 +265,10 @@ pub(crate) fn check_row<W: Outside, K: NodeReader<W>>(
         return Err(LookStop::unfit(row, TreeFault::Depth));
     }
     match context_of(alloc, &node) {
-        Ok(_) => Ok(Some(sort)),
+        Ok(context) => {
+            keep_name(alloc, flags, row.bits, context.props())?;
+            Ok(Some(sort))
+        }
         Err(why) => Err(LookStop::formless(row, why)),
     }
 }

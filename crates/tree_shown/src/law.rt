@@ -25,7 +25,7 @@ pub fn shows_found()
     ensures { (N : Nodes) (T : Tree) → IsWhole T → IsFound T → ((q : ℕ) → StandsAt q (node_at N q) (object_at T q) (node_at T.others q)) → Shows N T }
 {}
 
-/// What a look knows of the messages of these nodes is so of the tree that they show.
+/// What a look knows of the messages and folders of these nodes is so of the tree that they show.
 pub fn shows_flags()
     ensures { (N : Nodes) (T : Tree) (flags : FlagList) → Shows N T → AreListed N T.places flags → AreFlags (object_at T) flags }
 {}

@@ -15,7 +15,7 @@ pub returns-in_err-unless_child_named-clause-answer : goal.returns-in_err-unless
 unfolding made_folder
 returns-in_err-unless_child_named-clause-answer g c = λ T s k.
     stopped _ _ _ _ c.from_residual-in_err-unless_child_named.ensures.1
-    (from_plain _ T _ _ _ (then_says _ _ _ _ _ _ (c.in_ok-_place.ensures.answer T k.places) (stop_says _ _ _ _ _ (c.in_err-unless_child_named.ensures.answer T s k.places))))
+    (from_plain _ T _ _ _ (then_says _ _ _ _ _ _ (c.in_ok-_place.ensures.answer T k.places) (stop_says _ _ _ _ _ (c.in_err-unless_child_named.ensures.answer T s k))))
 
 pub returns-in_err-unless_deep-clause-answer : goal.returns-in_err-unless_deep-clause-answer
 unfolding made_folder
@@ -23,7 +23,7 @@ returns-in_err-unless_deep-clause-answer g c = λ T s k.
     stopped _ _ _ _ c.from_residual-in_err-unless_deep.ensures.1
     (from_plain _ T _ _ _
     (then_says _ _ _ _ _ _ (c.in_ok-_place.ensures.answer T k.places)
-    (then_says _ _ _ _ _ _ (c.in_ok-unless_child_named.ensures.answer T s k.places) (stop_says _ _ _ _ _ (rw (← k.places) at c.in_err-unless_deep.ensures.answer)))))
+    (then_says _ _ _ _ _ _ (c.in_ok-unless_child_named.ensures.answer T s k) (stop_says _ _ _ _ _ (rw (← k.places) at c.in_err-unless_deep.ensures.answer)))))
 
 pub returns-in_err-unless_full-clause-answer : goal.returns-in_err-unless_full-clause-answer
 unfolding made_folder
@@ -32,7 +32,7 @@ returns-in_err-unless_full-clause-answer g c = λ T s k.
     stopped _ _ _ _ c.from_residual-in_err-unless_full.ensures.1
     (from_plain _ T _ _ _
     (then_says _ _ _ _ _ _ (c.in_ok-_place.ensures.answer T k.places)
-    (then_says _ _ _ _ _ _ (c.in_ok-unless_child_named.ensures.answer T s k.places)
+    (then_says _ _ _ _ _ _ (c.in_ok-unless_child_named.ensures.answer T s k)
     (then_says _ _ _ _ _ _ (rw (← k.places) at c.in_ok-unless_deep.ensures.answer) (stop_says _ _ _ _ _ full)))))
 
 pub returns-in_err-index-clause-answer : goal.returns-in_err-index-clause-answer
@@ -44,7 +44,7 @@ returns-in_err-index-clause-answer g c = λ T s k.
     stopped _ _ _ _ c.from_residual-in_err-index.ensures.1
     (from_plain _ T _ _ _
     (then_says _ _ _ _ _ _ (c.in_ok-_place.ensures.answer T k.places)
-    (then_says _ _ _ _ _ _ (c.in_ok-unless_child_named.ensures.answer T s k.places)
+    (then_says _ _ _ _ _ _ (c.in_ok-unless_child_named.ensures.answer T s k)
     (then_says _ _ _ _ _ _ (rw (← k.places) at c.in_ok-unless_deep.ensures.answer)
     (then_says _ _ _ _ _ _ full (no_matter (outcome_of T) made _ (c.in_err-index.ensures.answer T (shown_still T L s))))))))
 
@@ -57,6 +57,6 @@ returns-clause-answer g c = λ T s k.
     let index = c.in_ok-index.ensures.answer T (shown_still T L s) in
     from_plain _ T _ _ _
     (then_says _ _ _ _ _ _ (c.in_ok-_place.ensures.answer T k.places)
-    (then_says _ _ _ _ _ _ (c.in_ok-unless_child_named.ensures.answer T s k.places)
+    (then_says _ _ _ _ _ _ (c.in_ok-unless_child_named.ensures.answer T s k)
     (then_says _ _ _ _ _ _ (rw (← k.places) at c.in_ok-unless_deep.ensures.answer)
     (then_says _ _ _ _ _ _ full (rw index at (c.making_folder.ensures.answer T (shown_still T M s) k))))))

@@ -14,43 +14,43 @@ use Rattle.mail_folders.proofs.renaming.rename_folder.Goals as goal
 
 pub returns-in_err-place-clause-answer : goal.returns-in_err-place-clause-answer
 unfolding renamed_folder
-returns-in_err-place-clause-answer g c = λ T s e.
-    stopped _ _ _ _ c.from_residual.ensures.1 (from_plain _ T _ _ _ (stop_says _ _ _ _ _ (c.in_err-place.ensures.answer T e)))
+returns-in_err-place-clause-answer g c = λ T s k.
+    stopped _ _ _ _ c.from_residual.ensures.1 (from_plain _ T _ _ _ (stop_says _ _ _ _ _ (c.in_err-place.ensures.answer T k.places)))
 
 pub returns-in_err-unless_protected-clause-answer : goal.returns-in_err-unless_protected-clause-answer
 unfolding renamed_folder
-returns-in_err-unless_protected-clause-answer g c = λ T s e.
+returns-in_err-unless_protected-clause-answer g c = λ T s k.
     stopped _ _ _ _ c.from_residual-in_err-unless_protected.ensures.1
-    (from_plain _ T _ _ _ (then_says _ _ _ _ _ _ (c.in_ok-place.ensures.answer T e) (stop_says _ _ _ _ _ (c.in_err-unless_protected.ensures.answer T s))))
+    (from_plain _ T _ _ _ (then_says _ _ _ _ _ _ (c.in_ok-place.ensures.answer T k.places) (stop_says _ _ _ _ _ (c.in_err-unless_protected.ensures.answer T s))))
 
 pub returns-in_err-unless_beside-clause-answer : goal.returns-in_err-unless_beside-clause-answer
 unfolding renamed_folder
-returns-in_err-unless_beside-clause-answer g c = λ T s e.
+returns-in_err-unless_beside-clause-answer g c = λ T s k.
     stopped _ _ _ _ c.from_residual-in_err-unless_beside.ensures.1
     (from_plain _ T _ _ _
-    (then_says _ _ _ _ _ _ (c.in_ok-place.ensures.answer T e)
+    (then_says _ _ _ _ _ _ (c.in_ok-place.ensures.answer T k.places)
     (then_says _ _ _ _ _ _ (c.in_ok-unless_protected.ensures.answer T s)
-    (stop_says _ _ _ _ _ (c.in_err-unless_beside.ensures.answer T (shown_still T c.in_ok-unless_protected.ensures.looks s) e)))))
+    (stop_says _ _ _ _ _ (c.in_err-unless_beside.ensures.answer T (shown_still T c.in_ok-unless_protected.ensures.looks s) k)))))
 
 pub returns-in_err-draft-clause-answer : goal.returns-in_err-draft-clause-answer
 unfolding renamed_folder named_anew
-returns-in_err-draft-clause-answer g c = λ T s e.
+returns-in_err-draft-clause-answer g c = λ T s k.
     let L = looks_then c.in_ok-unless_protected.ensures.looks c.in_ok-unless_beside.ensures.looks in
     stopped _ _ _ _ c.from_residual-in_err-draft.ensures.1
     (from_plain _ T _ _ _
-    (then_says _ _ _ _ _ _ (c.in_ok-place.ensures.answer T e)
+    (then_says _ _ _ _ _ _ (c.in_ok-place.ensures.answer T k.places)
     (then_says _ _ _ _ _ _ (c.in_ok-unless_protected.ensures.answer T s)
-    (then_says _ _ _ _ _ _ (c.in_ok-unless_beside.ensures.answer T (shown_still T c.in_ok-unless_protected.ensures.looks s) e)
+    (then_says _ _ _ _ _ _ (c.in_ok-unless_beside.ensures.answer T (shown_still T c.in_ok-unless_protected.ensures.looks s) k)
     (regroup (outcome_of T) (context_at T nothing c.args.folder.bits) (λ x. mirrored T c.args.folder.bits (with_context c.args.folder.bits x (put (text 0x3001 c.args.name.now) x.props) nothing)) (changing T (replied Done)) _
     (stop_says changed_of (outcome_of T) (named_anew T c.args.folder.bits c.args.name.now) (changing T (replied Done)) _ (c.in_err-draft.ensures.answer T (shown_still T L s))))))))
 
 pub returns-clause-answer : goal.returns-clause-answer
 unfolding renamed_folder named_anew
-returns-clause-answer g c = λ T s e.
+returns-clause-answer g c = λ T s k.
     let L = looks_then c.in_ok-unless_protected.ensures.looks c.in_ok-unless_beside.ensures.looks in
     from_plain _ T _ _ _
-    (then_says _ _ _ _ _ _ (c.in_ok-place.ensures.answer T e)
+    (then_says _ _ _ _ _ _ (c.in_ok-place.ensures.answer T k.places)
     (then_says _ _ _ _ _ _ (c.in_ok-unless_protected.ensures.answer T s)
-    (then_says _ _ _ _ _ _ (c.in_ok-unless_beside.ensures.answer T (shown_still T c.in_ok-unless_protected.ensures.looks s) e)
+    (then_says _ _ _ _ _ _ (c.in_ok-unless_beside.ensures.answer T (shown_still T c.in_ok-unless_protected.ensures.looks s) k)
     (regroup (outcome_of T) (context_at T nothing c.args.folder.bits) (λ x. mirrored T c.args.folder.bits (with_context c.args.folder.bits x (put (text 0x3001 c.args.name.now) x.props) nothing)) (changing T (replied Done)) c.changing.result
     (then_says changed_of (outcome_of T) (named_anew T c.args.folder.bits c.args.name.now) (changing T (replied Done)) _ c.changing.result (c.in_ok-draft.ensures.answer T (shown_still T L s)) (c.changing.ensures.answer T))))))

@@ -1,6 +1,6 @@
-use Rattle.std.proofs.Common.{◌∙◌, sym, subst, take, get_or, None}
+use Rattle.std.proofs.Common.{◌∙◌, sym, subst, take, get_or}
 use Rattle.std.proofs.lemmas.List.{take_more}
-use Rattle.mail_store.specs.Knowing.{HasRooms}
+use Rattle.mail_store.specs.Knowing.{GetsRoom, HasRooms}
 use Rattle.mail_store.proofs.FlagLaws.{one_room_more, rooms_stay}
 use Rattle.mail_store.proofs.knowing.make_rooms.Goals as goal
 
@@ -11,8 +11,8 @@ loop-change-preserved c =
     let all = c.args.changes.now in
     let i = c.loop-change.change-index in
     let before = take i all in
-    let more = one_room_more new before (get_or all i (0, None)) (rooms_stay old new before c.make_room.ensures.kept c.loop-change.invariant.rooms) c.in_ok-make_room.ensures.room in
+    let more = one_room_more new before (get_or all i c.change-item.result) (rooms_stay old new before c.make_room.ensures.kept c.loop-change.invariant.rooms) (subst (GetsRoom new) c.change-item.is c.in_ok-make_room.ensures.room) in
     record {
       same = λ m. c.make_room.ensures.same m ∙ c.loop-change.invariant.same m;
-      rooms = subst (HasRooms new) (sym (take_more all i (0, None) c.loop-change-test.true)) more;
+      rooms = subst (HasRooms new) (sym (take_more all i c.change-item.result c.loop-change-test.true)) more;
     }

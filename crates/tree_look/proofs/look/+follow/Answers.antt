@@ -1,6 +1,6 @@
 use Rattle.std.proofs.Common.{◌∙◌, ◌<◌, suc, sym, arith, refl}
 use Rattle.tree_look.proofs.Found.{looks_then, stops_on}
-use Rattle.tree_look.proofs.Learning.{known-foreign, known-plain}
+use Rattle.tree_look.proofs.Learning.{known-foreign, known-plain, known-still}
 use Rattle.tree_look.proofs.Steps.{Begins, awaits_next, comes_next, foreign_follows, known, next_child, plain_begins, plain_follows, plain_opened, put_is}
 use Rattle.tree_look.proofs.look.+follow.Goals as goal
 
@@ -81,12 +81,16 @@ returns-clause-flags g t c = λ N held n sum comes awaits part seen.
     let held3 = c.in_ok-rows.ensures.looks.stays N held2 in
     let I = c.loop-child.invariant in
     I.learns N held3 n sum begin
-    (c.in_ok-rows.ensures.flags N held2 (plain_opened N c.args.above n c.args.row.bits c.in-Some.sort c.args.places.now c.put.new.self k plain) seen)
+    (c.in_ok-rows.ensures.flags N held2 (plain_opened N c.args.above n c.args.row.bits c.in-Some.sort c.args.places.now c.put.new.self k plain) (c.in_ok-sort.ensures.flags N held n comes seen))
+
+pub returns-in_default-clause-known : goal.returns-in_default-clause-known
+returns-in_default-clause-known g t c = λ N held n sum comes awaits part was. known-still N c.args.places.now c.args.flags.now c.check_row.new.flags c.in_ok-sort.ensures.known was
 
 pub returns-then-not-is_plain-clause-known : goal.returns-then-not-is_plain-clause-known
-returns-then-not-is_plain-clause-known g t c = λ N held n sum comes awaits part.
-    known-foreign N c.args.row.bits _ c.in-Some.sort c.args.places.now c.put.new.self c.args.flags.now (sym c.is_plain.ensures ∙ c.if-not-is_plain.true)
+returns-then-not-is_plain-clause-known g t c = λ N held n sum comes awaits part was.
+    known-foreign N c.args.row.bits _ c.in-Some.sort c.args.places.now c.put.new.self c.check_row.new.flags (sym c.is_plain.ensures ∙ c.if-not-is_plain.true)
     (put_is c.args.row c.parent_of.result _ c.in-Some.sort c.args.places.now c.put.new.self c.parent_of.ensures c.in_ok-put.ensures.ok)
+    (known-still N c.args.places.now c.args.flags.now c.check_row.new.flags c.in_ok-sort.ensures.known was)
 
 pub returns-clause-known : goal.returns-clause-known
 returns-clause-known g t c = λ N held n sum comes awaits part was.
@@ -100,4 +104,5 @@ returns-clause-known g t c = λ N held n sum comes awaits part was.
     (tables.1.0, tables.1.1, tables.1.2, c.as_slice-child-items.ensures.value ∙ tables.1.3) in
     let held3 = c.in_ok-rows.ensures.looks.stays N held2 in
     c.loop-child.invariant.known N held3 n sum begin
-    (known-plain N c.args.row.bits _ c.in-Some.sort c.args.places.now c.put.new.self c.args.flags.now _ put (c.in_ok-rows.ensures.known N held2 opened) was)
+    (known-plain N c.args.row.bits _ c.in-Some.sort c.args.places.now c.put.new.self c.check_row.new.flags _ put (c.in_ok-rows.ensures.known N held2 opened)
+    (known-still N c.args.places.now c.args.flags.now c.check_row.new.flags c.in_ok-sort.ensures.known was))

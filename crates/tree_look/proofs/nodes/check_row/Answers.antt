@@ -1,6 +1,10 @@
-use Rattle.std.proofs.Common.{inl, inr, ◌∙◌, sym}
+use Rattle.std.proofs.Common.{inl, inr, ◌∙◌, false, List, sym, ap}
+use Rattle.mapi_values.specs.Characters.{folded}
+use Rattle.mapi_values.specs.Values.{Val}
+use Rattle.mail_tree.specs.Values.{name_of}
 use Rattle.tree_look.specs.Forms.{IsNoContext}
 use Rattle.tree_look.proofs.Found.{formless_caused, formless_found, is_reached, named_there, too_deep, unfit_found}
+use Rattle.tree_look.proofs.Learning.{learns-name}
 use Rattle.tree_look.specs.declared.stops.TreeFault.TheVariants.{Depth}
 use Rattle.tree_look.proofs.nodes.check_row.Goals as goal
 
@@ -24,3 +28,10 @@ returns-clause-found g c = λ N held n sum comes.
 
 pub returns-clause-cause : goal.returns-clause-cause
 returns-clause-cause g c = formless_caused _ _ _ c.args.row _ c.in-Err.why c.formless.ensures
+
+pub returns-in-Ok-clause-flags : goal.returns-in-Ok-clause-flags
+returns-in-Ok-clause-flags g c = λ N held n comes.
+    let at = sym (c.in_ok-node.ensures.found N held) ∙ c.in-Some-2.is in
+    learns-name N c.args.row.bits n _ c.args.flags.now c.keep_name.new.flags c.in_ok-keep_name-in-Ok.ensures
+    (is_reached N c.args.above n c.args.row.bits c.in-Some.sort comes (named_there N c.args.row.bits c.in-Some.sort c.in-Some-2.node (sym c.sort_of.ensures ∙ c.in-Some.is) at))
+    (c.in-Ok.context, (c.in-Some-2.node, at, c.in-Ok.ensures), ap (λ (props : List Val). folded false (name_of props)) (sym c.props.ensures))
