@@ -74,13 +74,13 @@ drawn-within {header} {file} {m} is {slots} {counts} {pages} {block} {page} {cs}
     let sn = shaped-root node_of node_id (node_tree file header.eof) key-node_of header.nbt is.nodes is.node_pages in
     let keys : ℕ = length (recounts old block e.refs.items) + length d.blocks in
     let count : length (recounts old block e.refs.items ++ puts_of d.entries) ≡ keys =
-        let a = length-append (recounts old block e.refs.items) (puts_of d.entries) in
-        let b : length (puts_of d.entries) ≡ length d.entries = length-map d.entries _ in
-        let c = sealed-count d.blocks d.entries d.block_pieces d.sealed_blocks in
-        omega (arith, a, b, c) in
+    let a = length-append (recounts old block e.refs.items) (puts_of d.entries) in
+    let b : length (puts_of d.entries) ≡ length d.entries = length-map d.entries _ in
+    let c = sealed-count d.blocks d.entries d.block_pieces d.sealed_blocks in
+    omega (arith, a, b, c) in
     let all : bytes_in pieces ≡ bytes_in d.growth + ((bytes_in d.first_pieces + bytes_in d.last_pieces) + bytes_in d.block_pieces) =
-        ap bytes_in d.pieces_are ∙ bytes-append d.growth ((d.first_pieces ++ d.last_pieces) ++ d.block_pieces)
-        ∙ ap (λ (n : ℕ). bytes_in d.growth + n) (bytes-append (d.first_pieces ++ d.last_pieces) d.block_pieces ∙ ap (λ (n : ℕ). n + bytes_in d.block_pieces) (bytes-append d.first_pieces d.last_pieces)) in
+    ap bytes_in d.pieces_are ∙ bytes-append d.growth ((d.first_pieces ++ d.last_pieces) ++ d.block_pieces)
+    ∙ ap (λ (n : ℕ). bytes_in d.growth + n) (bytes-append (d.first_pieces ++ d.last_pieces) d.block_pieces ∙ ap (λ (n : ℕ). n + bytes_in d.block_pieces) (bytes-append d.first_pieces d.last_pieces)) in
     let first = page-bytes key_of 24 block_of 0x80 _ 0 d.block_pages d.first_pieces (d.block_tree).written in
     let last = page-bytes node_key 32 node_of 0x81 _ 0 d.node_pages d.last_pieces (d.node_tree).written in
     let blocks = block-bytes d.blocks d.entries d.block_pieces d.sealed_blocks in
