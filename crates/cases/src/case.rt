@@ -1,6 +1,5 @@
 //! One case: a call of the program, and what must come of it.
-use crate::trouble::Trouble;
-use crate::words::Words;
+use case_lines::{Trouble, Words};
 use mail_session::{ChangedAt, Exit};
 use pst_outside::FailPlan;
 use std::alloc::Global;

@@ -4,15 +4,10 @@
 #![tactic(auto)]
 
 mod case;
-mod edits;
 mod report;
 mod running;
 mod script;
 mod stops;
-mod texts;
-mod trouble;
-mod words;
-mod world;
 
 use report::{Report, Tally};
 use running::run_case;

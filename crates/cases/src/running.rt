@@ -2,7 +2,7 @@
 ghost use Rattle.std.specs.Prelude.{◌≡◌};
 
 use crate::case::Case;
-use crate::world::{CaseWorld, Turn};
+use case_lines::{CaseWorld, Turn};
 use mail_session::{Exit, run};
 use pst_base::{Bytes, Ledger, Steps};
 use pst_outside::{FailPlan, MemWorld, Part};

@@ -1,10 +1,7 @@
 //! What the lines of a case file make: bytes with a name, and one case after another.
 use crate::case::Case;
-use crate::edits::{edit, put};
 use crate::running::Outcome;
-use crate::texts::add_text;
-use crate::trouble::Trouble;
-use crate::words::Words;
+use case_lines::{Trouble, Words, add_text, edit, put};
 use std::alloc::Global;
 use std::fs;
 use std::rt::Files;

@@ -3,7 +3,7 @@ ghost use Rattle.std.specs.Prelude.{◌≤◌, length};
 
 use crate::case::Case;
 use crate::running::{Start, call};
-use crate::world::CaseWorld;
+use case_lines::CaseWorld;
 use pst_base::Bytes;
 use pst_outside::{FailPlan, Part, Pick};
 use std::alloc::{AllocError, Global};

@@ -2,7 +2,7 @@ use Rattle.std.proofs.Common.{◌≡◌, ◌∙◌, ◌+◌, ◌-◌, ◌++◌, 
 use Rattle.std.proofs.lemmas.List.{drop-drop}
 use borrow.Rule.Slice.PartMut.{put_mid}
 use Rattle.pst_base.specs.Fields.{replaced}
-use Rattle.cases.proofs.edits.put.Goals as goal
+use Rattle.case_lines.proofs.edits.put.Goals as goal
 
 pub returns-clause-put : goal.returns-clause-put
 unfolding replaced
