@@ -1,16 +1,23 @@
-//! What the lines of a case file mean, apart from running it: their words, the text and the bytes that they give and change, and the world that they ask for.
+//! What case files say, apart from running the program: their lines and what these make, the world that a case asks for, and the difference between what came of it and what must.
 //!
 //! It stands below the session whose cases they are, so that it is proved beside it. `crates/cases/data/README.md` has the grammar.
 #![tactic(auto)]
 
+mod case;
 mod edits;
+mod left;
+mod outcome;
+mod report;
+mod script;
 mod texts;
 mod trouble;
 mod words;
 mod world;
 
-pub use edits::{edit, put};
-pub use texts::add_text;
+pub use case::Case;
+pub use left::{BadStop, Left, begun, outcomes};
+pub use outcome::{Change, Ending, Outcome};
+pub use report::{Report, Tally};
+pub use script::Script;
 pub use trouble::Trouble;
-pub use words::Words;
 pub use world::{CaseWorld, Turn};

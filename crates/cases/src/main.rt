@@ -3,15 +3,11 @@
 //! A case file is text that reads as a transcript; `data/README.md` has its grammar. A line that isn't understood is a difference, and so is a case that runs nothing.
 #![tactic(auto)]
 
-mod case;
-mod report;
 mod running;
-mod script;
 mod stops;
 
-use report::{Report, Tally};
+use case_lines::{Report, Script, Tally};
 use running::run_case;
-use script::Script;
 use std::process::ExitCode;
 use std::rt::{Env, Files};
 use std::{env, fs, io};

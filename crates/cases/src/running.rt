@@ -1,23 +1,13 @@
-//! Runs a case, and finds where what came of it isn't what must.
+//! Runs a case.
 ghost use Rattle.std.specs.Prelude.{◌≡◌};
 
-use crate::case::Case;
-use case_lines::{CaseWorld, Turn};
+use case_lines::{Case, CaseWorld, Change, Ending, Outcome, Turn};
 use mail_session::{Exit, run};
 use pst_base::{Bytes, Ledger, Steps};
 use pst_outside::{FailPlan, MemWorld, Part};
 use std::alloc::{AllocError, Global};
 use std::marker::Brand;
 use std::sync::ledger::Blank;
-
-/// What came of a call.
-#[derive(Drop)]
-pub struct Outcome {
-    pub exit: Exit,
-    pub said: Vec<u8>,
-    pub main: Vec<u8>,
-    pub side: Vec<u8>,
-}
 
 /// The words of a command line.
 fn split(alloc: Global, line: &str) -> Result<Vec<String>, AllocError> {
@@ -104,10 +94,26 @@ fn fails_of(alloc: Global, case: &Case) -> Result<FailPlan, AllocError> {
     })
 }
 
+/// How a call ended, as cases say it.
+fn ending_of(exit: Exit) -> Ending {
+    let changed = match exit.changed {
+        Some(at) => Some(Change {
+            ib: at.ib,
+            stored: at.stored,
+            computed: at.computed,
+        }),
+        None => None,
+    };
+    Ending {
+        status: exit.status,
+        changed,
+    }
+}
+
 /// How a run ended, with what the world then is.
 fn outcome_of(alloc: Global, exit: Exit, world: &CaseWorld) -> Result<Outcome, AllocError> {
     Ok(Outcome {
-        exit,
+        ending: ending_of(exit),
         said: Vec::from_slice(alloc, world.world.said())?,
         main: Vec::from_slice(alloc, world.world.content(Part::Main))?,
         side: Vec::from_slice(alloc, world.world.content(Part::Side))?,
@@ -125,45 +131,4 @@ pub fn run_case(alloc: Global, case: &Case, words: &str) -> Result<Outcome, Allo
     };
     let (exit, world) = call(alloc, case, start, fails)?;
     outcome_of(alloc, exit, &world)
-}
-
-/// The first of the lines that must be among those said and isn't.
-pub fn first_missing<'a>(case: &Case<'a>, outcome: &Outcome) -> Option<&'a str> {
-    for line in case.has.iter() {
-        let mut said = outcome.said.as_slice().split(|byte| *byte == b'\n');
-        if !said.any(|other| other == line.as_bytes()) {
-            return Some(*line);
-        }
-    }
-    None
-}
-
-/// The first line in which two texts differ: its number from 1 on, and the line in each.
-#[derive(Clone, Copy, Debug)]
-pub struct LineDifference<'a> {
-    pub number: u64,
-    pub wanted: &'a [u8],
-    pub got: &'a [u8],
-}
-
-/// Where two texts that aren't the same differ first.
-pub fn first_difference<'a>(wanted: &'a [u8], got: &'a [u8]) -> LineDifference<'a> {
-    let mut others = got.split(|byte| *byte == b'\n');
-    let mut number = 1u64;
-    for line in wanted.split(|byte| *byte == b'\n') {
-        let other = others.next().unwrap_or(&[]);
-        if other != line {
-            return LineDifference {
-                number,
-                wanted: line,
-                got: other,
-            };
-        }
-        number = number.saturating_add(1);
-    }
-    LineDifference {
-        number,
-        wanted: &[],
-        got: others.next().unwrap_or(&[]),
-    }
 }

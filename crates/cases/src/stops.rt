@@ -1,29 +1,13 @@
 //! Stops: a case is cut off at each call of its disk, and what each outcome of a crash opens as is compared with what whole lines leave.
 ghost use Rattle.std.specs.Prelude.{◌≤◌, length};
 
-use crate::case::Case;
 use crate::running::{Start, call};
-use case_lines::CaseWorld;
-use pst_base::Bytes;
-use pst_outside::{FailPlan, Part, Pick};
+use case_lines::{BadStop, Case, CaseWorld, begun, outcomes};
+use pst_outside::{FailPlan, Part};
 use std::alloc::{AllocError, Global};
 
 /// How many calls of the disk a case may have that is cut off at each.
 const MOST_CALLS: u64 = 100_000;
-
-/// The outcomes of a crash that are looked at, of each of the two files.
-const PICKS: [Pick; 3] = [Pick::Old, Pick::New, Pick::Junk];
-
-/// An outcome of a crash that opens as none that may be.
-#[derive(Drop)]
-pub struct BadStop {
-    /// The number of the call from which on the disk failed.
-    pub call: u64,
-    pub main: Pick,
-    pub side: Pick,
-    /// What was said of the outcome.
-    pub said: Vec<u8>,
-}
 
 /// What a session over two files says to the lines by which a case looks at them.
 fn look(alloc: Global, case: &Case, main: &[u8], side: &[u8]) -> Result<Vec<u8>, AllocError> {
@@ -74,43 +58,6 @@ fn looks_between(alloc: Global, case: &Case, words: &str) -> Result<Vec<Vec<u8>>
         looks.push(look_after(alloc, case, words, n)?)?;
     }
     Ok(looks)
-}
-
-/// How many replies have begun: each ends with a line that begins with `ok` or `no`.
-fn begun(said: &[u8]) -> usize {
-    let mut count = 0usize;
-    let mut open = 0usize;
-    for line in said.split(|byte| *byte == b'\n') {
-        if line.starts_with(b"ok") || line.starts_with(b"no") {
-            count = count.saturating_add(1);
-            open = 0;
-        } else if !line.is_empty() {
-            open = 1;
-        }
-    }
-    count.saturating_add(open)
-}
-
-/// What a crash may leave of a file.
-#[derive(Drop)]
-struct Left {
-    pick: Pick,
-    bytes: Bytes,
-}
-
-/// The outcomes of a crash of a file that differ.
-fn outcomes(alloc: Global, w: &CaseWorld, part: Part) -> Result<Vec<Left>, AllocError> {
-    let mut outcomes: Vec<Left> = Vec::new(alloc);
-    for pick in PICKS {
-        let bytes = w.world.crash(alloc, part, pick)?;
-        let is_known = outcomes
-            .iter()
-            .any(|left| left.bytes.as_slice() == bytes.as_slice());
-        if !is_known {
-            outcomes.push(Left { pick, bytes })?;
-        }
-    }
-    Ok(outcomes)
 }
 
 /// The first outcome of a crash at the moment at which a world is that isn't what some lines leave, among them each whose reply had begun.

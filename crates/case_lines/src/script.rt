@@ -1,7 +1,10 @@
 //! What the lines of a case file make: bytes with a name, and one case after another.
 use crate::case::Case;
-use crate::running::Outcome;
-use case_lines::{Trouble, Words, add_text, edit, put};
+use crate::edits::{edit, put};
+use crate::outcome::Outcome;
+use crate::texts::add_text;
+use crate::trouble::Trouble;
+use crate::words::Words;
 use std::alloc::Global;
 use std::fs;
 use std::rt::Files;

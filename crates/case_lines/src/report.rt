@@ -2,8 +2,8 @@
 ghost use Rattle.std.specs.Prelude.{◌≡◌, ◌<◌, ◌≤◌, ◌+◌, ◌-◌, ◌^◌, min, [], OnOk};
 
 use crate::case::Case;
-use crate::running::{Outcome, first_difference, first_missing};
-use crate::stops::BadStop;
+use crate::left::BadStop;
+use crate::outcome::{Outcome, first_difference, first_missing};
 use std::{io, str};
 
 /// How many cases were run, and how many differences were found.
@@ -33,12 +33,12 @@ impl<R: Print + AllocGlobal> Report<'_, R> {
     pub fn compare(&mut self, case: &Case, outcome: &Outcome) -> io::Result<()>
         // A case that raises no count was answered by what it says, with the status that it says.
         ensures said { OnOk result (self.old.tally.differ < 2 ^ 64 - 1 → case.now.has.items ≡ [] → self.new.tally.differ ≡ self.old.tally.differ → case.now.said.items ≡ outcome.now.said.items) }
-        ensures exit { OnOk result (self.old.tally.differ < 2 ^ 64 - 1 → self.new.tally.differ ≡ self.old.tally.differ → case.now.exit ≡ outcome.now.exit) }
+        ensures ending { OnOk result (self.old.tally.differ < 2 ^ 64 - 1 → self.new.tally.differ ≡ self.old.tally.differ → case.now.ending ≡ outcome.now.ending) }
     {
         self.compare_said(case, outcome)?;
-        if case.exit != outcome.exit {
+        if case.ending != outcome.ending {
             self.begin(case)?;
-            println!(self.rt; "wanted {:?}, got {:?}", case.exit, outcome.exit)?;
+            println!(self.rt; "wanted {:?}, got {:?}", case.ending, outcome.ending)?;
         }
         let same = case.main.as_slice() == outcome.main.as_slice()
             && case.side.as_slice() == outcome.side.as_slice();

@@ -1,6 +1,7 @@
 //! One case: a call of the program, and what must come of it.
-use case_lines::{Trouble, Words};
-use mail_session::{ChangedAt, Exit};
+use crate::outcome::{Change, Ending};
+use crate::trouble::Trouble;
+use crate::words::Words;
 use pst_outside::FailPlan;
 use std::alloc::Global;
 use std::num::NonZeroUsize;
@@ -28,7 +29,7 @@ pub struct Case<'a> {
     /// Lines that must be among those said; where there is one, others may be said too.
     pub has: Vec<&'a str>,
     /// How the call must end.
-    pub exit: Exit,
+    pub ending: Ending,
     /// Whether FILE or FILE.gate may be changed.
     pub writes: bool,
     /// Whether the case is also cut off at each call of its disk.
@@ -39,7 +40,7 @@ pub struct Case<'a> {
 
 impl<'a> Case<'a> {
     /// A case that begins with no file, no input and a world that doesn't fail, and must say nothing.
-    pub fn new(alloc: Global, name: &'a str, line: u64) -> Case<'a> {
+    pub(crate) fn new(alloc: Global, name: &'a str, line: u64) -> Case<'a> {
         Case {
             name,
             line,
@@ -53,7 +54,7 @@ impl<'a> Case<'a> {
             turn: None,
             said: Vec::new(alloc),
             has: Vec::new(alloc),
-            exit: Exit {
+            ending: Ending {
                 status: 0,
                 changed: None,
             },
@@ -64,7 +65,7 @@ impl<'a> Case<'a> {
     }
 
     /// Follows a line about the call.
-    pub fn arrange(
+    pub(crate) fn arrange(
         &mut self,
         alloc: Global,
         verb: &str,
@@ -101,15 +102,15 @@ impl<'a> Case<'a> {
     }
 
     /// Follows a line about what must come of the call.
-    pub fn expect(&mut self, verb: &str, words: &mut Words<'a>) -> Result<(), Trouble> {
+    pub(crate) fn expect(&mut self, verb: &str, words: &mut Words<'a>) -> Result<(), Trouble> {
         match verb {
             "has" => self.has.push(words.rest())?,
-            "status" => self.exit.status = words.byte()?,
+            "status" => self.ending.status = words.byte()?,
             "changed" => {
                 let ib = words.number()?;
                 let stored = words.number()?;
                 let computed = words.number()?;
-                self.exit.changed = Some(ChangedAt {
+                self.ending.changed = Some(Change {
                     ib,
                     stored,
                     computed,
