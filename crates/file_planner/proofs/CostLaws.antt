@@ -102,9 +102,9 @@ drawn-within {header} {file} {m} is {slots} {counts} {pages} {block} {page} {cs}
       keys = keys;
       keys_are = refl;
       within = elim (subst (λ (k : ℕ). (length d.block_pages ≤ (2 * (sb.level + 2)) * k) ⊎ IsAnew sb.level k d.block_freed is.blocks.pages) count (((d.block_tree).plans).bound old is.blocks.pages sb)) [
-        | inr anew ↦ inr (inl (d.block_freed, anew))
+        | inr anew ↦ inr (inl anew.many)
         | inl few_blocks ↦ elim (((d.node_tree).plans).bound (nodes_in is.nodes) is.nodes.pages sn) [
-          | inr anew ↦ inr (inr (d.node_freed, anew))
+          | inr anew ↦ inr (inr anew.many)
           | inl few_nodes ↦
               let few = few-pages sb.level sn.level keys (length d.edits) (length d.block_pages) (length d.node_pages) few_blocks few_nodes in
               inl (omega (arith, all, first, last, blocks, grown, growth, few))

@@ -1,7 +1,6 @@
 -- How many bytes a plan writes.
-use Rattle.std.specs.Prelude.{◌≡◌, ◌⊎◌, ◌≤◌, ◌+◌, ◌-◌, ◌*◌, ℕ, List, length, take, Option, Ok}
+use Rattle.std.specs.Prelude.{◌≡◌, ◌⊎◌, ◌<◌, ◌≤◌, ◌+◌, ◌-◌, ◌*◌, ◌^◌, ℕ, List, length, take, Option, Ok}
 use Rattle.pst_base.specs.declared.ids.Bid.{Bid}
-use Rattle.pst_base.specs.declared.ids.Bref.{Bref}
 use Rattle.pst_base.specs.declared.ids.Nid.{Nid}
 use Rattle.pst_header.specs.declared.header.Header.{Header}
 use Rattle.pst_header.specs.Format.{reading}
@@ -14,15 +13,14 @@ use Rattle.node_layout.specs.Joined.{node_id}
 use Rattle.node_port.specs.declared.node.NodeRec.{NodeRec}
 use Rattle.plan_pieces.specs.Growth.{regions_in}
 use Rattle.ref_counts.specs.declared.table.RefChange.{RefChange}
-use Rattle.tree_edit.specs.Steps.{IsAnew}
 use Rattle.file_planner.specs.Drawn.{IsSketch}
 use Rattle.file_planner.specs.Recounts.{recounts}
 
--- a tree of these pages, whose root has this level, was written anew after so many edits
-abbrev pub WasAnew : ℕ → ℕ → List Bref → Type 0
-WasAnew level edits pages = (freed : List Bref) × IsAnew level edits freed pages
+-- so many keys of a tree whose root has this level change that it may pass level 7, and then is written anew
+abbrev pub MayPass : ℕ → ℕ → Type 0
+MayPass level keys = 20 ^ (7 - (level - 1)) < 20 + keys
 
--- What a plan of changes writes of a file under its new header, but for the header itself and the gate: its new blocks, which are at most one and a half times the data blocks, nodes and subnodes of the changes (`sketch.few`), two pages for each key that changes at each level of both trees and two more, and what makes the file longer, region by region. More is written only where a tree is written anew.
+-- What a plan of changes writes of a file under its new header, but for the header itself and the gate: its new blocks, which are at most one and a half times the data blocks, nodes and subnodes of the changes (`sketch.few`), two pages for each key that changes at each level of both trees and two more, and what makes the file longer, region by region. More is written only where a tree may pass level 7.
 pub record IsWithin (file : List ℕ) (next : Header) (cs : List (Nid × Option NodeRec)) (bytes : ℕ) : Type 0 where
   pub header : Header
   pub read : reading (take 564 file) ≡ Ok header
@@ -42,4 +40,4 @@ pub record IsWithin (file : List ℕ) (next : Header) (cs : List (Nid × Option 
   pub keys : ℕ
   pub keys_are : keys ≡ length (recounts (blocks_in lays.blocks) block refs) + length blocks
   pub within : (bytes ≤ 8192 * length blocks + 1024 * ((of_nodes.level + of_blocks.level) + 4) * (keys + length edits) + 1537 * (regions_in next.eof - regions_in header.eof))
-      ⊎ (WasAnew of_blocks.level keys lays.blocks.pages ⊎ WasAnew of_nodes.level (length edits) lays.nodes.pages)
+      ⊎ (MayPass of_blocks.level keys ⊎ MayPass of_nodes.level (length edits))
