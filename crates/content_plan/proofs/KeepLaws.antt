@@ -14,7 +14,7 @@ use Rattle.node_layout.specs.Joined.{kept_keys}
 use Rattle.subnode_tree.specs.Plan.{SubsFound, paired}
 use Rattle.subnode_tree.proofs.PairLaws.{Keep, Pair}
 use Rattle.subnode_tree.proofs.SubPlanLaws.{PairFound}
-use Rattle.content_plan.specs.Keep.{same_bytes, has_key, may_stay, kept_one, keys_with, kept_from, kept_list, Keeps, IsKept}
+use Rattle.content_plan.specs.Keep.{same_bytes, has_key, may_stay, kept_one, keys_with, kept_from, kept_list, Keeps}
 
 -- ---- bytes and keys
 
@@ -139,7 +139,7 @@ kept-once key next keys (id ∷ ids) (w ∷ was) (b ∷ now) few = by (λ (ks : 
               omega (arith, h, sum, zero_more)
         ]
 
-nothing-found : (find : ℕ → Option (List ℕ)) (bs : List (List ℕ)) → AreFound find [] bs
+pub nothing-found : (find : ℕ → Option (List ℕ)) (bs : List (List ℕ)) → AreFound find [] bs
 nothing-found find [] = tt
 nothing-found find (b ∷ bs) = tt
 
@@ -177,7 +177,7 @@ keeps-list next ids was now = record {
   short = kept-short next [] ids was now;
 }
 
-keeps-none : (next : ℕ) (now : List (List ℕ)) → Keeps next [] now
+pub keeps-none : (next : ℕ) (now : List (List ℕ)) → Keeps next [] now
 keeps-none next now = record { may = tt; once = λ key. omega arith; short = omega arith }
 
 -- ---- the loop
@@ -209,7 +209,7 @@ from-no_bytes : (next : ℕ) (keys : List ℕ) (ids : List (Option Bid)) (now : 
 from-no_bytes next keys [] now = refl
 from-no_bytes next keys (id ∷ ids) now = refl
 
-no-more : {A : Type 0} (xs : List A) (i : ℕ) → length xs ≤ i → drop i xs ≡ []
+pub no-more : {A : Type 0} (xs : List A) (i : ℕ) → length xs ≤ i → drop i xs ≡ []
 no-more [] zero h = refl
 no-more [] (suc i) h = refl
 no-more (x ∷ xs) zero h = absurd (omega (arith, h))
@@ -229,25 +229,6 @@ kept-done next keys keep whole ids was now i n is h so_far =
     ] in
     let none = kept-end next keys ids was now i ends in
     sym (append-nil keep) ∙ ap (λ (l : List (Option Bid)). keep ++ l) (sym none) ∙ so_far
-
--- ---- subnodes
-
-pub iskept-keeps : (next : ℕ) (ids : Keep) (was : List (List (List ℕ))) (pair : Pair) → IsKept next ids was pair → Keeps next pair.0 pair.1
-iskept-keeps next ids was pair (inl none) = subst (λ (keep : List (Option Bid)). Keeps next keep pair.1) (sym none) (keeps-none next pair.1)
-iskept-keeps next ids was pair (inr is) = subst (λ (keep : List (Option Bid)). Keeps next keep pair.1) (sym is.3) (keeps-list next (get_or ids is.0 []) (get_or was is.0 []) pair.1)
-
-old-found : (find : ℕ → Option (List ℕ)) (ids : Keep) (flats : List Flat) (j : ℕ) → Each (PairFound find) (paired ids flats) → j < length ids → j < length (map (λ (f : Flat). f.blocks) flats)
-    → AreFound find (get_or ids j []) (get_or (map (λ (f : Flat). f.blocks) flats) j [])
-old-found find ids [] j all h k = absurd (omega (arith, k))
-old-found find [] (f ∷ flats) j all h k = absurd (omega (arith, h))
-old-found find (own ∷ ids) (f ∷ flats) zero all h k = all.0
-old-found find (own ∷ ids) (f ∷ flats) (suc j) all h k = old-found find ids flats j all.1 (omega (arith, h)) (omega (arith, k))
-
-pub iskept-found : (find : ℕ → Option (List ℕ)) (next : ℕ) (ids : Keep) (flats : List Flat) (pair : Pair) → SubsFound find ids flats → IsKept next ids (map (λ (f : Flat). f.blocks) flats) pair → AreFound find pair.0 pair.1
-iskept-found find next ids flats pair found (inl none) = subst (λ (keep : List (Option Bid)). AreFound find keep pair.1) (sym none) (nothing-found find pair.1)
-iskept-found find next ids flats pair found (inr is) =
-    subst (λ (keep : List (Option Bid)). AreFound find keep pair.1) (sym is.3)
-    (kept-found find next [] (get_or ids is.0 []) (get_or (map (λ (f : Flat). f.blocks) flats) is.0 []) pair.1 (old-found find ids flats is.0 (each-from_all (PairFound find) (paired ids flats) found) is.1 is.2))
 
 -- ---- keys that stay
 

@@ -1,24 +1,146 @@
--- What stays of subnodes, one subnode more.
-use Rattle.std.proofs.Common.{◌≡◌, inr, ℕ, zero, suc, ◌+◌, ◌<◌, ◌≤◌, get_or, List, [], ◌∷◌, ◌++◌, length, map, take, Option, refl, sym, ap, subst, ◌∙◌, arith, length-append}
-use Rattle.std.proofs.lemmas.List.{length-map, map-append, take_all, take_more}
+-- The walk over subnodes that stood beside each other, one subnode more.
+use Rattle.std.proofs.Common.{true, ◌≡◌, ◌∙◌, ◌&&◌, inl, inr, ℕ, zero, suc, ◌+◌, ◌<◌, ◌≤◌, ltb, get_or, List, [], ◌∷◌, ◌++◌, length, drop, take, map, Option, refl, sym, ap, subst, arith, add-one, append_assoc, append-nil, length-append}
+use Rattle.std.proofs.lemmas.Bool.{and_parts, cases_lt, ltb-true}
+use Rattle.std.proofs.lemmas.List.{drop-drop, length-map, take_all, take_more}
 use Rattle.pst_base.specs.declared.ids.Bid.{Bid}
 use Rattle.pst_base.specs.declared.subs.Sub.{Sub}
 use Rattle.pst_base.specs.Flat.{Flat}
 use Rattle.pst_base.specs.Subs.{flattened, one_deeper}
+use Rattle.data_tree.proofs.ListingLaws.{drop-here}
 use Rattle.data_tree.proofs.PieceLaws.{Each, each-append}
-use Rattle.subnode_tree.specs.Plan.{paired}
-use Rattle.subnode_tree.proofs.FormLaws.{own}
+use Rattle.subnode_tree.specs.Plan.{IsForm, ascending, first_list, paired, rise_from}
+use Rattle.subnode_tree.proofs.FormLaws.{form-top, own, sub_nids}
 use Rattle.subnode_tree.proofs.PairLaws.{Keep, Pair, paired-deeper}
 use Rattle.subnode_tree.proofs.SubSteps.{flattened-more}
-use Rattle.content_plan.specs.Keep.{IsKept, kept_list}
+use Rattle.content_plan.specs.Beside.{BeginsFrom, IsThere, Passes}
+use Rattle.content_plan.specs.Keep.{Keeps, kept_at, kept_each, kept_list, kept_subs, paths_of, subs_ascend}
+use Rattle.content_plan.proofs.PathLaws.{Above, absent, first-ascends, found-below, found-own, kept-alike, kept-first, skip-one}
+use Rattle.content_plan.proofs.KeepLaws.{keeps-list, no-more}
 
--- what stays of some subnodes
-pub record Matched (next : ℕ) (ids : Keep) (was : List (List (List ℕ))) (keep : Keep) (flats : List Flat) : Type 0 where
-  pub count : length keep ≡ length flats
-  pub kept : Each (IsKept next ids was) (paired keep flats)
+-- ---- ids behind subnodes
 
-pub matched-start : (next : ℕ) (ids : Keep) (was : List (List (List ℕ))) → Matched next ids was [] []
-matched-start next ids was = record { count = refl; kept = tt }
+one-more : (xs : List Sub) (i : ℕ) (x : Sub) → i < length xs → x ≡ get_or xs i x → flattened (take (i + 1) xs) ≡ flattened (take i xs) ++ (own x ∷ map one_deeper x.subs)
+one-more xs i x h is = ap flattened (take_more xs i x h ∙ ap (λ (s : Sub). take i xs ++ s ∷ []) (sym is)) ∙ flattened-more (take i xs) x
+
+pub behind-next : (ids rest one out : Keep) (xs : List Sub) (i : ℕ) (x : Sub) → i < length xs → x ≡ get_or xs i x → one ≡ drop 1 rest → out ≡ drop (length x.subs) one → rest ≡ drop (length (flattened (take i xs))) ids → out ≡ drop (length (flattened (take (i + 1) xs))) ids
+behind-next ids rest one out xs i x h is first made so_far =
+    let front = flattened (take i xs) in
+    let a = ap length (one-more xs i x h is) ∙ length-append front (own x ∷ map one_deeper x.subs) in
+    let b = length-map x.subs one_deeper in
+    let sum : length front + 1 + length x.subs ≡ length (flattened (take (i + 1) xs)) = omega (arith, a, b) in
+    made ∙ ap (drop (length x.subs)) (first ∙ ap (drop 1) so_far ∙ drop-drop 1 (length front) ids) ∙ drop-drop (length x.subs) (length front + 1) ids ∙ ap (λ (n : ℕ). drop n ids) sum
+
+-- ---- old subnodes
+
+pub passes-start : (low : ℕ) (old : List Sub) (ids : Keep) → Passes low old ids old ids
+passes-start low old ids = record { finds = λ next n path now h. refl; ascend = λ up. up }
+
+pub passes-next : (low : ℕ) (old : List Sub) (ids : Keep) (left : List Sub) (left_ids one out : Keep) (x : Sub) (xs : List Sub) → left ≡ x ∷ xs → (x.nid).bits < low → one ≡ drop 1 left_ids → out ≡ drop (length x.subs) one → Passes low old ids left left_ids → Passes low old ids xs out
+passes-next low old ids left left_ids one out x xs parts less first made p = record {
+  finds = λ next n path now h.
+      ap (λ (k : Keep). kept_at next k (flattened xs) (n ∷ path) now) (made ∙ ap (drop (length x.subs)) first)
+      ∙ sym (skip-one next n path now left_ids x xs (λ e. absurd (omega (arith, e, less, h))))
+      ∙ ap (λ (l : List Sub). kept_at next left_ids (flattened l) (n ∷ path) now) (sym parts) ∙ p.finds next n path now h;
+  ascend = λ up. (first-ascends x xs (ap (λ (l : List Sub). subs_ascend (flattened l)) (sym parts) ∙ p.ascend up)).rest;
+}
+
+pub passes-join : (low high : ℕ) (old : List Sub) (ids : Keep) (mid : List Sub) (mid_ids : Keep) (left : List Sub) (left_ids : Keep) → low ≤ high → Passes low old ids mid mid_ids → Passes high mid mid_ids left left_ids → Passes high old ids left left_ids
+passes-join low high old ids mid mid_ids left left_ids le first later = record {
+  finds = λ next n path now h. later.finds next n path now h ∙ first.finds next n path now (omega (arith, le, h));
+  ascend = λ up. later.ascend (first.ascend up);
+}
+
+pub begins-none : (low : ℕ) (left : List Sub) → left ≡ [] → BeginsFrom low left
+begins-none low left none = λ sub rest is. let both : [] ≡ sub ∷ rest = sym none ∙ is in absurd (cc)
+
+pub begins-with : (low : ℕ) (left : List Sub) (x : Sub) (xs : List Sub) → left ≡ x ∷ xs → low ≤ (x.nid).bits → BeginsFrom low left
+begins-with low left x xs parts le = λ sub rest is. let both : x ∷ xs ≡ sub ∷ rest = sym parts ∙ is in let same : x ≡ sub = cc in subst (λ (s : Sub). low ≤ (s.nid).bits) same le
+
+-- where the first has the id
+pub there-first : (nid : ℕ) (old : List Sub) (old_ids below_ids : Keep) (ids : List (Option Bid)) (blocks : List (List ℕ)) (x : Sub) (xs below : List Sub) → old ≡ x ∷ xs → (x.nid).bits ≡ nid → ids ≡ first_list old_ids → blocks ≡ x.blocks
+    → flattened below ≡ x.subs → below_ids ≡ drop 1 old_ids → subs_ascend (flattened old) ≡ true → IsThere nid old old_ids ids blocks below below_ids
+there-first nid old old_ids below_ids ids blocks x xs below parts same is_ids is_blocks is_below is_rest up =
+    let first = first-ascends x xs (ap (λ (l : List Sub). subs_ascend (flattened l)) (sym parts) ∙ up) in
+    let at : (next : ℕ) (path : List ℕ) (now : List (List ℕ)) → kept_at next old_ids (flattened (x ∷ xs)) ((x.nid).bits ∷ path) now ≡ kept_at next old_ids (flattened old) (nid ∷ path) now = λ next path now.
+    ap (λ (n : ℕ). kept_at next old_ids (flattened (x ∷ xs)) (n ∷ path) now) same ∙ ap (λ (l : List Sub). kept_at next old_ids (flattened l) (nid ∷ path) now) (sym parts) in
+    record {
+      own = λ next now. ap (λ (l : List (Option Bid)). kept_list next l blocks now) is_ids ∙ ap (λ (l : List (List ℕ)). kept_list next (first_list old_ids) l now) is_blocks ∙ sym (found-own next now old_ids x xs) ∙ at next [] now;
+      deeper = λ next p path now.
+          ap (λ (k : Keep). kept_at next k (flattened below) (p ∷ path) now) is_rest ∙ ap (λ (l : List Flat). kept_at next (drop 1 old_ids) l (p ∷ path) now) is_below
+          ∙ sym (found-below next p path now old_ids x xs first.above) ∙ at next (p ∷ path) now;
+      ascend = ap subs_ascend is_below ∙ first.below;
+    }
+
+raise-above : (k n : ℕ) (ys : List Sub) → k < n → Above n ys → Above k ys
+raise-above k n [] low above = tt
+raise-above k n (y ∷ ys) low above = (let h = above.0 in omega (arith, low, h), raise-above k n ys low above.1)
+
+none-with : (nid : ℕ) (old : List Sub) → BeginsFrom nid old → ((x : Sub) (xs : List Sub) → old ≡ x ∷ xs → (x.nid).bits ≡ nid → ⊥) → subs_ascend (flattened old) ≡ true → Above nid old
+none-with nid [] begins other up = tt
+none-with nid (x ∷ xs) begins other up =
+    let le = begins x xs refl in
+    let ne = other x xs refl in
+    let high : nid < (x.nid).bits = elim (cases_lt nid (x.nid).bits) [ inl less ↦ less | inr more ↦ absurd (ne (omega (arith, le, more))) ] in
+    (high, raise-above nid (x.nid).bits xs high (first-ascends x xs up).above)
+
+pub other-first : (nid : ℕ) (old : List Sub) (x : Sub) (xs : List Sub) → old ≡ x ∷ xs → ((x.nid).bits ≡ nid → ⊥) → (y : Sub) (ys : List Sub) → old ≡ y ∷ ys → (y.nid).bits ≡ nid → ⊥
+other-first nid old x xs parts ne = λ y ys is same.
+    let both : x ∷ xs ≡ y ∷ ys = sym parts ∙ is in
+    let first : x ≡ y = cc in
+    ne (ap (λ (s : Sub). (s.nid).bits) first ∙ same)
+
+pub none-first : (nid : ℕ) (old : List Sub) → old ≡ [] → (y : Sub) (ys : List Sub) → old ≡ y ∷ ys → (y.nid).bits ≡ nid → ⊥
+none-first nid old none = λ y ys is same. let both : [] ≡ y ∷ ys = sym none ∙ is in absurd (cc)
+
+-- where none has it
+pub there-none : (nid : ℕ) (old : List Sub) (old_ids : Keep) → ((x : Sub) (xs : List Sub) → old ≡ x ∷ xs → (x.nid).bits ≡ nid → ⊥) → subs_ascend (flattened old) ≡ true → BeginsFrom nid old → IsThere nid old old_ids [] [] [] []
+there-none nid old old_ids other up begins =
+    let above = none-with nid old begins other up in
+    record {
+      own = λ next now. sym (absent next nid [] now old_ids old above);
+      deeper = λ next p path now. sym (absent next nid (p ∷ path) now old_ids old above);
+      ascend = refl;
+    }
+
+-- ---- new subnodes
+
+-- the ids of subnodes ascend strictly, from a number on
+abbrev pub RiseFrom : ℕ → List Sub → Type 0
+RiseFrom low [] = Unit {0}
+RiseFrom low (x ∷ xs) = (low ≤ (x.nid).bits) × RiseFrom ((x.nid).bits + 1) xs
+
+rise-on : (low : ℕ) (xs : List Sub) → rise_from low (sub_nids xs) ≡ true → RiseFrom (low + 1) xs
+rise-on low [] up = tt
+rise-on low (x ∷ xs) up =
+    let both = and_parts (ltb low (x.nid).bits) (rise_from (x.nid).bits (sub_nids xs)) up in
+    let less = ltb-true low (x.nid).bits both.0 in
+    (omega (arith, less), rise-on (x.nid).bits xs both.1)
+
+rise-start : (xs : List Sub) → ascending (sub_nids xs) ≡ true → RiseFrom 0 xs
+rise-start [] up = tt
+rise-start (x ∷ xs) up = (omega arith, rise-on (x.nid).bits xs up)
+
+abbrev pub PairKeeps : ℕ → Pair → Type 0
+PairKeeps next pair = Keeps next pair.0 pair.1
+
+-- what stays of the first subnodes
+pub record Level (next : ℕ) (old : List Sub) (ids : Keep) (left : List Sub) (left_ids : Keep) (new : List Sub) (i : ℕ) (keep : Keep) : Type 0 where
+  pub count : length keep ≡ length (flattened (take i new))
+  pub keeps : Each (PairKeeps next) (paired keep (flattened (take i new)))
+  pub low : ℕ
+  pub rest : RiseFrom low (drop i new)
+  pub passes : Passes low old ids left left_ids
+  pub so_far : subs_ascend (flattened old) ≡ true → keep ++ kept_subs next ids (flattened old) (flattened (drop i new)) ≡ kept_subs next ids (flattened old) (flattened new)
+
+pub level-start : (next : ℕ) (old : List Sub) (ids : Keep) (new : List Sub) (flats : List Flat) → flattened new ≡ flats → IsForm flats → Level next old ids old ids new 0 []
+level-start next old ids new flats same form = record {
+  count = refl;
+  keeps = tt;
+  low = 0;
+  rest = rise-start new (form-top new (subst (λ (l : List Flat). IsForm l) (sym same) form)).0;
+  passes = passes-start 0 old ids;
+  so_far = λ up. refl;
+}
 
 paired-join : (xs ys : Keep) (fs gs : List Flat) → length xs ≡ length fs → paired (xs ++ ys) (fs ++ gs) ≡ paired xs fs ++ paired ys gs
 paired-join [] ys [] gs same = refl
@@ -26,70 +148,77 @@ paired-join [] ys (f ∷ fs) gs same = absurd (omega (arith, same))
 paired-join (x ∷ xs) ys [] gs same = absurd (omega (arith, same))
 paired-join (x ∷ xs) ys (f ∷ fs) gs same = ap (λ (l : List Pair). (x, f.blocks) ∷ l) (paired-join xs ys fs gs (omega (arith, same)))
 
-pub matched-more : (next : ℕ) (ids : Keep) (was : List (List (List ℕ))) (keep below out : Keep) (one : List (Option Bid)) (xs : List Sub) (i : ℕ) (x : Sub) → i < length xs → x ≡ get_or xs i x → out ≡ (keep ++ one ∷ []) ++ below
-    → IsKept next ids was (one, x.blocks) → length below ≡ length x.subs → Each (IsKept next ids was) (paired below x.subs) → Matched next ids was keep (flattened (take i xs)) → Matched next ids was out (flattened (take (i + 1) xs))
-matched-more next ids was keep below out one xs i x h is made own_kept count below_kept so_far =
-    let more : take (i + 1) xs ≡ take i xs ++ x ∷ [] = take_more xs i x h ∙ ap (λ (s : Sub). take i xs ++ s ∷ []) (sym is) in
-    let here : List Flat = own x ∷ map one_deeper x.subs in
-    let flats : flattened (take (i + 1) xs) ≡ flattened (take i xs) ++ here = ap flattened more ∙ flattened-more (take i xs) x in
-    let whole : out ≡ keep ++ (one ∷ below) = made ∙ join keep in
-    let a = so_far.count in
-    let b = ap length whole ∙ length-append keep (one ∷ below) in
-    let c = ap length flats ∙ length-append (flattened (take i xs)) here in
-    let d = length-map x.subs one_deeper in
-    let pairs : paired out (flattened (take (i + 1) xs)) ≡ paired keep (flattened (take i xs)) ++ ((one, x.blocks) ∷ paired below x.subs) =
-    ap (λ (k : Keep). paired k (flattened (take (i + 1) xs))) whole ∙ ap (paired (keep ++ (one ∷ below))) flats ∙ paired-join keep (one ∷ below) (flattened (take i xs)) here a
-    ∙ ap (λ (l : List Pair). paired keep (flattened (take i xs)) ++ ((one, x.blocks) ∷ l)) (paired-deeper below x.subs) in
+join-one : (k : Keep) (one : List (Option Bid)) (below : Keep) → (k ++ one ∷ []) ++ below ≡ k ++ (one ∷ below)
+join-one k one below = append_assoc k (one ∷ []) below
+
+-- what stays of one more, and of those below it
+pub record One (next : ℕ) (y : Sub) (ids : List (Option Bid)) (blocks : List (List ℕ)) (below : List Sub) (below_ids : Keep) (own : List (Option Bid)) (deeper : Keep) : Type 0 where
+  pub own_is : own ≡ kept_list next ids blocks y.blocks
+  pub own_keeps : Keeps next own y.blocks
+  pub count : length deeper ≡ length y.subs
+  pub keeps : Each (PairKeeps next) (paired deeper y.subs)
+  pub deeper_is : subs_ascend (flattened below) ≡ true → deeper ≡ kept_subs next below_ids (flattened below) y.subs
+
+pub one-is : (next : ℕ) (y : Sub) (ids : List (Option Bid)) (blocks now : List (List ℕ)) (below : List Sub) (below_ids : Keep) (made own_keep : List (Option Bid)) (deeper : Keep) → made ≡ kept_list next ids blocks now → now ≡ y.blocks → own_keep ≡ made
+    → length deeper ≡ length y.subs → Each (PairKeeps next) (paired deeper y.subs) → (subs_ascend (flattened below) ≡ true → deeper ≡ kept_subs next below_ids (flattened below) y.subs) → One next y ids blocks below below_ids own_keep deeper
+one-is next y ids blocks now below below_ids made own_keep deeper is is_now same count keeps exact =
+    let whole : own_keep ≡ kept_list next ids blocks y.blocks = same ∙ is ∙ ap (kept_list next ids blocks) is_now in
     record {
-      count = omega (arith, a, b, c, d, count);
-      kept = subst (λ (l : List Pair). Each (IsKept next ids was) l) (sym pairs) (each-append (IsKept next ids was) (paired keep (flattened (take i xs))) ((one, x.blocks) ∷ paired below x.subs) so_far.kept (own_kept, below_kept));
+      own_is = whole;
+      own_keeps = subst (λ (k : List (Option Bid)). Keeps next k y.blocks) (sym whole) (keeps-list next ids blocks y.blocks);
+      count = count;
+      keeps = keeps;
+      deeper_is = exact;
     }
-  where
-    join : (k : Keep) → (k ++ one ∷ []) ++ below ≡ k ++ (one ∷ below)
-    join [] = refl
-    join (z ∷ k) = ap (λ (l : Keep). z ∷ l) (join k)
 
-pub matched-whole : (next : ℕ) (ids : Keep) (was : List (List (List ℕ))) (keep : Keep) (xs : List Sub) (i : ℕ) → length xs ≤ i → Matched next ids was keep (flattened (take i xs)) → Matched next ids was keep (flattened xs)
-matched-whole next ids was keep xs i h m = subst (λ (l : List Sub). Matched next ids was keep (flattened l)) (take_all i xs h) m
+pub level-next : (next : ℕ) (old : List Sub) (old_ids : Keep) (left : List Sub) (left_ids : Keep) (mid : List Sub) (mid_ids : Keep) (new : List Sub) (i : ℕ) (y : Sub) (ids : List (Option Bid)) (blocks : List (List ℕ)) (below : List Sub) (below_ids : Keep)
+    → (own_keep : List (Option Bid)) (deeper keep out : Keep) → i < length new → y ≡ get_or new i y → out ≡ (keep ++ own_keep ∷ []) ++ deeper
+    → Passes (y.nid).bits left left_ids mid mid_ids → BeginsFrom (y.nid).bits mid → (subs_ascend (flattened mid) ≡ true → BeginsFrom (y.nid).bits mid → IsThere (y.nid).bits mid mid_ids ids blocks below below_ids)
+    → One next y ids blocks below below_ids own_keep deeper → Level next old old_ids left left_ids new i keep → Level next old old_ids mid mid_ids new (i + 1) out
+level-next next old old_ids left left_ids mid mid_ids new i y ids blocks below below_ids own_keep deeper keep out h is made passed begins there one level =
+    let front = flattened (take i new) in
+    let here : List Flat = own y ∷ map one_deeper y.subs in
+    let flats = one-more new i y h is in
+    let whole : out ≡ keep ++ (own_keep ∷ deeper) = made ∙ join-one keep own_keep deeper in
+    let ahead : drop i new ≡ y ∷ drop (i + 1) new = drop-here new i y h ∙ ap (λ (s : Sub). s ∷ drop (i + 1) new) (sym is) in
+    let risen = subst (λ (l : List Sub). RiseFrom level.low l) ahead level.rest in
+    let passes = passes-join level.low (y.nid).bits old old_ids left left_ids mid mid_ids risen.0 level.passes passed in
+    let a = level.count in
+    let b = ap length whole ∙ length-append keep (own_keep ∷ deeper) in
+    let c = ap length flats ∙ length-append front here in
+    let d = length-map y.subs one_deeper in
+    let e = one.count in
+    let pairs : paired out (flattened (take (i + 1) new)) ≡ paired keep front ++ ((own_keep, y.blocks) ∷ paired deeper y.subs) =
+    ap (λ (k : Keep). paired k (flattened (take (i + 1) new))) whole ∙ ap (paired (keep ++ (own_keep ∷ deeper))) flats ∙ paired-join keep (own_keep ∷ deeper) front here a
+    ∙ ap (λ (l : List Pair). paired keep front ++ ((own_keep, y.blocks) ∷ l)) (paired-deeper deeper y.subs) in
+    let kept = kept_at next old_ids (flattened old) in
+    let rest = kept_subs next old_ids (flattened old) (flattened (drop (i + 1) new)) in
+    record {
+      count = omega (arith, a, b, c, d, e);
+      keeps = subst (λ (l : List Pair). Each (PairKeeps next) l) (sym pairs) (each-append (PairKeeps next) (paired keep front) ((own_keep, y.blocks) ∷ paired deeper y.subs) level.keeps (one.own_keeps, one.keeps));
+      low = (y.nid).bits + 1;
+      rest = risen.1;
+      passes = record { finds = λ next n path now k. passes.finds next n path now (omega (arith, k)); ascend = passes.ascend };
+      so_far = λ up.
+          let is_there = there (passes.ascend up) begins in
+          let first : own_keep ≡ kept ((y.nid).bits ∷ []) y.blocks = one.own_is ∙ is_there.own next y.blocks ∙ passes.finds next (y.nid).bits [] y.blocks (omega arith) in
+          let alike = kept-alike (kept_at next below_ids (flattened below)) (λ path. kept ((y.nid).bits ∷ path))
+          (λ p path now. is_there.deeper next p path now ∙ passes.finds next (y.nid).bits (p ∷ path) now (omega arith)) y.subs [] in
+          let below_is : deeper ≡ kept_each (λ path. kept ((y.nid).bits ∷ path)) (paths_of y.subs) y.subs = one.deeper_is is_there.ascend ∙ alike in
+          let parts : kept_subs next old_ids (flattened old) (flattened (drop i new)) ≡ own_keep ∷ (deeper ++ rest) =
+          ap (λ (l : List Sub). kept_subs next old_ids (flattened old) (flattened l)) ahead ∙ kept-first kept y (drop (i + 1) new)
+          ∙ ap (λ (l : List (Option Bid)). l ∷ (kept_each (λ path. kept ((y.nid).bits ∷ path)) (paths_of y.subs) y.subs ++ rest)) (sym first)
+          ∙ ap (λ (l : Keep). own_keep ∷ (l ++ rest)) (sym below_is) in
+          ap (λ (l : Keep). l ++ rest) whole ∙ append_assoc keep (own_keep ∷ deeper) rest ∙ ap (λ (l : Keep). keep ++ l) (sym parts) ∙ level.so_far up;
+    }
 
--- the data of subnodes, one more
-pub flat-next : {A : Type 0} (f : A → List (List ℕ)) (all below pushed out : List A) (one : A) (xs : List Sub) (i : ℕ) (x : Sub) → i < length xs → x ≡ get_or xs i x → pushed ≡ all ++ one ∷ [] → f one ≡ x.blocks → out ≡ pushed ++ below
-    → map f below ≡ map (λ (g : Flat). g.blocks) x.subs → map f all ≡ map (λ (g : Flat). g.blocks) (flattened (take i xs)) → map f out ≡ map (λ (g : Flat). g.blocks) (flattened (take (i + 1) xs))
-flat-next {A} f all below pushed out one xs i x h is push same made deep so_far =
-    let b : Flat → List (List ℕ) = λ g. g.blocks in
-    let more : take (i + 1) xs ≡ take i xs ++ x ∷ [] = take_more xs i x h ∙ ap (λ (s : Sub). take i xs ++ s ∷ []) (sym is) in
-    let here : List Flat = own x ∷ map one_deeper x.subs in
-    let flats : flattened (take (i + 1) xs) ≡ flattened (take i xs) ++ here = ap flattened more ∙ flattened-more (take i xs) x in
-    let whole : out ≡ all ++ (one ∷ below) = made ∙ ap (λ (l : List A). l ++ below) push ∙ join all in
-    ap (map f) whole ∙ map-append f all (one ∷ below)
-    ∙ ap (λ (l : List (List (List ℕ))). l ++ (f one ∷ map f below)) so_far
-    ∙ ap (λ (l : List (List ℕ)). map b (flattened (take i xs)) ++ (l ∷ map f below)) same
-    ∙ ap (λ (l : List (List (List ℕ))). map b (flattened (take i xs)) ++ (x.blocks ∷ l)) (deep ∙ sym (blocks-deeper x.subs))
-    ∙ sym (map-append b (flattened (take i xs)) here) ∙ ap (map b) (sym flats)
-  where
-    join : (k : List A) → (k ++ one ∷ []) ++ below ≡ k ++ (one ∷ below)
-    join [] = refl
-    join (z ∷ k) = ap (λ (l : List A). z ∷ l) (join k)
-
-    blocks-deeper : (fs : List Flat) → map (λ (g : Flat). g.blocks) (map one_deeper fs) ≡ map (λ (g : Flat). g.blocks) fs
-    blocks-deeper [] = refl
-    blocks-deeper (g ∷ fs) = ap (λ (l : List (List (List ℕ))). g.blocks ∷ l) (blocks-deeper fs)
-
-at-map : {A B : Type 0} (f : A → B) (xs : List A) (i : ℕ) (d : A) (e : B) → i < length xs → get_or (map f xs) i e ≡ f (get_or xs i d)
-at-map f [] i d e h = absurd (omega (arith, h))
-at-map f (x ∷ xs) zero d e h = refl
-at-map f (x ∷ xs) (suc i) d e h = at-map f xs i d e (omega (arith, h))
-
-at-any : {A : Type 0} (xs : List A) (i : ℕ) (d e : A) → i < length xs → get_or xs i d ≡ get_or xs i e
-at-any [] i d e h = absurd (omega (arith, h))
-at-any (x ∷ xs) zero d e h = refl
-at-any (x ∷ xs) (suc i) d e h = at-any xs i d e (omega (arith, h))
-
--- what stays where the same subnode stands at a position
-pub kept-here : {A : Type 0} (f : A → List (List ℕ)) (next : ℕ) (ids : Keep) (olds : List A) (at : ℕ) (mine keep : List (Option Bid)) (was : A) (bs : List (List ℕ)) → at < length ids → at < length olds → mine ≡ get_or ids at mine → was ≡ get_or olds at was
-    → keep ≡ kept_list next mine (f was) bs → IsKept next ids (map f olds) (keep, bs)
-kept-here {A} f next ids olds at mine keep was bs h k is_id is_was made =
-    let count = length-map olds f in
-    let one : mine ≡ get_or ids at [] = is_id ∙ at-any ids at mine [] h in
-    let two : f was ≡ get_or (map f olds) at [] = ap f is_was ∙ sym (at-map f olds at was [] k) in
-    inr (at, h, omega (arith, count, k), made ∙ ap (λ (l : List (Option Bid)). kept_list next l (f was) bs) one ∙ ap (λ (l : List (List ℕ)). kept_list next (get_or ids at []) l bs) two)
+-- all
+pub level-whole : (next : ℕ) (old : List Sub) (ids : Keep) (left : List Sub) (left_ids : Keep) (new : List Sub) (i : ℕ) (keep : Keep) (flats : List Flat) → flattened new ≡ flats → length new ≤ i → Level next old ids left left_ids new i keep
+    → (length keep ≡ length flats) × Each (PairKeeps next) (paired keep flats) × (subs_ascend (flattened old) ≡ true → keep ≡ kept_subs next ids (flattened old) flats)
+level-whole next old ids left left_ids new i keep flats same h level =
+    let all : flattened (take i new) ≡ flats = ap flattened (take_all i new h) ∙ same in
+    let none : drop i new ≡ [] = no-more new i h in (
+      level.count ∙ ap length all,
+      subst (λ (l : List Flat). Each (PairKeeps next) (paired keep l)) all level.keeps,
+      (λ up. sym (append-nil keep) ∙ ap (λ (l : List Sub). keep ++ kept_subs next ids (flattened old) (flattened l)) (sym none) ∙ level.so_far up ∙ ap (kept_subs next ids (flattened old)) same),
+    )

@@ -1,4 +1,5 @@
 pub mod Keep
+pub mod Beside
 pub mod Told
 pub mod Plan
 pub mod Put

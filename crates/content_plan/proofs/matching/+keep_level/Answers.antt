@@ -1,17 +1,13 @@
-use Rattle.std.proofs.Common.{◌≡◌, ◌++◌, ℕ, List, length, get_or, map, ap, arith, ◌∙◌}
+use Rattle.std.proofs.Common.{◌≡◌, ◌++◌, ◌∷◌, [], ℕ, List, length, get_or, ap, sym, subst, ◌∙◌, arith}
 use Rattle.pst_base.specs.declared.subs.Sub.{Sub}
+use Rattle.pst_base.specs.Flat.{Flat}
 use Rattle.pst_base.specs.Subs.{flattened}
-use Rattle.data_tree.proofs.PieceLaws.{each-from_all}
-use Rattle.subnode_tree.specs.Plan.{paired}
-use Rattle.subnode_tree.proofs.FormLaws.{fewer-inner}
+use Rattle.data_tree.proofs.PieceLaws.{all_from-each, each-from_all}
+use Rattle.subnode_tree.specs.Plan.{IsForm, paired}
+use Rattle.subnode_tree.proofs.FormLaws.{fewer-inner, form-inner}
 use Rattle.subnode_tree.proofs.PairLaws.{Keep}
-use Rattle.content_plan.specs.declared.matching.OldSub.{OldSub}
-use Rattle.content_plan.specs.Keep.{IsKept}
-use Rattle.content_plan.proofs.MatchLaws.{matched-more}
+use Rattle.content_plan.proofs.MatchLaws.{PairKeeps, level-next, level-start, level-whole, one-is}
 use Rattle.content_plan.proofs.matching.+keep_level.Goals as goal
-
-abbrev data_of : OldSub → List (List ℕ)
-data_of old = (old.blocks).now
 
 pub keep_level-requires : goal.keep_level-requires
 keep_level-requires t c =
@@ -22,12 +18,26 @@ keep_level-requires t c =
     let same : length x.subs ≡ length (get_or xs i x).subs = ap (λ (s : Sub). length s.subs) c.sub-item.is in
     let whole : length (flattened xs) ≡ length c.args.new.now = ap length c.as_slice-sub-items.ensures in
     let least = c.decreases in
-    (omega (arith, fewer, same, whole, least), tt)
+    let form : IsForm (flattened xs) = subst (λ (l : List Flat). IsForm l) (sym c.as_slice-sub-items.ensures) c.requires.form in
+    (omega (arith, fewer, same, whole, least), subst (λ (s : Sub). IsForm s.subs) (sym c.sub-item.is) (form-inner xs i x c.loop-sub-test.true form))
+
+pub loop-sub-init : goal.loop-sub-init
+loop-sub-init t c = rw c.new-keep.ensures.items (level-start c.args.next c.args.old.subs.now c.args.old.ids.now c.as_slice-sub-items.result.now c.args.new.now c.as_slice-sub-items.ensures c.requires.form)
 
 pub loop-sub-preserved : goal.loop-sub-preserved
 loop-sub-preserved t c =
-    let was : List (List (List ℕ)) = map data_of c.args.old.now in
-    let x = c.sub-item.result in
-    matched-more c.args.next c.args.ids.now was c.loop-sub.keep.items c.in_ok-below.below.items c.append.new.self.items c.in_ok-own.own c.as_slice-sub-items.result.now c.loop-sub.sub-index x c.loop-sub-test.true c.sub-item.is
-    (c.in_ok-append.ensures.items ∙ ap (λ (l : Keep). l ++ c.in_ok-below.below.items) c.in_ok-push.ensures.items) c.in_ok-own.ensures c.in_ok-below.ensures.count
-    (each-from_all (IsKept c.args.next c.args.ids.now was) (paired c.in_ok-below.below.items x.subs) c.in_ok-below.ensures.kept) c.loop-sub.invariant
+    let next = c.args.next in
+    let y = c.sub-item.result in
+    let was = c.first_with-was.result in
+    let own = c.from_vec.result in
+    let deeper = c.in_ok-below.below.items in
+    let one = one-is next y was.ids.now was.blocks.now c.as_slice.result.now was.below.subs.now was.below.ids.now c.in_ok-own.own.items own deeper c.in_ok-own.ensures c.as_slice.ensures.value c.from_vec.ensures
+    c.in_ok-below.ensures.count (each-from_all (PairKeeps next) (paired deeper y.subs) c.in_ok-below.ensures.keeps) c.in_ok-below.ensures.kept in
+    level-next next c.args.old.subs.now c.args.old.ids.now c.loop-sub.left.subs.now c.loop-sub.left.ids.now c.from_id-left.result.subs.now c.from_id-left.result.ids.now c.as_slice-sub-items.result.now c.loop-sub.sub-index y
+    was.ids.now was.blocks.now was.below.subs.now was.below.ids.now own deeper c.loop-sub.keep.items c.append.new.self.items c.loop-sub-test.true c.sub-item.is
+    (c.in_ok-append.ensures.items ∙ ap (λ (l : Keep). l ++ deeper) c.in_ok-push.ensures.items) c.from_id-left.ensures.passes c.from_id-left.ensures.begins c.first_with-was.ensures one c.loop-sub.invariant
+
+pub returns : goal.returns
+returns t c =
+    let whole = level-whole c.args.next c.args.old.subs.now c.args.old.ids.now c.loop-sub.left.subs.now c.loop-sub.left.ids.now c.as_slice-sub-items.result.now c.loop-sub.sub-index c.loop-sub.keep.items c.args.new.now c.as_slice-sub-items.ensures c.loop-sub-test.false c.loop-sub.invariant in
+    record { count = whole.0; keeps = all_from-each (PairKeeps c.args.next) (paired c.loop-sub.keep.items c.args.new.now) whole.1; kept = whole.2 }
