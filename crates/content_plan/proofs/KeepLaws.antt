@@ -1,19 +1,15 @@
 -- What stays of data.
-use Rattle.std.proofs.Common.{Bool, true, false, not, ◌&&◌, ◌||◌, ◌≡◌, ◌⊎◌, inl, inr, ◌∙◌, ℕ, zero, suc, ◌+◌, ◌/◌, ◌%◌, ◌<◌, ◌≤◌, eqb, leb, ltb, get_or, List, [], ◌∷◌, ◌++◌, length, drop, map, min, append-nil, Option, Some, None, IsSome, refl, sym, ap, subst, arith, if◌then◌else◌}
+use Rattle.std.proofs.Common.{Bool, true, false, not, ◌&&◌, ◌||◌, ◌≡◌, ◌⊎◌, inl, inr, ◌∙◌, ℕ, zero, suc, ◌+◌, ◌/◌, ◌%◌, ◌<◌, ◌≤◌, eqb, leb, ltb, get_or, List, [], ◌∷◌, ◌++◌, length, drop, min, append-nil, Option, Some, None, IsSome, refl, sym, ap, subst, arith, if◌then◌else◌}
 use Rattle.std.proofs.lemmas.Bool.{and_parts, cases_eq, cases_lt, eq-eqb, ne_eqb, eqb-true, eqb-false, leb-true, ltb-true}
 use Rattle.pst_base.specs.declared.ids.Bid.{Bid}
-use Rattle.pst_base.specs.Flat.{Flat}
 use Rattle.pst_base.specs.Ids.{key_of}
 use Rattle.data_tree.specs.Keys.{count_of}
 use Rattle.data_tree.specs.Plan.{AreFound, MayKeep}
 use Rattle.data_tree.specs.Tree.{is_internal}
 use Rattle.data_tree.proofs.KeyLaws.{count-append}
 use Rattle.data_tree.proofs.ListingLaws.{drop-here}
-use Rattle.data_tree.proofs.PieceLaws.{Each, each-from_all}
 use Rattle.node_layout.specs.Joined.{kept_keys}
-use Rattle.subnode_tree.specs.Plan.{SubsFound, paired}
-use Rattle.subnode_tree.proofs.PairLaws.{Keep, Pair}
-use Rattle.subnode_tree.proofs.SubPlanLaws.{PairFound}
+use Rattle.subnode_tree.proofs.PairLaws.{Pair}
 use Rattle.content_plan.specs.Keep.{same_bytes, has_key, may_stay, kept_one, keys_with, kept_from, kept_list, Keeps}
 
 -- ---- bytes and keys
@@ -229,6 +225,10 @@ kept-done next keys keep whole ids was now i n is h so_far =
     ] in
     let none = kept-end next keys ids was now i ends in
     sym (append-nil keep) ∙ ap (λ (l : List (Option Bid)). keep ++ l) (sym none) ∙ so_far
+
+-- what is kept of some data may be
+abbrev pub PairKeeps : ℕ → Pair → Type 0
+PairKeeps next pair = Keeps next pair.0 pair.1
 
 -- ---- keys that stay
 

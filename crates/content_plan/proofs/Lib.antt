@@ -1,10 +1,12 @@
 pub mod FormLaws
 pub mod KeepLaws
+pub mod PathLaws
+pub mod OrderLaws
+pub mod MatchLaws
 pub mod FitLaws
 pub mod BoundLaws
 pub mod PutLaws
 pub mod ReadLaws
-pub mod MatchLaws
 pub mod PlanLaws
 pub mod TellLaws
 pub mod LoopLaws

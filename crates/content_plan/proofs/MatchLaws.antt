@@ -1,5 +1,5 @@
 -- The walk over subnodes that stood beside each other, one subnode more.
-use Rattle.std.proofs.Common.{true, ◌≡◌, ◌∙◌, ◌&&◌, inl, inr, ℕ, zero, suc, ◌+◌, ◌<◌, ◌≤◌, ltb, get_or, List, [], ◌∷◌, ◌++◌, length, drop, take, map, Option, refl, sym, ap, subst, arith, add-one, append_assoc, append-nil, length-append}
+use Rattle.std.proofs.Common.{true, ◌≡◌, ◌∙◌, inl, inr, ℕ, ◌+◌, ◌<◌, ◌≤◌, ltb, get_or, List, [], ◌∷◌, ◌++◌, length, drop, take, map, Option, refl, sym, ap, subst, arith, append_assoc, append-nil, length-append}
 use Rattle.std.proofs.lemmas.Bool.{and_parts, cases_lt, ltb-true}
 use Rattle.std.proofs.lemmas.List.{drop-drop, length-map, take_all, take_more}
 use Rattle.pst_base.specs.declared.ids.Bid.{Bid}
@@ -15,7 +15,7 @@ use Rattle.subnode_tree.proofs.SubSteps.{flattened-more}
 use Rattle.content_plan.specs.Beside.{BeginsFrom, IsThere, Passes}
 use Rattle.content_plan.specs.Keep.{Keeps, kept_at, kept_each, kept_list, kept_subs, paths_of, subs_ascend}
 use Rattle.content_plan.proofs.PathLaws.{Above, absent, first-ascends, found-below, found-own, kept-alike, kept-first, skip-one}
-use Rattle.content_plan.proofs.KeepLaws.{keeps-list, no-more}
+use Rattle.content_plan.proofs.KeepLaws.{PairKeeps, keeps-list, no-more}
 
 -- ---- ids behind subnodes
 
@@ -119,9 +119,6 @@ rise-on low (x ∷ xs) up =
 rise-start : (xs : List Sub) → ascending (sub_nids xs) ≡ true → RiseFrom 0 xs
 rise-start [] up = tt
 rise-start (x ∷ xs) up = (omega arith, rise-on (x.nid).bits xs up)
-
-abbrev pub PairKeeps : ℕ → Pair → Type 0
-PairKeeps next pair = Keeps next pair.0 pair.1
 
 -- what stays of the first subnodes
 pub record Level (next : ℕ) (old : List Sub) (ids : Keep) (left : List Sub) (left_ids : Keep) (new : List Sub) (i : ℕ) (keep : Keep) : Type 0 where

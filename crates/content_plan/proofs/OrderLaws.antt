@@ -1,5 +1,5 @@
 -- Subnodes that are read ascend.
-use Rattle.std.proofs.Common.{Bool, true, false, ◌&&◌, ◌≡◌, ◌∙◌, ℕ, zero, suc, ◌-◌, ◌/◌, eqb, ltb, if◌then◌else◌, List, [], ◌∷◌, ◌++◌, length, drop, map, Option, Result, Ok, Err, refl, sym, ap, subst, add-one}
+use Rattle.std.proofs.Common.{Bool, true, false, ◌&&◌, ◌≡◌, ◌∙◌, ℕ, zero, suc, ◌-◌, ◌/◌, eqb, if◌then◌else◌, List, [], ◌∷◌, ◌++◌, length, drop, map, Option, Result, Ok, Err, refl, sym, ap, subst, add-one}
 use Rattle.std.proofs.lemmas.Bool.{and_parts}
 use Rattle.pst_base.specs.declared.ids.Bid.{Bid}
 use Rattle.pst_base.specs.Flat.{Flat}

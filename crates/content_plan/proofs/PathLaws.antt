@@ -1,5 +1,5 @@
 -- What stays of subnodes, by their paths.
-use Rattle.std.proofs.Common.{Bool, true, false, ◌&&◌, ◌≡◌, ◌∙◌, ℕ, zero, suc, ◌+◌, ◌<◌, ◌≤◌, eqb, ltb, if◌then◌else◌, List, [], ◌∷◌, ◌++◌, length, drop, take, map, Option, refl, sym, ap, subst, arith, add-one}
+use Rattle.std.proofs.Common.{Bool, true, false, ◌≡◌, ◌∙◌, ℕ, zero, suc, ◌<◌, ltb, if◌then◌else◌, List, [], ◌∷◌, ◌++◌, length, drop, take, map, Option, refl, ap, arith, add-one}
 use Rattle.std.proofs.lemmas.Bool.{and_parts, eq-eqb, ne_eqb, ltb-true}
 use Rattle.pst_base.specs.declared.ids.Bid.{Bid}
 use Rattle.pst_base.specs.declared.subs.Sub.{Sub}
@@ -8,11 +8,10 @@ use Rattle.pst_base.specs.Subs.{flattened, one_deeper}
 use Rattle.data_tree.specs.Plan.{AreFound}
 use Rattle.data_tree.proofs.PieceLaws.{Each}
 use Rattle.subnode_tree.specs.Plan.{first_list, paired}
-use Rattle.subnode_tree.proofs.FormLaws.{own}
 use Rattle.subnode_tree.proofs.PairLaws.{Keep, Pair}
 use Rattle.subnode_tree.proofs.SubPlanLaws.{PairFound}
-use Rattle.content_plan.specs.Keep.{Keeps, ascend_after, first_below, kept_among, kept_at, kept_each, kept_list, kept_subs, path_after, paths_after, paths_of, same_path, subs_ascend}
-use Rattle.content_plan.proofs.KeepLaws.{keeps-list, keeps-none, kept-found, nothing-found}
+use Rattle.content_plan.specs.Keep.{ascend_after, first_below, kept_among, kept_at, kept_each, kept_list, kept_subs, path_after, paths_after, paths_of, same_path, subs_ascend}
+use Rattle.content_plan.proofs.KeepLaws.{kept-found, nothing-found}
 
 -- ---- paths
 

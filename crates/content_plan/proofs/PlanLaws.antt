@@ -1,5 +1,6 @@
 -- Plans of changes, one after the other.
 use Rattle.std.proofs.Common.{true, ◌≡◌, inl, inr, ◌∙◌, ℕ, ◌+◌, ◌*◌, ◌^◌, ◌<◌, ◌≤◌, leb, get_or, if◌then◌else◌, List, [], ◌∷◌, ◌++◌, length, map, drop, take, Option, Some, None, Ok, refl, sym, ap, subst, arith, length-append}
+use Rattle.std.specs.List.{All}
 use Rattle.std.proofs.lemmas.Bool.{and_parts, cases_eq, cases_lt, eq-eqb, ne_eqb, leb-true}
 use Rattle.std.proofs.lemmas.List.{take_all, take_more}
 use Rattle.pst_base.specs.declared.ids.Bid.{Bid}
@@ -7,9 +8,10 @@ use Rattle.pst_base.specs.declared.ids.Nid.{Nid}
 use Rattle.btree_pages.specs.declared.entry.NodeEntry.{NodeEntry}
 use Rattle.data_tree.specs.Keys.{count_of}
 use Rattle.data_tree.specs.Plan.{IsFound, Rise, bids_in, placed}
+use Rattle.data_tree.specs.Tree.{bids_of}
 use Rattle.data_tree.proofs.KeyLaws.{count-append, count-blocks}
 use Rattle.data_tree.proofs.ListingLaws.{drop-here}
-use Rattle.data_tree.proofs.PieceLaws.{all_from-each, each-append, each-from_all, each-left, each-right}
+use Rattle.data_tree.proofs.PieceLaws.{Each, all_from-each, each-append, each-from_all, each-left, each-right}
 use Rattle.data_tree.proofs.PlanLaws.{rise-append}
 use Rattle.data_tree.proofs.SizeLaws.{Small}
 use Rattle.node_layout.specs.Joined.{AreChanged, node_id}
@@ -22,9 +24,9 @@ use Rattle.node_refs.specs.Counts as refs
 use Rattle.node_refs.specs.Counts.{is_edit, is_edited, sum_if, sum_put, uses}
 use Rattle.tree_edit.specs.Edits.{AreEdits, entry_with}
 use Rattle.tree_edit.specs.Shapes.{RiseIn}
-use Rattle.content_plan.specs.Keep.{kept_list}
-use Rattle.content_plan.specs.Plan.{AreNamed, IsCounted, PlansContents, StayFound}
-use Rattle.content_plan.specs.Put.{PutsOver}
+use Rattle.content_plan.specs.Keep.{kept_list, kept_subs}
+use Rattle.content_plan.specs.Plan.{AreNamed, IsCounted, NamesOver, PlansContents, StayFound}
+use Rattle.content_plan.specs.Put.{EndsInSubs, PutsOver}
 use Rattle.content_plan.specs.Told.{Content, IsOld, keys_at, content_at}
 
 abbrev pub Edits : Type 0
@@ -222,6 +224,20 @@ put-counted limit next nid node old entry blocks keys p = record {
   edits_rise = (omega arith, omega arith, p.own, tt);
 }
 
+-- the blocks of a node that is put
+names-over : (after : ℕ → Option (List ℕ)) (limit next : ℕ) (nid : Nid) (node : NodeRec) (old was : Content) (entry : NodeEntry) (blocks : List (Bid × List ℕ)) → old ≡ was → limit ≤ next → All (IsFound after) blocks
+    → bids_of after entry.content ≡ Ok (bids_in (placed next (kept_list limit old.ids old.blocks node.blocks) node.blocks)) → EndsInSubs next (kept_subs limit old.sub_ids old.subs node.subs) node.subs entry.subnodes blocks → NamesOver after limit was entry node
+names-over after limit next nid node old was entry blocks exact behind found named ends = subst (λ (c : Content). NamesOver after limit c entry node) exact (record {
+  next = next;
+  behind = behind;
+  own = named;
+  sub_next = next + 4 * length ends.front;
+  sub_behind = omega (arith, behind);
+  new = ends.back;
+  found = all_from-each (IsFound after) ends.back (each-right (IsFound after) ends.front ends.back (subst (λ (l : List (Bid × List ℕ)). Each (IsFound after) l) ends.parts (each-from_all (IsFound after) blocks found)));
+  subs = ends.holds;
+})
+
 -- a node that is put
 pub put-plans : (find : ℕ → Option (List ℕ)) (eof limit : ℕ) (es : List NodeEntry) (next : ℕ) (nid : Nid) (node : NodeRec) (old : Content) (entry : NodeEntry) (blocks : List (Bid × List ℕ)) (taken keys : List ℕ) → RiseIn 0 (2 ^ 64) (map node_id es)
     → taken ≡ keys_at find (entry_with node_id nid.bits es) → IsOld find old → old ≡ content_at find eof (entry_with node_id nid.bits es) → limit ≤ next → PutsOver limit next nid node old entry blocks keys → PlansContents find eof limit es ((nid, Some node) ∷ []) ((nid.bits, Some entry) ∷ []) blocks taken keys
@@ -237,7 +253,7 @@ put-plans find eof limit es next nid node old entry blocks taken keys rise are t
     [],
     refl,
     refl,
-    (next, behind, p.names after found ∙ ap (λ (c : Content). Ok (bids_in (placed next (kept_list limit c.ids c.blocks node.blocks) node.blocks))) exact),
+    names-over after limit next nid node old (content_at find eof (entry_with node_id nid.bits es)) entry blocks exact behind found (p.names after found) (p.subs find there),
     refl,
   );
 }

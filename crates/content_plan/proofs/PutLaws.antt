@@ -1,5 +1,5 @@
 -- One node that is put.
-use Rattle.std.proofs.Common.{◌≡◌, inl, inr, ℕ, ◌+◌, ◌*◌, ◌%◌, ◌≤◌, List, [], ◌∷◌, ◌++◌, length, drop, map, Option, Some, IsSome, Result, Ok, Err, IfOk, refl, sym, ap, subst, ◌∙◌, arith, length-append}
+use Rattle.std.proofs.Common.{true, ◌≡◌, inl, inr, ℕ, ◌+◌, ◌*◌, ◌%◌, ◌≤◌, List, [], ◌∷◌, ◌++◌, length, drop, map, Option, Some, IsSome, Result, Ok, Err, IfOk, refl, sym, ap, subst, ◌∙◌, arith, length-append}
 use Rattle.std.specs.List.{All}
 use Rattle.std.proofs.lemmas.Bool.{cases_lt}
 use Rattle.pst_base.specs.declared.ids.Bid.{Bid}
@@ -22,14 +22,12 @@ use Rattle.subnode_tree.specs.Keys.{sub_keys}
 use Rattle.subnode_tree.specs.Plan.{AreAmong, SubsFound, SubsReach, SubsReadKept, data_in, first_list, kept_in, paired, unkept_in}
 use Rattle.subnode_tree.proofs.PairLaws.{Keep, Pair, may-above}
 use Rattle.subnode_tree.proofs.SubPlanLaws.{PairAmong, PairFound}
-use Rattle.content_plan.specs.Keep.{IsKept, Keeps, all_kept_keys, kept_list}
-use Rattle.content_plan.specs.Put.{PutsNode, PutsOver}
+use Rattle.content_plan.specs.Keep.{Keeps, all_kept_keys, kept_list, kept_subs, subs_ascend}
+use Rattle.content_plan.specs.Put.{EndsInSubs, PutsNode, PutsOver}
 use Rattle.content_plan.specs.Told.{Content, IsOld}
 use Rattle.content_plan.proofs.FitLaws.{all-fit, data-fits, kept-all, kept-subs, rise-once}
-use Rattle.content_plan.proofs.KeepLaws.{iskept-found, iskept-keeps, keeps-list, kept-found, kept-known, kept-still}
-
-abbrev pub PairKeeps : ℕ → Pair → Type 0
-PairKeeps next pair = Keeps next pair.0 pair.1
+use Rattle.content_plan.proofs.KeepLaws.{PairKeeps, keeps-list, kept-found, kept-known, kept-still}
+use Rattle.content_plan.proofs.PathLaws.{subs-found}
 
 -- what was planned for the data and for the subnodes
 pub record Parts (next after : ℕ) (node : NodeRec) (keep : List (Option Bid)) (sub_keep : Keep) (content subs : Bid) (front back : List (Bid × List ℕ)) : Type 0 where
@@ -127,6 +125,22 @@ parts-put next after nid node keep sub_keep content subs front back blocks keys 
       names = λ find found.
           let all : Each (IsFound find) (front ++ back) = subst (λ (l : List (Bid × List ℕ)). Each (IsFound find) l) joined (each-from_all (IsFound find) blocks found) in
           p.names find (all_from-each (IsFound find) front (each-left (IsFound find) front back all));
+      subs = record {
+        front = front;
+        back = back;
+        parts = joined;
+        holds = record {
+          rise = subst (λ (n : ℕ). Rise n back) behind p.sub_rise;
+          laid = subst (λ (n : ℕ). AreAmong n back sub_keep node.subs) behind p.sub_among;
+          reads = p.sub_reads;
+          reaches = λ find found key.
+              let one = p.sub_reaches find found key in
+              let a = count-append key (keys_of (kept_in sub_keep node.subs)) (keys_of (bids_in back)) in
+              let b = count-append key (all_kept_keys sub_keep) (keys_of (bids_in back)) in
+              let c = kept-subs key next sub_keep node.subs p.long p.sub_keeps in
+              omega (arith, one, a, b, c);
+        };
+      };
     }
 
 -- ---- over what was there
@@ -151,25 +165,16 @@ sub-still find after (own ∷ keep) (f ∷ flats) same still found = (
   sub-still find after keep flats (omega (arith, same)) (λ key b some is. still key b (let sum = count-append key (kept_keys own) (all_kept_keys keep) in omega (arith, some, sum)) is) found.1,
 )
 
-all-kept : (find : ℕ → Option (List ℕ)) (next : ℕ) (ids : Keep) (flats : List Flat) (pairs : List Pair) → SubsFound find ids flats → Each (IsKept next ids (map (λ (f : Flat). f.blocks) flats)) pairs → Each (PairFound find) pairs
-all-kept find next ids flats [] found are = tt
-all-kept find next ids flats (pair ∷ pairs) found are = (iskept-found find next ids flats pair found are.0, all-kept find next ids flats pairs found are.1)
-
-pub all-keep : (next : ℕ) (ids : Keep) (was : List (List (List ℕ))) (pairs : List Pair) → Each (IsKept next ids was) pairs → Each (PairKeeps next) pairs
-all-keep next ids was [] are = tt
-all-keep next ids was (pair ∷ pairs) are = (iskept-keeps next ids was pair are.0, all-keep next ids was pairs are.1)
-
 pub put-over : (limit next : ℕ) (nid : Nid) (node : NodeRec) (old : Content) (keep : List (Option Bid)) (sub_keep : Keep) (entry : NodeEntry) (blocks : List (Bid × List ℕ)) (keys : List ℕ)
-    → keep ≡ kept_list limit old.ids old.blocks node.blocks → length sub_keep ≡ length node.subs → All (IsKept limit old.sub_ids (map (λ (f : Flat). f.blocks) old.subs)) (paired sub_keep node.subs)
+    → keep ≡ kept_list limit old.ids old.blocks node.blocks → length sub_keep ≡ length node.subs → Each (PairKeeps limit) (paired sub_keep node.subs) → (subs_ascend old.subs ≡ true → sub_keep ≡ kept_subs limit old.sub_ids old.subs node.subs)
     → PutsNode next nid node keep sub_keep entry blocks keys → PutsOver limit next nid node old entry blocks keys
-put-over limit next nid node old keep sub_keep entry blocks keys is same kept p =
-    let was : List (List (List ℕ)) = map (λ (f : Flat). f.blocks) old.subs in
+put-over limit next nid node old keep sub_keep entry blocks keys is same sub_keeps exact p =
     let pairs = paired sub_keep node.subs in
-    let each = each-from_all (IsKept limit old.sub_ids was) pairs kept in
     let keeps : Keeps limit keep node.blocks = subst (λ (k : List (Option Bid)). Keeps limit k node.blocks) (sym is) (keeps-list limit old.ids old.blocks node.blocks) in
-    let sub_keeps = all-keep limit old.sub_ids was pairs each in
     let own_found : (find : ℕ → Option (List ℕ)) → IsOld find old → AreFound find keep node.blocks = λ find there.
     subst (λ (k : List (Option Bid)). AreFound find k node.blocks) (sym is) (kept-found find limit [] old.ids old.blocks node.blocks there.data_found) in
+    let sub_found : (find : ℕ → Option (List ℕ)) → IsOld find old → Each (PairFound find) pairs = λ find there.
+    subst (λ (k : Keep). Each (PairFound find) (paired k node.subs)) (sym (exact there.subs_rise)) (subs-found find limit old.sub_ids old.subs node.subs (each-from_all (PairFound find) (paired old.sub_ids old.subs) there.subs_found)) in
     record {
       own = p.own;
       rise = p.rise;
@@ -180,16 +185,16 @@ put-over limit next nid node old keep sub_keep entry blocks keys is same kept p 
           elim (cases_lt 0 (count_of key (kept_keys keep))) [
             | inl here ↦ inl (kept-known find keep node.blocks key keeps.short (own_found find there) (omega (arith, here)))
             | inr none ↦ elim (cases_lt 0 (count_of key (all_kept_keys sub_keep))) [
-              | inl here ↦ inl (sub-known find limit key sub_keep node.subs same sub_keeps (all-kept find limit old.sub_ids old.subs pairs there.subs_found each) (omega (arith, here)))
+              | inl here ↦ inl (sub-known find limit key sub_keep node.subs same sub_keeps (sub_found find there) (omega (arith, here)))
               | inr nothing ↦ inr (omega (arith, some, sum, none, nothing))
             ]
           ];
       leads = λ find after eof there found still bounds.
           p.leads after eof found (kept-still find after keep node.blocks (λ key b some is_there. still key b (let sum = p.counted key in omega (arith, sum, some)) is_there) (own_found find there))
-          (all_from-each (PairFound after) pairs (sub-still find after sub_keep node.subs same (λ key b some is_there. still key b (let sum = p.counted key in omega (arith, sum, some)) is_there)
-          (all-kept find limit old.sub_ids old.subs pairs there.subs_found each))) bounds;
+          (all_from-each (PairFound after) pairs (sub-still find after sub_keep node.subs same (λ key b some is_there. still key b (let sum = p.counted key in omega (arith, sum, some)) is_there) (sub_found find there))) bounds;
       reaches = p.reaches;
       names = λ after found. p.names after found ∙ ap (λ (k : List (Option Bid)). Ok (bids_in (placed next k node.blocks))) is;
+      subs = λ find there. subst (λ (k : Keep). EndsInSubs next k node.subs entry.subnodes blocks) (exact there.subs_rise) p.subs;
     }
 
 -- what holds of an answer, from what holds of it

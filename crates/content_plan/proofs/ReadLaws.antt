@@ -20,6 +20,7 @@ use Rattle.subnode_tree.specs.Subnodes.{branch, branch_with, level_of, rows, sub
 use Rattle.subnode_tree.proofs.NamedLaws.{sub-bids-name}
 use Rattle.subnode_tree.proofs.PairLaws.{Keep}
 use Rattle.tree_edit.specs.Edits.{entry_with}
+use Rattle.content_plan.proofs.OrderLaws.{read-ascend}
 use Rattle.content_plan.specs.Told.{Content, IsOld, content_at, content_read, keys_read, or_none}
 
 -- ---- subnodes that are read have ids
@@ -194,7 +195,7 @@ content-old find eof e c is =
     let four = then-ok (subs_of find eof e.subnodes) (λ subs. Ok (record { ids = map Some one.0; blocks = two.0; sub_ids = three.0; subs = subs })) c three.2 in
     let made : Content = record { ids = map Some one.0; blocks = two.0; sub_ids = three.0; subs = four.0 } in
     let same : made ≡ c = let last = four.2 in cc in
-    subst (λ (x : Content). IsOld find x) same (record { data_found = (bids-name find eof e.content one.0 two.0 one.1 two.1).0; subs_found = (sub-bids-name find eof e.subnodes three.0 four.0 three.1 four.1).0 })
+    subst (λ (x : Content). IsOld find x) same (record { data_found = (bids-name find eof e.content one.0 two.0 one.1 two.1).0; subs_found = (sub-bids-name find eof e.subnodes three.0 four.0 three.1 four.1).0; subs_rise = read-ascend find eof e.subnodes four.0 four.1 })
 
 -- the entry of a node leads to it
 pub led-entry : (find : ℕ → Option (List ℕ)) (eof k : ℕ) (es : List NodeEntry) (e : NodeEntry) → EachLeads find eof es → entry_with node_id k es ≡ Some e → (n : Node) × (node_at find eof e ≡ Ok n)

@@ -1,5 +1,5 @@
 -- What a world tells of a file's blocks and entries, and what is read of a node that is there.
-use Rattle.std.specs.Prelude.{◌≡◌, ℕ, List, [], map, ◌++◌, Option, None, Some, Result, Ok, Err}
+use Rattle.std.specs.Prelude.{◌≡◌, ℕ, true, List, [], map, ◌++◌, Option, None, Some, Result, Ok, Err}
 use Rattle.pst_base.specs.declared.ids.Bid.{Bid}
 use Rattle.pst_base.specs.Flat.{Flat}
 use Rattle.pst_outside.specs.World.{World}
@@ -24,6 +24,7 @@ use Rattle.node_reach.specs.Reach.{node_keys}
 use Rattle.node_store.specs.declared.node.PageCaches.{PageCaches}
 use Rattle.node_store.specs.Told.{TellsBlocks}
 use Rattle.content_plan.specs.declared.content.Old.{Old}
+use Rattle.content_plan.specs.Keep.{subs_ascend}
 
 -- the block tree of a file
 abbrev pub blocks_tree : Header → FileTree
@@ -89,7 +90,8 @@ abbrev pub content_at : (ℕ → Option (List ℕ)) → ℕ → Option NodeEntry
 content_at find eof None = no_content
 content_at find eof (Some e) = or_none (content_read find eof e)
 
--- under each id stand the bytes at its position
+-- under each id stand the bytes at its position, and subnodes beside each other ascend
 pub record IsOld (find : ℕ → Option (List ℕ)) (old : Content) : Type 0 where
   pub data_found : AreFound find old.ids old.blocks
   pub subs_found : SubsFound find old.sub_ids old.subs
+  pub subs_rise : subs_ascend old.subs ≡ true

@@ -1,4 +1,4 @@
-use Rattle.std.proofs.Common.{◌≡◌, ◌++◌, ◌∷◌, [], ℕ, List, length, get_or, ap, sym, subst, ◌∙◌, arith}
+use Rattle.std.proofs.Common.{◌≡◌, ◌++◌, List, length, get_or, ap, sym, subst, ◌∙◌, arith}
 use Rattle.pst_base.specs.declared.subs.Sub.{Sub}
 use Rattle.pst_base.specs.Flat.{Flat}
 use Rattle.pst_base.specs.Subs.{flattened}
@@ -6,7 +6,8 @@ use Rattle.data_tree.proofs.PieceLaws.{all_from-each, each-from_all}
 use Rattle.subnode_tree.specs.Plan.{IsForm, paired}
 use Rattle.subnode_tree.proofs.FormLaws.{fewer-inner, form-inner}
 use Rattle.subnode_tree.proofs.PairLaws.{Keep}
-use Rattle.content_plan.proofs.MatchLaws.{PairKeeps, level-next, level-start, level-whole, one-is}
+use Rattle.content_plan.proofs.KeepLaws.{PairKeeps}
+use Rattle.content_plan.proofs.MatchLaws.{level-next, level-start, level-whole, one-is}
 use Rattle.content_plan.proofs.matching.+keep_level.Goals as goal
 
 pub keep_level-requires : goal.keep_level-requires

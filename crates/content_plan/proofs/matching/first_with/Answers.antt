@@ -1,4 +1,4 @@
-use Rattle.content_plan.proofs.MatchLaws.{none-first, other-first, there-first, there-none}
+use Rattle.content_plan.proofs.MatchLaws.{other-first, there-first, there-none}
 use Rattle.content_plan.proofs.matching.first_with.Goals as goal
 
 pub returns-then-sub-nid : goal.returns-then-sub-nid

@@ -1,5 +1,4 @@
-use Rattle.std.proofs.Common.{arith}
-use Rattle.content_plan.proofs.MatchLaws.{begins-none, begins-with, passes-next, passes-start}
+use Rattle.content_plan.proofs.MatchLaws.{begins-with, passes-next, passes-start}
 use Rattle.content_plan.proofs.matching.from_id.Goals as goal
 
 pub loop-sub-init : goal.loop-sub-init

@@ -8,7 +8,8 @@ use Rattle.subnode_tree.specs.Plan.{paired}
 use Rattle.subnode_tree.proofs.PairLaws.{all-may}
 use Rattle.content_plan.specs.Keep.{all_kept_keys}
 use Rattle.content_plan.proofs.FitLaws.{subs-may}
-use Rattle.content_plan.proofs.PutLaws.{PairKeeps, Parts, parts-put}
+use Rattle.content_plan.proofs.KeepLaws.{PairKeeps}
+use Rattle.content_plan.proofs.PutLaws.{Parts, parts-put}
 use Rattle.content_plan.proofs.put.put_keep.Goals as goal
 
 pub plan_subs_keep-requires-clause-may : goal.plan_subs_keep-requires-clause-may
