@@ -1,6 +1,5 @@
 -- One node that is put.
-use Rattle.std.proofs.Common.{true, ◌≡◌, inl, inr, ℕ, ◌+◌, ◌*◌, ◌%◌, ◌≤◌, List, [], ◌∷◌, ◌++◌, length, drop, map, Option, Some, IsSome, Result, Ok, Err, IfOk, refl, sym, ap, subst, ◌∙◌, arith, length-append}
-use Rattle.std.specs.List.{All}
+use Rattle.std.proofs.Common.{true, ◌≡◌, inl, inr, ℕ, ◌+◌, ◌*◌, ◌%◌, ◌≤◌, List, [], ◌∷◌, ◌++◌, length, drop, Option, Some, IsSome, Result, Ok, Err, IfOk, refl, sym, ap, subst, ◌∙◌, arith, length-append}
 use Rattle.std.proofs.lemmas.Bool.{cases_lt}
 use Rattle.pst_base.specs.declared.ids.Bid.{Bid}
 use Rattle.pst_base.specs.declared.ids.Nid.{Nid}
@@ -19,7 +18,7 @@ use Rattle.node_port.specs.declared.node.NodeRec.{NodeRec}
 use Rattle.node_port.specs.Stops.{subs_size}
 use Rattle.node_reach.specs.Reach.{node_keys}
 use Rattle.subnode_tree.specs.Keys.{sub_keys}
-use Rattle.subnode_tree.specs.Plan.{AreAmong, SubsFound, SubsReach, SubsReadKept, data_in, first_list, kept_in, paired, unkept_in}
+use Rattle.subnode_tree.specs.Plan.{AreAmong, SubsReach, SubsReadKept, data_in, first_list, kept_in, paired, unkept_in}
 use Rattle.subnode_tree.proofs.PairLaws.{Keep, Pair, may-above}
 use Rattle.subnode_tree.proofs.SubPlanLaws.{PairAmong, PairFound}
 use Rattle.content_plan.specs.Keep.{Keeps, all_kept_keys, kept_list, kept_subs, subs_ascend}
