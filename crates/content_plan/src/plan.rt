@@ -66,7 +66,7 @@ impl ContentPlan {
 
 /// Plans the contents of changed nodes, which ascend strictly by id, with new blocks from the number `next` on, a multiple of 4 from 4 to 2^62. It writes nothing.
 ///
-/// New blocks have the next ids in the order of the changes: of each node its data, then that of its subnodes ([MS-PST] 2.2.2.8.3). A data block stays where its bytes and its position stay, once in a data tree.
+/// New blocks have the next ids in the order of the changes: of each node its data, then that of its subnodes ([MS-PST] 2.2.2.8.3). A data block stays where its bytes and its position in its node or subnode stay, once in a data tree. A subnode is the one that was there where its id and those of all subnodes above it are the same.
 ///
 /// `Fault` and `Changed` come as of `read_node`. `Memory` comes for want of memory, and also where a content hasn't the form of a node, or the numbers would pass 2^62.
 pub fn plan_contents<W: Outside>(
