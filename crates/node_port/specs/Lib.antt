@@ -1,3 +1,4 @@
 pub mod Nodes
+pub mod Pins
 pub mod Slots
 pub mod Stops

@@ -9,10 +9,15 @@ use Rattle.node_port.specs.declared.keeper.KeepStop.{KeepStop}
 use Rattle.node_port.specs.declared.keeper.KeepStop.TheVariants as keep
 use Rattle.node_port.specs.declared.keeper.PrepareStop.{PrepareStop}
 use Rattle.node_port.specs.declared.keeper.PrepareStop.TheVariants as prepare
+use Rattle.node_port.specs.Pins.{Pins, no_pins}
 
 -- whatever nodes are held, this is so of them
 abbrev pub Tells : (Nodes → Type 0) → (Nodes → Type 0) → Type 0
 Tells held P = (N : Nodes) → held N → P N
+
+-- where nodes are held, what each pin told it tells still
+abbrev pub KeepsPins : (Nodes → Type 0) → (ℕ → Nodes → Type 0) → (ℕ → Nodes → Type 0) → Type 0
+KeepsPins held pinned pinned' = (N : Nodes) → held N → (p : ℕ) (M : Nodes) → pinned p M → pinned' p M
 
 -- a fault comes only of a reader that has a disk, and shows in the count of the disk's; what was found changed never comes where nodes are told
 abbrev pub KeepStops : Bool → ℕ → ℕ → (Nodes → Type 0) → KeepStop → Type 0
@@ -28,16 +33,24 @@ PrepareStops disk before after held prepare.Memory = Unit {0}
 PrepareStops disk before after held (prepare.Full free need) = Unit {0}
 PrepareStops disk before after held prepare.IdsSpent = Unit {0}
 
--- the free cells, the pages of the file's trees, whether a next number is used up, and the header that was found at the opening
+-- the free cells, the pages of the file's trees, whether a next number is used up, the header that was found at the opening, and the pins
 pub record Room : Type 0 where
   pub free : ℕ
   pub pages : ℕ
   pub spent : Bool
   pub found : List ℕ
+  pub pins : Pins
+
+-- but for the pins both rooms are the same
+pub record SameSpace (old new : Room) : Type 0 where
+  pub free : new.free ≡ old.free
+  pub pages : new.pages ≡ old.pages
+  pub spent : new.spent ≡ old.spent
+  pub found : new.found ≡ old.found
 
 -- more than any change needs
 abbrev pub ample : Room
-ample = record { free = 2 ^ 64; pages = 0; spent = false; found = [] }
+ample = record { free = 2 ^ 64; pages = 0; spent = false; found = []; pins = no_pins }
 
 -- how many subnodes there are, and how many data blocks in them
 abbrev pub subs_size : List Flat → ℕ

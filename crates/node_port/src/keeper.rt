@@ -5,7 +5,8 @@ ghost use Rattle.pst_outside.specs.World.{Image, World, SameDisk};
 ghost use Rattle.pst_outside.specs.Calls.{NeverFall, Rose, Untouched, Settled, LeavesOnly};
 ghost use Rattle.node_port.specs.declared.node.NodeRec.{NodeRec as Rec};
 ghost use Rattle.node_port.specs.Nodes.{Nodes, ascend, changed, content_of, IsNext, node_at};
-ghost use Rattle.node_port.specs.Stops.{KeepStops, PrepareStops, Room, RoomDecides, Tells};
+ghost use Rattle.node_port.specs.Pins.{Pins};
+ghost use Rattle.node_port.specs.Stops.{KeepStops, KeepsPins, PrepareStops, Room, RoomDecides, Tells};
 
 use crate::node::{Changes, Counts, NodeRec};
 use pst_base::{Nid, Subs};
@@ -71,6 +72,9 @@ pub trait NodeReader<W: Outside> {
     /// What room there is for more.
     ghost room: { Self → Room };
 
+    /// What a pin of this number tells over a world: the nodes that were told when it was made.
+    ghost pinned: { Self → World → ℕ → Nodes → Type 0 };
+
     /// Whether the nodes stand on a disk, which can fail.
     ghost has_disk: { Bool };
 
@@ -79,6 +83,7 @@ pub trait NodeReader<W: Outside> {
         ensures node { IfOk result (λ node. Tells (holds self.old (W.view w.old)) (λ N. node ≡ node_at N nid.bits)) }
         ensures stops { IfErr result (KeepStops has_disk (W.view w.old).disk_faults (W.view w.new).disk_faults (holds self.old (W.view w.old))) }
         ensures stays { Tells (holds self.old (W.view w.old)) (holds self.new (W.view w.new)) }
+        ensures pinned { KeepsPins (holds self.old (W.view w.old)) (pinned self.old (W.view w.old)) (pinned self.new (W.view w.new)) }
         ensures last { last self.new ≡ last self.old }
         ensures room { room self.new ≡ room self.old }
         ensures untouched { Untouched (W.view w.old) (W.view w.new) };
@@ -88,6 +93,7 @@ pub trait NodeReader<W: Outside> {
         ensures next { IfOk result (λ next. Tells (holds self.old (W.view w.old)) (λ N. IsNext N nid next)) }
         ensures stops { IfErr result (KeepStops has_disk (W.view w.old).disk_faults (W.view w.new).disk_faults (holds self.old (W.view w.old))) }
         ensures stays { Tells (holds self.old (W.view w.old)) (holds self.new (W.view w.new)) }
+        ensures pinned { KeepsPins (holds self.old (W.view w.old)) (pinned self.old (W.view w.old)) (pinned self.new (W.view w.new)) }
         ensures last { last self.new ≡ last self.old }
         ensures room { room self.new ≡ room self.old }
         ensures untouched { Untouched (W.view w.old) (W.view w.new) };
@@ -102,6 +108,7 @@ pub trait NodeReader<W: Outside> {
         ensures node { IfOk result (λ node. Tells (holds self.old (W.view w.old)) (λ N. node ≡ content_of (node_at N nid.bits))) }
         ensures stops { IfErr result (KeepStops has_disk (W.view w.old).disk_faults (W.view w.new).disk_faults (holds self.old (W.view w.old))) }
         ensures stays { Tells (holds self.old (W.view w.old)) (holds self.new (W.view w.new)) }
+        ensures pinned { KeepsPins (holds self.old (W.view w.old)) (pinned self.old (W.view w.old)) (pinned self.new (W.view w.new)) }
         ensures last { last self.new ≡ last self.old }
         ensures room { room self.new ≡ room self.old }
         ensures untouched { Untouched (W.view w.old) (W.view w.new) }
@@ -118,6 +125,8 @@ pub trait NodeReader<W: Outside> {
 
     // What it holds depends on what the world tells of the disk alone, and without a disk on nothing of the world.
     ghost holds_on: { (k : Self) (v w : W) → (has_disk ≡ true → (W.view w).tells × SameDisk (W.view v).here (W.view w).here) → (N : Nodes) → holds k (W.view v) N → holds k (W.view w) N };
+
+    ghost pinned_on: { (k : Self) (v w : W) → (has_disk ≡ true → (W.view w).tells × SameDisk (W.view v).here (W.view w).here) → (p : ℕ) (N : Nodes) → pinned k (W.view v) p N → pinned k (W.view w) p N };
 }
 
 /// What keeps nodes. A change is made in two steps: `prepare` finds whether it can be made, and takes what it needs; `apply` makes it. A plan may be given up: then nothing has changed.
@@ -134,8 +143,8 @@ pub trait Keeper<W: Outside>: NodeReader<W> {
     /// The disk is as a commit needs it at its start.
     ghost rests: { Image → Type 0 };
 
-    /// What `apply` does to the disk, where it succeeds.
-    ghost applied: { Image → Image → Type 0 };
+    /// What `apply` does to the disk beside these pins, where it succeeds.
+    ghost applied: { Pins → Image → Image → Type 0 };
 
     /// What room the disk has.
     ghost measures: { Image → Room → Type 0 };
@@ -162,6 +171,7 @@ pub trait Keeper<W: Outside>: NodeReader<W> {
         ensures full { Tells (Self.holds self.old (W.view w.old)) (λ N. RoomDecides (Self.room self.old) changes.room changes.nodes.items result) }
         ensures stops { IfErr result (PrepareStops Self.has_disk (W.view w.old).disk_faults (W.view w.new).disk_faults (Self.holds self.old (W.view w.old))) }
         ensures stays { Tells (Self.holds self.old (W.view w.old)) (Self.holds self.new (W.view w.new)) }
+        ensures pinned { KeepsPins (Self.holds self.old (W.view w.old)) (Self.pinned self.old (W.view w.old)) (Self.pinned self.new (W.view w.new)) }
         ensures last { Self.last self.new ≡ Self.last self.old }
         ensures room { Self.room self.new ≡ Self.room self.old }
         ensures untouched { Untouched (W.view w.old) (W.view w.new) };
@@ -173,7 +183,10 @@ pub trait Keeper<W: Outside>: NodeReader<W> {
             → (N : Nodes) → Self.holds self.old (W.view w.old) N → Self.holds self.new (W.view w.new) (changed N cs)) }
         ensures last { OnOk result ((last : List ℕ) (cs : List (Id × Option Rec)) → fits self.old (W.view w.old) ready last cs → Self.last self.new ≡ last) }
         ensures found { (Self.room self.new).found ≡ (Self.room self.old).found }
-        ensures applied { OnOk result ((N : Nodes) → Self.holds self.old (W.view w.old) N → ((W.view w.old).tells → rests (W.view w.old).here) → (W.view w.new).tells → applied (W.view w.old).here (W.view w.new).here) }
+        ensures pins { (Self.room self.new).pins ≡ (Self.room self.old).pins }
+        ensures pinned { OnOk result (((W.view w.old).tells → rests (W.view w.old).here) → (Self.has_disk ≡ true → (W.view w.new).tells)
+            → KeepsPins (Self.holds self.old (W.view w.old)) (Self.pinned self.old (W.view w.old)) (Self.pinned self.new (W.view w.new))) }
+        ensures applied { OnOk result ((N : Nodes) → Self.holds self.old (W.view w.old) N → ((W.view w.old).tells → rests (W.view w.old).here) → (W.view w.new).tells → applied (Self.room self.old).pins (W.view w.old).here (W.view w.new).here) }
         // Nothing is pending after it, and the disk is as the next commit needs it.
         ensures rests { Settled (W.view w.old) → ((W.view w.old).tells → rests (W.view w.old).here) → OnOk result (Settled (W.view w.new) × ((W.view w.new).tells → rests (W.view w.new).here)) }
         // A crash at any moment leaves the nodes from before or those after.
@@ -209,6 +222,8 @@ pub trait Saver<W: Outside>: Keeper<W> {
     /// Saves what is known beside the nodes. Nodes, counters and room stay. It fails only where the disk failed; then nothing is said of the keeper. A plan of an earlier `prepare` can't be applied any more. Takes no memory.
     fn save(&mut self, w: &mut W) -> Result<(), Failed>
         ensures same { OnOk result (((W.view w.old).tells → Self.rests (W.view w.old).here) → (Self.has_disk ≡ true → (W.view w.new).tells) → (N : Nodes) → Self.holds self.old (W.view w.old) N → Self.holds self.new (W.view w.new) N) }
+        ensures pinned { OnOk result (((W.view w.old).tells → Self.rests (W.view w.old).here) → (Self.has_disk ≡ true → (W.view w.new).tells)
+            → KeepsPins (Self.holds self.old (W.view w.old)) (Self.pinned self.old (W.view w.old)) (Self.pinned self.new (W.view w.new))) }
         ensures last { Self.last self.new ≡ Self.last self.old }
         ensures room { Self.room self.new ≡ Self.room self.old }
         ensures saved { OnOk result ((N : Nodes) → Self.holds self.old (W.view w.old) N → ((W.view w.old).tells → Self.rests (W.view w.old).here) → (W.view w.new).tells → saved (W.view w.old).here (W.view w.new).here) }

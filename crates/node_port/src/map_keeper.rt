@@ -49,9 +49,13 @@ impl<W: Outside> NodeReader<W> for MapKeeper {
 
     ghost room = { λ k. ample };
 
+    ghost pinned = { λ k v p N. ⊥ };
+
     ghost has_disk = { false };
 
     ghost holds_on = { λ k v w same N held. held };
+
+    ghost pinned_on = { λ k v w same p N is. is };
 
     fn get(&mut self, alloc: Global, _w: &mut W, nid: Nid) -> Result<Option<NodeRec>, KeepStop> {
         match find(&self.nodes, nid.bits) {
@@ -85,7 +89,7 @@ impl<W: Outside> Keeper<W> for MapKeeper {
 
     ghost rests = { λ image. Unit {0} };
 
-    ghost applied = { λ old new. new ≡ old };
+    ghost applied = { λ pins old new. new ≡ old };
 
     ghost measures = { λ image room. room ≡ ample };
 
