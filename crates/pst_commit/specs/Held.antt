@@ -1,5 +1,6 @@
 -- Trees of a file that are held beside those that its header names: what an earlier header named, while commits go on.
-use Rattle.std.specs.Prelude.{◌≡◌, ◌<◌, ◌*◌, ◌||◌, ℕ, Bool, List, length}
+use Rattle.std.specs.Prelude.{◌≡◌, ◌==◌, ◌*◌, ◌||◌, if◌then◌else◌, ℕ, Bool, List, [], ◌∷◌, map, length, Option, None, Some}
+use Rattle.std.specs.Option.{option_map}
 use Rattle.std.specs.List.{All, list_any}
 use Rattle.pst_base.specs.declared.ids.Bref.{Bref}
 use Rattle.pst_header.specs.declared.header.Header.{Header}
@@ -8,6 +9,7 @@ use Rattle.alloc_map.specs.Standing.{occupied, IsCovered}
 use Rattle.file_layout.specs.Nodes.{NodeMap, Lays, places_of}
 use Rattle.node_port.specs.Nodes.{Nodes}
 use Rattle.lays_kept.specs.Stands.{AreThose}
+use Rattle.pst_commit.specs.declared.store.Pin.{Pin}
 
 -- the header with other roots of both trees
 abbrev pub rooted : Header → Bref → Bref → Header
@@ -25,11 +27,40 @@ pub record HoldsTrees (header : Header) (file : List ℕ) (nbt bbt : Bref) (used
 abbrev pub KeepsTrees : Header → Header → List ℕ → List ℕ → List Bool → Type 0
 KeepsTrees old new file other used = (nbt bbt : Bref) (N : Nodes) → HoldsTrees old file nbt bbt used N → HoldsTrees new other nbt bbt used N
 
--- the slot is one that is held
-abbrev pub is_held : List (List Bool) → ℕ → Bool
-is_held held slot = list_any (λ used. is_used used slot) held
+-- the slot is one that a pin holds
+abbrev pub is_held : List (ℕ × List Bool) → ℕ → Bool
+is_held opened slot = list_any (λ (pin : ℕ × List Bool). is_used pin.1 slot) opened
 
--- just the slots are used that the file uses or that are held
-pub record IsWithHeld (used : List Bool) (held : List (List Bool)) (all : List Bool) : Type 0 where
+-- just the slots are used that the file uses or that a pin holds
+pub record IsWithHeld (used : List Bool) (opened : List (ℕ × List Bool)) (all : List Bool) : Type 0 where
   pub size : length all ≡ length used
-  pub either : (slot : ℕ) → is_used all slot ≡ (is_used used slot || is_held held slot)
+  pub either : (slot : ℕ) → is_used all slot ≡ (is_used used slot || is_held opened slot)
+
+-- ---- pins of a file
+
+-- the pins as a keeper tells them: the number of each, and the slots that it holds
+abbrev pub opened_of : List (Pin × List Bool) → List (ℕ × List Bool)
+opened_of held = map (λ (pin : Pin × List Bool). (pin.0.number, pin.1)) held
+
+-- the pin of a number, with its slots
+abbrev pub held_at : ℕ → List (Pin × List Bool) → Option (Pin × List Bool)
+held_at p [] = None
+held_at p (pin ∷ held) = if pin.0.number == p then Some pin else held_at p held
+
+-- the pin of a number
+abbrev pub pin_at : ℕ → List (Pin × List Bool) → Option Pin
+pin_at p held = option_map (λ (pin : Pin × List Bool). pin.0) (held_at p held)
+
+-- the pins without that of a number
+abbrev pub held_without : ℕ → List (Pin × List Bool) → List (Pin × List Bool)
+held_without p [] = []
+held_without p (pin ∷ held) = if pin.0.number == p then held else pin ∷ held_without p held
+
+-- the trees of a pin that may be there stand in a file with a header
+abbrev pub StandsAt : Header → List ℕ → Option (Pin × List Bool) → Nodes → Type 0
+StandsAt header file None N = ⊥
+StandsAt header file (Some pin) N = HoldsTrees header file pin.0.nbt pin.0.bbt pin.1 N
+
+-- the trees of each pin that stand in the one file stand in the other
+abbrev pub KeepsEach : Header → Header → List ℕ → List ℕ → List (Pin × List Bool) → Type 0
+KeepsEach old new file other held = All (λ (pin : Pin × List Bool). KeepsTrees old new file other pin.1) held

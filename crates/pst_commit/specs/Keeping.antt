@@ -14,12 +14,15 @@ use Rattle.file_layout.specs.Nodes.{NodeMap, Lays, places_of, regions_to}
 use Rattle.file_layout.specs.Numbers.{is_spent}
 use Rattle.node_port.specs.declared.node.NodeRec.{NodeRec}
 use Rattle.node_port.specs.Nodes.{Nodes, changed}
+use Rattle.node_port.specs.Pins.{Pins}
 use Rattle.node_port.specs.Stops.{Room}
 use Rattle.lays_kept.specs.declared.Piece.{Piece}
 use Rattle.lays_kept.specs.Kept.{HoldsEach, Scattered}
 use Rattle.lays_kept.specs.Saved.{region_end, SameTrees, HasMaps}
-use Rattle.lays_kept.specs.Stands.{IsPlan, Stands}
+use Rattle.lays_kept.specs.Stands.{AreThose, IsPlan, Stands}
+use Rattle.pst_commit.specs.declared.store.Pin.{Pin}
 use Rattle.pst_commit.specs.Commit.{bytes_in}
+use Rattle.pst_commit.specs.Held.{IsWithHeld, KeepsEach}
 
 -- ---- what is held
 
@@ -35,11 +38,13 @@ Holds knows found header world N = world.tells × Keeps knows found header world
 
 -- ---- what room there is
 
--- Just the slots of these trees' pages, of their blocks and of all fixed pages are used, among those of the most regions that a file may have. So many cells are free, so many pages the trees have, and so it is whether a next number is used up.
-pub record IsMeasured (header : Header) (blocks nodes : Found) (used : List Bool) (cells : ℕ × ℕ × Bool) : Type 0 where
+-- Just the slots of these trees' pages, of their blocks and of all fixed pages are used, among those of the most regions that a file may have. So many cells are free beside these and what pins hold, so many pages the trees have, and so it is whether a next number is used up.
+pub record IsMeasured (header : Header) (blocks nodes : Found) (used : List Bool) (opened : List (ℕ × List Bool)) (cells : ℕ × ℕ × Bool) : Type 0 where
   pub size : length used ≡ 3968 * 8192
   pub covered : IsCovered (occupied (places_of blocks nodes) 8192) used
-  pub free : cells.0 ≡ free_cells_of used
+  pub all : List Bool
+  pub with_held : IsWithHeld used opened all
+  pub free : cells.0 ≡ free_cells_of all
   pub pages : cells.1 ≡ length blocks.pages + length nodes.pages
   pub spent : cells.2 ≡ is_spent header blocks nodes
 
@@ -50,36 +55,48 @@ pub record HasRoom (image : Image) (room : Room) : Type 0 where
   pub m : NodeMap
   pub lays : Lays header (file_of image) m
   pub used : List Bool
-  pub measured : IsMeasured header lays.blocks lays.nodes used (room.free, room.pages, room.spent)
+  pub measured : IsMeasured header lays.blocks lays.nodes used room.pins.opened (room.free, room.pages, room.spent)
 
--- what room there is, in a file that had this header when it was opened
-abbrev pub room_with : ℕ × ℕ × Bool → List ℕ → Room
-room_with cells found = record { free = cells.0; pages = cells.1; spent = cells.2; found = found }
+-- what room there is, in a file that had this header when it was opened, beside these pins
+abbrev pub room_with : ℕ × ℕ × Bool → List ℕ → Pins → Room
+room_with cells found pins = record { free = cells.0; pages = cells.1; spent = cells.2; found = found; pins = pins }
 
 -- What is known of files with a header is right: it has the used slots and the room of each that lays nodes.
-pub record IsKnowledge (knows : Header → List ℕ → Type 0) (used : List Bool) (cells : ℕ × ℕ × Bool) : Type 0 where
-  pub measured : (header : Header) (file : List ℕ) (m : NodeMap) (is : Lays header file m) → knows header file → IsMeasured header is.blocks is.nodes used cells
+pub record IsKnowledge (knows : Header → List ℕ → Type 0) (used : List Bool) (opened : List (ℕ × List Bool)) (cells : ℕ × ℕ × Bool) : Type 0 where
+  pub measured : (header : Header) (file : List ℕ) (m : NodeMap) (is : Lays header file m) → knows header file → IsMeasured header is.blocks is.nodes used opened cells
 
--- A call that only looks: what was known of the file that is held is known still, the used slots and the room are the same, and the world is untouched.
-pub record LooksOn (knows knows' : Header → List ℕ → Type 0) (header : Header) (used used' : List Bool) (cells cells' : ℕ × ℕ × Bool) (old new : World) : Type 0 where
-  pub known : (found : List ℕ) (N : Nodes) → Holds knows found header old N → knows' header (file_of old.here)
+-- A world tells a file that lays nodes under this header, of which something is known under a header that ends it at the same byte: this one, or this one with other roots.
+pub record ReadsAs (knows : Header → List ℕ → Type 0) (header : Header) (world : World) (N : Nodes) : Type 0 where
+  pub told : world.tells
+  pub present : Header
+  pub known : knows present (file_of world.here)
+  pub end : header.eof ≡ present.eof
+  pub m : NodeMap
+  pub lays : Lays header (file_of world.here) m
+  pub those : AreThose m N
+
+-- A call that only looks under this header: where it lays nodes, what was known of the file under any that ends it at the same byte is known still; the used slots, what is held and the room are the same, and the world is untouched.
+pub record LooksOn (knows knows' : Header → List ℕ → Type 0) (header : Header) (used used' : List Bool) (held held' : List (Pin × List Bool)) (cells cells' : ℕ × ℕ × Bool) (old new : World) : Type 0 where
+  pub known : (m : NodeMap) → old.tells → Lays header (file_of old.here) m → (present : Header) → header.eof ≡ present.eof → knows present (file_of old.here) → knows' present (file_of old.here)
   pub slots : used' ≡ used
+  pub pins : held' ≡ held
   pub room : cells' ≡ cells
   pub world : Untouched old new
 
 -- ---- a plan
 
--- A plan for a file of these nodes: it can be committed, its header is this one, it comes to the changed nodes and the header's counters, it makes of the file what is said of plans, and its pieces have as many bytes as is said.
-pub record Comes (knows : Header → List ℕ → Type 0) (becomes : List ℕ → List ℕ → Type 0) (costs : List ℕ → Header → List (Nid × Option NodeRec) → ℕ → Type 0) (found bytes : List ℕ) (pieces : List Piece) (sealed : List ℕ) (header : Header) (cs : List (Nid × Option NodeRec)) (N : Nodes) (last : List ℕ) : Type 0 where
-  pub plan : IsPlan found bytes pieces sealed N last (changed N cs) header.indexes
+-- A plan for a file of these nodes: it can be committed, its header is this one, it comes to the changed nodes and the header's counters, it makes of the file what is said of plans, the trees of each pin stay, and its pieces have as many bytes as is said.
+pub record Comes (knows : Header → List ℕ → Type 0) (becomes : List ℕ → List ℕ → Type 0) (costs : List ℕ → Header → List (Nid × Option NodeRec) → ℕ → Type 0) (held : List (Pin × List Bool)) (found : List ℕ) (old : Header) (bytes : List ℕ) (pieces : List Piece) (sealed : List ℕ) (header : Header) (cs : List (Nid × Option NodeRec)) (N : Nodes) : Type 0 where
+  pub plan : IsPlan found bytes pieces sealed N old.indexes (changed N cs) header.indexes
   pub read : reading sealed ≡ Ok header
   pub known : (mid : List ℕ) → Scattered pieces bytes mid → HoldsEach mid pieces → knows header (sealed ++ drop 564 mid)
   pub made : (mid : List ℕ) → Scattered pieces bytes mid → HoldsEach mid pieces → becomes bytes (sealed ++ drop 564 mid)
+  pub keeps : (mid : List ℕ) → Scattered pieces bytes mid → HoldsEach mid pieces → KeepsEach old header bytes (sealed ++ drop 564 mid) held
   pub cost : costs bytes header cs (bytes_in pieces)
 
 -- whatever nodes a world's file stands for under the old header, the plan is one for it; `before` is known of the file, and `after` will be
-abbrev pub PlansFor : (before after : Header → List ℕ → Type 0) → (List ℕ → List ℕ → Type 0) → (List ℕ → Header → List (Nid × Option NodeRec) → ℕ → Type 0) → List ℕ → Header → World → List Piece → List ℕ → Header → List (Nid × Option NodeRec) → Type 0
-PlansFor before after becomes costs found old world pieces sealed header cs = (N : Nodes) → Holds before found old world N → Comes after becomes costs found (file_of world.here) pieces sealed header cs N old.indexes
+abbrev pub PlansFor : (before after : Header → List ℕ → Type 0) → (List ℕ → List ℕ → Type 0) → (List ℕ → Header → List (Nid × Option NodeRec) → ℕ → Type 0) → List (Pin × List Bool) → List ℕ → Header → World → List Piece → List ℕ → Header → List (Nid × Option NodeRec) → Type 0
+PlansFor before after becomes costs held found old world pieces sealed header cs = (N : Nodes) → Holds before found old world N → Comes after becomes costs held found old (file_of world.here) pieces sealed header cs N
 
 -- ---- a save
 

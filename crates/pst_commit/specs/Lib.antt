@@ -1,3 +1,4 @@
 pub mod Commit
+pub mod Held
 pub mod Keeping
 pub mod Laws
