@@ -76,7 +76,7 @@ module _ (eof n : ℕ) (regions : n ≡ regions_to eof) where
   clear_amaps zero le = tt
   clear_amaps (suc r) le = (clear_byte eof (region_end n) (start_of (3968 * r)) 512 (λ lt. inl (omega (arith, le))), clear_amaps r (omega (arith, le)))
 
-  clear_places : (ps : List Place) → Each (IsPlace eof) ps → Each (λ p. IsClear (last_byte eof (region_end n)) p.ib p.len) ps
+  pub clear_places : (ps : List Place) → Each (IsPlace eof) ps → Each (λ p. IsClear (last_byte eof (region_end n)) p.ib p.len) ps
   clear_places [] places = tt
   clear_places (p ∷ ps) places = (clear_byte eof (region_end n) p.ib p.len (λ lt. inl (let before = (places.0).before in omega (arith, before, lt))), clear_places ps places.1)
 

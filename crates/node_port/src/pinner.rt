@@ -52,12 +52,7 @@ pub trait Pinner<W: Outside>: Keeper<W> {
         ensures untouched { Untouched (W.view w.old) (W.view w.new) };
 
     /// The least id of a node above this one as a pin tells them, or the least of all for `None`; `None` where there is none. The pin is open. It stops as `get`.
-    fn next_at(
-        &mut self,
-        w: &mut W,
-        p: u32,
-        nid: Option<Nid>,
-    ) -> Result<Option<Nid>, KeepStop>
+    fn next_at(&mut self, w: &mut W, p: u32, nid: Option<Nid>) -> Result<Option<Nid>, KeepStop>
         requires is_open { has_pin p (Self.room self.old).pins ≡ true }
         ensures next { IfOk result (λ next. Tells (Self.holds self.old (W.view w.old)) (λ N. Tells (Self.pinned self.old (W.view w.old) p) (λ M. IsNext M nid next))) }
         ensures stops { IfErr result (KeepStops Self.has_disk (W.view w.old).disk_faults (W.view w.new).disk_faults (λ N. Self.holds self.old (W.view w.old) N × (M : Nodes) × Self.pinned self.old (W.view w.old) p M)) }

@@ -1,8 +1,8 @@
 -- Map pages that are written one after another.
-use Rattle.std.proofs.Common.{◌≡◌, ◌∙◌, ◌⊎◌, inl, inr, ℕ, Bool, zero, suc, ◌+◌, ◌*◌, ◌<◌, ◌≤◌, List, length, take, drop, replicate, refl, sym, ap, subst, arith, ⊎_elim, length-drop}
+use Rattle.std.proofs.Common.{◌≡◌, ◌∙◌, ◌⊎◌, inl, inr, ℕ, Bool, zero, suc, ◌+◌, ◌*◌, ◌<◌, ◌≤◌, List, length, take, drop, sym, ap, subst, arith, ⊎_elim, length-drop}
 use Rattle.std.proofs.lemmas.Bool.{cases_eq}
 use Rattle.std.proofs.lemmas.List.{length-take, length-replicate}
-use Rattle.pst_outside.specs.World.{Image, Torn, TornAt, after_write}
+use Rattle.pst_outside.specs.World.{Image, TornAt, after_write}
 use Rattle.pst_outside.specs.declared.outside.Part.TheVariants.{Main}
 use Rattle.pst_outside.proofs.Bytes.{torn_span, after_write_torn, after_write_span}
 use Rattle.alloc_map.specs.Slots.{start_of}

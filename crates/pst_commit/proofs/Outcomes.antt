@@ -1,7 +1,6 @@
 -- What a stop leaves within the writing of bytes and the commit of a header over them.
-use Rattle.std.proofs.Common.{◌≡◌, ◌∙◌, ◌⊎◌, inl, inr, ℕ, ◌≤◌, List, ◌++◌, length, drop, sym, ap, subst, arith, ⊎_elim}
-use Rattle.pst_outside.specs.World.{Image, World, SameBut}
-use Rattle.pst_outside.specs.declared.outside.Part.TheVariants.{Main}
+use Rattle.std.proofs.Common.{◌≡◌, ◌∙◌, ◌⊎◌, inl, inr, ℕ, ◌≤◌, List, ◌++◌, length, drop, sym, subst, arith, ⊎_elim}
+use Rattle.pst_outside.specs.World.{Image, World}
 use Rattle.pst_outside.specs.Calls.{LeavesOnly}
 use Rattle.pst_outside.proofs.Moments.{weaker, continues}
 use Rattle.gate_file.specs.Gate.{IsShut, IsClosed, UnderEither, IsCommitted, SameStore}

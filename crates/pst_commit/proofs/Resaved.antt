@@ -1,5 +1,5 @@
 -- A keeper of a file before and after a save.
-use Rattle.std.proofs.Common.{Bool, ◌≡◌, ◌∙◌, ℕ, ◌*◌, ◌≤◌, min, List, length, take, Ok, refl, sym, ap, subst, arith}
+use Rattle.std.proofs.Common.{Bool, ◌≡◌, ◌∙◌, ℕ, ◌*◌, ◌≤◌, min, List, length, Ok, sym, ap, subst, arith}
 use Rattle.pst_outside.specs.World.{Image, World}
 use Rattle.pst_outside.proofs.Moments.{continues}
 use Rattle.pst_header.specs.declared.header.Header.{Header}
@@ -7,13 +7,13 @@ use Rattle.gate_file.specs.Gate.{IsShut}
 use Rattle.file_blocks.specs.Blocks.{file_of}
 use Rattle.file_layout.specs.Nodes.{regions_to, LARGEST}
 use Rattle.node_port.specs.Nodes.{Nodes}
-use Rattle.lays_kept.specs.Saved.{region_end, SameTrees, LaysSame, UsesJust, HasMaps}
+use Rattle.lays_kept.specs.Saved.{region_end, SameTrees, UsesJust, HasMaps}
 use Rattle.lays_kept.specs.Stands.{Stands}
 use Rattle.pst_commit.specs.Commit.{LeavesNodes}
 use Rattle.pst_commit.specs.Keeping.{CanSave, Holds, IsKnowledge, IsSaved, Keeps, Rests}
 
 -- what is known tells the used slots
-pub uses_just : {knows : Header → List ℕ → Type 0} {used : List Bool} {cells : ℕ × ℕ × Bool} → IsKnowledge knows used cells → (header : Header) (file : List ℕ) → knows header file → UsesJust header file used
+pub uses_just : {knows : Header → List ℕ → Type 0} {used : List Bool} {opened : List (ℕ × List Bool)} {cells : ℕ × ℕ × Bool} → IsKnowledge knows used opened cells → (header : Header) (file : List ℕ) → knows header file → UsesJust header file used
 uses_just right header file known m is = let all = right.measured header file m is known in (all.size, all.covered)
 
 -- of a file that isn't too large all regions are counted
@@ -21,9 +21,9 @@ all_regions : (eof most regions len : ℕ) → regions ≡ min most (regions_to 
 all_regions eof most regions len is size whole small = omega (arith, is, size, whole, small)
 
 -- from what is held behind a shut gate a save can go on
-pub can_save : {knows : Header → List ℕ → Type 0} {used : List Bool} {cells : ℕ × ℕ × Bool} {found : List ℕ} {header : Header} {world : World} {N : Nodes} → IsKnowledge knows used cells → Holds knows found header world N → (world.tells → IsShut world.here.side)
+pub can_save : {knows : Header → List ℕ → Type 0} {used : List Bool} {opened : List (ℕ × List Bool)} {cells : ℕ × ℕ × Bool} {found : List ℕ} {header : Header} {world : World} {N : Nodes} → IsKnowledge knows used opened cells → Holds knows found header world N → (world.tells → IsShut world.here.side)
     → (slots : List Bool) (most regions end : ℕ) → slots ≡ used → length slots ≡ 3968 * most → regions ≡ min most (regions_to header.eof) → end ≡ region_end regions → CanSave found header end world N
-can_save {knows} {used} {cells} {found} {header} {world} {N} right held shut slots most regions end are size count reach =
+can_save {knows} {used} {opened} {cells} {found} {header} {world} {N} right held shut slots most regions end are size count reach =
     let file = held.1.stands.file in
     let just = uses_just right file.header (file_of world.here) (subst (λ h. knows h (file_of world.here)) (sym held.1.own) held.1.known) file.m file.lays in
     let small : header.eof ≤ LARGEST = subst (λ (h : Header). h.eof ≤ LARGEST) held.1.own file.lays.small_enough in

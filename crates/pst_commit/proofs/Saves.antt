@@ -1,5 +1,5 @@
 -- The two commits of a save.
-use Rattle.std.proofs.Common.{Bool, true, false, not, ◌≡◌, ◌∙◌, ◌⊎◌, inl, inr, ℕ, ◌+◌, ◌-◌, ◌*◌, ◌<◌, ◌≤◌, ltb, if◌then◌else◌, List, [], ◌∷◌, ◌++◌, length, take, drop, Ok, refl, sym, ap, subst, arith}
+use Rattle.std.proofs.Common.{Bool, not, ◌≡◌, ◌∙◌, ◌⊎◌, inl, inr, ℕ, ◌+◌, ◌-◌, ◌*◌, ◌<◌, ◌≤◌, if◌then◌else◌, List, [], ◌∷◌, ◌++◌, length, take, drop, Ok, refl, sym, ap, subst, arith}
 use Rattle.std.specs.Prelude.{count_by}
 use Rattle.std.proofs.lemmas.Bool.{lt-ltb}
 use Rattle.std.proofs.lemmas.List.{take_at}
@@ -13,18 +13,18 @@ use Rattle.alloc_map.specs.Standing.{occupied, IsCovered}
 use Rattle.pst_header.specs.declared.header.Header.{Header}
 use Rattle.pst_header.specs.Format.{reading}
 use Rattle.gate_file.specs.Effective.{effective}
-use Rattle.gate_file.specs.Gate.{IsShut}
 use Rattle.file_blocks.specs.Blocks.{file_of}
 use Rattle.file_layout.specs.Nodes.{places_of, regions_to}
 use Rattle.node_port.specs.Nodes.{Nodes}
-use Rattle.lays_kept.specs.declared.Piece.{Piece}
 use Rattle.lays_kept.specs.Kept.{Each, SameAt, HoldsEach, Scattered}
 use Rattle.lays_kept.specs.Saved.{region_end, SameTrees, map_pieces, HoldsMaps, last_byte, LaysSame, UsesJust, HasMaps}
 use Rattle.lays_kept.specs.Stands.{FileStands, Stands, Commits, last_map}
 use Rattle.lays_kept.proofs.Gates.{shut_file}
 use Rattle.lays_kept.proofs.Saving.{Follows, IsUnmapped, same_regions, unmapped_commits, unmapped_lays, mapped_commits, mapped_lays, mapped_maps}
 use Rattle.pst_commit.specs.Commit.{IsApplied, LeavesNodes, Writes}
+use Rattle.pst_commit.specs.Held.{LeavesTrees}
 use Rattle.pst_commit.specs.Keeping.{Rests}
+use Rattle.pst_commit.proofs.HeldLaws.{mapped_trees, unmapped_trees}
 use Rattle.pst_commit.proofs.Outcomes.{shut_stands, main_stands}
 use Rattle.pst_commit.proofs.Holding.{same_header}
 
@@ -52,6 +52,7 @@ byte_writes eof end at n {old} {new} lt place one torn =
 pub record Replaces (found : List ℕ) (header next : Header) (sealed : List ℕ) (old : Image) (has after : List ℕ → Type 0) (N : Nodes) : Type 0 where
   pub commits : Commits found has after sealed N header.indexes N next.indexes
   pub lays : (mid : List ℕ) → has mid → after mid → LaysSame header next old.main (sealed ++ drop 564 mid)
+  pub trees : (mid : List ℕ) → has mid → after mid → LeavesTrees header next old.main (sealed ++ drop 564 mid)
 
 -- the header that counts, of a file whose gate is shut
 own_main : {found : List ℕ} {header : Header} {old : Image} {N : Nodes} (rests : Rests found header old N) → (main_stands rests.shut rests.stands).header ≡ header
@@ -82,6 +83,12 @@ lays_next {found} {header} {next} {sealed} {old} {new} {has} {after} {N} rests r
     subst (λ f. LaysSame header next f (file_of new)) (sym (shut_file old.main old.side rests.shut))
     (now_so (λ f. LaysSame header next old.main f) is (replaces.lays is.mid is.file.0 is.file.1))
 
+pub trees_next : {found : List ℕ} {header next : Header} {sealed : List ℕ} {old new : Image} {has after : List ℕ → Type 0} {N : Nodes} → Rests found header old N → Replaces found header next sealed old has after N
+    → IsApplied (λ file. has file × after file) sealed old new → LeavesTrees header next (file_of old) (file_of new)
+trees_next {found} {header} {next} {sealed} {old} {new} {has} {after} {N} rests replaces is =
+    subst (λ f. LeavesTrees header next f (file_of new)) (sym (shut_file old.main old.side rests.shut))
+    (now_so (λ f. LeavesTrees header next old.main f) is (replaces.trees is.mid is.file.0 is.file.1))
+
 -- the end of the last region stays
 pub end_stays : (eof end later : ℕ) → end ≡ region_end (regions_to eof) → later ≡ end → end ≡ region_end (regions_to later)
 end_stays eof end later regions same =
@@ -106,6 +113,7 @@ module _ {found : List ℕ} {header next : Header} {sealed : List ℕ} {end : �
       (record {
         commits = subst (λ (h : Header). Commits found (Scattered (last_byte h.eof (region_end n)) old.main) (λ file. HoldsEach file (last_byte h.eof (region_end n))) sealed N header.indexes N next.indexes) own commits;
         lays = subst (λ (h : Header). (mid : List ℕ) → Scattered (last_byte h.eof (region_end n)) old.main mid → HoldsEach mid (last_byte h.eof (region_end n)) → LaysSame h next old.main (sealed ++ drop 564 mid)) own laid;
+        trees = λ mid writes holds. unmapped_trees header next sealed old.main mid n refl size (eof ∙ regions) writes holds;
       })
 
 -- ---- the second
@@ -144,6 +152,7 @@ module _ (found : List ℕ) (header next : Header) (sealed : List ℕ) (n : ℕ)
     commits = mapped_commits main_is next sealed used n ready follows valid same_eof free ends;
     lays = subst (λ (h : Header). (mid : List ℕ) → Scattered (map_pieces n) old.main mid → HoldsMaps used n mid → LaysSame h next old.main (sealed ++ drop 564 mid)) own
         (mapped_lays main_is next sealed used n ready follows valid same_eof free ends);
+    trees = λ mid writes holds. mapped_trees header next sealed old.main mid n (same_count n (regions_to header.eof) regions) size end eof writes;
   }
 
   pub maps_hold : (mid : List ℕ) → Scattered (map_pieces n) old.main mid → HoldsMaps used n mid → HasMaps next (sealed ++ drop 564 mid)

@@ -1,8 +1,7 @@
 -- Pieces that are written one after another.
-use Rattle.std.proofs.Common.{◌≡◌, ◌∙◌, ◌⊎◌, inl, inr, ℕ, zero, suc, ◌+◌, ◌<◌, ◌≤◌, List, [], ◌∷◌, ◌++◌, length, take, drop, get_or, refl, sym, ap, subst, arith, ⊎_elim, length-append, length-drop}
-use Rattle.std.proofs.lemmas.List.{get_or-take, length-take, take_more, take-append-drop}
-use Rattle.std.proofs.lemmas.Bool.{cases_eq}
-use Rattle.pst_outside.specs.World.{Image, World, Torn, TornAt, after_write}
+use Rattle.std.proofs.Common.{◌≡◌, ◌∙◌, ◌⊎◌, ℕ, zero, suc, ◌+◌, ◌<◌, ◌≤◌, List, [], ◌∷◌, ◌++◌, length, take, drop, get_or, refl, sym, ap, subst, arith}
+use Rattle.std.proofs.lemmas.List.{take_more}
+use Rattle.pst_outside.specs.World.{Image, Torn, TornAt, after_write}
 use Rattle.pst_outside.specs.Calls.{raised}
 use Rattle.pst_outside.specs.declared.outside.Part.TheVariants.{Main}
 use Rattle.pst_outside.proofs.Bytes.{torn_span, after_write_torn, after_write_span, length-after_write}

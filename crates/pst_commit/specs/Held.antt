@@ -1,7 +1,7 @@
 -- Trees of a file that are held beside those that its header names: what an earlier header named, while commits go on.
 use Rattle.std.specs.Prelude.{◌≡◌, ◌==◌, ◌*◌, ◌||◌, if◌then◌else◌, ℕ, Bool, List, [], ◌∷◌, map, length, Option, None, Some}
 use Rattle.std.specs.Option.{option_map}
-use Rattle.std.specs.List.{All, list_any}
+use Rattle.std.specs.List.{list_any}
 use Rattle.pst_base.specs.declared.ids.Bref.{Bref}
 use Rattle.pst_header.specs.declared.header.Header.{Header}
 use Rattle.alloc_map.specs.Slots.{is_used}
@@ -36,6 +36,10 @@ pub record IsWithHeld (used : List Bool) (opened : List (ℕ × List Bool)) (all
   pub size : length all ≡ length used
   pub either : (slot : ℕ) → is_used all slot ≡ (is_used used slot || is_held opened slot)
 
+-- all trees that stand in the one file stand in the other
+abbrev pub LeavesTrees : Header → Header → List ℕ → List ℕ → Type 0
+LeavesTrees old new file other = (used : List Bool) → KeepsTrees old new file other used
+
 -- ---- pins of a file
 
 -- the pins as a keeper tells them: the number of each, and the slots that it holds
@@ -63,4 +67,5 @@ StandsAt header file (Some pin) N = HoldsTrees header file pin.0.nbt pin.0.bbt p
 
 -- the trees of each pin that stand in the one file stand in the other
 abbrev pub KeepsEach : Header → Header → List ℕ → List ℕ → List (Pin × List Bool) → Type 0
-KeepsEach old new file other held = All (λ (pin : Pin × List Bool). KeepsTrees old new file other pin.1) held
+KeepsEach old new file other [] = Unit {0}
+KeepsEach old new file other (pin ∷ held) = KeepsTrees old new file other pin.1 × KeepsEach old new file other held

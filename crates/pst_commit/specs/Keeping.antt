@@ -22,7 +22,7 @@ use Rattle.lays_kept.specs.Saved.{region_end, SameTrees, HasMaps}
 use Rattle.lays_kept.specs.Stands.{AreThose, IsPlan, Stands}
 use Rattle.pst_commit.specs.declared.store.Pin.{Pin}
 use Rattle.pst_commit.specs.Commit.{bytes_in}
-use Rattle.pst_commit.specs.Held.{IsWithHeld, KeepsEach}
+use Rattle.pst_commit.specs.Held.{IsWithHeld, KeepsEach, StandsAt, held_at, opened_of}
 
 -- ---- what is held
 
@@ -35,6 +35,14 @@ pub record Keeps (knows : Header → List ℕ → Type 0) (found : List ℕ) (he
 -- the same of a world that tells
 abbrev pub Holds : (Header → List ℕ → Type 0) → List ℕ → Header → World → Nodes → Type 0
 Holds knows found header world N = world.tells × Keeps knows found header world.here N
+
+-- a pin that is kept tells nodes: its trees stand in the file of a world that tells
+abbrev pub Pinned : List (Pin × List Bool) → Header → World → ℕ → Nodes → Type 0
+Pinned held header world p N = world.tells × StandsAt header (file_of world.here) (held_at p held) N
+
+-- the pins as a keeper tells them
+abbrev pub pins_of : ℕ → List (Pin × List Bool) → Pins
+pins_of given held = record { given = given; opened = opened_of held }
 
 -- ---- what room there is
 

@@ -1,13 +1,16 @@
 -- What a keeper of a file holds and stands for depends on the two files alone.
-use Rattle.std.specs.Prelude.{◌≡◌, ◌≤◌, ℕ, Bool, List, length, take, Ok}
-use Rattle.std.proofs.Common.{sym, subst, ap, ◌∙◌}
+use Rattle.std.specs.Prelude.{◌≡◌, ◌≤◌, ℕ, Bool, List, length}
+use Rattle.std.proofs.Common.{sym, subst}
 use Rattle.pst_outside.specs.World.{Image, World, SameDisk}
 use Rattle.pst_header.specs.declared.header.Header.{Header}
 use Rattle.gate_file.specs.Effective.{effective}
 use Rattle.gate_file.specs.Gate.{IsShut}
 use Rattle.node_port.specs.Nodes.{Nodes}
 use Rattle.lays_kept.specs.Stands.{FileStands, Stands}
-use Rattle.pst_commit.specs.Keeping.{Keeps, Holds, HasRoom, IsKnowledge, IsMeasured, room_with}
+use Rattle.node_port.specs.Pins.{Pins}
+use Rattle.pst_commit.specs.declared.store.Pin.{Pin}
+use Rattle.pst_commit.specs.Held.{StandsAt, held_at}
+use Rattle.pst_commit.specs.Keeping.{Keeps, Holds, HasRoom, IsKnowledge, Pinned, room_with}
 
 -- a shut gate stays shut
 pub shut_on : (c d : Image) → SameDisk c d → IsShut c.side → IsShut d.side
@@ -42,9 +45,16 @@ stands_on found c d same N last is = record {
   file = subst (λ f. FileStands found f N last) (λ j. effective (sym same.main j) (sym same.side j)) is.file;
 }
 
+-- what a pin tells of an image it tells whatever was said
+pub pinned_still : (held : List (Pin × List Bool)) (header : Header) (v w : World) → w.tells × SameDisk v.here w.here → (p : ℕ) (N : Nodes) → Pinned held header v p N → Pinned held header w p N
+pinned_still held header v w same p N is = (
+  same.0,
+  subst (λ f. StandsAt header f (held_at p held) N) (sym (λ i. effective (same.1.main i) (same.1.side i))) is.1,
+)
+
 -- the room of what is held is that of the disk
-pub held_measures : (knows : Header → List ℕ → Type 0) (used : List Bool) (cells : ℕ × ℕ × Bool) → IsKnowledge knows used cells → (found : List ℕ) (header : Header) (v : World) (N : Nodes) → Holds knows found header v N → HasRoom v.here (room_with cells found)
-held_measures knows used cells right found header v N held =
+pub held_measures : (knows : Header → List ℕ → Type 0) (used : List Bool) (pins : Pins) (cells : ℕ × ℕ × Bool) → IsKnowledge knows used pins.opened cells → (found : List ℕ) (header : Header) (v : World) (N : Nodes) → Holds knows found header v N → HasRoom v.here (room_with cells found pins)
+held_measures knows used pins cells right found header v N held =
     let is = held.1.stands.file in
     record {
       header = is.header;

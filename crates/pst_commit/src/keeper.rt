@@ -10,29 +10,34 @@ use pst_header::Header;
 use pst_outside::{Failed, Outside};
 use std::alloc::Global;
 
-/// A keeper of the nodes of a file: what reads them and plans changes, the header that counts, and the header that counted when the file was opened, as bytes.
+/// A keeper of the nodes of a file: what reads them and plans changes, the header that counts, the header that counted when the file was opened, as bytes, and how many pins were numbered.
 #[derive(Drop)]
 pub struct FileKeeper<S> {
     pub store: S,
     pub header: Header,
     pub found: [u8; 564],
+    pub given: u32,
     pub ghost writable: { IsWritable header },
 }
 
 impl<W: Outside, S: NodeStore<W>> NodeReader<W> for FileKeeper<S> {
     ghost use Rattle.std.specs.Prelude.{true};
-    ghost use Rattle.pst_commit.specs.Keeping.{Holds, room_with};
-    ghost use Rattle.pst_commit.specs.Laws.{holds_still};
+    ghost use Rattle.pst_commit.specs.Keeping.{Holds, Pinned, pins_of, room_with};
+    ghost use Rattle.pst_commit.specs.Laws.{holds_still, pinned_still};
 
     ghost holds = { λ k v. Holds (S.knows k.store) k.found k.header v };
 
     ghost last = { λ k. k.header.indexes };
 
-    ghost room = { λ k. room_with (S.cells k.store) k.found };
+    ghost room = { λ k. room_with (S.cells k.store) k.found (pins_of k.given (S.held k.store)) };
+
+    ghost pinned = { λ k v p N. Pinned (S.held k.store) k.header v p N };
 
     ghost has_disk = { true };
 
     ghost holds_on = { λ k v w same N held. holds_still (S.knows k.store) k.found k.header (W.view v) (W.view w) N (same (λ i. true)) held };
+
+    ghost pinned_on = { λ k v w same p N is. pinned_still (S.held k.store) k.header (W.view v) (W.view w) (same (λ i. true)) p N is };
 
     fn get(&mut self, alloc: Global, w: &mut W, nid: Nid) -> Result<Option<NodeRec>, KeepStop> {
         self.store.node(alloc, w, &self.header, nid)
@@ -60,16 +65,17 @@ impl<W: Outside, S: NodeStore<W>> Keeper<W> for FileKeeper<S> {
     ghost use Rattle.gate_file.specs.Gate.{IsShut};
     ghost use Rattle.lays_kept.specs.Stands.{Stands};
     ghost use Rattle.pst_commit.specs.Commit.{bytes_in};
-    ghost use Rattle.pst_commit.specs.Keeping.{HasRoom, PlansFor};
+    ghost use Rattle.pst_commit.specs.Held.{opened_of};
+    ghost use Rattle.pst_commit.specs.Keeping.{HasRoom, PlansFor, pins_of};
     ghost use Rattle.pst_commit.specs.Laws.{held_measures, shut_on, stands_on};
 
-    ghost fits = { λ k v ready last cs. (ready.header.indexes ≡ last) × PlansFor (S.knows k.store) (S.knows_after k.store ready.adopts) S.becomes S.costs k.found k.header v ready.pieces.items ready.sealed ready.header cs };
+    ghost fits = { λ k v ready last cs. (ready.header.indexes ≡ last) × PlansFor (S.knows k.store) (S.knows_after k.store ready.adopts) (S.becomes (opened_of (S.held k.store))) S.costs (S.held k.store) k.found k.header v ready.pieces.items ready.sealed ready.header cs };
 
     ghost stands = { Stands };
 
     ghost rests = { λ image. IsShut image.side };
 
-    ghost applied = { λ old new. S.becomes (file_of old) (file_of new) };
+    ghost applied = { λ pins old new. S.becomes pins.opened (file_of old) (file_of new) };
 
     ghost measures = { HasRoom };
 
@@ -77,7 +83,7 @@ impl<W: Outside, S: NodeStore<W>> Keeper<W> for FileKeeper<S> {
 
     ghost held_stands = { λ k w N held. held.1.stands };
 
-    ghost held_measures = { λ k w N held. held_measures (S.knows k.store) (S.used k.store) (S.cells k.store) (S.known_right k.store) k.found k.header (W.view w) N held };
+    ghost held_measures = { λ k w N held. held_measures (S.knows k.store) (S.used k.store) (pins_of k.given (S.held k.store)) (S.cells k.store) (S.known_right k.store) k.found k.header (W.view w) N held };
 
     ghost stands_on = { λ found c d same N last is. stands_on found c d same N last is };
 

@@ -11,6 +11,7 @@ ghost use Rattle.lays_kept.specs.Kept.{HoldsEach, Scattered};
 ghost use Rattle.lays_kept.specs.Saved.{HasMaps, HoldsMaps, LaysSame, SameTrees, UsesJust, last_byte, map_pieces, region_end};
 ghost use Rattle.lays_kept.specs.Stands.{last_map};
 ghost use Rattle.pst_commit.specs.Commit.{LeavesNodes, Writes};
+ghost use Rattle.pst_commit.specs.Held.{LeavesTrees};
 ghost use Rattle.pst_commit.specs.Keeping.{CanSave};
 
 use alloc_map::Slots;
@@ -117,7 +118,7 @@ fn put_unmapped<W: Outside>(w: &mut W, header: &Header, end: u64) -> Result<Head
     ensures trees { IfOk result (SameTrees header.now) }
     ensures maps { IfOk result (λ next. next.maps ≡ 0) }
     ensures eof { IfOk result (λ next. next.eof ≡ end) }
-    ensures keeps { (found : List ℕ) (N : Nodes) → CanSave found header.now end (W.view w.old) N → IfOk result (λ next. CanSave found next end (W.view w.new) N × ((W.view w.new).tells → LaysSame header.now next (file_of (W.view w.old).here) (file_of (W.view w.new).here))) }
+    ensures keeps { (found : List ℕ) (N : Nodes) → CanSave found header.now end (W.view w.old) N → IfOk result (λ next. CanSave found next end (W.view w.new) N × ((W.view w.new).tells → LaysSame header.now next (file_of (W.view w.old).here) (file_of (W.view w.new).here) × LeavesTrees header.now next (file_of (W.view w.old).here) (file_of (W.view w.new).here))) }
     // A crash at any moment leaves the same nodes.
     ensures any_moment { Settled (W.view w.old) → (found : List ℕ) (N : Nodes) → CanSave found header.now end (W.view w.old) N → LeavesNodes (W.view w.old) (W.view w.new) found N header.now.indexes }
 {
@@ -142,7 +143,7 @@ pub(crate) fn unmap<W: Outside>(w: &mut W, header: &Header, end: u64) -> Result<
     ensures trees { IfOk result (SameTrees header.now) }
     ensures maps { IfOk result (λ next. next.maps ≡ 0) }
     ensures eof { IfOk result (λ next. next.eof ≡ end) }
-    ensures keeps { (found : List ℕ) (N : Nodes) → CanSave found header.now end (W.view w.old) N → IfOk result (λ next. CanSave found next end (W.view w.new) N × ((W.view w.new).tells → LaysSame header.now next (file_of (W.view w.old).here) (file_of (W.view w.new).here))) }
+    ensures keeps { (found : List ℕ) (N : Nodes) → CanSave found header.now end (W.view w.old) N → IfOk result (λ next. CanSave found next end (W.view w.new) N × ((W.view w.new).tells → LaysSame header.now next (file_of (W.view w.old).here) (file_of (W.view w.new).here) × LeavesTrees header.now next (file_of (W.view w.old).here) (file_of (W.view w.new).here))) }
     ensures any_moment { Settled (W.view w.old) → (found : List ℕ) (N : Nodes) → CanSave found header.now end (W.view w.old) N → LeavesNodes (W.view w.old) (W.view w.new) found N header.now.indexes }
 {
     if header.maps != 0 {
@@ -193,7 +194,7 @@ pub(crate) fn save_maps<W: Outside>(
     ensures writable { IfOk result IsWritable }
     ensures trees { IfOk result (SameTrees header.now) }
     ensures keeps { (found : List ℕ) (N : Nodes) → header.now.maps ≡ 0 → header.now.eof ≡ region_end regions → CanSave found header.now (region_end regions) (W.view w.old) N → ((W.view w.old).tells → UsesJust header.now (file_of (W.view w.old).here) slots.now)
-        → IfOk result (λ next. CanSave found next (region_end regions) (W.view w.new) N × ((W.view w.new).tells → LaysSame header.now next (file_of (W.view w.old).here) (file_of (W.view w.new).here) × HasMaps next (file_of (W.view w.new).here))) }
+        → IfOk result (λ next. CanSave found next (region_end regions) (W.view w.new) N × ((W.view w.new).tells → LaysSame header.now next (file_of (W.view w.old).here) (file_of (W.view w.new).here) × HasMaps next (file_of (W.view w.new).here) × LeavesTrees header.now next (file_of (W.view w.old).here) (file_of (W.view w.new).here))) }
     // A crash at any moment leaves the same nodes.
     ensures any_moment { Settled (W.view w.old) → (found : List ℕ) (N : Nodes) → header.now.maps ≡ 0 → header.now.eof ≡ region_end regions → CanSave found header.now (region_end regions) (W.view w.old) N → ((W.view w.old).tells → UsesJust header.now (file_of (W.view w.old).here) slots.now)
         → LeavesNodes (W.view w.old) (W.view w.new) found N header.now.indexes }

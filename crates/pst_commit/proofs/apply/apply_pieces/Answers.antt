@@ -1,4 +1,4 @@
-use Rattle.std.proofs.Common.{◌≡◌, ℕ, List}
+use Rattle.std.proofs.Common.{ℕ, List}
 use Rattle.lays_kept.specs.Kept.{HoldsEach, Scattered}
 use Rattle.pst_commit.proofs.Outcomes.{applied_now, closed_still, while_writing, while_committing, still_long}
 use Rattle.pst_commit.proofs.apply.apply_pieces.Goals as goal

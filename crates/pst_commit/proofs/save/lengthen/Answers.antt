@@ -1,4 +1,4 @@
-use Rattle.std.proofs.Common.{◌≡◌, ◌<◌, refl}
+use Rattle.std.proofs.Common.{refl}
 use Rattle.pst_outside.proofs.Moments.{weaker}
 use Rattle.lays_kept.specs.Kept.{Scattered}
 use Rattle.lays_kept.specs.Saved.{last_byte}

@@ -1,11 +1,11 @@
-use Rattle.std.proofs.Common.{◌≡◌, ◌∙◌, ℕ, List, length, refl, sym, subst, rules}
+use Rattle.std.proofs.Common.{◌≡◌, ℕ, List, length, rules}
 use Rattle.gate_file.specs.Gate.{IsShut}
 use Rattle.lays_kept.specs.Kept.{HoldsEach, Scattered}
-use Rattle.lays_kept.specs.Saved.{HasMaps, HoldsMaps, last_byte, map_pieces}
+use Rattle.lays_kept.specs.Saved.{last_byte}
 use Rattle.lays_kept.specs.Stands.{Commits}
 use Rattle.pst_commit.specs.Commit.{IsApplied}
 use Rattle.pst_commit.proofs.Outcomes.{applied_now, closed_still, leaves_nodes, while_writing, while_committing, still_long}
-use Rattle.pst_commit.proofs.Saves.{Replaces, end_stays, lays_next, maps_hold, maps_replace, now_so, rests_next, unmap_replaces}
+use Rattle.pst_commit.proofs.Saves.{Replaces, end_stays, lays_next, rests_next, trees_next, unmap_replaces}
 use Rattle.pst_commit.proofs.save.put_unmapped.Goals as goal
 
 pub returns-in_err-lengthen-clause-any_moment : goal.returns-in_err-lengthen-clause-any_moment
@@ -93,7 +93,7 @@ returns-clause-keeps g c = λ found N can.
         rests = λ t. rests_next (can.rests (back t)) (replaces (back t)) size c.write-sealed.ensures.back (applied t);
         regions = end_stays header.eof c.args.end next.eof can.regions c.without_maps-next.ensures.eof;
       },
-      λ t. lays_next (can.rests (back t)) (replaces (back t)) (applied t),
+      λ t. (lays_next (can.rests (back t)) (replaces (back t)) (applied t), trees_next (can.rests (back t)) (replaces (back t)) (applied t)),
     )
 
 pub returns-clause-shut : goal.returns-clause-shut

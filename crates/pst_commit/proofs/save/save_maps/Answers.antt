@@ -1,11 +1,11 @@
-use Rattle.std.proofs.Common.{◌≡◌, ◌∙◌, ℕ, List, length, refl, sym, subst, rules}
+use Rattle.std.proofs.Common.{◌≡◌, ◌∙◌, ℕ, List, length, rules}
 use Rattle.gate_file.specs.Gate.{IsShut}
-use Rattle.lays_kept.specs.Kept.{HoldsEach, Scattered}
+use Rattle.lays_kept.specs.Kept.{Scattered}
 use Rattle.lays_kept.specs.Saved.{HasMaps, HoldsMaps, map_pieces, region_end}
 use Rattle.lays_kept.specs.Stands.{Commits}
 use Rattle.pst_commit.specs.Commit.{IsApplied}
 use Rattle.pst_commit.proofs.Outcomes.{applied_now, closed_still, leaves_nodes, while_writing, while_committing, still_long}
-use Rattle.pst_commit.proofs.Saves.{Replaces, end_stays, lays_next, maps_hold, maps_replace, now_so, rests_next, unmap_replaces}
+use Rattle.pst_commit.proofs.Saves.{Replaces, end_stays, lays_next, maps_hold, maps_replace, now_so, rests_next, trees_next}
 use Rattle.pst_commit.proofs.save.save_maps.Goals as goal
 
 pub returns-in_err-write_maps-clause-any_moment : goal.returns-in_err-write_maps-clause-any_moment
@@ -93,7 +93,7 @@ returns-clause-keeps g c = λ found N none end can uses.
         rests = λ t. rests_next (can.rests (back t)) (replaces (back t)) size c.write-sealed.ensures.back (applied t);
         regions = end_stays header.eof (region_end c.args.regions) next.eof can.regions (c.with_maps-next.ensures.eof ∙ end);
       },
-      λ t. (lays_next (can.rests (back t)) (replaces (back t)) (applied t), now_so (HasMaps next) (applied t) (maps_hold found header next sealed c.args.regions old.here N c.args.slots.now (can.rests (back t)) can.regions none end (uses (back t)) size c.write-sealed.ensures.back c.with_maps-next.ensures.trees c.with_maps-next.ensures.maps c.with_maps-next.ensures.eof (c.with_maps-next.ensures.free ∙ c.free_bytes.ensures) c.with_maps-next.ensures.last (applied t).mid (applied t).file.0 (applied t).file.1)),
+      λ t. (lays_next (can.rests (back t)) (replaces (back t)) (applied t), now_so (HasMaps next) (applied t) (maps_hold found header next sealed c.args.regions old.here N c.args.slots.now (can.rests (back t)) can.regions none end (uses (back t)) size c.write-sealed.ensures.back c.with_maps-next.ensures.trees c.with_maps-next.ensures.maps c.with_maps-next.ensures.eof (c.with_maps-next.ensures.free ∙ c.free_bytes.ensures) c.with_maps-next.ensures.last (applied t).mid (applied t).file.0 (applied t).file.1), trees_next (can.rests (back t)) (replaces (back t)) (applied t)),
     )
 
 pub returns-clause-shut : goal.returns-clause-shut

@@ -1,5 +1,5 @@
-use Rattle.std.proofs.Common.{◌≡◌, ◌∙◌, ℕ, ◌+◌, ◌*◌, ◌≤◌, length, subst, sym, arith, rules}
-use Rattle.pst_outside.specs.World.{Image, TornAt, after_write}
+use Rattle.std.proofs.Common.{◌≡◌, ◌∙◌, ◌+◌, ◌*◌, length, subst, sym, arith, rules}
+use Rattle.pst_outside.specs.World.{Image, TornAt}
 use Rattle.pst_outside.specs.declared.outside.Part.TheVariants.{Main}
 use Rattle.pst_outside.specs.Calls.{LeavesOnly, Settled}
 use Rattle.pst_outside.proofs.Moments.{goes_on, at_end}

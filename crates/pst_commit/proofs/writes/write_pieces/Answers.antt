@@ -1,7 +1,7 @@
-use Rattle.std.proofs.Common.{◌≡◌, ◌∙◌, OnOk, ◌+◌, ◌≤◌, ◌<◌, length, take, ap, subst, sym, arith, rules}
+use Rattle.std.proofs.Common.{◌≡◌, ◌∙◌, ◌+◌, length, take, ap, subst, sym, rules}
 use Rattle.pst_outside.specs.World.{Image, TornAt, after_write}
 use Rattle.pst_outside.specs.declared.outside.Part.TheVariants.{Main}
-use Rattle.pst_outside.specs.Calls.{NeverFall, LeavesOnly, Settled}
+use Rattle.pst_outside.specs.Calls.{LeavesOnly, Settled}
 use Rattle.pst_outside.proofs.Moments.{goes_on, at_end}
 use Rattle.lays_kept.specs.Kept.{HoldsEach, Scattered}
 use Rattle.pst_commit.specs.Commit.{Writes}

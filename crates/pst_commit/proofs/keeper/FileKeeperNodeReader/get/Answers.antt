@@ -1,11 +1,15 @@
-use Rattle.pst_commit.proofs.Holding.{still_held}
+use Rattle.pst_commit.proofs.Holding.{held_reads, still_held}
+use Rattle.pst_commit.proofs.PinLaws.{err_weaker, ok_weaker, still_pinned}
 use Rattle.pst_commit.proofs.keeper.FileKeeperNodeReader.get.Goals as goal
 
 pub returns-clause-node : goal.returns-clause-node
-returns-clause-node g c = c.node.ensures.node c.args.self.now.found
+returns-clause-node g c = ok_weaker c.node.result _ _ (λ y tells N held. tells N (held_reads c.args.self.now.found N held)) c.node.ensures.node
 
 pub returns-clause-stops : goal.returns-clause-stops
-returns-clause-stops g c = c.node.ensures.stops c.args.self.now.found
+returns-clause-stops g c = err_weaker c.node.result _ _ _ _ _ (λ N held. (N, held_reads c.args.self.now.found N held)) c.node.ensures.stops
 
 pub returns-clause-stays : goal.returns-clause-stays
 returns-clause-stays g c = λ N held. still_held c.args.self.now.found N c.node.ensures.looks held
+
+pub returns-clause-pinned : goal.returns-clause-pinned
+returns-clause-pinned g c = λ N held p M is. still_pinned c.args.self.now.header c.node.ensures.looks p M is

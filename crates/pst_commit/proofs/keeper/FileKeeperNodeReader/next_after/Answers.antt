@@ -1,11 +1,15 @@
-use Rattle.pst_commit.proofs.Holding.{still_held}
+use Rattle.pst_commit.proofs.Holding.{held_reads, still_held}
+use Rattle.pst_commit.proofs.PinLaws.{err_weaker, ok_weaker, still_pinned}
 use Rattle.pst_commit.proofs.keeper.FileKeeperNodeReader.next_after.Goals as goal
 
 pub returns-clause-next : goal.returns-clause-next
-returns-clause-next g c = c.next.ensures.next c.args.self.now.found
+returns-clause-next g c = ok_weaker c.next.result _ _ (λ y tells N held. tells N (held_reads c.args.self.now.found N held)) c.next.ensures.next
 
 pub returns-clause-stops : goal.returns-clause-stops
-returns-clause-stops g c = c.next.ensures.stops c.args.self.now.found
+returns-clause-stops g c = err_weaker c.next.result _ _ _ _ _ (λ N held. (N, held_reads c.args.self.now.found N held)) c.next.ensures.stops
 
 pub returns-clause-stays : goal.returns-clause-stays
 returns-clause-stays g c = λ N held. still_held c.args.self.now.found N c.next.ensures.looks held
+
+pub returns-clause-pinned : goal.returns-clause-pinned
+returns-clause-pinned g c = λ N held p M is. still_pinned c.args.self.now.header c.next.ensures.looks p M is
