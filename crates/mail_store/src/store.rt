@@ -148,8 +148,9 @@ fn apply_change<W: Outside, K: Keeper<W>>(
     ensures any_moment { (T : Tree) (o : Coming) → Shown (K.holds keeper.old (W.view w.old)) (K.last keeper.old) T → Carries (K.fits keeper.old (W.view w.old)) T o change
         → Settled (W.view w.old) → ((W.view w.old).tells → K.rests (W.view w.old).here)
         → LeavesOnly (W.view w.old) (W.view w.new) (λ c. (c.said ≡ (W.view w.old).here.said) × (StandsFor (K.stands (K.room keeper.old).found c) T ⊎ StandsFor (K.stands (K.room keeper.old).found c) (after T o))) }
-    ensures applied { OnOk result ((T : Tree) → Shown (K.holds keeper.old (W.view w.old)) (K.last keeper.old) T → ((W.view w.old).tells → K.rests (W.view w.old).here) → (W.view w.new).tells → Alters K.applied change (W.view w.old).here (W.view w.new).here) }
+    ensures applied { OnOk result ((T : Tree) → Shown (K.holds keeper.old (W.view w.old)) (K.last keeper.old) T → ((W.view w.old).tells → K.rests (W.view w.old).here) → (W.view w.new).tells → Alters (K.applied (K.room keeper.old).pins) change (W.view w.old).here (W.view w.new).here) }
     ensures found { (K.room keeper.new).found ≡ (K.room keeper.old).found }
+    ensures pins { (K.room keeper.new).pins ≡ (K.room keeper.old).pins }
     ensures written { (W.view w.new).written ≤ (W.view w.old).written + cost_of K.cost change }
     ensures told { (W.view w.new).tells → (W.view w.old).tells }
     ensures input { (W.view w.new).tells → (W.view w.new).input ≡ (W.view w.old).input }
@@ -178,8 +179,9 @@ pub fn commit<W: Outside, K: Keeper<W>>(
     ensures any_moment { (T : Tree) (o : Coming) → Stores (K.holds store.old.keeper (W.view w.old)) (K.last store.old.keeper) store.old.known T → PlansTo (K.fits store.old.keeper (W.view w.old)) T o planned.change planned.places planned.flags.items planned.reply
         → Settled (W.view w.old) → ((W.view w.old).tells → K.rests (W.view w.old).here)
         → LeavesOnly (W.view w.old) (W.view w.new) (λ c. (c.said ≡ (W.view w.old).here.said) × (StandsFor (K.stands (K.room store.old.keeper).found c) T ⊎ StandsFor (K.stands (K.room store.old.keeper).found c) (after T o))) }
-    ensures applied { OnOk result ((T : Tree) → Stores (K.holds store.old.keeper (W.view w.old)) (K.last store.old.keeper) store.old.known T → ((W.view w.old).tells → K.rests (W.view w.old).here) → (W.view w.new).tells → Alters K.applied planned.change (W.view w.old).here (W.view w.new).here) }
+    ensures applied { OnOk result ((T : Tree) → Stores (K.holds store.old.keeper (W.view w.old)) (K.last store.old.keeper) store.old.known T → ((W.view w.old).tells → K.rests (W.view w.old).here) → (W.view w.new).tells → Alters (K.applied (K.room store.old.keeper).pins) planned.change (W.view w.old).here (W.view w.new).here) }
     ensures found { (K.room store.new.keeper).found ≡ (K.room store.old.keeper).found }
+    ensures pins { (K.room store.new.keeper).pins ≡ (K.room store.old.keeper).pins }
     ensures written { (W.view w.new).written ≤ (W.view w.old).written + cost_of K.cost planned.change }
     ensures told { (W.view w.new).tells → (W.view w.old).tells }
     ensures input { (W.view w.new).tells → (W.view w.new).input ≡ (W.view w.old).input }

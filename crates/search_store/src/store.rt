@@ -110,8 +110,9 @@ pub fn commit<W: Outside, K: Keeper<W>>(
         → o.own ≡ new_or_old X.own planned.own → o.searches ≡ new_or_old X.searches planned.searches
         → Settled (W.view w.old) → ((W.view w.old).tells → K.rests (W.view w.old).here)
         → LeavesOnly (W.view w.old) (W.view w.new) (λ c. (c.said ≡ (W.view w.old).here.said) × (StandsFor (K.stands (K.room store.old.store.keeper).found c) X.tree ⊎ StandsFor (K.stands (K.room store.old.store.keeper).found c) (after X o).tree)) }
-    ensures applied { OnOk result ((X : Searching) → StoresSearches (K.holds store.old.store.keeper (W.view w.old)) (K.last store.old.store.keeper) store.old.store.known store.old.searches X → ((W.view w.old).tells → K.rests (W.view w.old).here) → (W.view w.new).tells → Alters K.applied planned.tree.change (W.view w.old).here (W.view w.new).here) }
+    ensures applied { OnOk result ((X : Searching) → StoresSearches (K.holds store.old.store.keeper (W.view w.old)) (K.last store.old.store.keeper) store.old.store.known store.old.searches X → ((W.view w.old).tells → K.rests (W.view w.old).here) → (W.view w.new).tells → Alters (K.applied (K.room store.old.store.keeper).pins) planned.tree.change (W.view w.old).here (W.view w.new).here) }
     ensures found { (K.room store.new.store.keeper).found ≡ (K.room store.old.store.keeper).found }
+    ensures pins { (K.room store.new.store.keeper).pins ≡ (K.room store.old.store.keeper).pins }
     ensures written { (W.view w.new).written ≤ (W.view w.old).written + cost_of K.cost planned.tree.change }
     ensures told { (W.view w.new).tells → (W.view w.old).tells }
     ensures input { (W.view w.new).tells → (W.view w.new).input ≡ (W.view w.old).input }
