@@ -1,5 +1,5 @@
 -- How `run` and `new` over a file end, put together from their calls and from what they say.
-use Rattle.std.proofs.Common.{◌≡◌, ◌⊎◌, ◌∙◌, ◌++◌, ◌≤◌, ℕ, Bool, true, false, List, take, inl, inr, refl, sym, ap, subst, arith}
+use Rattle.std.proofs.Common.{◌≡◌, ◌⊎◌, ◌∙◌, ◌++◌, ◌≤◌, ℕ, Bool, true, false, List, [], take, inl, inr, refl, sym, ap, subst, arith}
 use Rattle.std.proofs.lemmas.List.{append-nil}
 use Rattle.pst_outside.specs.World.{Image, SameDisk, World}
 use Rattle.pst_outside.specs.Calls.{NeverFall, Rose, Settled, Untouched}
@@ -253,12 +253,12 @@ end_not_memory : (ib stored computed : ℕ) → ends.Changed ib stored computed 
 end_not_memory ib stored computed is = cc
 
 -- nothing changes under a session
-end_unchanged : (old new : World) (ib stored computed : ℕ) → FileRunEnds IsMade old new (ends.Changed ib stored computed) → ⊥
+end_unchanged : (old new : World) (ib stored computed : ℕ) → FileRunEnds (IsMade []) old new (ends.Changed ib stored computed) → ⊥
 end_unchanged old new ib stored computed (inl unopened) = elim unopened.ends [ inl e ↦ end_not_disk ib stored computed e | inr e ↦ end_not_memory ib stored computed e ]
 end_unchanged old new ib stored computed (inr opened) = (opened.session false opened.reads).not_changed ib stored computed refl
 
 -- a session that ended so while no device failed is done, or it is at the last line, or found no memory
-ends_calmly : (old new : World) (end : SessionEnd) (status : Status) → status ≡ status_of_end end → HasCause true old new end → FileRunEnds IsMade old new end → NoneFailed old new
+ends_calmly : (old new : World) (end : SessionEnd) (status : Status) → status ≡ status_of_end end → HasCause true old new end → FileRunEnds (IsMade []) old new end → NoneFailed old new
     → (status ≡ Done) ⊎ ((status ≡ Lines) ⊎ (status ≡ Memory))
 ends_calmly old new ends.Done status is cause runs none = inl is
 ends_calmly old new ends.Input status is cause runs none = absurd (none.input cause)

@@ -1,5 +1,5 @@
 -- How `new` and `run` over a file end.
-use Rattle.std.specs.Prelude.{◌≡◌, ◌⊎◌, ℕ, true, List, ◌++◌, take}
+use Rattle.std.specs.Prelude.{◌≡◌, ◌⊎◌, ℕ, true, List, [], ◌++◌, take}
 use Rattle.pst_outside.specs.World.{World}
 use Rattle.pst_outside.specs.Calls.{NeverFall, Rose, Settled}
 use Rattle.empty_file.specs.Empty.{HasBytes}
@@ -42,7 +42,7 @@ pub record EndsRefused (old new : World) (status : Status) : Type 0 where
 
 -- How a call of `run FILE` ends, over any world: the files were refused; or else the status has its cause, and where the world tells and nothing was pending at the start, the session over them ended as `FileRunEnds` says, each of its commits making of the file what `IsMade` says.
 abbrev pub RunEnds : World → World → Status → Type 0
-RunEnds old new status = EndsRefused old new status ⊎ ((end : SessionEnd) × (status ≡ status_of_end end) × HasCause true old new end × (Settled old → new.tells → FileRunEnds IsMade old new end))
+RunEnds old new status = EndsRefused old new status ⊎ ((end : SessionEnd) × (status ≡ status_of_end end) × HasCause true old new end × (Settled old → new.tells → FileRunEnds (IsMade []) old new end))
 
 -- no count of faults rose
 pub record NoneFailed (old new : World) : Type 0 where

@@ -3,6 +3,8 @@ ghost use Rattle.std.specs.Prelude.{◌≡◌, ◌≤◌, ◌^◌, ◌||◌, nat
 ghost use Rattle.pst_outside.specs.Calls.{Rose, Untouched};
 ghost use Rattle.file_blocks.specs.Blocks.{file_of};
 ghost use Rattle.file_scan.specs.Found.{IsFound};
+ghost use Rattle.node_port.specs.Pins.{no_pins};
+ghost use Rattle.pst_commit.specs.Keeping.{pins_of};
 ghost use Rattle.file_open.specs.Opening.{IsCalm, IsKept};
 
 use crate::header::found_header;
@@ -31,6 +33,7 @@ pub(crate) fn keep<W: Outside, S: FoundStore<W> + Drop>(
 ) -> Result<FileKeeper<S>, FileStop>
     requires { (W.view w.old).tells → IsFound (W.view w.old).here found }
     ensures kept { IfOk result (λ k. (W.view w.new).tells → IsKept (S.knows k.store) k.found k.header (W.view w.new) found) }
+    ensures no_pins { IfOk result (λ k. pins_of k.given (S.held k.store) ≡ no_pins) }
     ensures stops { IfErr result (λ stop. (W.view w.new).tells → IsCalm stop) }
     ensures fault { result ≡ Err FileStop.Fault → Rose (W.view w.old).disk_faults (W.view w.new).disk_faults }
     ensures same { Untouched (W.view w.old) (W.view w.new) }
@@ -42,5 +45,6 @@ pub(crate) fn keep<W: Outside, S: FoundStore<W> + Drop>(
         store,
         header,
         found: bytes,
+        given: 0,
     })
 }

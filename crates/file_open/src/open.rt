@@ -5,7 +5,9 @@ ghost use Rattle.gate_file.specs.Gate.{IsShut, SameStore};
 ghost use Rattle.node_port.specs.Nodes.{Nodes};
 ghost use Rattle.lays_kept.specs.Stands.{Stands};
 ghost use Rattle.mail_searches.specs.Searching.{Searching};
+ghost use Rattle.node_port.specs.Pins.{no_pins};
 ghost use Rattle.pst_commit.specs.Commit.{LeavesNodes};
+ghost use Rattle.pst_commit.specs.Keeping.{pins_of};
 ghost use Rattle.file_open.specs.Opening.{IsOpened, ReadsFresh, StopsOpening};
 
 use crate::keep::{is_spent, keep};
@@ -32,6 +34,7 @@ pub fn look_file<W: Outside, S: FoundStore<W> + Drop>(
 ) -> Result<OpenedFile<S>, FileStop>
     ensures reads { IfOk result (λ o. (W.view w.new).tells → (X : Searching) × ReadsFresh (W.view w.old).here X) }
     ensures opened { IfOk result (λ o. (W.view w.new).tells → IsOpened (S.knows o.keeper.store) o.keeper.found o.keeper.header (W.view w.old).here (W.view w.new) o.tree) }
+    ensures no_pins { IfOk result (λ o. pins_of o.keeper.given (S.held o.keeper.store) ≡ no_pins) }
     ensures refused { IfErr result (λ stop. (W.view w.new).tells → StopsOpening (W.view w.old).here stop) }
     ensures fault { result ≡ Err FileStop.Fault → Rose (W.view w.old).disk_faults (W.view w.new).disk_faults }
     ensures same { Untouched (W.view w.old) (W.view w.new) }
@@ -75,6 +78,7 @@ pub fn open_file<W: Outside, S: FoundStore<W> + Drop>(
 ) -> Result<OpenedFile<S>, FileStop>
     ensures reads { IfOk result (λ o. (W.view w.new).tells → (X : Searching) × ReadsFresh (W.view w.old).here X) }
     ensures opened { IfOk result (λ o. (W.view w.new).tells → IsOpened (S.knows o.keeper.store) o.keeper.found o.keeper.header (W.view w.old).here (W.view w.new) o.tree) }
+    ensures no_pins { IfOk result (λ o. pins_of o.keeper.given (S.held o.keeper.store) ≡ no_pins) }
     ensures refused { IfErr result (λ stop. (W.view w.new).tells → StopsOpening (W.view w.old).here stop) }
     ensures fault { result ≡ Err FileStop.Fault → Rose (W.view w.old).disk_faults (W.view w.new).disk_faults }
     // The files stand for the same afterwards, and nothing is pending if nothing was.

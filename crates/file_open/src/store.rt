@@ -1,5 +1,5 @@
 //! What is asked of a planner of a file that was scanned.
-ghost use Rattle.std.specs.Prelude.{IfOk};
+ghost use Rattle.std.specs.Prelude.{◌≡◌, [], IfOk};
 ghost use Rattle.pst_outside.specs.World.{Image};
 ghost use Rattle.file_blocks.specs.Blocks.{file_of};
 ghost use Rattle.file_scan.specs.Found.{IsFound};
@@ -13,5 +13,6 @@ use std::alloc::{AllocError, Global};
 pub trait FoundStore<W: Outside>: NodeStore<W> {
     /// Takes over what a scan found of a file. The error: memory ran out.
     fn from_found(alloc: Global, found: FoundFile) -> Result<Self, AllocError>
-        ensures { IfOk result (λ s. (image : Image) → IsFound image found → Self.knows s found.header (file_of image)) };
+        ensures known { IfOk result (λ s. (image : Image) → IsFound image found → Self.knows s found.header (file_of image)) }
+        ensures no_pins { IfOk result (λ s. Self.held s ≡ []) };
 }

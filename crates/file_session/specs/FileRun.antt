@@ -5,6 +5,7 @@ use Rattle.pst_outside.specs.Calls.{LeavesOnly}
 use Rattle.gate_file.specs.Gate.{IsShut, SameStore}
 use Rattle.file_blocks.specs.Blocks.{file_of}
 use Rattle.lays_kept.specs.Stands.{Stands}
+use Rattle.node_port.specs.Pins.{no_pins}
 use Rattle.pst_commit.specs.Keeping.{HasRoom, IsSaved}
 use Rattle.mail_searches.specs.Searching.{Searching}
 use Rattle.store_session.specs.Carrying.{StandsOrdered}
@@ -28,9 +29,9 @@ pub record EndsUnopened (first now : World) (end : SessionEnd) : Type 0 where
   pub said : now.tells → now.here.said ≡ first.here.said
   pub images : (tidy : Bool) (X : Searching) → ReadsAs tidy (front_of first.here) first.here X → LeavesOnly first now (λ c. (c.said ≡ first.here.said) × ReadsAs tidy (front_of first.here) c X)
 
--- What is told of files from turn to turn: their room, what a commit makes of their bytes, and what a save does.
+-- What is told of files from turn to turn: their room, where nothing is held beside what they lay, what a commit makes of their bytes, and what a save does.
 abbrev pub file_effects : (List ℕ → List ℕ → Type 0) → Effects
-file_effects becomes = effects_of HasRoom (λ old new. becomes (file_of old) (file_of new)) IsSaved
+file_effects becomes = effects_of no_pins HasRoom (λ pins old new. becomes (file_of old) (file_of new)) IsSaved
 
 -- The files were opened as a tree with its searches, and this is how the session over it ended: its replies are those of a run from the tree, each turn of which takes the files from what they were to what they are, and a stop at any moment leaves files that are read as the tree after some of its turns, among them each whose reply had begun, tidy where it was so at the start. `becomes` says what a commit makes of a file.
 pub record EndsOpened (becomes : List ℕ → List ℕ → Type 0) (first now : World) (end : SessionEnd) : Type 0 where

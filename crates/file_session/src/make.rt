@@ -83,6 +83,7 @@ fn commit_nodes<W: Outside, S: FoundStore<W> + Drop>(
         store: planner,
         header,
         found: write(&header),
+        given: 0,
     };
     let changes = Changes {
         nodes: store.nodes,

@@ -22,11 +22,11 @@ use Rattle.store_session.specs.declared.carrying.StoreStop.TheVariants.{Disk, Ch
 use Rattle.store_session.proofs.Carry.{memory_text, same_as}
 
 -- the answer to a line
-pub line_answered : (has has' : Bool → Searching → Type 0) (stands : Bool → Image → Searching → Type 0) (effects : Effects) (room : Room) (found found' : List ℕ) (disk : Bool) (old new : World) (bytes : List ℕ) (r : Result Spoken StoreStop)
-    → ((tidy : Bool) (X : Searching) → has tidy X → (disk ≡ true → new.tells) → CarriesOut (has' tidy) (stands tidy) (λ told. Answers effects room X old.here told (line bytes)) old new X r) → found' ≡ found
-    → IfOk r (λ spoken. AnswersLine has has' stands effects room found found' disk old new bytes (spoken_text spoken))
-line_answered has has' stands effects room found found' disk old new bytes (Ok spoken) carries same = record { carried = carries; same = same }
-line_answered has has' stands effects room found found' disk old new bytes (Err stop) carries same = tt
+pub line_answered : (has has' : Bool → Searching → Type 0) (stands : Bool → Image → Searching → Type 0) (effects : Effects) (room room' : Room) (disk : Bool) (old new : World) (bytes : List ℕ) (r : Result Spoken StoreStop)
+    → ((tidy : Bool) (X : Searching) → has tidy X → (disk ≡ true → new.tells) → CarriesOut (has' tidy) (stands tidy) (λ told. Answers effects room X old.here told (line bytes)) old new X r) → room'.found ≡ room.found → room'.pins ≡ room.pins
+    → IfOk r (λ spoken. AnswersLine has has' stands effects room room' disk old new bytes (spoken_text spoken))
+line_answered has has' stands effects room room' disk old new bytes (Ok spoken) carries found pins = record { carried = carries; found = found; pins = pins }
+line_answered has has' stands effects room room' disk old new bytes (Err stop) carries found pins = tt
 
 -- the stop at one
 pub line_stopped : (has has' : Bool → Searching → Type 0) (stands : Bool → Image → Searching → Type 0) (effects : Effects) (room : Room) (disk : Bool) (old new : World) (bytes : List ℕ) (r : Result Spoken StoreStop)

@@ -4,6 +4,7 @@ use Rattle.std.specs.FinMap as map
 use Rattle.pst_outside.specs.World.{Image, SameDisk}
 use Rattle.command_text.specs.declared.command.Command.{Command}
 use Rattle.command_text.specs.declared.command.Command.TheVariants.{Save}
+use Rattle.node_port.specs.Pins.{Pins}
 use Rattle.node_port.specs.Stops.{Room}
 use Rattle.mail_searches.specs.Criteria.{Coming}
 use Rattle.mail_store.specs.Space.{WritesNodes}
@@ -15,8 +16,9 @@ pub record Effects : Type 1 where
   pub applied : Image → Image → Type 0
   pub saved : Image → Image → Type 0
 
-abbrev pub effects_of : (Image → Room → Type 0) → (Image → Image → Type 0) → (Image → Image → Type 0) → Effects
-effects_of measures applied saved = record { measures = measures; applied = applied; saved = saved }
+-- the same of a keeper that has these pins, and keeps them
+abbrev pub effects_of : Pins → (Image → Room → Type 0) → (Pins → Image → Image → Type 0) → (Image → Image → Type 0) → Effects
+effects_of pins measures applied saved = record { measures = λ image room. measures image room × (room.pins ≡ pins); applied = applied pins; saved = saved }
 
 -- the old disk was made into the new one, behind which more may have been said
 abbrev pub Becomes : (Image → Image → Type 0) → Image → Image → Type 0

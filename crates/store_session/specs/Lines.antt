@@ -11,9 +11,10 @@ use Rattle.store_session.specs.declared.carrying.StoreStop.{StoreStop}
 use Rattle.store_session.specs.declared.carrying.StoreStop.TheVariants.{Disk, Changed}
 
 -- Whatever tree with searches the store had, it has the one after the line, if the world tells what a disk holds.
-pub record AnswersLine (has has' : Bool → Searching → Type 0) (stands : Bool → Image → Searching → Type 0) (effects : Effects) (room : Room) (found found' : List ℕ) (disk : Bool) (old new : World) (bytes said : List ℕ) : Type 0 where
+pub record AnswersLine (has has' : Bool → Searching → Type 0) (stands : Bool → Image → Searching → Type 0) (effects : Effects) (room room' : Room) (disk : Bool) (old new : World) (bytes said : List ℕ) : Type 0 where
   pub carried : (tidy : Bool) (X : Searching) → has tidy X → (disk ≡ true → new.tells) → (Y : Searching) × Answers effects room X old.here new.tells (line bytes) said Y new.here × has' tidy Y × Leaves (stands tidy) old new X Y
-  pub same : found' ≡ found
+  pub found : room'.found ≡ room.found
+  pub pins : room'.pins ≡ room.pins
 
 -- how a line at which the session stops leaves the disk: for one tree or another, and nothing else is told of it
 abbrev pub StopLeaves : (Image → Searching → Type 0) → Effects → Room → World → World → Searching → List ℕ → StoreStop → Type 0

@@ -20,10 +20,10 @@ impl<W: Outside, K: Saver<W>> LineAnswerer<W> for StoreAnswerer<K> {
     ghost use Rattle.store_session.specs.Lines.{AnswersLine, StopsLine};
 
     ghost answers = { λ a v bytes said b w. AnswersLine (Has (K.holds a.store.store.keeper (W.view v)) (K.last a.store.store.keeper) a.store.store.known a.store.searches K.rests (W.view v)) (Has (K.holds b.store.store.keeper (W.view w)) (K.last b.store.store.keeper) b.store.store.known b.store.searches K.rests (W.view w))
-        (λ tidy. StandsOrdered tidy (K.stands (K.room a.store.store.keeper).found)) (effects_of K.measures K.applied K.saved) (K.room a.store.store.keeper) (K.room a.store.store.keeper).found (K.room b.store.store.keeper).found K.has_disk (W.view v) (W.view w) bytes said };
+        (λ tidy. StandsOrdered tidy (K.stands (K.room a.store.store.keeper).found)) (effects_of (K.room a.store.store.keeper).pins K.measures K.applied K.saved) (K.room a.store.store.keeper) (K.room b.store.store.keeper) K.has_disk (W.view v) (W.view w) bytes said };
 
     ghost stops = { λ a v bytes stop b w. StopsLine (Has (K.holds a.store.store.keeper (W.view v)) (K.last a.store.store.keeper) a.store.store.known a.store.searches K.rests (W.view v))
-        (λ tidy. StandsOrdered tidy (K.stands (K.room a.store.store.keeper).found)) (effects_of K.measures K.applied K.saved) (K.room a.store.store.keeper) K.has_disk (W.view v) (W.view w) bytes stop };
+        (λ tidy. StandsOrdered tidy (K.stands (K.room a.store.store.keeper).found)) (effects_of (K.room a.store.store.keeper).pins K.measures K.applied K.saved) (K.room a.store.store.keeper) K.has_disk (W.view v) (W.view w) bytes stop };
 
     fn answer(&mut self, alloc: Global, world: &mut W, line: &[u8]) -> Result<Spoken, StoreStop> {
         answer_line(alloc, &mut self.store, world, line)

@@ -1,5 +1,6 @@
-use Rattle.std.proofs.Common.{◌∙◌, refl, sym, subst}
+use Rattle.std.proofs.Common.{◌∙◌, ap, refl, sym, subst}
 use Rattle.pst_outside.specs.World.{Image}
+use Rattle.node_port.specs.Stops.{Room}
 use Rattle.mail_searches.specs.Searching.{Searching}
 use Rattle.file_open.specs.Opening.{IsOpened, ReadsFresh, StopsOpening}
 use Rattle.file_open.specs.Stops.{of_tree, of_scan}
@@ -44,6 +45,9 @@ returns-clause-opened g c = λ told.
     let k = c.open_store.new.keeper in
     subst (λ (i : Image). IsOpened (g.S.NodeStore.knows k.store) k.found k.header i (g.W.Outside.view c.open_store.new.w) c.in_ok-tree.tree) s.here
     (opened s.is s.made c.in_ok-tree.tree c.open_store.ensures.looks refl refl c.in_ok-tree.ensures.found)
+
+pub returns-clause-no_pins : goal.returns-clause-no_pins
+returns-clause-no_pins g c = ap (λ (r : Room). r.pins) c.open_store.ensures.looks.space ∙ c.in_ok-keeper.ensures.no_pins
 
 pub returns-clause-same : goal.returns-clause-same
 returns-clause-same g c = untouched_then (untouched_then c.scan_file.ensures.same c.keep.ensures.same) c.open_store.ensures.looks.world

@@ -1,6 +1,7 @@
 use Rattle.std.proofs.Common.{◌≡◌, ◌⊎◌, inr, refl, subst}
 use Rattle.pst_outside.specs.Calls.{LeavesOnly}
-use Rattle.mail_store.specs.Planning.{StandsFor}
+use Rattle.node_port.specs.Stops.{Room}
+use Rattle.mail_store.specs.Planning.{Alters, StandsFor}
 use Rattle.mail_searches.specs.Searching.{Searching}
 use Rattle.mail_searches.specs.Step.{after}
 use Rattle.store_session.specs.Carrying.{StandsOrdered}
@@ -15,7 +16,7 @@ returns-in-Err-clause-carries g c = λ tidy X h tells.
     let looks = c.plan_counted.ensures.looks in
     let S = StandsOrdered tidy (g.K.Keeper.stands (g.K.NodeReader.room k).found) in
     let here = stands_here (g.K.Keeper.stands (g.K.NodeReader.room k).found) tidy X (λ N is. g.met.K.Keeper.held_stands k c.args.world.now N is) h in
-    stop_carries (g.K.NodeReader.room k) tidy X c.args.command.now h.order _ (effects_of g.K.Keeper.measures g.K.Keeper.applied g.K.Saver.saved) _ S v (g.W.Outside.view c.plan_counted.new.w) (λ t. same_as (looks.world.stays.here t)) c.requires.other c.in-Err.stop c.stopped.result c.stopped.ensures (c.in-Err.ensures.answer X h.stores)
+    stop_carries (g.K.NodeReader.room k) tidy X c.args.command.now h.order _ (effects_of (g.K.NodeReader.room c.args.store.now.store.keeper).pins g.K.Keeper.measures g.K.Keeper.applied g.K.Saver.saved) _ S v (g.W.Outside.view c.plan_counted.new.w) (λ t. same_as (looks.world.stays.here t)) c.requires.other c.in-Err.stop c.stopped.result c.stopped.ensures (c.in-Err.ensures.answer X h.stores)
     (stays_has g.K.Keeper.rests _ _ _ _ tidy X looks c.plan_counted.ensures.known h) (quiet_leaves S X X h.settled looks.world here)
 
 pub returns-in_default-clause-carries : goal.returns-in_default-clause-carries
@@ -33,7 +34,7 @@ returns-in-Ok-commit-clause-carries g c = λ tidy X h tells.
     let mid = g.W.Outside.view c.plan_counted.new.w in
     let new = g.W.Outside.view c.commit.new.w in
     let room = g.K.NodeReader.room k in
-    let effects = effects_of g.K.Keeper.measures g.K.Keeper.applied g.K.Saver.saved in
+    let effects = effects_of (g.K.NodeReader.room c.args.store.now.store.keeper).pins g.K.Keeper.measures g.K.Keeper.applied g.K.Saver.saved in
     let S = g.K.Keeper.stands room.found in
     let here = stands_here (g.K.Keeper.stands (g.K.NodeReader.room k).found) tidy X (λ N is. g.met.K.Keeper.held_stands k c.args.world.now N is) h in
     let looks = c.plan_counted.ensures.looks in
@@ -46,7 +47,8 @@ returns-in-Ok-commit-clause-carries g c = λ tidy X h tells.
     let rest = c.in-Ok-commit.ensures.rests held.settled held.at_rest in (
       Y,
       made_answers room tidy X c.args.command.now h.order effects new.tells v.here new.here p.0 c.in-Ok.planned.tree.reply c.in-Ok-reply_text.text p.1 c.requires.other p.3 is.reply_is c.in-Ok-reply_text.ensures
-          (λ t. commit_makes g.K.Keeper.applied p.0 c.in-Ok.planned.tree.change v.here mid.here new.here (looks.world.stays.here (c.commit.ensures.told t)) is.changes (c.in-Ok-commit.ensures.applied X held.stores held.at_rest t)),
+          (λ t. commit_makes (g.K.Keeper.applied room.pins) p.0 c.in-Ok.planned.tree.change v.here mid.here new.here (looks.world.stays.here (c.commit.ensures.told t)) is.changes
+          (subst (λ (r : Room). Alters (g.K.Keeper.applied r.pins) c.in-Ok.planned.tree.change mid.here new.here) looks.space (c.in-Ok-commit.ensures.applied X held.stores held.at_rest t))),
       record { stores = c.in-Ok-commit.ensures.made X p.0 held.stores is p.2.1 p.2.2 held.at_rest tells; order = made_order room tidy X c.args.command.now h.order p.0 p.1; settled = rest.0; at_rest = rest.1 },
       plan_commits tidy S X Y h.settled looks.world here (made_order room tidy X c.args.command.now h.order p.0 p.1) c.commit.ensures.told moments,
     )
@@ -58,7 +60,7 @@ returns-in-Err-commit-clause-carries g c = λ tidy X h tells.
     let mid = g.W.Outside.view c.plan_counted.new.w in
     let new = g.W.Outside.view c.commit.new.w in
     let room = g.K.NodeReader.room k in
-    let effects = effects_of g.K.Keeper.measures g.K.Keeper.applied g.K.Saver.saved in
+    let effects = effects_of (g.K.NodeReader.room c.args.store.now.store.keeper).pins g.K.Keeper.measures g.K.Keeper.applied g.K.Saver.saved in
     let S = g.K.Keeper.stands room.found in
     let here = stands_here (g.K.Keeper.stands (g.K.NodeReader.room k).found) tidy X (λ N is. g.met.K.Keeper.held_stands k c.args.world.now N is) h in
     let looks = c.plan_counted.ensures.looks in

@@ -15,7 +15,7 @@ pub returns-in-Ok-save-clause-carries : goal.returns-in-Ok-save-clause-carries
 returns-in-Ok-save-clause-carries g c = λ tidy X h tells.
     let v = g.W.Outside.view c.args.world.now in
     let w = g.W.Outside.view c.save.new.w in
-    let effects = effects_of g.K.Keeper.measures g.K.Keeper.applied g.K.Saver.saved in
+    let effects = effects_of (g.K.NodeReader.room c.args.store.now.store.keeper).pins g.K.Keeper.measures g.K.Keeper.applied g.K.Saver.saved in
     let room = g.K.NodeReader.room c.args.store.now.store.keeper in
     let rest = c.in-Ok-save.ensures.rests h.settled h.at_rest in (
       X,
@@ -28,7 +28,7 @@ pub returns-in-Err-clause-carries : goal.returns-in-Err-clause-carries
 returns-in-Err-clause-carries g c = λ tidy X h tells.
     let v = g.W.Outside.view c.args.world.now in
     let w = g.W.Outside.view c.save.new.w in
-    let effects = effects_of g.K.Keeper.measures g.K.Keeper.applied g.K.Saver.saved in
+    let effects = effects_of (g.K.NodeReader.room c.args.store.now.store.keeper).pins g.K.Keeper.measures g.K.Keeper.applied g.K.Saver.saved in
     let room = g.K.NodeReader.room c.args.store.now.store.keeper in (
       X,
       c.in-Ok.text,

@@ -1,5 +1,6 @@
 use Rattle.std.proofs.Common.{refl, subst, sym}
-use Rattle.store_session.specs.Disks.{effects_of}
+use Rattle.node_port.specs.Pins.{Pins}
+use Rattle.store_session.specs.Disks.{Effects, effects_of}
 use Rattle.store_session.specs.Session.{HasCause, StoreSessionEnds}
 use Rattle.store_session.specs.declared.session.SessionEnd.TheVariants.{Memory}
 use Rattle.store_session.proofs.Ending.{ends_by_memory, has_cause, session_ends}
@@ -15,13 +16,14 @@ returns-in-Ok-clause-ends g c = λ tidy X h tells.
     let disk = g.K.NodeReader.has_disk in
     let stands = g.K.Keeper.stands in
     let rests = g.K.Keeper.rests in
-    let effects = effects_of g.K.Keeper.measures g.K.Keeper.applied g.K.Saver.saved in
+    let effects : Pins → Effects = λ p. effects_of p g.K.Keeper.measures g.K.Keeper.applied g.K.Saver.saved in
     let found = (room c.args.store.store.keeper).found in
-    subst (λ e. StoreSessionEnds effects (stands_for view holds last room disk stands rests effects found tidy) rests (view c.args.world.now).here (view c.args.world.now) (view c.serve.new.world) X e) (sym c.end_of.ensures)
-    (session_ends view disk (has_tree view holds last room disk stands rests effects found tidy) (stands_for view holds last room disk stands rests effects found tidy) rests effects (λ a. room a.store.store.keeper)
+    let pins = (room c.args.store.store.keeper).pins in
+    subst (λ e. StoreSessionEnds (effects pins) (stands_for view holds last room disk stands rests effects found tidy) rests (view c.args.world.now).here (view c.args.world.now) (view c.serve.new.world) X e) (sym c.end_of.ensures)
+    (session_ends view disk (has_tree view holds last room disk stands rests effects found pins tidy) (stands_for view holds last room disk stands rests effects found tidy) rests (effects pins) (λ a. room a.store.store.keeper)
     (line_answers view holds last room disk stands rests effects) (line_stops view holds last room disk stands rests effects)
-    (store_keeps view holds last room disk stands rests effects g.met.K.NodeReader.holds_on g.met.K.Keeper.held_stands g.met.K.Keeper.held_measures g.met.K.Keeper.stands_on g.met.K.Keeper.rests_on found tidy)
-    (record { store = c.args.store }) c.serve.new.answerer c.args.world.now c.serve.new.world X (h, refl) tells c.in-Ok.end c.in-Ok.ensures.ends)
+    (store_keeps view holds last room disk stands rests effects g.met.K.NodeReader.holds_on g.met.K.Keeper.held_stands (λ k w N is. (g.met.K.Keeper.held_measures k w N is, refl)) g.met.K.Keeper.stands_on g.met.K.Keeper.rests_on found pins tidy)
+    (record { store = c.args.store }) c.serve.new.answerer c.args.world.now c.serve.new.world X (h, refl, refl) tells c.in-Ok.end c.in-Ok.ensures.ends)
 
 pub returns-in-Ok-clause-cause : goal.returns-in-Ok-clause-cause
 returns-in-Ok-clause-cause g c =
@@ -32,7 +34,7 @@ returns-in-Ok-clause-cause g c =
     let disk = g.K.NodeReader.has_disk in
     let stands = g.K.Keeper.stands in
     let rests = g.K.Keeper.rests in
-    let effects = effects_of g.K.Keeper.measures g.K.Keeper.applied g.K.Saver.saved in
+    let effects : Pins → Effects = λ p. effects_of p g.K.Keeper.measures g.K.Keeper.applied g.K.Saver.saved in
     subst (λ e. HasCause disk (view c.args.world.now) (view c.serve.new.world) e) (sym c.end_of.ensures)
     (has_cause view disk (line_answers view holds last room disk stands rests effects) (line_stops view holds last room disk stands rests effects) (λ a b v w bytes stop is. is.cause)
     (record { store = c.args.store }) c.serve.new.answerer c.args.world.now c.serve.new.world c.in-Ok.end c.in-Ok.ensures.ends)
@@ -46,8 +48,9 @@ returns-clause-ends g c = λ tidy X h tells.
     let disk = g.K.NodeReader.has_disk in
     let stands = g.K.Keeper.stands in
     let rests = g.K.Keeper.rests in
-    let effects = effects_of g.K.Keeper.measures g.K.Keeper.applied g.K.Saver.saved in
+    let effects : Pins → Effects = λ p. effects_of p g.K.Keeper.measures g.K.Keeper.applied g.K.Saver.saved in
     let found = (room c.args.store.store.keeper).found in
-    subst (λ w. StoreSessionEnds effects (stands_for view holds last room disk stands rests effects found tidy) rests (view c.args.world.now).here (view c.args.world.now) (view w) X Memory) (sym c.in-Err.ensures.no_memory.1)
-    (ends_by_memory effects (stands_for view holds last room disk stands rests effects found tidy) rests (view c.args.world.now) X h.settled h.at_rest
-    (has_stands view holds last room disk stands rests effects g.met.K.Keeper.held_stands found tidy (record { store = c.args.store }) c.args.world.now X (h, refl)))
+    let pins = (room c.args.store.store.keeper).pins in
+    subst (λ w. StoreSessionEnds (effects pins) (stands_for view holds last room disk stands rests effects found tidy) rests (view c.args.world.now).here (view c.args.world.now) (view w) X Memory) (sym c.in-Err.ensures.no_memory.1)
+    (ends_by_memory (effects pins) (stands_for view holds last room disk stands rests effects found tidy) rests (view c.args.world.now) X h.settled h.at_rest
+    (has_stands view holds last room disk stands rests effects g.met.K.Keeper.held_stands found pins tidy (record { store = c.args.store }) c.args.world.now X (h, refl, refl)))

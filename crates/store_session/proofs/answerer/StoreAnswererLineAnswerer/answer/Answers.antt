@@ -3,7 +3,7 @@ use Rattle.store_session.proofs.answerer.StoreAnswererLineAnswerer.answer.Goals 
 
 pub returns-clause-answers : goal.returns-clause-answers
 returns-clause-answers g c =
-    line_answered _ _ _ _ _ _ _ g.K.NodeReader.has_disk (g.W.Outside.view c.args.world.now) (g.W.Outside.view c.answer_line.new.world) _ c.answer_line.result c.answer_line.ensures.carries c.answer_line.ensures.found
+    line_answered _ _ _ _ _ _ g.K.NodeReader.has_disk (g.W.Outside.view c.args.world.now) (g.W.Outside.view c.answer_line.new.world) _ c.answer_line.result c.answer_line.ensures.carries c.answer_line.ensures.found c.answer_line.ensures.pins
 
 pub returns-clause-stops : goal.returns-clause-stops
 returns-clause-stops g c =
