@@ -1,4 +1,4 @@
-//! What is asked of a planner of a file that was scanned.
+//! What is asked of a planner that is made of what was found of a file.
 ghost use Rattle.std.specs.Prelude.{◌≡◌, [], IfOk};
 ghost use Rattle.pst_outside.specs.World.{Image};
 ghost use Rattle.file_blocks.specs.Blocks.{file_of};
