@@ -1,5 +1,6 @@
 -- A keeper of a file without nodes, and why no nodes were put there.
-use Rattle.std.proofs.Common.{◌≡◌, ◌∙◌, ℕ, Bool, true, List, length, ◌≤◌, arith, inl, inr, Option, Err, refl, sym, ap, subst}
+use Rattle.std.proofs.Common.{◌≡◌, ◌∙◌, ℕ, Bool, List, length, ◌≤◌, arith, inl, inr, Option, Result, Ok, Err, refl, sym, ap, subst}
+use Rattle.std.specs.Prelude.{OnOk}
 use Rattle.std.specs.FinMap as map
 use Rattle.std.specs.Ordering.{nat_cmp}
 use Rattle.pst_base.specs.declared.ids.Nid.{Nid}
@@ -21,6 +22,7 @@ use Rattle.pst_commit.specs.Keeping.{HasRoom, Holds}
 use Rattle.empty_file.specs.Empty.{HasBytes, IsFirst, IsVacant}
 use Rattle.empty_file.specs.Known.{IsFoundEmpty}
 use Rattle.file_laying.specs.Laying.{StopsPlan}
+use Rattle.file_laying.specs.declared.lay.LayingStop.{LayingStop}
 use Rattle.file_laying.specs.declared.lay.LayingStop.TheVariants as stops
 
 -- ---- a file without nodes
@@ -52,17 +54,22 @@ holds_none knows bytes world found first empty told knowing = (told, record { st
 -- ---- stops
 
 -- why a plan over it wasn't made
-pub plan_stops : {R : Type 0} (image : Image) (has : Room) (disk : Bool) (before after room : ℕ) (cs : List (Nid × Option NodeRec)) (held : Nodes → Type 0) (N : Nodes) (stop : PrepareStop)
+plan_stopped : (R : Type 0) (image : Image) (has : Room) (disk : Bool) (before after room : ℕ) (cs : List (Nid × Option NodeRec)) (held : Nodes → Type 0) (N : Nodes) (stop : PrepareStop)
     → held N → HasRoom image has → RoomDecides {R = R} has room cs (Err stop) → PrepareStops disk before after held stop → StopsPlan image room cs (stops.Unplanned stop)
-plan_stops image has disk before after room cs held N prepare.Fault h is decides why = tt
-plan_stops image has disk before after room cs held N (prepare.Changed ib stored computed) h is decides why = why N h
-plan_stops image has disk before after room cs held N prepare.Memory h is decides why = tt
-plan_stops image has disk before after room cs held N (prepare.Full free needed) h is decides why = (has, is, decides.2, decides.3, let low = decides.1 in omega (arith, low, decides.2, decides.3))
-plan_stops image has disk before after room cs held N prepare.IdsSpent h is decides why = (has, is, decides)
+plan_stopped R image has disk before after room cs held N prepare.Fault h is decides why = tt
+plan_stopped R image has disk before after room cs held N (prepare.Changed ib stored computed) h is decides why = why N h
+plan_stopped R image has disk before after room cs held N prepare.Memory h is decides why = tt
+plan_stopped R image has disk before after room cs held N (prepare.Full free needed) h is decides why = (has, is, decides.2, decides.3, let low = decides.1 in omega (arith, low, decides.2, decides.3))
+plan_stopped R image has disk before after room cs held N prepare.IdsSpent h is decides why = (has, is, decides)
+
+pub plan_stops : {R : Type 0} (r : Result R PrepareStop) (image : Image) (has : Room) (disk : Bool) (before after room : ℕ) (cs : List (Nid × Option NodeRec)) (held : Nodes → Type 0) (N : Nodes) (stop : PrepareStop)
+    → r ≡ Err stop → held N → HasRoom image has → RoomDecides has room cs r → PrepareStops disk before after held stop → StopsPlan image room cs (stops.Unplanned stop)
+plan_stops {R} r image has disk before after room cs held N stop is h measured decides why =
+    plan_stopped R image has disk before after room cs held N stop h measured (subst (λ x. RoomDecides {R = R} has room cs x) is decides) why
 
 -- a fault of the disk shows in its count
-pub plan_fault : (disk : Bool) (before after : ℕ) (held : Nodes → Type 0) (stop : PrepareStop) → stops.Unplanned stop ≡ stops.Unplanned prepare.Fault → PrepareStops disk before after held stop → Rose before after
-plan_fault disk before after held stop same why = let is : stop ≡ prepare.Fault = cc in (subst (PrepareStops disk before after held) is why).0
+pub plan_fault : (K : Type 0) (disk : Bool) (before after : ℕ) (held : Nodes → Type 0) (stop : PrepareStop) → ◌≡◌ {A = Result K LayingStop} (Err (stops.Unplanned stop)) (Err (stops.Unplanned prepare.Fault)) → PrepareStops disk before after held stop → Rose before after
+plan_fault K disk before after held stop same why = let is : stop ≡ prepare.Fault = cc in (subst (PrepareStops disk before after held) is why).0
 
 pub rose_since : (a b n : ℕ) → a ≤ b → Rose b n → Rose a n
 rose_since a b n less rose = omega (arith, less, rose)
@@ -71,3 +78,13 @@ rose_since a b n less rose = omega (arith, less, rose)
 pub none_there : (image : Image) → IsVacant image → HasBytes image → ⊥
 none_there image v (inl main) = omega (arith, main, ap length v.main)
 none_there image v (inr side) = omega (arith, side, ap length v.side)
+
+-- ---- answers
+
+pub ok_so : {A E : Type 0} (r : Result A E) (P : Type 0) → P → OnOk r P
+ok_so (Ok x) P is = is
+ok_so (Err e) P is = tt
+
+pub ok_then : {A E : Type 0} (r : Result A E) (P Q : Type 0) → (P → Q) → OnOk r P → OnOk r Q
+ok_then (Ok x) P Q f is = f is
+ok_then (Err e) P Q f is = tt

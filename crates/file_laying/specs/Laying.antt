@@ -1,10 +1,9 @@
 -- What a file is that was laid with nodes, and why none was.
-use Rattle.std.specs.Prelude.{◌≡◌, ◌<◌, ℕ, true, List, Option, take, Ok}
+use Rattle.std.specs.Prelude.{◌≡◌, ◌<◌, ℕ, true, List, Option}
 use Rattle.pst_base.specs.declared.ids.Nid.{Nid}
 use Rattle.pst_outside.specs.World.{Image}
 use Rattle.file_blocks.specs.Blocks.{file_of}
 use Rattle.node_port.specs.declared.node.NodeRec.{NodeRec}
-use Rattle.node_port.specs.declared.keeper.PrepareStop.{PrepareStop}
 use Rattle.node_port.specs.declared.keeper.PrepareStop.TheVariants as prepare
 use Rattle.node_port.specs.Stops.{Room, need}
 use Rattle.pst_commit.specs.Keeping.{HasRoom}

@@ -9,7 +9,7 @@ ghost use Rattle.file_open.specs.Opening.{IsCalm, IsKept};
 
 use crate::header::found_header;
 use crate::stops::FileStop;
-use crate::store::FoundStore;
+use file_laying::FoundStore;
 use file_scan::FoundFile;
 use pst_commit::FileKeeper;
 use pst_outside::Outside;

@@ -2,15 +2,13 @@
 //!
 //! Promises: `open_file` gives a keeper of the nodes that the two files lay, with the places of the folders of their tree and which of its messages are unread (`IsOpened`), exactly where the files have such a tree and numbers are left (`ReadsFresh`). A refusal names what is at fault and excludes every tree (`StopsOpening`). All but the closing of the gate comes before anything is written, and a stop at any moment leaves the same nodes. `look_file` is the same without closing the gate, and writes nothing.
 //!
-//! Leaves to others: how nodes are read and changes planned (`FoundStore`), and how refusals are printed.
+//! Leaves to others: how nodes are read and changes planned (`FoundStore` of `file_laying`), and how refusals are printed.
 #![tactic(auto)]
 
 mod header;
 mod keep;
 mod open;
 mod stops;
-mod store;
 
 pub use open::{OpenedFile, look_file, open_file};
 pub use stops::{FileRefusal, FileStop};
-pub use store::FoundStore;

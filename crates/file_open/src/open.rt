@@ -12,7 +12,7 @@ ghost use Rattle.file_open.specs.Opening.{IsOpened, ReadsFresh, StopsOpening};
 
 use crate::keep::{is_spent, keep};
 use crate::stops::{FileRefusal, FileStop};
-use crate::store::FoundStore;
+use file_laying::FoundStore;
 use file_scan::scan_file;
 use gate_file::SIDE_LEN;
 use pst_commit::{FileKeeper, close_gate};

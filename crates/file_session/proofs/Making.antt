@@ -1,56 +1,22 @@
 -- What the files of a new store stand for.
-use Rattle.std.proofs.Common.{◌≡◌, ◌∙◌, ℕ, Bool, true, List, [], length, ◌≤◌, arith, inl, inr, refl, sym, ap, subst}
-use Rattle.std.specs.FinMap as map
-use Rattle.std.specs.Ordering.{nat_cmp}
-use Rattle.pst_outside.specs.World.{Image, World}
-use Rattle.pst_outside.specs.Calls.{Rose}
-use Rattle.pst_header.specs.declared.header.Header.{Header}
-use Rattle.file_blocks.specs.Blocks.{file_of}
-use Rattle.file_blocks.proofs.FileLaws.{no_shorter}
-use Rattle.file_scan.specs.Found.{IsFound}
-use Rattle.file_scan.specs.declared.scan.FoundFile.{FoundFile}
-use Rattle.node_port.specs.Nodes.{Nodes, no_nodes, node_at}
-use Rattle.node_port.specs.Stops.{PrepareStops}
+use Rattle.std.proofs.Common.{◌≡◌, ◌∙◌, ◌⊎◌, ℕ, true, List, [], Option, inl, inr, refl, sym, ap, subst}
+use Rattle.pst_base.specs.declared.ids.Nid.{Nid}
+use Rattle.pst_outside.specs.World.{Image}
+use Rattle.node_port.specs.declared.node.NodeRec.{NodeRec}
+use Rattle.node_port.specs.Nodes.{Nodes, node_at}
 use Rattle.node_port.specs.declared.keeper.PrepareStop.{PrepareStop}
 use Rattle.node_port.specs.declared.keeper.PrepareStop.TheVariants as prepare
-use Rattle.lays_kept.specs.Stands.{Stands, node_with}
-use Rattle.lays_kept.proofs.Opened.{opens_parts}
-use Rattle.pst_commit.specs.Keeping.{Holds}
-use Rattle.empty_file.specs.Empty.{HasBytes, IsFirst, IsVacant}
-use Rattle.empty_file.specs.Known.{IsFoundEmpty}
+use Rattle.lays_kept.specs.Stands.{Stands}
+use Rattle.file_laying.specs.Laying.{StopsPlan}
+use Rattle.file_laying.specs.declared.lay.LayingStop.{LayingStop}
+use Rattle.file_laying.specs.declared.lay.LayingStop.TheVariants as stops
 use Rattle.mail_searches.specs.Searching.{Searching, StartsSearching}
 use Rattle.search_laws.proofs.Setting.{starts_in_order}
 use Rattle.mail_tree.specs.Start.{IsStart, start_last}
 use Rattle.mail_tree.specs.Tree.{StandsAt, Tree, object_at}
 use Rattle.file_session.specs.FileRun.{ReadsAs, front_of}
-use Rattle.file_session.specs.Stops.{of_plan}
+use Rattle.file_session.specs.Stops.{of_laying, of_plan}
 use Rattle.file_session.specs.declared.make.FileMade.TheVariants as made
-
--- ---- a file without nodes
-
--- its header vouches for no maps
-abbrev pub laid_first : (image : Image) (found : FoundFile) (bytes : List ℕ) → IsFoundEmpty image found → IsFirst found.header → Stands bytes image no_nodes found.header.indexes
-laid_first image found bytes empty first =
-    let parts = opens_parts image.main image.side found.header (empty.is).opened in
-    record {
-      main = parts.0;
-      side = parts.1;
-      file = record {
-        header = found.header;
-        long = omega (arith, parts.0, no_shorter image.main image.side);
-        read = parts.2;
-        m = (empty.is).nodes;
-        lays = (empty.is).lays;
-        those = λ q. map.get-empty nat_cmp q ∙ sym (ap (λ ns. node_with q ns) empty.none);
-        counters = refl;
-        maps = inl first.maps;
-      };
-    }
-
--- a keeper of it holds no nodes
-pub holds_none : (knows : Header → List ℕ → Type 0) (bytes : List ℕ) (world : World) (found : FoundFile) → IsFirst found.header → IsFoundEmpty world.here found → world.tells
-    → ((image : Image) → IsFound image found → knows found.header (file_of image)) → Holds knows bytes found.header world no_nodes
-holds_none knows bytes world found first empty told knowing = (told, record { stands = laid_first world.here found bytes empty first; own = refl; known = knowing world.here empty.is })
 
 -- ---- the files after the commit
 
@@ -84,24 +50,55 @@ made_reads name image N last T start at same stands =
 
 -- ---- stops
 
+empty_changed : (ib stored computed : ℕ) → made.NotEmpty ≡ made.Changed ib stored computed → ⊥
+empty_changed ib stored computed is = cc
+
 disk_changed : (ib stored computed : ℕ) → made.Disk ≡ made.Changed ib stored computed → ⊥
 disk_changed ib stored computed is = cc
 
 memory_changed : (ib stored computed : ℕ) → made.Memory ≡ made.Changed ib stored computed → ⊥
 memory_changed ib stored computed is = cc
 
-pub never_changed : (disk : Bool) (before after : ℕ) (held : Nodes → Type 0) (N : Nodes) (stop : PrepareStop) (ib stored computed : ℕ) → of_plan stop ≡ made.Changed ib stored computed
-    → PrepareStops disk before after held stop → held N → ⊥
-never_changed disk before after held N prepare.Fault ib stored computed is why h = disk_changed ib stored computed is
-never_changed disk before after held N (prepare.Changed i s c) ib stored computed is why h = why N h
-never_changed disk before after held N prepare.Memory ib stored computed is why h = memory_changed ib stored computed is
-never_changed disk before after held N (prepare.Full free need) ib stored computed is why h = memory_changed ib stored computed is
-never_changed disk before after held N prepare.IdsSpent ib stored computed is why h = memory_changed ib stored computed is
+never_planned : (ib stored computed : ℕ) (image : Image) (room : ℕ) (cs : List (Nid × Option NodeRec)) (stop : PrepareStop) → of_plan stop ≡ made.Changed ib stored computed → StopsPlan image room cs (stops.Unplanned stop) → ⊥
+never_planned ib stored computed image room cs prepare.Fault is why = disk_changed ib stored computed is
+never_planned ib stored computed image room cs (prepare.Changed i s c) is why = why
+never_planned ib stored computed image room cs prepare.Memory is why = memory_changed ib stored computed is
+never_planned ib stored computed image room cs (prepare.Full free need) is why = memory_changed ib stored computed is
+never_planned ib stored computed image room cs prepare.IdsSpent is why = memory_changed ib stored computed is
 
-pub rose_since : (a b n : ℕ) → a ≤ b → Rose b n → Rose a n
-rose_since a b n less rose = omega (arith, less, rose)
+-- a file that was laid has changed nowhere
+pub never_changed : (ib stored computed : ℕ) (image : Image) (room : ℕ) (cs : List (Nid × Option NodeRec)) (stop : LayingStop) → of_laying stop ≡ made.Changed ib stored computed → StopsPlan image room cs stop → ⊥
+never_changed ib stored computed image room cs stops.NotEmpty is why = empty_changed ib stored computed is
+never_changed ib stored computed image room cs stops.Fault is why = disk_changed ib stored computed is
+never_changed ib stored computed image room cs stops.Memory is why = memory_changed ib stored computed is
+never_changed ib stored computed image room cs (stops.Unplanned stop) is why = never_planned ib stored computed image room cs stop is why
 
--- files that are vacant have no bytes
-pub none_there : (image : Image) → IsVacant image → HasBytes image → ⊥
-none_there image v (inl main) = omega (arith, main, ap length v.main)
-none_there image v (inr side) = omega (arith, side, ap length v.side)
+-- ---- faults of the disk
+
+plan_disk : (stop : PrepareStop) → of_plan stop ≡ made.Disk → stop ≡ prepare.Fault
+plan_disk prepare.Fault is = refl
+plan_disk (prepare.Changed i s c) is = absurd (cc)
+plan_disk prepare.Memory is = absurd (cc)
+plan_disk (prepare.Full free need) is = absurd (cc)
+plan_disk prepare.IdsSpent is = absurd (cc)
+
+-- a disk that failed is one of the laying or of the plan
+pub disk_stop : (stop : LayingStop) → of_laying stop ≡ made.Disk → (stop ≡ stops.Fault) ⊎ (stop ≡ stops.Unplanned prepare.Fault)
+disk_stop stops.NotEmpty is = absurd (cc)
+disk_stop stops.Fault is = inl refl
+disk_stop stops.Memory is = absurd (cc)
+disk_stop (stops.Unplanned stop) is = inr (ap stops.Unplanned (plan_disk stop is))
+
+plan_not_empty : (stop : PrepareStop) → of_plan stop ≡ made.NotEmpty → ⊥
+plan_not_empty prepare.Fault is = cc
+plan_not_empty (prepare.Changed i s c) is = cc
+plan_not_empty prepare.Memory is = cc
+plan_not_empty (prepare.Full free need) is = cc
+plan_not_empty prepare.IdsSpent is = cc
+
+-- files that aren't empty are told as that alone
+pub empty_stop : (stop : LayingStop) → of_laying stop ≡ made.NotEmpty → stop ≡ stops.NotEmpty
+empty_stop stops.NotEmpty is = refl
+empty_stop stops.Fault is = absurd (cc)
+empty_stop stops.Memory is = absurd (cc)
+empty_stop (stops.Unplanned stop) is = absurd (plan_not_empty stop is)

@@ -3,6 +3,8 @@ use Rattle.node_port.specs.declared.keeper.PrepareStop.{PrepareStop}
 use Rattle.node_port.specs.declared.keeper.PrepareStop.TheVariants as prepare
 use Rattle.file_session.specs.declared.make.FileMade.{FileMade}
 use Rattle.file_session.specs.declared.make.FileMade.TheVariants as made
+use Rattle.file_laying.specs.declared.lay.LayingStop.{LayingStop}
+use Rattle.file_laying.specs.declared.lay.LayingStop.TheVariants as laying
 use Rattle.file_open.specs.declared.stops.FileStop.{FileStop}
 use Rattle.file_open.specs.declared.stops.FileStop.TheVariants as stops
 use Rattle.store_session.specs.declared.session.SessionEnd.TheVariants.{Disk, Changed, Memory}
@@ -23,3 +25,10 @@ of_plan (prepare.Changed ib stored computed) = made.Changed ib stored computed
 of_plan prepare.Memory = made.Memory
 of_plan (prepare.Full free need) = made.Memory
 of_plan prepare.IdsSpent = made.Memory
+
+-- and where no file with its nodes was laid
+abbrev pub of_laying : LayingStop → FileMade
+of_laying laying.NotEmpty = made.NotEmpty
+of_laying laying.Fault = made.Disk
+of_laying laying.Memory = made.Memory
+of_laying (laying.Unplanned stop) = of_plan stop

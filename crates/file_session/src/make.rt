@@ -1,25 +1,17 @@
 //! A new store in a file.
-ghost use Rattle.std.specs.Prelude.{◌≡◌, ◌⊎◌, ℕ, true, IsTrue};
+ghost use Rattle.std.specs.Prelude.{◌≡◌, ◌⊎◌, ℕ, true};
 ghost use Rattle.pst_outside.specs.Calls.{NeverFall, Rose, Settled, Untouched};
-ghost use Rattle.gate_file.specs.Gate.{IsShut};
-ghost use Rattle.empty_file.specs.Empty.{HasBytes, IsFirst};
-ghost use Rattle.empty_file.specs.Known.{IsFoundEmpty};
-ghost use Rattle.node_port.specs.Nodes.{ascend, changed, no_nodes};
-ghost use Rattle.lays_kept.specs.Stands.{Stands};
+ghost use Rattle.empty_file.specs.Empty.{HasBytes};
 ghost use Rattle.mail_searches.specs.Searching.{Searching, StartsSearching};
 ghost use Rattle.file_session.specs.FileRun.{ReadsAs, front_of};
-ghost use Rattle.file_session.specs.Stops.{of_plan};
+ghost use Rattle.file_session.specs.Stops.{of_laying, of_plan};
 
-use empty_file::{LayStop, lay_empty};
-use file_open::FoundStore;
-use file_scan::FoundFile;
+use file_laying::{FoundStore, LayingStop, lay_nodes};
 use mapi_values::Units;
-use new_store::{NewStore, new_store};
-use node_port::{Changes, Keeper, PrepareStop};
-use pst_commit::FileKeeper;
-use pst_header::write;
-use pst_outside::{Failed, Outside};
-use std::alloc::{AllocError, Global};
+use new_store::new_store;
+use node_port::{Changes, PrepareStop};
+use pst_outside::Outside;
+use std::alloc::Global;
 
 /// How the making of a store in a file went.
 #[derive(Clone, Copy, Debug, PartialEq, Eq)]
@@ -55,51 +47,19 @@ fn of_plan(stop: PrepareStop) -> FileMade
     }
 }
 
-/// Commits the nodes of a new store to a file without nodes.
-fn commit_nodes<W: Outside, S: FoundStore<W> + Drop>(
-    alloc: Global,
-    w: &mut W,
-    found: FoundFile,
-    store: NewStore,
-) -> FileMade
-    requires first { IsFirst found.header }
-    requires order { IsTrue (ascend 0 store.nodes.items) }
-    requires laid { (W.view w.old).tells → IsFoundEmpty (W.view w.old).here found }
-    requires shut { (W.view w.old).tells → IsShut (W.view w.old).here.side }
-    ensures made { result ≡ FileMade.Made → (W.view w.new).tells → Stands (front_of (W.view w.new).here) (W.view w.new).here (changed no_nodes store.nodes.items) store.counts.last }
-    ensures said { Settled (W.view w.old) → result ≡ FileMade.Made → (W.view w.new).tells → (W.view w.new).here.said ≡ (W.view w.old).here.said }
-    ensures some { result ≡ FileMade.NotEmpty → ⊥ }
-    ensures fault { result ≡ FileMade.Disk → Rose (W.view w.old).disk_faults (W.view w.new).disk_faults }
-    ensures not_changed { (ib stored computed : ℕ) → result ≡ FileMade.Changed ib stored computed → (W.view w.new).tells → ⊥ }
-    ensures told { (W.view w.new).tells → (W.view w.old).tells }
-    ensures input { (W.view w.new).tells → (W.view w.new).input ≡ (W.view w.old).input }
-    ensures counts { NeverFall (W.view w.old) (W.view w.new) }
+/// The end where no file with the nodes of a new store was laid.
+fn of_laying(stop: LayingStop) -> FileMade
+    ensures { result ≡ of_laying stop }
 {
-    let header = found.header;
-    let Ok(planner) = S::from_found(alloc, found) else {
-        return FileMade::Memory;
-    };
-    let mut keeper = FileKeeper {
-        store: planner,
-        header,
-        found: write(&header),
-        given: 0,
-    };
-    let changes = Changes {
-        nodes: store.nodes,
-        counts: store.counts,
-        room: 0,
-    };
-    match keeper.prepare(alloc, w, changes) {
-        Ok(ready) => match keeper.apply(w, ready) {
-            Ok(()) => FileMade::Made,
-            Err(Failed) => FileMade::Disk,
-        },
-        Err(stop) => of_plan(stop),
+    match stop {
+        LayingStop::NotEmpty => FileMade::NotEmpty,
+        LayingStop::Fault => FileMade::Disk,
+        LayingStop::Memory => FileMade::Memory,
+        LayingStop::Unplanned(stop) => of_plan(stop),
     }
 }
 
-/// Makes a new store of a name in the two files, which are empty before: lays a file without nodes, and commits the store's nodes to it. What a stop or a failure within it leaves can be a file without nodes, which is no store; the next call then answers `NotEmpty`.
+/// Makes a new store of a name in the two files, which are empty before, by laying a file with the store's nodes. What a stop or a failure within it leaves can be a file without nodes, which is no store; the next call then answers `NotEmpty`.
 pub fn make_file<W: Outside, S: FoundStore<W> + Drop>(
     alloc: Global,
     w: &mut W,
@@ -119,10 +79,13 @@ pub fn make_file<W: Outside, S: FoundStore<W> + Drop>(
     let Ok(store) = new_store(alloc, name) else {
         return FileMade::Memory;
     };
-    match lay_empty(alloc, w) {
-        Ok(found) => commit_nodes::<W, S>(alloc, w, found, store),
-        Err(LayStop::NotEmpty) => FileMade::NotEmpty,
-        Err(LayStop::Fault) => FileMade::Disk,
-        Err(LayStop::Memory) => FileMade::Memory,
+    let changes = Changes {
+        nodes: store.nodes,
+        counts: store.counts,
+        room: 0,
+    };
+    match lay_nodes::<W, S>(alloc, w, changes) {
+        Ok(_keeper) => FileMade::Made,
+        Err(stop) => of_laying(stop),
     }
 }

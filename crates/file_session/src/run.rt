@@ -9,7 +9,8 @@ ghost use Rattle.store_session.specs.declared.session.SessionEnd.{SessionEnd as 
 ghost use Rattle.file_session.specs.Stops.{unopened};
 ghost use Rattle.file_session.specs.FileRun.{FileRunEnds};
 
-use file_open::{FileRefusal, FileStop, FoundStore, open_file};
+use file_laying::FoundStore;
+use file_open::{FileRefusal, FileStop, open_file};
 use mail_store::Store;
 use pst_outside::Outside;
 use search_store::SearchStore;
