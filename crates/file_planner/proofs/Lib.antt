@@ -1,4 +1,6 @@
 pub mod SlotLaws
+pub mod HoldingLaws
+pub mod OverLaws
 pub mod AfterLaws
 pub mod RecountLaws
 pub mod NewLaws

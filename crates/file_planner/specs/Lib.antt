@@ -1,5 +1,6 @@
 pub mod Freed
 pub mod Recounts
+pub mod Holding
 pub mod Knowing
 pub mod Drawn
 pub mod Becomes
