@@ -1,8 +1,7 @@
 -- What a drawn plan comes to, for what holds a file.
-use Rattle.std.proofs.Common.{Bool, true, ◌≡◌, ◌∙◌, ℕ, ◌+◌, ◌^◌, ◌<◌, ◌≤◌, List, [], ◌++◌, length, drop, Option, refl, sym, ap, subst, arith, length-append}
+use Rattle.std.proofs.Common.{Bool, true, ◌≡◌, ◌∙◌, ℕ, ◌+◌, ◌^◌, ◌<◌, ◌≤◌, List, [], ◌++◌, length, drop, Option, refl, sym, ap, subst, arith, length-append, length-drop, length-take}
 use Rattle.std.proofs.lemmas.List.{length-map}
 use Rattle.pst_base.specs.declared.ids.Nid.{Nid}
-use Rattle.pst_base.specs.declared.places.Place.{Place}
 use Rattle.lru.proofs.Splits.{Contains-nil}
 use Rattle.pst_base.specs.declared.ids.Bref.{Bref}
 use Rattle.pst_outside.specs.World.{Image, World}
@@ -16,7 +15,7 @@ use Rattle.pst_header.specs.declared.header.Header.{Header}
 use Rattle.alloc_map.specs.Taken.{Taken}
 use Rattle.file_blocks.specs.Blocks.{file_of}
 use Rattle.file_blocks.specs.Stops.{Tells}
-use Rattle.file_blocks.proofs.FileLaws.{same_length}
+use Rattle.file_blocks.proofs.FileLaws.{behind_header, same_length}
 use Rattle.file_layout.specs.Nodes.{Lays, NodeMap, nodes_in, places_of}
 use Rattle.lays_kept.specs.declared.Piece.{Piece}
 use Rattle.lays_kept.specs.Kept.{HoldsEach, Scattered}
@@ -29,7 +28,10 @@ use Rattle.node_layout.proofs.JoinLaws.{joined}
 use Rattle.node_layout.proofs.PlannedLaws.{planned-commits}
 use Rattle.node_store.specs.declared.node.PageCaches.{PageCaches}
 use Rattle.node_store.specs.Told.{CachesBoth, KeepsTelling, TellsNodes}
-use Rattle.pst_commit.specs.Keeping.{Comes, Holds, Keeps, LooksOn, PlansFor}
+use Rattle.pst_commit.specs.declared.store.Pin.{Pin}
+use Rattle.pst_commit.specs.Held.{opened_of}
+use Rattle.pst_commit.specs.Keeping.{Comes, Holds, Keeps, LooksOn, PlansFor, ReadsAs}
+use Rattle.pst_commit.proofs.HeldLaws.{trees_kept}
 use Rattle.ref_counts.specs.Tables.{refs_in}
 use Rattle.ref_counts.specs.Changes.{HasRoomFor}
 use Rattle.file_planner.specs.declared.planner.FilePlanner.{FilePlanner}
@@ -37,11 +39,14 @@ use Rattle.file_planner.specs.declared.planner.PlanEffects.{PlanEffects}
 use Rattle.file_planner.specs.Becomes.{IsMade}
 use Rattle.file_planner.specs.Cost.{IsWithin}
 use Rattle.file_planner.specs.Drawn.{IsDrawn, blocks_drawn, nodes_drawn}
-use Rattle.file_planner.specs.Knowing.{AreCached, IsKnown, Knows, KnowsAfter, cells_of, spent}
+use Rattle.file_planner.specs.Holding.{IsHolding, IsOver, placing_over}
+use Rattle.file_planner.specs.Knowing.{AreCached, IsKnown, Knows, KnowsAfter, cells_of, placing, spent}
 use Rattle.file_planner.proofs.CostLaws.{drawn-within}
 use Rattle.file_planner.proofs.DrawnLaws
 use Rattle.file_planner.proofs.KnownLaws
 use Rattle.file_planner.proofs.NewLaws.{sealed-count}
+use Rattle.file_planner.proofs.OverLaws.{keep-each, over-own, over-pin}
+use Rattle.file_planner.proofs.PlacedLaws.{laid-high}
 
 -- a file that was renewed lays nodes
 lays-renewed : {next : Header} {bytes : List ℕ} {N : port.Nodes} → Renews next bytes N → (n : NodeMap) × Lays next bytes n
@@ -63,39 +68,41 @@ lays-renewed {next} {bytes} {N} r =
     )
 
 -- a drawn plan can be committed, and the planner knows what it makes
-pub comes : (p : FilePlanner) (found file : List ℕ) (N : port.Nodes) (last : List ℕ) (stands : FileStands found file N last) (cs : List (Nid × Option NodeRec)) (pieces : List Piece) (sealed : List ℕ) (next : Header) (e : PlanEffects)
-    → port.ascend 0 cs ≡ true → (known : IsKnown stands.lays p.slots (refs_in p.refs) p.pages p.next_block p.next_page) → p.next_block < 2 ^ 61 → p.next_page < 2 ^ 61 → HasRoomFor p.refs e.refs.items
-    → IsDrawn stands.lays p.slots (refs_in p.refs) p.pages p.next_block p.next_page cs pieces sealed next e
-    → Comes (KnowsAfter p e) IsMade IsWithin found file pieces sealed next cs N last
-comes p found file N last stands cs pieces sealed next e up known low page_low room d =
+pub comes : (p : FilePlanner) (found file : List ℕ) (N : port.Nodes) (old : Header) (stands : FileStands found file N old.indexes) → stands.header ≡ old → (cs : List (Nid × Option NodeRec)) (pieces : List Piece) (sealed : List ℕ) (next : Header) (e : PlanEffects)
+    → port.ascend 0 cs ≡ true → (known : IsKnown stands.lays p.slots (refs_in p.refs) p.pages p.next_block p.next_page) → IsHolding p.slots p.held.pins.items p.held.all → p.next_block < 2 ^ 61 → p.next_page < 2 ^ 61 → HasRoomFor p.refs e.refs.items
+    → IsDrawn stands.lays (placing p) (refs_in p.refs) p.pages p.next_block p.next_page cs pieces sealed next e
+    → Comes (KnowsAfter p e) (IsMade (opened_of p.held.pins.items)) IsWithin p.held.pins.items found old file pieces sealed next cs N
+comes p found file N old stands own cs pieces sealed next e up known holding low page_low room d =
+    let over : IsOver p.slots (placing p) = over-own p.slots (placing p) (opened_of p.held.pins.items) holding.with_held in
     let is : Lays stands.header file stands.m = stands.lays in
-    let all : List Piece = d.growth ++ DrawnLaws.drawn_pieces is known low d in
+    let all : List Piece = d.growth ++ DrawnLaws.drawn_pieces is known over low d in
     let are : pieces ≡ all = d.pieces_are in
     let renews : (mid : List ℕ) → Scattered all file mid → HoldsEach mid all → Renews next (sealed ++ drop 564 mid) (port.changed N cs) = λ mid writes holds.
-    joined stands.header next file (sealed ++ drop 564 mid) stands.m N is (blocks_drawn d) (nodes_drawn d) cs stands.those up (DrawnLaws.planned is known low d) (KnownLaws.has is known low page_low d stands.long mid writes holds) in
+    joined stands.header next file (sealed ++ drop 564 mid) stands.m N is (blocks_drawn d) (nodes_drawn d) cs stands.those up (DrawnLaws.planned is known over low d) (KnownLaws.has is known over low page_low d stands.long mid writes holds) in
     record {
-      plan = subst (λ (ps : List Piece). IsPlan found file ps sealed N last (port.changed N cs) next.indexes) (sym are)
-          (planned-commits found file N last stands next sealed d.growth (DrawnLaws.drawn_pieces is known low d) (blocks_drawn d) (nodes_drawn d) cs up (DrawnLaws.planned is known low d) (DrawnLaws.next-header is known low d) (DrawnLaws.has-room is known low d)
-          (λ bytes long kept stood. DrawnLaws.shows is known low d bytes kept stood));
+      plan = subst (λ (ps : List Piece). IsPlan found file ps sealed N old.indexes (port.changed N cs) next.indexes) (sym are)
+          (planned-commits found file N old.indexes stands next sealed d.growth (DrawnLaws.drawn_pieces is known over low d) (blocks_drawn d) (nodes_drawn d) cs up (DrawnLaws.planned is known over low d) (DrawnLaws.next-header is known over low d) (DrawnLaws.has-room is known over low d)
+          (λ bytes long kept stood. DrawnLaws.shows is known over low d bytes kept stood));
       read = d.read;
       cost = drawn-within is stands.read d;
       known = λ mid scattered each.
           let writes : Scattered all file mid = subst (λ (ps : List Piece). Scattered ps file mid) are scattered in
           let holds : HoldsEach mid all = subst (HoldsEach mid) are each in
           let here = lays-renewed (renews mid writes holds) in
-          let later = KnownLaws.slots-now is known low page_low d stands.long mid writes holds here.1 in
+          let later = KnownLaws.slots-now is known over low page_low d stands.long mid writes holds here.1 in
           record {
-            mid = (d.placed).now;
+            mid = (DrawnLaws.own is known over low d).0;
             after = later.0;
-            takes = subst (λ (ps : List Place). Taken p.slots (d.placed).now ps) (sym d.taken) (DrawnLaws.taken-all is known low d);
+            takes = subst (Taken p.slots (DrawnLaws.own is known over low d).0) (sym d.taken) (DrawnLaws.own is known over low d).1;
             frees = later.1;
             room = room;
-            known = λ n now. KnownLaws.known-now is known low page_low d stands.long mid writes holds now later.0 later.1 later.2;
+            sized = holding.sized;
+            known = λ n now. KnownLaws.known-now is known over low page_low d stands.long mid writes holds now later.0 later.1 later.2;
           };
       made = λ mid scattered each.
           let writes : Scattered all file mid = subst (λ (ps : List Piece). Scattered ps file mid) are scattered in
           let holds : HoldsEach mid all = subst (HoldsEach mid) are each in
-          let has = KnownLaws.has is known low page_low d stands.long mid writes holds in
+          let has = KnownLaws.has is known over low page_low d stands.long mid writes holds in
           let block_count : length d.block_places ≡ length d.blocks = ap length (sym d.of_entries) ∙ length-map d.entries _ ∙ sealed-count d.blocks d.entries d.block_pieces d.sealed_blocks in
           let page_count : length (d.first_places ++ d.last_places) ≡ length d.block_pages + length d.node_pages =
           let a = length-append d.first_places d.last_places in let b = (d.block_tree).count in let c = (d.node_tree).count in omega (arith, a, b, c) in
@@ -110,6 +117,8 @@ comes p found file N last stands cs pieces sealed next e up known low page_low r
             pages = d.first_places ++ d.last_places;
             used = p.slots;
             covered = known.used;
+            all = placing p;
+            with_held = holding.with_held;
             mid = (d.placed).mid;
             place_blocks = (d.placed).least_blocks;
             now = (d.placed).now;
@@ -121,29 +130,24 @@ comes p found file N last stands cs pieces sealed next e up known low page_low r
             next_block = let a = d.next_block in let b = known.next_block in omega (arith, a, b, block_count);
             next_page = let a = d.next_page in let b = known.next_page in omega (arith, a, b, page_count);
           };
+      keeps = λ mid scattered each.
+          let writes : Scattered all file mid = subst (λ (ps : List Piece). Scattered ps file mid) are scattered in
+          let holds : HoldsEach mid all = subst (HoldsEach mid) are each in
+          let here = renews mid writes holds in
+          let same : stands.header.eof ≡ old.eof = ap (λ (h : Header). h.eof) own in
+          let grows : old.eof ≤ next.eof = let a = ((d.end).reaches).longer in omega (arith, a, same) in
+          keep-each old next file (sealed ++ drop 564 mid) p.held.pins.items (λ used held nbt bbt M trees.
+          let more = over-pin p.slots (placing p) used (opened_of p.held.pins.items) holding.with_held (trees.size ∙ sym known.size) held in
+          trees_kept old next file (sealed ++ drop 564 mid) nbt bbt used M trees grows here.long_enough here.small_enough
+          (DrawnLaws.kept-over is known over low d trees.lays (sym same) used trees.size trees.covered more mid writes));
     }
 
 -- ---- what is held
 
--- the caches of a file that is held have its pages alone
-pub held-caches : {p : FilePlanner} {found : List ℕ} {header : Header} {world : World} {N : port.Nodes} → Holds (Knows p) found header world N → CachesBoth world header p.caches
-held-caches {p} {found} {header} {world} {N} held =
-    let is = (held.1.stands).file in
-    let long : header.eof ≤ length (file_of world.here) = subst (λ (h : Header). h.eof ≤ length (file_of world.here)) held.1.own (is.lays).long_enough in
-    let same = same_length world.here.main world.here.side (held.1.stands).main in
-    let told : Tells world header.eof = record { tells = held.0; whole = omega (arith, long, same) } in
-    record { blocks = record { told = told; kept = ((held.1.known).cached).blocks }; nodes = record { told = told; kept = ((held.1.known).cached).nodes } }
-
--- and the world tells its nodes
-abbrev pub held-tells : {p : FilePlanner} {found : List ℕ} {header : Header} {world : World} {N : port.Nodes} → Holds (Knows p) found header world N → (m : NodeMap) × TellsNodes world header p.caches m
-held-tells {p} {found} {header} {world} {N} held =
-    let is = (held.1.stands).file in
-    (is.m, record { cached = held-caches held; lays = subst (λ (h : Header). Lays h (file_of world.here) is.m) held.1.own is.lays })
-
 -- what is so of each reading of a file under a header
 abbrev pub Drawing : FilePlanner → List ℕ → List (Nid × Option NodeRec) → List Piece → List ℕ → Header → PlanEffects → Header → Type 0
 Drawing p file cs pieces sealed next e h = (m : NodeMap) (is : Lays h file m) → IsKnown is p.slots (refs_in p.refs) p.pages p.next_block p.next_page
-    → IsDrawn is p.slots (refs_in p.refs) p.pages p.next_block p.next_page cs pieces sealed next e
+    → IsDrawn is (placing p) (refs_in p.refs) p.pages p.next_block p.next_page cs pieces sealed next e
 
 -- ---- caches that were emptied
 
@@ -166,8 +170,8 @@ held-before {knows} {found} {header} {v} {w} {N} same held = (same.stays.told he
 -- a plan that was drawn through empty caches is one for all nodes that are held then
 pub plans-when : (p : FilePlanner) (found : List ℕ) (header : Header) (v w : World) (caches : PageCaches) (cs : List (Nid × Option NodeRec)) (pieces : List Piece) (sealed : List ℕ) (next : Header) (e : PlanEffects)
     → caches.blocks ≡ [] → caches.nodes ≡ [] → Untouched v w → port.ascend 0 cs ≡ true → p.next_block < 2 ^ 61 → p.next_page < 2 ^ 61 → HasRoomFor p.refs e.refs.items
-    → ((m : NodeMap) (tells : TellsNodes v header caches m) → IsDrawn tells.lays p.slots (refs_in p.refs) p.pages p.next_block p.next_page cs pieces sealed next e)
-    → PlansFor (Knows p) (KnowsAfter p e) IsMade IsWithin found header w pieces sealed next cs
+    → ((m : NodeMap) (tells : TellsNodes v header caches m) → IsDrawn tells.lays (placing p) (refs_in p.refs) p.pages p.next_block p.next_page cs pieces sealed next e)
+    → PlansFor (Knows p) (KnowsAfter p e) (IsMade (opened_of p.held.pins.items)) IsWithin p.held.pins.items found header w pieces sealed next cs
 plans-when p found header v w caches cs pieces sealed next e no_blocks no_nodes same up low page_low room drawn N held =
     let file : List ℕ = file_of w.here in
     let is : FileStands found file N header.indexes = (held.1.stands).file in
@@ -178,43 +182,127 @@ plans-when p found header v w caches cs pieces sealed next e no_blocks no_nodes 
     let here : Drawing p file cs pieces sealed next e is.header = subst (Drawing p file cs pieces sealed next e) (sym own) all in
     let knows : Knows p is.header file = subst (λ (h : Header). Knows p h file) (sym own) held.1.known in
     let known = knows.known is.m is.lays in
-    comes p found file N header.indexes is cs pieces sealed next e up known low page_low room (here is.m is.lays known)
+    comes p found file N header is own cs pieces sealed next e up known knows.holding low page_low room (here is.m is.lays known)
 
 -- what is told through empty caches, of what is held
 pub empty-tells : {p : FilePlanner} {found : List ℕ} {header : Header} {world : World} {N : port.Nodes} (caches : PageCaches) → caches.blocks ≡ [] → caches.nodes ≡ [] → Holds (Knows p) found header world N
-    → (m : NodeMap) × (tells : TellsNodes world header caches m) × IsKnown tells.lays p.slots (refs_in p.refs) p.pages p.next_block p.next_page
+    → (m : NodeMap) × (tells : TellsNodes world header caches m) × (length (placing p) ≡ length p.slots) × IsKnown tells.lays p.slots (refs_in p.refs) p.pages p.next_block p.next_page
 empty-tells {p} {found} {header} {world} {N} caches no_blocks no_nodes held =
     let is = (held.1.stands).file in
     let lays : Lays header (file_of world.here) is.m = subst (λ (h : Header). Lays h (file_of world.here) is.m) held.1.own is.lays in
-    (is.m, record { cached = empty-caches (Knows p) caches no_blocks no_nodes held; lays = lays }, (held.1.known).known is.m lays)
+    (is.m, record { cached = empty-caches (Knows p) caches no_blocks no_nodes held; lays = lays }, (held.1.known).holding.sized.whole, (held.1.known).known is.m lays)
+
+-- ---- reading
+
+-- where a file is longer than its header its main part has one
+main-long : (image : Image) → 564 < length (file_of image) → 564 ≤ length image.main
+main-long image long =
+    let same = ap length (behind_header image.main image.side 564 1 (omega arith)) in
+    omega (arith, same, long, length-take 1 (drop 564 image.main), length-drop 564 image.main, length-take 1 (drop 564 (file_of image)), length-drop 564 (file_of image))
+
+-- a world that tells a file which lays nodes has all its bytes
+told-of : {header : Header} {world : World} {m : NodeMap} → world.tells → Lays header (file_of world.here) m → Tells world header.eof
+told-of {header} {world} {m} tells lays =
+    let high = laid-high lays in
+    let long = lays.long_enough in
+    let same = same_length world.here.main world.here.side (main-long world.here (omega (arith, high, long))) in
+    record { tells = tells; whole = omega (arith, long, same) }
+
+-- the caches of a file that is read under a header have its pages alone
+pub read-tells : {p : FilePlanner} {header present : Header} {world : World} {m : NodeMap} → world.tells → Lays header (file_of world.here) m → header.eof ≡ present.eof → Knows p present (file_of world.here) → TellsNodes world header p.caches m
+read-tells {p} {header} {present} {world} {m} tells lays end knows =
+    let told = told-of tells lays in
+    record {
+      cached = record {
+        blocks = record { told = told; kept = subst (λ (n : ℕ). PagesHold (bodies (file_of world.here) n 0x80) p.caches.blocks) (sym end) knows.cached.blocks };
+        nodes = record { told = told; kept = subst (λ (n : ℕ). PagesHold (bodies (file_of world.here) n 0x81) p.caches.nodes) (sym end) knows.cached.nodes };
+      };
+      lays = lays;
+    }
+
+-- the same through empty caches
+pub empty-reads : {header : Header} {world : World} {m : NodeMap} (caches : PageCaches) → caches.blocks ≡ [] → caches.nodes ≡ [] → world.tells → Lays header (file_of world.here) m → TellsNodes world header caches m
+empty-reads {header} {world} {m} caches no_blocks no_nodes tells lays =
+    let told = told-of tells lays in
+    let file : List ℕ = file_of world.here in
+    record {
+      cached = record {
+        blocks = record { told = told; kept = none-wrong (bodies file header.eof 0x80) caches.blocks no_blocks };
+        nodes = record { told = told; kept = none-wrong (bodies file header.eof 0x81) caches.nodes no_nodes };
+      };
+      lays = lays;
+    }
+
+-- and a world that is read tells its nodes
+pub reads-tells : {p : FilePlanner} {header : Header} {world : World} {N : port.Nodes} → (reads : ReadsAs (Knows p) header world N) → TellsNodes world header p.caches reads.m
+reads-tells {p} {header} {world} {N} reads = read-tells reads.told reads.lays reads.end reads.known
 
 -- ---- knowledge through other caches
 
+-- the same numbers
+pub record SameNumbers (p q : FilePlanner) : Type 0 where
+  pub slots : q.slots ≡ p.slots
+  pub pins : q.held.pins.items ≡ p.held.pins.items
+  pub union : q.held.all ≡ p.held.all
+  pub refs : (key : ℕ) → refs_in q.refs key ≡ refs_in p.refs key
+  pub pages : q.pages ≡ p.pages
+  pub block : q.next_block ≡ p.next_block
+  pub page : q.next_page ≡ p.next_page
+
+-- other caches are no other numbers
+pub other-caches : (p : FilePlanner) (caches : PageCaches) → SameNumbers p (record p { caches = caches })
+other-caches p caches = record { slots = refl; pins = refl; union = refl; refs = λ key. refl; pages = refl; block = refl; page = refl }
+
+pub both-same : {p q r : FilePlanner} → SameNumbers p q → SameNumbers q r → SameNumbers p r
+both-same one two = record {
+  slots = two.slots ∙ one.slots;
+  pins = two.pins ∙ one.pins;
+  union = two.union ∙ one.union;
+  refs = λ key. two.refs key ∙ one.refs key;
+  pages = two.pages ∙ one.pages;
+  block = two.block ∙ one.block;
+  page = two.page ∙ one.page;
+}
+
+-- what pins hold is as it was
+pub holding-on : (own own' : List Bool) (pins pins' : List (Pin × List Bool)) (all all' : Option (List Bool)) → own' ≡ own → pins' ≡ pins → all' ≡ all → IsHolding own pins all → IsHolding own' pins' all'
+holding-on own own' pins pins' all all' slots held union is =
+    subst (λ (s : List Bool). IsHolding s pins' all') (sym slots) (subst (λ (ps : List (Pin × List Bool)). IsHolding own ps all') (sym held) (subst (λ (o : Option (List Bool)). IsHolding own pins o) (sym union) is))
+
 -- the same numbers, and caches that are right for the file
-pub knows-on : (p q : FilePlanner) (header : Header) (file : List ℕ) → q.slots ≡ p.slots → ((key : ℕ) → refs_in q.refs key ≡ refs_in p.refs key) → q.pages ≡ p.pages → q.next_block ≡ p.next_block → q.next_page ≡ p.next_page → AreCached header file q.caches → Knows p header file → Knows q header file
-knows-on p q header file slots refs pages block page cached knows = record {
+pub knows-on : (p q : FilePlanner) (header : Header) (file : List ℕ) → SameNumbers p q → AreCached header file q.caches → Knows p header file → Knows q header file
+knows-on p q header file same cached knows = record {
   cached = cached;
   known = λ m is.
       let known = knows.known m is in
       record {
-        size = ap length slots ∙ known.size;
-        used = subst (IsCovered (occupied (places_of is.blocks is.nodes) 8192)) (sym slots) known.used;
-        refs = λ key. refs key ∙ known.refs key;
-        pages = pages ∙ known.pages;
-        next_block = block ∙ known.next_block;
-        next_page = page ∙ known.next_page;
+        size = ap length same.slots ∙ known.size;
+        used = subst (IsCovered (occupied (places_of is.blocks is.nodes) 8192)) (sym same.slots) known.used;
+        refs = λ key. same.refs key ∙ known.refs key;
+        pages = same.pages ∙ known.pages;
+        next_block = same.block ∙ known.next_block;
+        next_page = same.page ∙ known.next_page;
       };
+  holding = holding-on p.slots q.slots p.held.pins.items q.held.pins.items p.held.all q.held.all same.slots same.pins same.union knows.holding;
+}
+
+-- the pages of a cache are those under any header that ends the file at the same byte
+cached-at : (header present : Header) (file : List ℕ) (caches : PageCaches) → header.eof ≡ present.eof → AreCached header file caches → AreCached present file caches
+cached-at header present file caches end cached = record {
+  blocks = subst (λ (n : ℕ). PagesHold (bodies file n 0x80) caches.blocks) end cached.blocks;
+  nodes = subst (λ (n : ℕ). PagesHold (bodies file n 0x81) caches.nodes) end cached.nodes;
 }
 
 -- a call that looks through caches, which tell of the file still
-pub looks-on : (p q : FilePlanner) (header : Header) (v w : World) → q.slots ≡ p.slots → ((key : ℕ) → refs_in q.refs key ≡ refs_in p.refs key) → q.pages ≡ p.pages → q.next_block ≡ p.next_block → q.next_page ≡ p.next_page → Untouched v w
-    → ((found : List ℕ) (N : port.Nodes) → Holds (Knows p) found header v N → AreCached header (file_of v.here) q.caches)
-    → LooksOn (Knows p) (Knows q) header p.slots q.slots (cells_of p) (cells_of q) v w
-looks-on p q header v w slots refs pages block page same cached = record {
-  known = λ found N held. knows-on p q header (file_of v.here) slots refs pages block page (cached found N held) held.1.known;
-  slots = slots;
-  room = λ i. (free_cells_of (slots i), pages i, spent (block i) (page i));
-  world = same;
+pub looks-on : (p q : FilePlanner) (header : Header) (v w : World) → SameNumbers p q → Untouched v w
+    → ((m : NodeMap) (present : Header) → v.tells → Lays header (file_of v.here) m → header.eof ≡ present.eof → Knows p present (file_of v.here) → AreCached header (file_of v.here) q.caches)
+    → LooksOn (Knows p) (Knows q) header p.slots q.slots p.held.pins.items q.held.pins.items (cells_of p) (cells_of q) v w
+looks-on p q header v w same world cached = record {
+  known = λ m tells lays present end knows. knows-on p q present (file_of v.here) same (cached-at header present (file_of v.here) q.caches end (cached m present tells lays end knows)) knows;
+  slots = same.slots;
+  pins = same.pins;
+  room = λ i. (free_cells_of (placing_over (same.slots i) (same.union i)), same.pages i, spent (same.block i) (same.page i));
+  world = world;
 }
 
 -- the caches after a call, of what was held
@@ -229,20 +317,19 @@ cached-after {header} {v} {w} {caches} {now} same keeps m tells =
 
 -- a plan that is drawn with the same numbers
 pub drawn-on : {header : Header} {file : List ℕ} {m : NodeMap} (is : Lays header file m) (p q : FilePlanner) (cs : List (Nid × Option NodeRec)) (pieces : List Piece) (sealed : List ℕ) (next : Header) (e : PlanEffects)
-    → q.slots ≡ p.slots → ((key : ℕ) → refs_in q.refs key ≡ refs_in p.refs key) → q.pages ≡ p.pages → q.next_block ≡ p.next_block → q.next_page ≡ p.next_page
-    → IsDrawn is p.slots (refs_in p.refs) p.pages p.next_block p.next_page cs pieces sealed next e → IsDrawn is q.slots (refs_in q.refs) q.pages q.next_block q.next_page cs pieces sealed next e
-drawn-on {header} {file} {m} is p q cs pieces sealed next e slots refs pages block page d =
-    let numbers : (λ (key : ℕ). refs_in p.refs key) ≡ (λ (key : ℕ). refs_in q.refs key) = λ i key. sym (refs key) i in
-    let one : IsDrawn is q.slots (refs_in p.refs) p.pages p.next_block p.next_page cs pieces sealed next e = subst (λ (s : List Bool). IsDrawn is s (refs_in p.refs) p.pages p.next_block p.next_page cs pieces sealed next e) (sym slots) d in
-    let two : IsDrawn is q.slots (refs_in q.refs) p.pages p.next_block p.next_page cs pieces sealed next e = subst (λ (f : ℕ → ℕ). IsDrawn is q.slots f p.pages p.next_block p.next_page cs pieces sealed next e) numbers one in
-    let three : IsDrawn is q.slots (refs_in q.refs) q.pages p.next_block p.next_page cs pieces sealed next e = subst (λ (n : ℕ). IsDrawn is q.slots (refs_in q.refs) n p.next_block p.next_page cs pieces sealed next e) (sym pages) two in
-    let four : IsDrawn is q.slots (refs_in q.refs) q.pages q.next_block p.next_page cs pieces sealed next e = subst (λ (n : ℕ). IsDrawn is q.slots (refs_in q.refs) q.pages n p.next_page cs pieces sealed next e) (sym block) three in
-    subst (λ (n : ℕ). IsDrawn is q.slots (refs_in q.refs) q.pages q.next_block n cs pieces sealed next e) (sym page) four
+    → SameNumbers p q → IsDrawn is (placing p) (refs_in p.refs) p.pages p.next_block p.next_page cs pieces sealed next e → IsDrawn is (placing q) (refs_in q.refs) q.pages q.next_block q.next_page cs pieces sealed next e
+drawn-on {header} {file} {m} is p q cs pieces sealed next e same d =
+    let numbers : (λ (key : ℕ). refs_in p.refs key) ≡ (λ (key : ℕ). refs_in q.refs key) = λ i key. sym (same.refs key) i in
+    let over : placing q ≡ placing p = λ i. placing_over (same.slots i) (same.union i) in
+    let one : IsDrawn is (placing q) (refs_in p.refs) p.pages p.next_block p.next_page cs pieces sealed next e = subst (λ (s : List Bool). IsDrawn is s (refs_in p.refs) p.pages p.next_block p.next_page cs pieces sealed next e) (sym over) d in
+    let two : IsDrawn is (placing q) (refs_in q.refs) p.pages p.next_block p.next_page cs pieces sealed next e = subst (λ (f : ℕ → ℕ). IsDrawn is (placing q) f p.pages p.next_block p.next_page cs pieces sealed next e) numbers one in
+    let three : IsDrawn is (placing q) (refs_in q.refs) q.pages p.next_block p.next_page cs pieces sealed next e = subst (λ (n : ℕ). IsDrawn is (placing q) (refs_in q.refs) n p.next_block p.next_page cs pieces sealed next e) (sym same.pages) two in
+    let four : IsDrawn is (placing q) (refs_in q.refs) q.pages q.next_block p.next_page cs pieces sealed next e = subst (λ (n : ℕ). IsDrawn is (placing q) (refs_in q.refs) q.pages n p.next_page cs pieces sealed next e) (sym same.block) three in
+    subst (λ (n : ℕ). IsDrawn is (placing q) (refs_in q.refs) q.pages q.next_block n cs pieces sealed next e) (sym same.page) four
 
 -- what is held is held after both caches were emptied
-pub held-emptied : (p q : FilePlanner) (found : List ℕ) (header : Header) (world : World) {N : port.Nodes} → q.slots ≡ p.slots → ((key : ℕ) → refs_in q.refs key ≡ refs_in p.refs key) → q.pages ≡ p.pages → q.next_block ≡ p.next_block → q.next_page ≡ p.next_page
-    → q.caches.blocks ≡ [] → q.caches.nodes ≡ [] → Holds (Knows p) found header world N → Holds (Knows q) found header world N
-held-emptied p q found header world {N} slots refs pages block page no_blocks no_nodes held =
+pub held-emptied : (p q : FilePlanner) (found : List ℕ) (header : Header) (world : World) {N : port.Nodes} → SameNumbers p q → q.caches.blocks ≡ [] → q.caches.nodes ≡ [] → Holds (Knows p) found header world N → Holds (Knows q) found header world N
+held-emptied p q found header world {N} same no_blocks no_nodes held =
     let file : List ℕ = file_of world.here in
     let cached : AreCached header file q.caches = record { blocks = none-wrong (bodies file header.eof 0x80) q.caches.blocks no_blocks; nodes = none-wrong (bodies file header.eof 0x81) q.caches.nodes no_nodes } in
-    (held.0, record { stands = held.1.stands; own = held.1.own; known = knows-on p q header file slots refs pages block page cached held.1.known })
+    (held.0, record { stands = held.1.stands; own = held.1.own; known = knows-on p q header file same cached held.1.known })

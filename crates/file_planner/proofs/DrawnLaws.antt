@@ -1,5 +1,5 @@
 -- A plan in all its parts is one that can be committed.
-use Rattle.std.proofs.Common.{Bool, true, ◌≡◌, ◌∙◌, inl, inr, ℕ, ◌+◌, ◌-◌, ◌%◌, ◌^◌, ◌<◌, ◌≤◌, ltb, List, [], ◌∷◌, ◌++◌, length, map, Option, Some, None, refl, sym, ap, subst, arith, if◌then◌else◌}
+use Rattle.std.proofs.Common.{Bool, true, ◌≡◌, ◌∙◌, inl, inr, ℕ, ◌+◌, ◌-◌, ◌*◌, ◌%◌, ◌^◌, ◌<◌, ◌≤◌, ltb, List, [], ◌∷◌, ◌++◌, length, map, drop, Option, Some, None, refl, sym, ap, subst, arith, if◌then◌else◌}
 use Rattle.std.specs.List.{All}
 use Rattle.std.proofs.lemmas.Bool.{cases_eq, cases_lt, eq-eqb, lt-ltb, ne_eqb}
 use Rattle.std.proofs.lemmas.List.{map-append}
@@ -9,7 +9,7 @@ use Rattle.pst_base.specs.declared.ids.Nid.{Nid}
 use Rattle.pst_base.specs.declared.places.Place.{Place}
 use Rattle.pst_base.specs.Ids.{key_of}
 use Rattle.pst_header.specs.declared.header.Header.{Header}
-use Rattle.alloc_map.specs.Standing.{amap_places, standing}
+use Rattle.alloc_map.specs.Standing.{IsCovered, amap_places, occupied, standing}
 use Rattle.alloc_map.specs.Covered.{Once}
 use Rattle.alloc_map.specs.Taken.{Taken}
 use Rattle.alloc_map.proofs.TakenLaws.{taken-both}
@@ -21,14 +21,16 @@ use Rattle.file_blocks.specs.Blocks.{AllStand, Stands, data_of, entry_key, found
 use Rattle.file_layout.specs.Nodes.{Lays, NodeMap, block_tree, blocks_in, node_tree, nodes_in, place_of, places_of, regions_to}
 use Rattle.file_layout.specs.Trees.{IsPlace, page_place}
 use Rattle.lays_kept.specs.declared.Piece.{Piece}
-use Rattle.lays_kept.specs.Kept.{Each as EachPlace, SameAt}
+use Rattle.lays_kept.specs.Kept.{Each as EachPlace, IsClear, SameAt, Scattered}
 use Rattle.lays_kept.specs.Tally.{one_at, tally}
 use Rattle.lays_kept.proofs.Beside.{IsWhole}
 use Rattle.lays_kept.proofs.Kept.{all_kept, each_back, each_front}
-use Rattle.lays_kept.proofs.Places.{blocks_places, each_append, lays_places}
+use Rattle.lays_kept.proofs.Places.{blocks_places, each_append, lays_places, scattered_same}
+use Rattle.lays_kept.proofs.Renewed.{behind}
 use Rattle.lays_kept.proofs.Tally.{once_reordered, tally_append}
 use Rattle.node_port.specs.declared.node.NodeRec.{NodeRec}
 use Rattle.node_layout.specs.Commit.{HasRoom, IsNext, Shows}
+use Rattle.node_layout.specs.Growth.{AllGrow}
 use Rattle.node_layout.specs.Joined.{AreChanged, IsPlanned, found_after, places_in}
 use Rattle.node_layout.specs.Lookups.{Each, EachPut, edit_at}
 use Rattle.node_layout.specs.Pieces.{EachStands, piece_place}
@@ -36,6 +38,7 @@ use Rattle.node_layout.proofs.DataLaws.{all-here}
 use Rattle.node_layout.proofs.GrowthLaws.{growth-beside, grown-long}
 use Rattle.node_layout.proofs.LookupLaws.{each-edited, sum-edited, with-edited}
 use Rattle.node_layout.proofs.NodeLaws.{still-found}
+use Rattle.node_layout.proofs.PlannedLaws.{planned-beside}
 use Rattle.node_layout.proofs.SealedLaws.{all-sealed}
 use Rattle.node_layout.proofs.WrittenLaws.{pages-shown}
 use Rattle.node_refs.specs.Counts.{put}
@@ -49,9 +52,11 @@ use Rattle.plan_pieces.specs.Names.{named}
 use Rattle.plan_pieces.proofs.JoinLaws.{names-placed}
 use Rattle.file_planner.specs.declared.planner.PlanEffects.{PlanEffects}
 use Rattle.file_planner.specs.Drawn.{IsDrawn, blocks_drawn, nodes_drawn}
+use Rattle.file_planner.specs.Holding.{IsOver}
 use Rattle.file_planner.specs.Knowing.{IsKnown}
 use Rattle.file_planner.specs.Recounts.{puts_of, recounts}
 use Rattle.file_planner.proofs.AfterLaws.{AllLaid, once-beside, standing-fewer}
+use Rattle.file_planner.proofs.OverLaws.{taken-over}
 use Rattle.file_planner.proofs.NewLaws.{all-blocks, news-here, next-known, puts-edits}
 use Rattle.file_planner.proofs.PlacedLaws.{all-each, each-all, laid-high, laid-taken, laid-wholes, laid-within, sealed-long, stands-back, stands-front, standing-once, written-long}
 use Rattle.file_planner.proofs.RecountLaws.{blocks-left, each-put, each-with, edits-append, entry-has, extra-append, puts-append, puts-extra, recounts-edits, recounts-extra, recounts-stand, steady-slot, sum-places}
@@ -112,7 +117,12 @@ each-as : (f g : ℕ → Option (List ℕ)) (blocks : List (Bid × List ℕ)) �
 each-as f g [] same all = tt
 each-as f g (b ∷ bs) same all = (same (key_of (b.0).bits) ∙ all.0, each-as f g bs same all.1)
 
-module _ {header : Header} {file : List ℕ} {m : NodeMap} (is : Lays header file m) {slots : List Bool} {counts : ℕ → ℕ} {pages block page : ℕ} {cs : List (Nid × Option NodeRec)} {pieces : List Piece} {sealed : List ℕ} {next : Header} {e : PlanEffects} (known : IsKnown is slots counts pages block page) (low : block < 2 ^ 61) (d : IsDrawn is slots counts pages block page cs pieces sealed next e) where
+-- what is the same behind the header is the same behind another
+same-behind : (sealed file mid : List ℕ) (eof : ℕ) → length sealed ≡ 564 → (ps : List Place) → EachPlace (IsPlace eof) ps → EachPlace (SameAt file mid) ps → EachPlace (SameAt file (sealed ++ drop 564 mid)) ps
+same-behind sealed file mid eof size [] places same = tt
+same-behind sealed file mid eof size (p ∷ ps) places same = (behind sealed mid p.ib p.len size (let a = (places.0).above in omega (arith, a)) ∙ same.0, same-behind sealed file mid eof size ps places.1 same.1)
+
+module _ {header : Header} {file : List ℕ} {m : NodeMap} (is : Lays header file m) {slots all : List Bool} {counts : ℕ → ℕ} {pages block page : ℕ} {cs : List (Nid × Option NodeRec)} {pieces : List Piece} {sealed : List ℕ} {next : Header} {e : PlanEffects} (known : IsKnown is slots counts pages block page) (over : IsOver slots all) (low : block < 2 ^ 61) (d : IsDrawn is all counts pages block page cs pieces sealed next e) where
   -- the places of new pages, and then of blocks
   abbrev pub new_places : List Place
   new_places = (d.first_places ++ d.last_places) ++ d.block_places
@@ -195,11 +205,11 @@ module _ {header : Header} {file : List ℕ} {m : NodeMap} (is : Lays header fil
   some-bytes [] all = tt
   some-bytes (p ∷ ps) all = (let a = all.0 in omega (arith, a), some-bytes ps all.1)
 
-  pub taken-all : Taken slots (d.placed).now new_places
-  taken-all = taken-both slots (d.placed).mid (d.placed).now d.block_places (d.first_places ++ d.last_places) (d.placed).first (d.placed).then_pages
+  pub taken-all : Taken all (d.placed).now new_places
+  taken-all = taken-both all (d.placed).mid (d.placed).now d.block_places (d.first_places ++ d.last_places) (d.placed).first (d.placed).then_pages
 
   pub new-laid : AllLaid 8192 new_places
-  new-laid = laid-taken slots (d.placed).now new_places known.size taken-all
+  new-laid = laid-taken all (d.placed).now new_places (over.size ∙ known.size) taken-all
       (each_append (λ p. 64 ≤ p.len) (d.first_places ++ d.last_places) d.block_places
       (each_append (λ p. 64 ≤ p.len) d.first_places d.last_places (some-bytes d.first_places first-long) (some-bytes d.last_places last-long))
       (subst (EachPlace (λ p. 64 ≤ p.len)) d.at_blocks (sealed-long d.blocks d.entries d.block_pieces d.sealed_blocks)))
@@ -207,14 +217,24 @@ module _ {header : Header} {file : List ℕ} {m : NodeMap} (is : Lays header fil
   pub new-places-in : EachPlace (IsPlace next.eof) new_places
   new-places-in = laid-within 8192 next.eof new_places new-laid (all-each (λ p. p.ib + p.len ≤ next.eof) new_places ((d.end).reaches).holds)
 
-  pub once-new : Once (new_places ++ standing (places_of is.blocks is.nodes) 8192)
-  once-new = once-beside (places_of is.blocks is.nodes) new_places slots (d.placed).now known.size known.used (standing-once is) taken-all new-laid
+  -- among the slots of the file alone, the new places are taken too
+  pub own : (own : List Bool) × Taken slots own new_places
+  own = taken-over slots all (d.placed).now new_places over taken-all
 
-  once-here : Once (new_places ++ standing (places_of is.blocks is.nodes) (regions_to next.eof))
-  once-here =
+  -- they meet no place of trees whose slots were used
+  once-over : {h : Header} {n : NodeMap} (t : Lays h file n) (used : List Bool) → length used ≡ 3968 * 8192 → IsCovered (occupied (places_of t.blocks t.nodes) 8192) used → IsOver used all → Once (new_places ++ standing (places_of t.blocks t.nodes) 8192)
+  once-over t used size covered more =
+      let taken = taken-over used all (d.placed).now new_places more taken-all in
+      once-beside (places_of t.blocks t.nodes) new_places used taken.0 size covered (standing-once t) taken.1 new-laid
+
+  pub once-new : Once (new_places ++ standing (places_of is.blocks is.nodes) 8192)
+  once-new = once-over is slots known.size known.used over
+
+  once-in : {h : Header} {n : NodeMap} (t : Lays h file n) → Once (new_places ++ standing (places_of t.blocks t.nodes) 8192) → Once (new_places ++ standing (places_of t.blocks t.nodes) (regions_to next.eof))
+  once-in t once =
       let few : regions_to next.eof ≤ 8192 = let a = d.few in omega (arith, a) in
       let sum : regions_to next.eof + (8192 - regions_to next.eof) ≡ 8192 = omega (arith, few) in
-      standing-fewer new_places (places_of is.blocks is.nodes) (regions_to next.eof) (8192 - regions_to next.eof) (subst (λ (k : ℕ). Once (new_places ++ standing (places_of is.blocks is.nodes) k)) (sym sum) once-new)
+      standing-fewer new_places (places_of t.blocks t.nodes) (regions_to next.eof) (8192 - regions_to next.eof) (subst (λ (k : ℕ). Once (new_places ++ standing (places_of t.blocks t.nodes) k)) (sym sum) once)
 
   pub first-at : places_in (blocks_drawn d) ≡ d.first_places
   first-at = names-placed page d.first_places d.block_pages (d.block_tree).count (each-all (λ p. p.len ≡ 512) d.first_places first-long)
@@ -226,11 +246,16 @@ module _ {header : Header} {file : List ℕ} {m : NodeMap} (is : Lays header fil
   abbrev pub drawn_pieces : List Piece
   drawn_pieces = (d.first_pieces ++ d.last_pieces) ++ d.block_pieces
 
-  pub has-room : HasRoom is next d.growth drawn_pieces (places_in (blocks_drawn d) ++ (places_in (nodes_drawn d) ++ d.block_places))
-  has-room =
-      let beside = growth-beside header.eof d.growth (places_of is.blocks is.nodes) (laid-high is) d.grows (lays_places header file m is) in
+  -- the places of the new pages and blocks
+  abbrev pub drawn_places : List Place
+  drawn_places = places_in (blocks_drawn d) ++ (places_in (nodes_drawn d) ++ d.block_places)
+
+  -- the pieces have room beside trees of the file whose slots were used
+  pub room-over : {h : Header} {n : NodeMap} (t : Lays h file n) → h.eof ≡ header.eof → (used : List Bool) → length used ≡ 3968 * 8192 → IsCovered (occupied (places_of t.blocks t.nodes) 8192) used → IsOver used all → HasRoom t next d.growth drawn_pieces drawn_places
+  room-over {h} {n} t end used size covered more =
+      let beside = growth-beside h.eof d.growth (places_of t.blocks t.nodes) (laid-high t) (subst (λ (k : ℕ). AllGrow k d.growth) (sym end) d.grows) (lays_places h file n t) in
       record {
-        once = subst (λ (l : List Place). Once (l ++ standing (places_of is.blocks is.nodes) (regions_to next.eof))) (sym places-at) once-here;
+        once = subst (λ (l : List Place). Once (l ++ standing (places_of t.blocks t.nodes) (regions_to next.eof))) (sym places-at) (once-in t (once-over t used size covered more));
         same = λ slot.
             let a = tally_append slot (places_in (blocks_drawn d)) (places_in (nodes_drawn d) ++ d.block_places) in
             let b = tally_append slot (places_in (nodes_drawn d)) d.block_places in
@@ -248,6 +273,20 @@ module _ {header : Header} {file : List ℕ} {m : NodeMap} (is : Lays header fil
           | inr same ↦ let a = is.long_enough in let b = writes.longer in omega (arith, same, a, b)
         ];
       }
+
+  pub has-room : HasRoom is next d.growth drawn_pieces drawn_places
+  has-room = room-over is refl slots known.size known.used over
+
+  -- so that these keep their pages and blocks
+  pub kept-over : {h : Header} {n : NodeMap} (t : Lays h file n) → h.eof ≡ header.eof → (used : List Bool) → length used ≡ 3968 * 8192 → IsCovered (occupied (places_of t.blocks t.nodes) 8192) used → IsOver used all
+      → (mid : List ℕ) → Scattered (d.growth ++ drawn_pieces) file mid → EachPlace (SameAt file (sealed ++ drop 564 mid)) (places_of t.blocks t.nodes)
+  kept-over {h} {n} t end used size covered more mid writes =
+      let places : List Place = places_of t.blocks t.nodes in
+      let C : Place → Type 0 = λ p. IsClear (d.growth ++ drawn_pieces) p.ib p.len in
+      let longer : h.eof ≤ next.eof = let a = ((d.end).reaches).longer in omega (arith, a, end) in
+      let beside : EachPlace C (standing places (regions_to h.eof)) = planned-beside t next d.growth drawn_pieces drawn_places longer (room-over t end used size covered more) in
+      same-behind sealed file mid h.eof d.size places (lays_places h file n t)
+      (scattered_same (d.growth ++ drawn_pieces) file mid h.eof writes t.long_enough places (lays_places h file n t) (each_front C places (amap_places (regions_to h.eof)) beside))
 
   -- ---- what it shows
 

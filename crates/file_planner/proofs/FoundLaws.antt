@@ -1,5 +1,5 @@
 -- What a planner knows of a file that was scanned.
-use Rattle.std.proofs.Common.{Bool, ◌≡◌, ◌∙◌, ℕ, ◌+◌, List, [], ◌∷◌, length, Option, refl, sym, ap, subst, length-append}
+use Rattle.std.proofs.Common.{Bool, ◌≡◌, ◌∙◌, ℕ, ◌+◌, List, [], ◌∷◌, length, Option, None, refl, sym, ap, subst, length-append}
 use Rattle.pst_outside.specs.World.{Image}
 use Rattle.pst_header.specs.declared.header.Header.{Header}
 use Rattle.alloc_map.specs.Standing.{IsCovered, occupied}
@@ -18,7 +18,8 @@ use Rattle.node_refs.specs.Counts.{uses}
 use Rattle.ref_counts.specs.Tables.{refs_in}
 use Rattle.file_planner.specs.declared.planner.FilePlanner.{FilePlanner}
 use Rattle.file_planner.specs.Knowing.{IsKnownBy, Knows}
-use Rattle.file_planner.proofs.ComesLaws.{none-wrong}
+use Rattle.file_planner.proofs.ComesLaws.{holding-on, none-wrong}
+use Rattle.file_planner.proofs.HoldingLaws.{none-holding}
 
 -- how often nodes reach a block, counted as a sum
 uses-sum : (find : ℕ → Option (List ℕ)) (key : ℕ) (es : List NodeEntry) → uses_of find key es ≡ sum_of (uses find key) es
@@ -26,9 +27,9 @@ uses-sum find key [] = refl
 uses-sum find key (e ∷ es) = ap (λ (n : ℕ). count_of key (node_keys find e) + n) (uses-sum find key es)
 
 -- what a scan found is taken over, with empty caches
-pub knows-found : (p : FilePlanner) (found : FoundFile) (image : Image) → p.caches.blocks ≡ [] → p.caches.nodes ≡ [] → p.slots ≡ found.slots → p.refs ≡ found.refs → p.pages ≡ found.pages → p.next_block ≡ found.next_block → p.next_page ≡ found.next_page
+pub knows-found : (p : FilePlanner) (found : FoundFile) (image : Image) → p.caches.blocks ≡ [] → p.caches.nodes ≡ [] → p.slots ≡ found.slots → p.held.pins.items ≡ [] → p.held.all ≡ None → p.refs ≡ found.refs → p.pages ≡ found.pages → p.next_block ≡ found.next_block → p.next_page ≡ found.next_page
     → IsFound image found → Knows p found.header (file_of image)
-knows-found p found image no_blocks no_nodes slots refs pages block page s =
+knows-found p found image no_blocks no_nodes slots pins union refs pages block page s =
     let header : Header = found.header in
     let file : List ℕ = file_of image in
     let b : Found = s.lays.blocks in
@@ -48,4 +49,5 @@ knows-found p found image no_blocks no_nodes slots refs pages block page s =
           let two : is.nodes ≡ n = whole-once (node_tree file header.eof) header.nbt is.nodes n is.node_pages s.lays.node_pages in
           subst (λ (f : Found). IsKnownBy header file f is.nodes p.slots (refs_in p.refs) p.pages p.next_block p.next_page) (sym one)
           (subst (λ (f : Found). IsKnownBy header file b f p.slots (refs_in p.refs) p.pages p.next_block p.next_page) (sym two) by);
+      holding = holding-on p.slots p.slots [] p.held.pins.items None p.held.all refl pins union (none-holding p.slots);
     }

@@ -9,6 +9,7 @@ use Rattle.node_port.specs.declared.keeper.PrepareStop.{PrepareStop}
 use Rattle.node_port.specs.declared.keeper.PrepareStop.TheVariants as prepare
 use Rattle.node_port.specs.declared.node.NodeRec.{NodeRec}
 use Rattle.node_port.specs.Nodes as port
+use Rattle.node_port.specs.Pins.{no_pins}
 use Rattle.node_port.specs.Stops.{KeepStops, PrepareStops, Room, RoomDecides, need, size}
 use Rattle.node_store.specs.Told.{StopsKeeping}
 use Rattle.file_planner.specs.Knowing.{spent}
@@ -55,11 +56,11 @@ decides-on R S has room cs prepare.IdsSpent is = is
 
 -- the same room decides the same
 pub decides-same : (R : Type 0) (free free' pages room : ℕ) (spent spent' : Bool) (found : List ℕ) (cs cs' : List (Nid × Option NodeRec)) (r : Result R PrepareStop) → free ≡ free' → spent ≡ spent' → cs ≡ cs'
-    → RoomDecides {R = R} (record { free = free; pages = pages; spent = spent; found = found }) room cs r → RoomDecides {R = R} (record { free = free'; pages = pages; spent = spent'; found = found }) room cs' r
+    → RoomDecides {R = R} (record { free = free; pages = pages; spent = spent; found = found; pins = no_pins }) room cs r → RoomDecides {R = R} (record { free = free'; pages = pages; spent = spent'; found = found; pins = no_pins }) room cs' r
 decides-same R free free' pages room spent spent' found cs cs' r frees spents same is =
-    let one : RoomDecides {R = R} (record { free = free'; pages = pages; spent = spent; found = found }) room cs r = subst (λ (n : ℕ). RoomDecides {R = R} (record { free = n; pages = pages; spent = spent; found = found }) room cs r) frees is in
-    let two : RoomDecides {R = R} (record { free = free'; pages = pages; spent = spent'; found = found }) room cs r = subst (λ (b : Bool). RoomDecides {R = R} (record { free = free'; pages = pages; spent = b; found = found }) room cs r) spents one in
-    subst (λ (l : List (Nid × Option NodeRec)). RoomDecides {R = R} (record { free = free'; pages = pages; spent = spent'; found = found }) room l r) same two
+    let one : RoomDecides {R = R} (record { free = free'; pages = pages; spent = spent; found = found; pins = no_pins }) room cs r = subst (λ (n : ℕ). RoomDecides {R = R} (record { free = n; pages = pages; spent = spent; found = found; pins = no_pins }) room cs r) frees is in
+    let two : RoomDecides {R = R} (record { free = free'; pages = pages; spent = spent'; found = found; pins = no_pins }) room cs r = subst (λ (b : Bool). RoomDecides {R = R} (record { free = free'; pages = pages; spent = b; found = found; pins = no_pins }) room cs r) spents one in
+    subst (λ (l : List (Nid × Option NodeRec)). RoomDecides {R = R} (record { free = free'; pages = pages; spent = spent'; found = found; pins = no_pins }) room l r) same two
 
 -- ---- numbers
 

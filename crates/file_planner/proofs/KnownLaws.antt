@@ -51,6 +51,7 @@ use Rattle.plan_pieces.specs.Names.{named}
 use Rattle.plan_pieces.proofs.PageLaws.{named-within}
 use Rattle.file_planner.specs.declared.planner.PlanEffects.{PlanEffects}
 use Rattle.file_planner.specs.Drawn.{IsDrawn, blocks_drawn, nodes_drawn}
+use Rattle.file_planner.specs.Holding.{IsOver}
 use Rattle.file_planner.specs.Knowing.{IsKnown, IsKnownBy}
 use Rattle.file_planner.specs.Recounts.{edit_of, left_places, puts_of, recounts, with_refs}
 use Rattle.ref_counts.specs.declared.table.RefChange.{RefChange}
@@ -147,33 +148,33 @@ named-id first places pages count i lt = ap (λ (at : Bref). (at.bid).bits) (nam
 
 -- ---- the file after it
 
-module _ {header : Header} {file : List ℕ} {m : NodeMap} (is : Lays header file m) {slots : List Bool} {counts : ℕ → ℕ} {pages block page : ℕ} {cs : List (Nid × Option NodeRec)} {pieces : List Piece} {sealed : List ℕ} {next : Header} {e : PlanEffects} (known : IsKnown is slots counts pages block page) (low : block < 2 ^ 61) (page_low : page < 2 ^ 61) (d : IsDrawn is slots counts pages block page cs pieces sealed next e)
-    (long : 564 ≤ length file) (mid : List ℕ) (writes : Scattered (d.growth ++ DrawnLaws.drawn_pieces is known low d) file mid) (holds : HoldsEach mid (d.growth ++ DrawnLaws.drawn_pieces is known low d)) where
+module _ {header : Header} {file : List ℕ} {m : NodeMap} (is : Lays header file m) {slots all : List Bool} {counts : ℕ → ℕ} {pages block page : ℕ} {cs : List (Nid × Option NodeRec)} {pieces : List Piece} {sealed : List ℕ} {next : Header} {e : PlanEffects} (known : IsKnown is slots counts pages block page) (over : IsOver slots all) (low : block < 2 ^ 61) (page_low : page < 2 ^ 61) (d : IsDrawn is all counts pages block page cs pieces sealed next e)
+    (long : 564 ≤ length file) (mid : List ℕ) (writes : Scattered (d.growth ++ DrawnLaws.drawn_pieces is known over low d) file mid) (holds : HoldsEach mid (d.growth ++ DrawnLaws.drawn_pieces is known over low d)) where
   abbrev pub bytes : List ℕ
   bytes = sealed ++ drop 564 mid
 
   abbrev pub bd : List (ℕ × Option BlockEntry)
-  bd = DrawnLaws.block_edits is known low d
+  bd = DrawnLaws.block_edits is known over low d
 
   old : List BlockEntry
   old = blocks_in is.blocks
 
   pub has : HasPlanned is (blocks_drawn d) (nodes_drawn d) next bytes d.block_places cs
-  has = planned-has is next sealed d.growth (DrawnLaws.drawn_pieces is known low d) (blocks_drawn d) (nodes_drawn d) d.block_places cs long (DrawnLaws.next-header is known low d) (DrawnLaws.has-room is known low d)
-      (λ file_bytes reaches kept stood. DrawnLaws.shows is known low d file_bytes kept stood) mid writes holds
+  has = planned-has is next sealed d.growth (DrawnLaws.drawn_pieces is known over low d) (blocks_drawn d) (nodes_drawn d) d.block_places cs long (DrawnLaws.next-header is known over low d) (DrawnLaws.has-room is known over low d)
+      (λ file_bytes reaches kept stood. DrawnLaws.shows is known over low d file_bytes kept stood) mid writes holds
 
-  stood : EachStands bytes (DrawnLaws.drawn_pieces is known low d)
+  stood : EachStands bytes (DrawnLaws.drawn_pieces is known over low d)
   stood =
-      let room = DrawnLaws.has-room is known low d in
-      stand-behind sealed mid (DrawnLaws.drawn_pieces is known low d) d.size room.wholes
-      (pieces-stand mid d.growth (DrawnLaws.drawn_pieces is known low d) (pieces-apart (DrawnLaws.drawn_pieces is known low d) (standing (places_of is.blocks is.nodes) (regions_to next.eof)) room.wholes room.once) holds)
+      let room = DrawnLaws.has-room is known over low d in
+      stand-behind sealed mid (DrawnLaws.drawn_pieces is known over low d) d.size room.wholes
+      (pieces-stand mid d.growth (DrawnLaws.drawn_pieces is known over low d) (pieces-apart (DrawnLaws.drawn_pieces is known over low d) (standing (places_of is.blocks is.nodes) (regions_to next.eof)) room.wholes room.once) holds)
 
   page-kept : EachPlace (SameAt file bytes) (map page_place (is.blocks.pages ++ is.nodes.pages))
   page-kept = each_front (SameAt file bytes) (map page_place (is.blocks.pages ++ is.nodes.pages)) (map place_of (blocks_in is.blocks)) has.kept
 
-  pub bs : IsChangedTree block_of entry_key (block_tree file header.eof) bytes next.eof is.blocks d.block_pages d.block_freed d.block_top (named page d.first_places) (DrawnLaws.block_edits is known low d)
+  pub bs : IsChangedTree block_of entry_key (block_tree file header.eof) bytes next.eof is.blocks d.block_pages d.block_freed d.block_top (named page d.first_places) (DrawnLaws.block_edits is known over low d)
   bs = tree-changed block_of entry_key (block_tree file header.eof) key-block_of bytes next.eof header.bbt is.blocks is.block_pages has.longer has.long_enough (pages_front (SameAt file bytes) is.blocks.pages is.nodes.pages page-kept)
-      d.block_pages d.block_freed d.block_top (named page d.first_places) (DrawnLaws.block_edits is known low d) ((d.block_tree).plans).plan has.block_pages
+      d.block_pages d.block_freed d.block_top (named page d.first_places) (DrawnLaws.block_edits is known over low d) ((d.block_tree).plans).plan has.block_pages
 
   pub ns : IsChangedTree node_of node_id (node_tree file header.eof) bytes next.eof is.nodes d.node_pages d.node_freed d.node_top (named (page + length d.block_pages) d.last_places) d.edits
   ns = tree-changed node_of node_id (node_tree file header.eof) key-node_of bytes next.eof header.nbt is.nodes is.node_pages has.longer has.long_enough (pages_back (SameAt file bytes) is.blocks.pages is.nodes.pages page-kept)
@@ -189,25 +190,29 @@ module _ {header : Header} {file : List ℕ} {m : NodeMap} (is : Lays header fil
   -- ---- references
 
   abbrev pub after : ℕ → Option (List ℕ)
-  after = found_after bytes (blocks_in is.blocks) (DrawnLaws.block_edits is known low d)
+  after = found_after bytes (blocks_in is.blocks) (DrawnLaws.block_edits is known over low d)
 
   same-number : (k : ℕ) → refs_after counts (taken_in (found_in file (blocks_in is.blocks)) (nodes_in is.nodes) d.edits) (put after d.edits) k ≡ number_after counts (d.sketch).taken (d.sketch).put k
   same-number k =
       let a = ((d.sketch).contents).taken_are k in
-      let b = (DrawnLaws.contents-shown is known low d bytes has.kept stood).1 k in
+      let b = (DrawnLaws.contents-shown is known over low d bytes has.kept stood).1 k in
       ap (λ (n : ℕ). (counts k - n) + put after d.edits k) (sym a) ∙ ap (λ (n : ℕ). (counts k - count_of k (d.sketch).taken) + n) (sym b)
 
   pub refs-now : AreRefs (found_in bytes (blocks_in bs.found)) (nodes_in ns.found) (λ k. number_by (change_of k e.refs.items) (counts k))
   refs-now =
       let find : ℕ → Option (List ℕ) = found_in file (blocks_in is.blocks) in
       let kept = refs-kept find after header.eof (nodes_in is.nodes) d.edits counts (d.sketch).node_edits known.refs (are-led find header.eof (nodes_in is.nodes) m.nodes is.are)
-      (λ k b some found. DrawnLaws.still is known low d bytes has.kept stood k b (ap (ltb 0) (sym (same-number k)) ∙ some) found) in
-      let found : found_in bytes (blocks_in bs.found) ≡ after = ap (found_in bytes) bs.entries ∙ found-edited bytes (blocks_in is.blocks) (DrawnLaws.block_edits is known low d) (DrawnLaws.all-edits is known low d) in
+      (λ k b some found. DrawnLaws.still is known over low d bytes has.kept stood k b (ap (ltb 0) (sym (same-number k)) ∙ some) found) in
+      let found : found_in bytes (blocks_in bs.found) ≡ after = ap (found_in bytes) bs.entries ∙ found-edited bytes (blocks_in is.blocks) (DrawnLaws.block_edits is known over low d) (DrawnLaws.all-edits is known over low d) in
       subst (λ (f : ℕ → Option (List ℕ)). AreRefs f (nodes_in ns.found) (λ k. number_by (change_of k e.refs.items) (counts k))) (sym found)
       (subst (λ (es : List NodeEntry). AreRefs after es (λ k. number_by (change_of k e.refs.items) (counts k))) (sym ns.entries)
       (λ k. DrawnLaws.numbers-by counts (d.sketch).taken (d.sketch).put e.refs.items (d.sketch).changed k ∙ sym (same-number k) ∙ kept k))
 
   -- ---- places
+
+  -- the slots of the file alone, with the new places
+  abbrev pub own : (own : List Bool) × Taken slots own (DrawnLaws.new_places is known over low d)
+  own = DrawnLaws.own is known over low d
 
   abbrev pub freed_places : List Place
   freed_places = left_places (blocks_in is.blocks) block e.refs.items ++ map page_place (d.block_freed ++ d.node_freed)
@@ -219,24 +224,24 @@ module _ {header : Header} {file : List ℕ} {m : NodeMap} (is : Lays header fil
   block-sums slot =
       let f : BlockEntry → ℕ = λ o. one_at slot (place_of o) in
       let rs : List (ℕ × Option BlockEntry) = recounts (blocks_in is.blocks) block e.refs.items in
-      let exact = sum-exact entry_key f 0 (2 ^ 64) 0 (2 ^ 64) (blocks_in is.blocks) (DrawnLaws.block_edits is known low d) rise (DrawnLaws.all-edits is known low d) in
+      let exact = sum-exact entry_key f 0 (2 ^ 64) 0 (2 ^ 64) (blocks_in is.blocks) (DrawnLaws.block_edits is known over low d) rise (DrawnLaws.all-edits is known over low d) in
       let olds = olds-append f (blocks_in is.blocks) rs (puts_of d.entries) in
-      let none = puts-olds f (blocks_in is.blocks) d.entries block (2 ^ 64) (DrawnLaws.new-edits is known low d) (λ k le. absent k le (entry_with entry_key k (blocks_in is.blocks)) refl) in
+      let none = puts-olds f (blocks_in is.blocks) d.entries block (2 ^ 64) (DrawnLaws.new-edits is known over low d) (λ k le. absent k le (entry_with entry_key k (blocks_in is.blocks)) refl) in
       let left = recounts-sum slot (blocks_in is.blocks) block e.refs.items in
       let puts = put-sum-append f rs (puts_of d.entries) in
       let news = puts-sum f d.entries in
       let a = sum-places slot (blocks_in is.blocks) in
       let b = sum-places slot d.entries in
       let c = ap (tally slot) d.of_entries in
-      let g : tally slot (map place_of (blocks_in bs.found)) ≡ sum_of f (edited entry_key (blocks_in is.blocks) (DrawnLaws.block_edits is known low d)) =
-      ap (λ (es : List BlockEntry). tally slot (map place_of es)) bs.entries ∙ sym (sum-places slot (edited entry_key (blocks_in is.blocks) (DrawnLaws.block_edits is known low d))) in
+      let g : tally slot (map place_of (blocks_in bs.found)) ≡ sum_of f (edited entry_key (blocks_in is.blocks) (DrawnLaws.block_edits is known over low d)) =
+      ap (λ (es : List BlockEntry). tally slot (map place_of es)) bs.entries ∙ sym (sum-places slot (edited entry_key (blocks_in is.blocks) (DrawnLaws.block_edits is known over low d))) in
       omega (arith, exact, olds, none, left, puts, news, a, b, c, g)
     where
       absent : (k : ℕ) → block ≤ k → (o : Option BlockEntry) → entry_with entry_key k (blocks_in is.blocks) ≡ o → entry_with entry_key k (blocks_in is.blocks) ≡ None
       absent k le None h = h
-      absent k le (Some x) h = let lt = DrawnLaws.old-below is known low d k x h in absurd (omega (arith, lt, le))
+      absent k le (Some x) h = let lt = DrawnLaws.old-below is known over low d k x h in absurd (omega (arith, lt, le))
 
-  all-sums : (slot : ℕ) → tally slot (places_of bs.found ns.found) + tally slot freed_places ≡ tally slot (places_of is.blocks is.nodes) + tally slot (DrawnLaws.new_places is known low d)
+  all-sums : (slot : ℕ) → tally slot (places_of bs.found ns.found) + tally slot freed_places ≡ tally slot (places_of is.blocks is.nodes) + tally slot (DrawnLaws.new_places is known over low d)
   all-sums slot =
       let a = tally_append slot (map page_place (bs.found.pages ++ ns.found.pages)) (map place_of (blocks_in bs.found)) in
       let b = tally_append slot (map page_place (is.blocks.pages ++ is.nodes.pages)) (map place_of (blocks_in is.blocks)) in
@@ -249,8 +254,8 @@ module _ {header : Header} {file : List ℕ} {m : NodeMap} (is : Lays header fil
       let k = block-sums slot in
       let l = tally_append slot (d.first_places ++ d.last_places) d.block_places in
       let n = tally_append slot d.first_places d.last_places in
-      let o = ap (tally slot) (DrawnLaws.first-at is known low d) in
-      let p = ap (tally slot) (DrawnLaws.last-at is known low d) in
+      let o = ap (tally slot) (DrawnLaws.first-at is known over low d) in
+      let p = ap (tally slot) (DrawnLaws.last-at is known over low d) in
       omega (arith, a, b, c, f, g, h, i, j, k, l, n, o, p)
 
   tame-old : AllTame (places_of is.blocks is.nodes)
@@ -269,19 +274,19 @@ module _ {header : Header} {file : List ℕ} {m : NodeMap} (is : Lays header fil
       let f = (node-kept).counted ib in
       omega (arith, a, b, c, f)) pages_tame)
     where
-      block-kept : IsPlan (shapes_in block_of (block_tree file header.eof)) entry_key d.block_pages d.block_freed d.block_top (edited entry_key (blocks_in is.blocks) (DrawnLaws.block_edits is known low d)) is.blocks.pages
+      block-kept : IsPlan (shapes_in block_of (block_tree file header.eof)) entry_key d.block_pages d.block_freed d.block_top (edited entry_key (blocks_in is.blocks) (DrawnLaws.block_edits is known over low d)) is.blocks.pages
       block-kept = ((d.block_tree).plans).plan (blocks_in is.blocks) is.blocks.pages (shaped-root block_of entry_key (block_tree file header.eof) key-block_of header.bbt is.blocks is.block_pages)
 
       node-kept : IsPlan (shapes_in node_of (node_tree file header.eof)) node_id d.node_pages d.node_freed d.node_top (edited node_id (nodes_in is.nodes) d.edits) is.nodes.pages
       node-kept = ((d.node_tree).plans).plan (nodes_in is.nodes) is.nodes.pages (shaped-root node_of node_id (node_tree file header.eof) key-node_of header.nbt is.nodes is.node_pages)
 
-  pub slots-now : {n : NodeMap} (now : Lays next bytes n) → (later : List Bool) × Taken later (d.placed).now e.freed.items × IsCovered (occupied (places_of bs.found ns.found) 8192) later
+  pub slots-now : {n : NodeMap} (now : Lays next bytes n) → (later : List Bool) × Taken later own.0 e.freed.items × IsCovered (occupied (places_of bs.found ns.found) 8192) later
   slots-now now =
       let tame_new : AllTame (places_of bs.found ns.found) = subst (λ (f : Found). AllTame (places_of f ns.found)) (block-tree-is now) (subst (λ (f : Found). AllTame (places_of now.blocks f)) (node-tree-is now)
       (tame-standing (places_of now.blocks now.nodes) (laid-places now) (standing-once now))) in
-      let result = slots-after (places_of is.blocks is.nodes) (places_of bs.found ns.found) (DrawnLaws.new_places is known low d) freed_places slots (d.placed).now known.size known.used (standing-once is)
-      (DrawnLaws.taken-all is known low d) (DrawnLaws.new-laid is known low d) tame-old tame_new tame-freed all-sums in
-      (result.0, subst (λ (ps : List Place). Taken result.0 (d.placed).now ps) (sym d.freed) result.1, result.2)
+      let result = slots-after (places_of is.blocks is.nodes) (places_of bs.found ns.found) (DrawnLaws.new_places is known over low d) freed_places slots own.0 known.size known.used (standing-once is)
+      own.1 (DrawnLaws.new-laid is known over low d) tame-old tame_new tame-freed all-sums in
+      (result.0, subst (λ (ps : List Place). Taken result.0 own.0 ps) (sym d.freed) result.1, result.2)
 
   -- ---- numbers
 
@@ -298,10 +303,10 @@ module _ {header : Header} {file : List ℕ} {m : NodeMap} (is : Lays header fil
       let k = next-known header (blocks_in is.blocks) block known.next_block low in
       let limit : ℕ = block + 4 * length d.blocks + 3 in
       let old_below : Each (BidBelow limit) (blocks_in is.blocks) = below-more (block + 3) limit (blocks_in is.blocks) (omega arith) k.3 in
-      let puts : EachPut (BidBelow limit) (DrawnLaws.block_edits is known low d) = puts-append (BidBelow limit) (recounts (blocks_in is.blocks) block e.refs.items) (puts_of d.entries)
+      let puts : EachPut (BidBelow limit) (DrawnLaws.block_edits is known over low d) = puts-append (BidBelow limit) (recounts (blocks_in is.blocks) block e.refs.items) (puts_of d.entries)
       (recounts-below limit (blocks_in is.blocks) block e.refs.items old_below) (news-below block limit d.blocks d.entries d.block_pieces (d.sketch).rise d.sealed_blocks (omega arith)) in
-      let all : Each (BidBelow limit) (edited entry_key (blocks_in is.blocks) (DrawnLaws.block_edits is known low d)) =
-      each-edited (BidBelow limit) entry_key 0 (2 ^ 64) (blocks_in is.blocks) (DrawnLaws.block_edits is known low d) (DrawnLaws.all-edits is known low d) (below-unless limit (DrawnLaws.block_edits is known low d) (blocks_in is.blocks) old_below) puts in
+      let all : Each (BidBelow limit) (edited entry_key (blocks_in is.blocks) (DrawnLaws.block_edits is known over low d)) =
+      each-edited (BidBelow limit) entry_key 0 (2 ^ 64) (blocks_in is.blocks) (DrawnLaws.block_edits is known over low d) (DrawnLaws.all-edits is known over low d) (below-unless limit (DrawnLaws.block_edits is known over low d) (blocks_in is.blocks) old_below) puts in
       let here : Each (BidBelow limit) (blocks_in bs.found) = subst (Each (BidBelow limit)) (sym bs.entries) all in
       let is_next = d.next_block in
       let high = d.block_high in
@@ -322,11 +327,11 @@ module _ {header : Header} {file : List ℕ} {m : NodeMap} (is : Lays header fil
       d.page_after ∙ is_next ∙ page-is next (bs.found.pages ++ ns.found.pages) end is_next (omega (arith, is_next, high)) (each-both (RefBelow end) bs.found.pages ns.found.pages one two)
 
   -- what the planner knows then is right for any reading of the file
-  pub known-now : {n : NodeMap} (now : Lays next bytes n) (later : List Bool) → Taken later (d.placed).now e.freed.items → IsCovered (occupied (places_of bs.found ns.found) 8192) later
+  pub known-now : {n : NodeMap} (now : Lays next bytes n) (later : List Bool) → Taken later own.0 e.freed.items → IsCovered (occupied (places_of bs.found ns.found) 8192) later
       → IsKnown now later (λ k. number_by (change_of k e.refs.items) (counts k)) e.pages e.next_block e.next_page
   known-now now later freed used =
       let by : IsKnownBy next bytes bs.found ns.found later (λ k. number_by (change_of k e.refs.items) (counts k)) e.pages e.next_block e.next_page = record {
-        size = sym freed.size ∙ (d.placed).then_pages.size ∙ (d.placed).first.size ∙ known.size;
+        size = sym freed.size ∙ own.1.size ∙ known.size;
         used = used;
         refs = refs-now;
         pages = pages-now;

@@ -1,5 +1,5 @@
 -- A plan of what was read before, over a file that is as it was.
-use Rattle.std.proofs.Common.{Bool, ◌≡◌, ℕ, ◌+◌, ◌*◌, ◌/◌, ◌^◌, ◌<◌, ◌≤◌, min, List, length, Option, sym, subst, arith}
+use Rattle.std.proofs.Common.{Bool, ◌≡◌, ◌∙◌, ℕ, ◌+◌, ◌*◌, ◌/◌, ◌^◌, ◌<◌, ◌≤◌, min, List, length, Option, sym, subst, arith}
 use Rattle.std.specs.List.{range_with_len}
 use Rattle.std.proofs.lemmas.List.FromFn.{length-range_with_len}
 use Rattle.std.proofs.lemmas.List.Sums.{count_by-le-length}
@@ -51,14 +51,14 @@ cells-few used size =
     omega (arith, a, b, size)
 
 -- a plan can be drawn after a reading, where all was told before it
-pub can-after : {old mid : World} {header : Header} {caches now : PageCaches} {m : NodeMap} (used : List Bool) (counts : ℕ → ℕ) (numbers : Numbers) (cs : List (Nid × Option NodeRec)) (sketch : Sketch) (edits : List (ℕ × Option BlockEntry)) (size : ℕ)
-    → Untouched old mid → (tells : TellsNodes old header caches m) → TellsNodes mid header now m → IsKnown tells.lays used counts numbers.pages numbers.block numbers.page → IsSketched tells.lays counts numbers.block cs sketch edits
-    → numbers.block < 2 ^ 61 → 2 * (length sketch.blocks.items + puts_in sketch.nodes.items) ≤ 3 * size → numbers.pages / 16 + 3 * min size (2 ^ 60) + 16 ≤ free_cells_of used
-    → CanDraw mid header now numbers sketch edits (free_cells_of used)
-can-after {old} {mid} {header} {caches} {now} {m} used counts numbers cs sketch edits size same tells after known sketched low few enough =
+pub can-after : {old mid : World} {header : Header} {caches now : PageCaches} {m : NodeMap} (used all : List Bool) (counts : ℕ → ℕ) (numbers : Numbers) (cs : List (Nid × Option NodeRec)) (sketch : Sketch) (edits : List (ℕ × Option BlockEntry)) (size : ℕ)
+    → Untouched old mid → (tells : TellsNodes old header caches m) → TellsNodes mid header now m → length all ≡ length used → IsKnown tells.lays used counts numbers.pages numbers.block numbers.page → IsSketched tells.lays counts numbers.block cs sketch edits
+    → numbers.block < 2 ^ 61 → 2 * (length sketch.blocks.items + puts_in sketch.nodes.items) ≤ 3 * size → numbers.pages / 16 + 3 * min size (2 ^ 60) + 16 ≤ free_cells_of all
+    → CanDraw mid header now numbers sketch edits (free_cells_of all)
+can-after {old} {mid} {header} {caches} {now} {m} used all counts numbers cs sketch edits size same tells after whole known sketched low few enough =
     let here : ToldAll header used counts numbers cs sketch edits (file_of old.here) = (m, tells.lays, known, sketched) in
     let there : ToldAll header used counts numbers cs sketch edits (file_of mid.here) = subst (λ (i : Image). ToldAll header used counts numbers cs sketch edits (file_of i)) (sym (same.stays.here after.cached.blocks.told.tells)) here in
-    let most = cells-few used known.size in
+    let most = cells-few all (whole ∙ known.size) in
     record {
       m = there.0;
       tells = record { cached = after.cached; lays = there.1 };

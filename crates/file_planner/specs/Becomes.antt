@@ -1,5 +1,5 @@
 -- What a plan makes of a file, beside its nodes.
-use Rattle.std.specs.Prelude.{◌≡◌, ◌+◌, ◌*◌, ◌%◌, ◌^◌, ◌++◌, ℕ, List, length, take, Ok}
+use Rattle.std.specs.Prelude.{◌≡◌, ◌+◌, ◌*◌, ◌%◌, ◌^◌, ◌++◌, ℕ, Bool, List, length, take, Ok}
 use Rattle.pst_base.specs.declared.places.Place.{Place}
 use Rattle.pst_header.specs.declared.header.Header.{Header}
 use Rattle.pst_header.specs.Format.{reading}
@@ -8,11 +8,11 @@ use Rattle.alloc_map.specs.Standing.{occupied, IsCovered}
 use Rattle.alloc_map.specs.Taken.{IsBlockPlace, IsPagePlace, Takes}
 use Rattle.file_layout.specs.Nodes.{NodeMap, Lays, blocks_in, places_of}
 use Rattle.file_layout.specs.Numbers.{next_block, next_page}
-use Rattle.std.specs.Prelude.{Bool}
 use Rattle.lays_kept.specs.Stands.{last_map}
+use Rattle.pst_commit.specs.Held.{IsWithHeld}
 
--- New blocks and pages stand at the least free places beside all that stood, the blocks first. The header gives the next numbers on by 4 for each block and by 1 for each page, and its own count by 1; it vouches for no maps, names the map page of the last region, and ends the file at the least end of a region that has room for all.
-pub record IsMade (old new : List ℕ) : Type 0 where
+-- New blocks and pages stand at the least free places beside all that stood and all that these pins hold, the blocks first. The header gives the next numbers on by 4 for each block and by 1 for each page, and its own count by 1; it vouches for no maps, names the map page of the last region, and ends the file at the least end of a region that has room for all.
+pub record IsMade (opened : List (ℕ × List Bool)) (old new : List ℕ) : Type 0 where
   pub before : Header
   pub was : reading (take 564 old) ≡ Ok before
   pub m : NodeMap
@@ -24,8 +24,10 @@ pub record IsMade (old new : List ℕ) : Type 0 where
   pub pages : List Place
   pub used : List Bool
   pub covered : IsCovered (occupied (places_of lays.blocks lays.nodes) 8192) used
+  pub all : List Bool
+  pub with_held : IsWithHeld used opened all
   pub mid : List Bool
-  pub place_blocks : Takes IsBlockPlace used blocks mid
+  pub place_blocks : Takes IsBlockPlace all blocks mid
   pub now : List Bool
   pub place_pages : Takes IsPagePlace mid pages now
   pub end : IsEndFor before.eof (pages ++ blocks) after.eof

@@ -16,6 +16,7 @@ use Rattle.ref_counts.specs.Tables.{refs_in}
 use Rattle.ref_counts.specs.Changes.{HasRoomFor, change_of, number_by}
 use Rattle.file_planner.specs.declared.planner.FilePlanner.{FilePlanner}
 use Rattle.file_planner.specs.declared.planner.PlanEffects.{PlanEffects}
+use Rattle.file_planner.specs.Holding.{AreSized, IsHolding, placing_over}
 
 -- ---- a file
 
@@ -41,14 +42,19 @@ pub record AreCached (header : Header) (file : List ℕ) (caches : PageCaches) :
 pub record Knows (p : FilePlanner) (header : Header) (file : List ℕ) : Type 0 where
   pub cached : AreCached header file p.caches
   pub known : (m : NodeMap) (is : Lays header file m) → IsKnown is p.slots (refs_in p.refs) p.pages p.next_block p.next_page
+  pub holding : IsHolding p.slots p.held.pins.items p.held.all
 
 -- a next number may no more be given
 abbrev pub spent : ℕ → ℕ → Bool
 spent block page = nat_le (2 ^ 61) block || nat_le (2 ^ 61) page
 
--- the free cells, the pages of both trees, and whether a next number is used up
+-- the slots over which a plan places: those of the file, and those that pins hold
+abbrev pub placing : FilePlanner → List Bool
+placing p = placing_over p.slots p.held.all
+
+-- the cells that are free there, the pages of both trees, and whether a next number is used up
 abbrev pub cells_of : FilePlanner → ℕ × ℕ × Bool
-cells_of p = (free_cells_of p.slots, p.pages, spent p.next_block p.next_page)
+cells_of p = (free_cells_of (placing p), p.pages, spent p.next_block p.next_page)
 
 -- ---- after a commit
 
@@ -63,4 +69,5 @@ pub record KnowsAfter (p : FilePlanner) (e : PlanEffects) (header : Header) (fil
   pub takes : Taken p.slots mid e.taken.items
   pub frees : Taken after mid e.freed.items
   pub room : HasRoomFor p.refs e.refs.items
+  pub sized : AreSized p.slots p.held.pins.items p.held.all
   pub known : (m : NodeMap) (is : Lays header file m) → IsKnown is after (λ key. number_now key p e) e.pages e.next_block e.next_page

@@ -1,4 +1,5 @@
 //! What a scan found, taken over by a planner.
+use crate::held::Held;
 use crate::planner::FilePlanner;
 use file_open::FoundStore;
 use file_scan::FoundFile;
@@ -14,9 +15,11 @@ impl<W: Outside> FoundStore<W> for FilePlanner {
     fn from_found(alloc: Global, found: FoundFile) -> Result<FilePlanner, AllocError> {
         let blocks = PageCache::new(alloc, KEPT)?;
         let nodes = PageCache::new(alloc, KEPT)?;
+        let held = Held::new(alloc);
         Ok(FilePlanner {
             caches: PageCaches { blocks, nodes },
             slots: found.slots,
+            held,
             refs: found.refs,
             pages: found.pages,
             next_block: found.next_block,

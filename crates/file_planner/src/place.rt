@@ -23,6 +23,7 @@ ghost use Rattle.file_planner.specs.declared.draw.Numbers.{Numbers as Figures};
 ghost use Rattle.file_planner.specs.Draws.{CanDraw};
 ghost use Rattle.file_planner.specs.Drawn.{IsDrawn};
 ghost use Rattle.file_planner.specs.Gathered.{IsBuilt, IsSketched};
+ghost use Rattle.file_planner.specs.Holding.{placing_over};
 
 use crate::draw::{Numbers, Sketch, finish, number_after};
 use crate::old::put_entries;
@@ -141,9 +142,7 @@ fn draw_pages<W: Outside>(
 }
 
 /// The plan of what is to be written: its blocks get places, and then its pages. The places are given back.
-///
-/// `Changed` comes where the file doesn't lay nodes under the header, or its cells aren't those that were counted.
-pub(crate) fn draw<W: Outside>(
+fn draw<W: Outside>(
     alloc: Global,
     w: &mut W,
     header: &Header,
@@ -192,5 +191,40 @@ pub(crate) fn draw<W: Outside>(
     match plan {
         Ok(plan) => Ok(plan),
         Err(stop) => Err(stop),
+    }
+}
+
+/// The plan of what is to be written, whose places are taken beside the slots of the file and of its pins: in the union of both, where there is one. They are given back.
+///
+/// `Changed` comes where the file doesn't lay nodes under the header, or its cells aren't those that were counted.
+pub(crate) fn draw_beside<W: Outside>(
+    alloc: Global,
+    w: &mut W,
+    header: &Header,
+    last: &[u32; 32],
+    numbers: Numbers,
+    caches: &mut PageCaches,
+    own: &mut Slots,
+    all: &mut Option<Slots>,
+    sketch: Sketch,
+    edits: Vec<(u64, Option<BlockEntry>)>,
+) -> Result<CommitPlan<PlanEffects>, KeepStop>
+    requires writable { IsWritable header.now }
+    requires small { AreSmall sketch.blocks.items }
+    requires edits { AreEdits node_id 0 (2 ^ 64) sketch.nodes.items }
+    ensures drawn { IfOk result (λ plan. (m : NodeMap) (tells : TellsNodes (W.view w.old) header.now caches.old m) (counts : ℕ → ℕ) (cs : List (Nids × Option NodeRecs))
+        → IsSketched tells.lays counts numbers.block cs sketch edits.items
+        → IsDrawn tells.lays (placing_over own.old all.old) counts numbers.pages numbers.block numbers.page cs plan.pieces.items plan.sealed plan.header plan.adopts) }
+    ensures indexes { IfOk result (λ plan. plan.header.indexes ≡ last.now) }
+    ensures refs { IfOk result (λ plan. plan.adopts.refs.items ≡ sketch.refs.items) }
+    ensures back { own.new ≡ own.old }
+    ensures union { all.new ≡ all.old }
+    ensures stops { IfErr result (StopsKeeping (W.view w.old) (W.view w.new) (CanDraw (W.view w.old) header.now caches.old numbers sketch edits.items (free_cells_of (placing_over own.old all.old)))) }
+    ensures keeps { KeepsTelling (W.view w.old) (W.view w.new) header.now caches.old caches.new }
+    ensures untouched { Untouched (W.view w.old) (W.view w.new) }
+{
+    match all {
+        Some(all) => draw(alloc, w, header, last, numbers, caches, all, sketch, edits),
+        None => draw(alloc, w, header, last, numbers, caches, own, sketch, edits),
     }
 }

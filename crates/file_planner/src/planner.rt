@@ -2,22 +2,24 @@
 ghost use Rattle.std.specs.Prelude.{◌≡◌};
 ghost use Rattle.file_planner.specs.Stopping.{prepare_stop};
 
+use crate::held::Held;
 use crate::room::decide;
 use alloc_map::Slots;
 use node_port::{Changes, KeepStop, NodeRec, PrepareStop};
 use node_store::{PageCaches, next_node, read_node, read_node_data};
 use pst_base::{Nid, Place};
-use pst_commit::{CommitPlan, NodeStore};
+use pst_commit::{CommitPlan, NodeStore, Pin};
 use pst_header::Header;
 use pst_outside::Outside;
 use ref_counts::{RefChange, RefCounts};
-use std::alloc::Global;
+use std::alloc::{AllocError, Global};
 
-/// Reads a file's nodes and plans changes of them. It knows the file's used slots, how often each block is referred to, the pages of both trees by number, and the numbers of the next block and page; and it has caches of pages.
+/// Reads a file's nodes and plans changes of them. It knows the file's used slots and the pins, how often each block is referred to, the pages of both trees by number, and the numbers of the next block and page; and it has caches of pages.
 #[derive(Drop)]
 pub struct FilePlanner {
     pub(crate) caches: PageCaches,
     pub(crate) slots: Slots,
+    pub(crate) held: Held,
     pub(crate) refs: RefCounts,
     /// How many pages both trees have.
     pub(crate) pages: u64,
@@ -58,6 +60,8 @@ impl<W: Outside> NodeStore<W> for FilePlanner {
 
     ghost used = { λ p. p.slots };
 
+    ghost held = { λ p. p.held.pins.items };
+
     ghost cells = { cells_of };
 
     fn node(
@@ -97,7 +101,7 @@ impl<W: Outside> NodeStore<W> for FilePlanner {
         changes: Changes,
     ) -> Result<CommitPlan<PlanEffects>, PrepareStop> {
         let spent = self.spent();
-        let free = self.slots.free_cells();
+        let free = self.held.placing(&self.slots).free_cells();
         let nodes = changes.nodes.as_slice();
         match decide(free, self.pages, spent, changes.room, nodes) {
             Ok(()) => (),
@@ -113,6 +117,7 @@ impl<W: Outside> NodeStore<W> for FilePlanner {
     fn adopt(&mut self, adopts: PlanEffects) {
         self.slots.retake(adopts.taken.as_slice());
         self.slots.release(adopts.freed.as_slice());
+        self.held.settle(&self.slots);
         self.refs.adopt(adopts.refs.as_slice());
         self.pages = adopts.pages;
         self.next_block = adopts.next_block;
@@ -126,6 +131,22 @@ impl<W: Outside> NodeStore<W> for FilePlanner {
 
     fn slots(&self) -> &Slots {
         &self.slots
+    }
+
+    fn hold(&mut self, alloc: Global, pin: Pin) -> Result<(), AllocError> {
+        self.held.hold(alloc, pin, &self.slots)
+    }
+
+    fn pin_at(&self, number: u32) -> Option<Pin> {
+        self.held.pin_at(number)
+    }
+
+    fn count_pins(&self) -> usize {
+        self.held.count()
+    }
+
+    fn let_go(&mut self, number: u32) {
+        self.held.let_go(number, &self.slots)
     }
 
     ghost known_right = { known_right };

@@ -15,11 +15,12 @@ ghost use Rattle.ref_counts.specs.Tables.{refs_in};
 ghost use Rattle.tree_edit.specs.Edits.{AreEdits};
 ghost use Rattle.file_planner.specs.Drawn.{IsDrawn};
 ghost use Rattle.file_planner.specs.Gathered.{IsSketched};
+ghost use Rattle.file_planner.specs.Holding.{placing_over};
 ghost use Rattle.file_planner.specs.Knowing.{IsKnown, spent};
 
 use crate::draw::{Numbers, Sketch};
 use crate::old::old_edits;
-use crate::place::draw;
+use crate::place::draw_beside;
 use crate::planner::{FilePlanner, PlanEffects};
 use crate::trees::{block_tree, changed};
 use btree_pages::BlockEntry;
@@ -48,6 +49,8 @@ impl FilePlanner {
         ensures blocks { self.new.caches.blocks ≡ [] }
         ensures nodes { self.new.caches.nodes ≡ [] }
         ensures slots { self.new.slots ≡ self.old.slots }
+        ensures pins { self.new.held.pins ≡ self.old.held.pins }
+        ensures union { self.new.held.all ≡ self.old.held.all }
         ensures refs { self.new.refs ≡ self.old.refs }
         ensures pages { self.new.pages ≡ self.old.pages }
         ensures block { self.new.next_block ≡ self.old.next_block }
@@ -86,6 +89,8 @@ impl FilePlanner {
         ensures untouched { Untouched (W.view w.old) (W.view w.new) }
         ensures refs { (key : ℕ) → refs_in self.new.refs key ≡ refs_in self.old.refs key }
         ensures slots { self.new.slots ≡ self.old.slots }
+        ensures pins { self.new.held.pins ≡ self.old.held.pins }
+        ensures union { self.new.held.all ≡ self.old.held.all }
         ensures pages { self.new.pages ≡ self.old.pages }
         ensures block { self.new.next_block ≡ self.old.next_block }
         ensures page { self.new.next_page ≡ self.old.next_page }
@@ -128,16 +133,18 @@ impl FilePlanner {
         requires writable { IsWritable header.now }
         requires low { self.old.next_block < 2 ^ 61 }
         requires page_low { self.old.next_page < 2 ^ 61 }
-        requires enough { self.old.pages / 16 + 3 * min (size nodes.now) (2 ^ 60) + 16 ≤ free_cells_of self.old.slots }
+        requires enough { self.old.pages / 16 + 3 * min (size nodes.now) (2 ^ 60) + 16 ≤ free_cells_of (placing_over self.old.slots self.old.held.all) }
         ensures drawn { IfOk result (λ plan. (m : NodeMap) (tells : TellsNodes (W.view w.old) header.now self.old.caches m)
-            → IsDrawn tells.lays self.old.slots (refs_in self.old.refs) self.old.pages self.old.next_block self.old.next_page nodes.now plan.pieces.items plan.sealed plan.header plan.adopts) }
+            → IsDrawn tells.lays (placing_over self.old.slots self.old.held.all) (refs_in self.old.refs) self.old.pages self.old.next_block self.old.next_page nodes.now plan.pieces.items plan.sealed plan.header plan.adopts) }
         ensures room { IfOk result (λ plan. HasRoomFor self.new.refs plan.adopts.refs.items) }
         ensures indexes { IfOk result (λ plan. plan.header.indexes ≡ counts.now.last) }
-        ensures stops { IfErr result (StopsKeeping (W.view w.old) (W.view w.new) ((m : NodeMap) × (tells : TellsNodes (W.view w.old) header.now self.old.caches m) × IsKnown tells.lays self.old.slots (refs_in self.old.refs) self.old.pages self.old.next_block self.old.next_page)) }
+        ensures stops { IfErr result (StopsKeeping (W.view w.old) (W.view w.new) ((m : NodeMap) × (tells : TellsNodes (W.view w.old) header.now self.old.caches m) × (length (placing_over self.old.slots self.old.held.all) ≡ length self.old.slots) × IsKnown tells.lays self.old.slots (refs_in self.old.refs) self.old.pages self.old.next_block self.old.next_page)) }
         ensures keeps { KeepsTelling (W.view w.old) (W.view w.new) header.now self.old.caches self.new.caches }
         ensures untouched { Untouched (W.view w.old) (W.view w.new) }
         ensures refs { (key : ℕ) → refs_in self.new.refs key ≡ refs_in self.old.refs key }
         ensures slots { self.new.slots ≡ self.old.slots }
+        ensures pins { self.new.held.pins ≡ self.old.held.pins }
+        ensures union { self.new.held.all ≡ self.old.held.all }
         ensures pages { self.new.pages ≡ self.old.pages }
         ensures block { self.new.next_block ≡ self.old.next_block }
         ensures page { self.new.next_page ≡ self.old.next_page }
@@ -155,9 +162,10 @@ impl FilePlanner {
             page: self.next_page,
         };
         let Sketched { sketch, edits } = made;
-        let (last, caches, slots) = (&counts.last, &mut self.caches, &mut self.slots);
-        let plan = draw(
-            alloc, w, header, last, numbers, caches, slots, sketch, edits,
+        let (last, caches) = (&counts.last, &mut self.caches);
+        let (own, all) = (&mut self.slots, &mut self.held.all);
+        let plan = draw_beside(
+            alloc, w, header, last, numbers, caches, own, all, sketch, edits,
         );
         match plan {
             Ok(plan) => Ok(plan),

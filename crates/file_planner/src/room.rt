@@ -1,5 +1,6 @@
 //! Whether changes have room.
 ghost use Rattle.std.specs.Prelude.{◌≡◌, ◌≤◌, ◌^◌, ℕ, List, min, IfErr};
+ghost use Rattle.node_port.specs.Pins.{no_pins};
 ghost use Rattle.node_port.specs.Stops.{RoomDecides, size, subs_size};
 ghost use Rattle.file_planner.specs.Stopping.{IsRoomStop, one_node};
 
@@ -55,7 +56,7 @@ pub(crate) fn decide(
     nodes: &[(Nid, Option<NodeRec>)],
 ) -> Result<(), PrepareStop>
     requires { room ≤ 2 ^ 60 }
-    ensures decides { (found : List ℕ) → RoomDecides (record { free = free; pages = pages; spent = spent; found = found }) room nodes.now result }
+    ensures decides { (found : List ℕ) → RoomDecides (record { free = free; pages = pages; spent = spent; found = found; pins = no_pins }) room nodes.now result }
     ensures stops { IfErr result IsRoomStop }
 {
     if spent {

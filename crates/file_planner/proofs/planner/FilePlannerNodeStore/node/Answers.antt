@@ -1,32 +1,32 @@
-use Rattle.std.proofs.Common.{◌≡◌, refl}
+use Rattle.std.proofs.Common.{◌≡◌}
 use Rattle.std.proofs.lemmas.Result.{IfOk-weaker}
 use Rattle.file_layout.specs.Nodes.{NodeMap}
 use Rattle.lays_kept.specs.Stands.{AreThose}
 use Rattle.node_port.specs.Nodes.{Nodes, node_at}
 use Rattle.node_port.specs.Stops.{Tells}
 use Rattle.node_store.specs.Told.{TellsNodes}
-use Rattle.pst_commit.specs.Keeping.{Holds}
+use Rattle.pst_commit.specs.Keeping.{ReadsAs}
 use Rattle.file_planner.specs.Knowing.{Knows}
-use Rattle.file_planner.proofs.ComesLaws.{cached-after, held-tells, looks-on}
+use Rattle.file_planner.proofs.ComesLaws.{cached-after, looks-on, other-caches, read-tells, reads-tells}
 use Rattle.file_planner.proofs.KeepLaws.{keeps-to}
 use Rattle.file_planner.proofs.planner.FilePlannerNodeStore.node.Goals as goal
 
 pub returns-clause-node : goal.returns-clause-node
-returns-clause-node g c = λ found.
+returns-clause-node g c =
     let old = g.W.Outside.view c.args.w.now in
     let p = c.args.self.now in
     let header = c.args.header.now in
     IfOk-weaker c.read_node.result (λ node. (m : NodeMap) (N : Nodes) → TellsNodes old header p.caches m → AreThose m N → node ≡ node_at N c.args.nid.bits)
-    (λ node. Tells (Holds (Knows p) found header old) (λ N. node ≡ node_at N c.args.nid.bits))
-    (λ node is N held. let told = held-tells held in is told.0 N told.1 held.1.stands.file.those) c.read_node.ensures.node
+    (λ node. Tells (ReadsAs (Knows p) header old) (λ N. node ≡ node_at N c.args.nid.bits))
+    (λ node is N reads. is reads.m N (reads-tells reads) reads.those) c.read_node.ensures.node
 
 pub returns-clause-stops : goal.returns-clause-stops
-returns-clause-stops g c = λ found.
+returns-clause-stops g c =
     let old = g.W.Outside.view c.args.w.now in
     let new = g.W.Outside.view c.read_node.new.w in
     let p = c.args.self.now in
     let header = c.args.header.now in
-    keeps-to old new ((m : NodeMap) × TellsNodes old header p.caches m) (Holds (Knows p) found header old) (λ N held. held-tells held) c.read_node.result c.read_node.ensures.stops
+    keeps-to old new ((m : NodeMap) × TellsNodes old header p.caches m) (ReadsAs (Knows p) header old) (λ N reads. (reads.m, reads-tells reads)) c.read_node.result c.read_node.ensures.stops
 
 pub returns-clause-looks : goal.returns-clause-looks
 returns-clause-looks g c =
@@ -34,5 +34,5 @@ returns-clause-looks g c =
     let new = g.W.Outside.view c.read_node.new.w in
     let p = c.args.self.now in
     let header = c.args.header.now in
-    looks-on p _ header old new refl (λ key. refl) refl refl refl c.read_node.ensures.untouched
-    (λ found N held. let is = held-tells held in cached-after c.read_node.ensures.untouched c.read_node.ensures.keeps is.0 is.1)
+    looks-on p _ header old new (other-caches p _) c.read_node.ensures.untouched
+    (λ m present tells lays end knows. cached-after c.read_node.ensures.untouched c.read_node.ensures.keeps m (read-tells tells lays end knows))
