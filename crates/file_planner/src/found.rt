@@ -1,7 +1,7 @@
 //! What a scan found, taken over by a planner.
 use crate::held::Held;
 use crate::planner::FilePlanner;
-use file_open::FoundStore;
+use file_laying::FoundStore;
 use file_scan::FoundFile;
 use node_store::PageCaches;
 use page_cache::PageCache;
