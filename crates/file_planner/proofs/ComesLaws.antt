@@ -27,10 +27,10 @@ use Rattle.node_port.specs.Nodes as port
 use Rattle.node_layout.proofs.JoinLaws.{joined}
 use Rattle.node_layout.proofs.PlannedLaws.{planned-commits}
 use Rattle.node_store.specs.declared.node.PageCaches.{PageCaches}
-use Rattle.node_store.specs.Told.{CachesBoth, KeepsTelling, TellsNodes}
+use Rattle.node_store.specs.Told.{KeepsTelling, TellsNodes}
 use Rattle.pst_commit.specs.declared.store.Pin.{Pin}
 use Rattle.pst_commit.specs.Held.{opened_of}
-use Rattle.pst_commit.specs.Keeping.{Comes, Holds, Keeps, LooksOn, PlansFor, ReadsAs}
+use Rattle.pst_commit.specs.Keeping.{Comes, Holds, LooksOn, PlansFor, ReadsAs}
 use Rattle.pst_commit.proofs.HeldLaws.{trees_kept}
 use Rattle.ref_counts.specs.Tables.{refs_in}
 use Rattle.ref_counts.specs.Changes.{HasRoomFor}
@@ -142,56 +142,6 @@ comes p found file N old stands own cs pieces sealed next e up known holding low
           (DrawnLaws.kept-over is known over low d trees.lays (sym same) used trees.size trees.covered more mid writes));
     }
 
--- ---- what is held
-
--- what is so of each reading of a file under a header
-abbrev pub Drawing : FilePlanner → List ℕ → List (Nid × Option NodeRec) → List Piece → List ℕ → Header → PlanEffects → Header → Type 0
-Drawing p file cs pieces sealed next e h = (m : NodeMap) (is : Lays h file m) → IsKnown is p.slots (refs_in p.refs) p.pages p.next_block p.next_page
-    → IsDrawn is (placing p) (refs_in p.refs) p.pages p.next_block p.next_page cs pieces sealed next e
-
--- ---- caches that were emptied
-
--- nothing in a cache is wrong where nothing is in it
-pub none-wrong : (find : Bref → Option (List ℕ)) (cached : List (ℕ × Cached)) → cached ≡ [] → PagesHold find cached
-none-wrong find cached none = subst (PagesHold find) (sym none) (λ ib page has. absurd (Contains-nil (ib, page) has))
-
-pub empty-caches : {found : List ℕ} {header : Header} {world : World} {N : port.Nodes} (knows : Header → List ℕ → Type 0) (caches : PageCaches) → caches.blocks ≡ [] → caches.nodes ≡ [] → Holds knows found header world N → CachesBoth world header caches
-empty-caches {found} {header} {world} {N} knows caches no_blocks no_nodes held =
-    let is = (held.1.stands).file in
-    let long : header.eof ≤ length (file_of world.here) = subst (λ (h : Header). h.eof ≤ length (file_of world.here)) held.1.own (is.lays).long_enough in
-    let same = same_length world.here.main world.here.side (held.1.stands).main in
-    let told : Tells world header.eof = record { tells = held.0; whole = omega (arith, long, same) } in
-    record { blocks = record { told = told; kept = none-wrong (bodies (file_of world.here) header.eof 0x80) caches.blocks no_blocks }; nodes = record { told = told; kept = none-wrong (bodies (file_of world.here) header.eof 0x81) caches.nodes no_nodes } }
-
--- what is held after a call that changed nothing was held before
-held-before : {knows : Header → List ℕ → Type 0} {found : List ℕ} {header : Header} {v w : World} {N : port.Nodes} → Untouched v w → Holds knows found header w N → Holds knows found header v N
-held-before {knows} {found} {header} {v} {w} {N} same held = (same.stays.told held.0, subst (λ (i : Image). Keeps knows found header i N) (same.stays.here held.0) held.1)
-
--- a plan that was drawn through empty caches is one for all nodes that are held then
-pub plans-when : (p : FilePlanner) (found : List ℕ) (header : Header) (v w : World) (caches : PageCaches) (cs : List (Nid × Option NodeRec)) (pieces : List Piece) (sealed : List ℕ) (next : Header) (e : PlanEffects)
-    → caches.blocks ≡ [] → caches.nodes ≡ [] → Untouched v w → port.ascend 0 cs ≡ true → p.next_block < 2 ^ 61 → p.next_page < 2 ^ 61 → HasRoomFor p.refs e.refs.items
-    → ((m : NodeMap) (tells : TellsNodes v header caches m) → IsDrawn tells.lays (placing p) (refs_in p.refs) p.pages p.next_block p.next_page cs pieces sealed next e)
-    → PlansFor (Knows p) (KnowsAfter p e) (IsMade (opened_of p.held.pins.items)) IsWithin p.held.pins.items found header w pieces sealed next cs
-plans-when p found header v w caches cs pieces sealed next e no_blocks no_nodes same up low page_low room drawn N held =
-    let file : List ℕ = file_of w.here in
-    let is : FileStands found file N header.indexes = (held.1.stands).file in
-    let own : is.header ≡ header = held.1.own in
-    let both = empty-caches (Knows p) caches no_blocks no_nodes (held-before same held) in
-    let there : Drawing p (file_of v.here) cs pieces sealed next e header = λ m lays known. drawn m (record { cached = both; lays = lays }) in
-    let all : Drawing p file cs pieces sealed next e header = subst (λ (i : Image). Drawing p (file_of i) cs pieces sealed next e header) (sym (same.stays.here held.0)) there in
-    let here : Drawing p file cs pieces sealed next e is.header = subst (Drawing p file cs pieces sealed next e) (sym own) all in
-    let knows : Knows p is.header file = subst (λ (h : Header). Knows p h file) (sym own) held.1.known in
-    let known = knows.known is.m is.lays in
-    comes p found file N header is own cs pieces sealed next e up known knows.holding low page_low room (here is.m is.lays known)
-
--- what is told through empty caches, of what is held
-pub empty-tells : {p : FilePlanner} {found : List ℕ} {header : Header} {world : World} {N : port.Nodes} (caches : PageCaches) → caches.blocks ≡ [] → caches.nodes ≡ [] → Holds (Knows p) found header world N
-    → (m : NodeMap) × (tells : TellsNodes world header caches m) × (length (placing p) ≡ length p.slots) × IsKnown tells.lays p.slots (refs_in p.refs) p.pages p.next_block p.next_page
-empty-tells {p} {found} {header} {world} {N} caches no_blocks no_nodes held =
-    let is = (held.1.stands).file in
-    let lays : Lays header (file_of world.here) is.m = subst (λ (h : Header). Lays h (file_of world.here) is.m) held.1.own is.lays in
-    (is.m, record { cached = empty-caches (Knows p) caches no_blocks no_nodes held; lays = lays }, (held.1.known).holding.sized.whole, (held.1.known).known is.m lays)
-
 -- ---- reading
 
 -- where a file is longer than its header its main part has one
@@ -220,7 +170,15 @@ read-tells {p} {header} {present} {world} {m} tells lays end knows =
       lays = lays;
     }
 
--- the same through empty caches
+-- and a world that is read tells its nodes
+pub reads-tells : {p : FilePlanner} {header : Header} {world : World} {N : port.Nodes} → (reads : ReadsAs (Knows p) header world N) → TellsNodes world header p.caches reads.m
+reads-tells {p} {header} {world} {N} reads = read-tells reads.told reads.lays reads.end reads.known
+
+-- nothing in a cache is wrong where nothing is in it
+pub none-wrong : (find : Bref → Option (List ℕ)) (cached : List (ℕ × Cached)) → cached ≡ [] → PagesHold find cached
+none-wrong find cached none = subst (PagesHold find) (sym none) (λ ib page has. absurd (Contains-nil (ib, page) has))
+
+-- empty caches have no other pages than those of a file
 pub empty-reads : {header : Header} {world : World} {m : NodeMap} (caches : PageCaches) → caches.blocks ≡ [] → caches.nodes ≡ [] → world.tells → Lays header (file_of world.here) m → TellsNodes world header caches m
 empty-reads {header} {world} {m} caches no_blocks no_nodes tells lays =
     let told = told-of tells lays in
@@ -233,9 +191,36 @@ empty-reads {header} {world} {m} caches no_blocks no_nodes tells lays =
       lays = lays;
     }
 
--- and a world that is read tells its nodes
-pub reads-tells : {p : FilePlanner} {header : Header} {world : World} {N : port.Nodes} → (reads : ReadsAs (Knows p) header world N) → TellsNodes world header p.caches reads.m
-reads-tells {p} {header} {world} {N} reads = read-tells reads.told reads.lays reads.end reads.known
+-- ---- what is held
+
+-- what is so of each reading of a file under a header
+abbrev pub Drawing : FilePlanner → List ℕ → List (Nid × Option NodeRec) → List Piece → List ℕ → Header → PlanEffects → Header → Type 0
+Drawing p file cs pieces sealed next e h = (m : NodeMap) (is : Lays h file m) → IsKnown is p.slots (refs_in p.refs) p.pages p.next_block p.next_page
+    → IsDrawn is (placing p) (refs_in p.refs) p.pages p.next_block p.next_page cs pieces sealed next e
+
+-- a plan that was drawn through empty caches is one for all nodes that are held then
+pub plans-when : (p : FilePlanner) (found : List ℕ) (header : Header) (v w : World) (caches : PageCaches) (cs : List (Nid × Option NodeRec)) (pieces : List Piece) (sealed : List ℕ) (next : Header) (e : PlanEffects)
+    → caches.blocks ≡ [] → caches.nodes ≡ [] → Untouched v w → port.ascend 0 cs ≡ true → p.next_block < 2 ^ 61 → p.next_page < 2 ^ 61 → HasRoomFor p.refs e.refs.items
+    → ((m : NodeMap) (tells : TellsNodes v header caches m) → IsDrawn tells.lays (placing p) (refs_in p.refs) p.pages p.next_block p.next_page cs pieces sealed next e)
+    → PlansFor (Knows p) (KnowsAfter p e) (IsMade (opened_of p.held.pins.items)) IsWithin p.held.pins.items found header w pieces sealed next cs
+plans-when p found header v w caches cs pieces sealed next e no_blocks no_nodes same up low page_low room drawn N held =
+    let file : List ℕ = file_of w.here in
+    let is : FileStands found file N header.indexes = (held.1.stands).file in
+    let own : is.header ≡ header = held.1.own in
+    let there : Drawing p (file_of v.here) cs pieces sealed next e header = λ m lays known. drawn m (record { cached = (empty-reads caches no_blocks no_nodes (same.stays.told held.0) lays).cached; lays = lays }) in
+    let all : Drawing p file cs pieces sealed next e header = subst (λ (i : Image). Drawing p (file_of i) cs pieces sealed next e header) (sym (same.stays.here held.0)) there in
+    let here : Drawing p file cs pieces sealed next e is.header = subst (Drawing p file cs pieces sealed next e) (sym own) all in
+    let knows : Knows p is.header file = subst (λ (h : Header). Knows p h file) (sym own) held.1.known in
+    let known = knows.known is.m is.lays in
+    comes p found file N header is own cs pieces sealed next e up known knows.holding low page_low room (here is.m is.lays known)
+
+-- what is told through empty caches, of what is held
+pub empty-tells : {p : FilePlanner} {found : List ℕ} {header : Header} {world : World} {N : port.Nodes} (caches : PageCaches) → caches.blocks ≡ [] → caches.nodes ≡ [] → Holds (Knows p) found header world N
+    → (m : NodeMap) × (tells : TellsNodes world header caches m) × (length (placing p) ≡ length p.slots) × IsKnown tells.lays p.slots (refs_in p.refs) p.pages p.next_block p.next_page
+empty-tells {p} {found} {header} {world} {N} caches no_blocks no_nodes held =
+    let is = (held.1.stands).file in
+    let lays : Lays header (file_of world.here) is.m = subst (λ (h : Header). Lays h (file_of world.here) is.m) held.1.own is.lays in
+    (is.m, record { cached = (empty-reads caches no_blocks no_nodes held.0 lays).cached; lays = lays }, (held.1.known).holding.sized.whole, (held.1.known).known is.m lays)
 
 -- ---- knowledge through other caches
 
