@@ -8,4 +8,6 @@ mod content_plan_test;
 #[cfg(test)]
 mod empty_file_test;
 #[cfg(test)]
+mod pins_test;
+#[cfg(test)]
 mod plan_pieces_test;
