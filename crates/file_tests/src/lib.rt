@@ -8,6 +8,4 @@ mod content_plan_test;
 #[cfg(test)]
 mod empty_file_test;
 #[cfg(test)]
-mod pins_test;
-#[cfg(test)]
 mod plan_pieces_test;
