@@ -6,7 +6,7 @@ use Rattle.std.proofs.lemmas.List.{take_all, take_more}
 use Rattle.pst_base.specs.declared.ids.Bid.{Bid}
 use Rattle.pst_base.specs.declared.ids.Nid.{Nid}
 use Rattle.btree_pages.specs.declared.entry.NodeEntry.{NodeEntry}
-use Rattle.data_tree.specs.Keys.{count_of}
+use Rattle.data_tree.specs.Keys.{count_of, keys_of}
 use Rattle.data_tree.specs.Plan.{IsFound, Rise, bids_in, placed}
 use Rattle.data_tree.specs.Tree.{bids_of}
 use Rattle.data_tree.proofs.KeyLaws.{count-append, count-blocks}
@@ -135,6 +135,13 @@ plans-append find eof limit es low mid high cs ds xs ys front back taken others 
         | inl here ↦ elim (first.known key (omega (arith, here))) [ inl old ↦ inl old | inr new ↦ inr (omega (arith, new, blocks)) ]
         | inr none ↦ elim (later.known key (omega (arith, some, sum, none))) [ inl old ↦ inl old | inr new ↦ inr (omega (arith, new, blocks)) ]
       ];
+  fresh = λ key some.
+      let sum = count-append key put with_more in
+      let blocks = count-blocks key front back in
+      elim (cases_lt 0 (count_of key (keys_of (bids_in front)))) [
+        | inl here ↦ let own = first.fresh key (omega (arith, here)) in omega (arith, own, sum)
+        | inr none ↦ let own = later.fresh key (omega (arith, some, blocks, none)) in omega (arith, own, sum)
+      ];
   shows = λ after more found still bounds.
       let all = each-from_all (IsFound after) (front ++ back) found in
       let one = first.shows after more (all_from-each (IsFound after) front (each-left (IsFound after) front back all)) (still-front find after put with_more still) bounds in
@@ -165,6 +172,7 @@ pub plans-none : (find : ℕ → Option (List ℕ)) (eof limit : ℕ) (es : List
 plans-none find eof limit es = record {
   taken_are = λ key. let e = taken-none find key es in omega (arith, e);
   known = λ key some. absurd (omega (arith, some));
+  fresh = λ key some. absurd (omega (arith, some));
   shows = λ after more found still bounds. (refl, λ key. refl);
   names = λ after found. refl;
 }
@@ -202,6 +210,7 @@ pub removed-plans : (find : ℕ → Option (List ℕ)) (eof limit : ℕ) (es : L
 removed-plans find eof limit es nid entry keys rise there are = record {
   taken_are = λ key. ap (count_of key) (are ∙ ap (keys_at find) (sym there)) ∙ sym (taken-one find key nid.bits None 0 (2 ^ 64) es rise);
   known = λ key some. absurd (omega (arith, some));
+  fresh = λ key some. absurd (omega (arith, some));
   shows = λ after more found still bounds. (inl ((nid.bits, None), [], refl, refl, refl, refl), λ key. refl);
   names = λ after found. inl ((nid.bits, None), [], refl, refl, tt, refl);
 }
@@ -211,6 +220,7 @@ pub gone-plans : (find : ℕ → Option (List ℕ)) (eof limit : ℕ) (es : List
 gone-plans find eof limit es nid keys there are = record {
   taken_are = λ key. ap (count_of key) are ∙ sym (taken-none find key es);
   known = λ key some. absurd (omega (arith, some));
+  fresh = λ key some. absurd (omega (arith, some));
   shows = λ after more found still bounds. (inr (refl, there, refl), λ key. refl);
   names = λ after found. inr (refl, refl);
 }
@@ -244,6 +254,7 @@ pub put-plans : (find : ℕ → Option (List ℕ)) (eof limit : ℕ) (es : List 
 put-plans find eof limit es next nid node old entry blocks taken keys rise are there exact behind p = record {
   taken_are = λ key. ap (count_of key) are ∙ sym (taken-one find key nid.bits (Some entry) 0 (2 ^ 64) es rise);
   known = p.known find there;
+  fresh = p.fresh;
   shows = λ after more found still bounds. (
     inl ((nid.bits, Some entry), [], refl, refl, p.leads find after more there found still bounds, refl),
     (λ key. let same = p.reaches after found key in omega (arith, same)),

@@ -188,6 +188,7 @@ put-over limit next nid node old keep sub_keep entry blocks keys is same sub_kee
               | inr nothing ↦ inr (omega (arith, some, sum, none, nothing))
             ]
           ];
+      fresh = λ key some. let sum = p.counted key in omega (arith, some, sum);
       leads = λ find after eof there found still bounds.
           p.leads after eof found (kept-still find after keep node.blocks (λ key b some is_there. still key b (let sum = p.counted key in omega (arith, sum, some)) is_there) (own_found find there))
           (all_from-each (PairFound after) pairs (sub-still find after sub_keep node.subs same (λ key b some is_there. still key b (let sum = p.counted key in omega (arith, sum, some)) is_there) (sub_found find there))) bounds;

@@ -66,6 +66,8 @@ pub record PlansContents (find : ℕ → Option (List ℕ)) (eof limit : ℕ) (e
   pub taken_are : (key : ℕ) → count_of key taken ≡ refs.taken find es edits key
   -- each key that will be reached is that of a block found now, or of a new one
   pub known : (key : ℕ) → 1 ≤ count_of key put → IsSome (find key) ⊎ (1 ≤ count_of key (keys_of (bids_in blocks)))
+  -- and that of each new block is
+  pub fresh : (key : ℕ) → 1 ≤ count_of key (keys_of (bids_in blocks)) → 1 ≤ count_of key put
   -- In each file that has the new blocks, and where those that stay have the bytes from before, the entries lead to the nodes put, and reach just these keys.
   pub shows : (after : ℕ → Option (List ℕ)) (more : ℕ) → All (IsFound after) blocks → StayFound find after put → Bounds after more
       → AreChanged after more es edits cs × ((key : ℕ) → count_of key put ≡ refs.put after edits key)

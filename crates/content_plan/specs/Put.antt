@@ -44,6 +44,7 @@ pub record PutsOver (limit next : ℕ) (nid : Nid) (node : NodeRec) (old : Conte
   pub small : AreSmall blocks
   pub most : 2 * (length blocks + 1) ≤ 3 * size ((nid, Some node) ∷ [])
   pub known : (find : ℕ → Option (List ℕ)) → IsOld find old → (key : ℕ) → 1 ≤ count_of key keys → IsSome (find key) ⊎ (1 ≤ count_of key (keys_of (bids_in blocks)))
+  pub fresh : (key : ℕ) → 1 ≤ count_of key (keys_of (bids_in blocks)) → 1 ≤ count_of key keys
   pub leads : (find after : ℕ → Option (List ℕ)) (eof : ℕ) → IsOld find old → All (IsFound after) blocks → StayFound find after keys → Bounds after eof → LeadsTo after eof (Some entry) (Some node)
   pub reaches : (after : ℕ → Option (List ℕ)) → All (IsFound after) blocks → AreSame (node_keys after entry) keys
   pub names : (after : ℕ → Option (List ℕ)) → All (IsFound after) blocks → bids_of after entry.content ≡ Ok (bids_in (placed next (kept_list limit old.ids old.blocks node.blocks) node.blocks))

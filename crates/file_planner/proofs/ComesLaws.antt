@@ -43,6 +43,7 @@ use Rattle.file_planner.specs.Holding.{IsHolding, IsOver, placing_over}
 use Rattle.file_planner.specs.Knowing.{AreCached, IsKnown, Knows, KnowsAfter, cells_of, placing, spent}
 use Rattle.file_planner.proofs.CostLaws.{drawn-within}
 use Rattle.file_planner.proofs.DrawnLaws
+use Rattle.file_planner.proofs.FollowLaws
 use Rattle.file_planner.proofs.KnownLaws
 use Rattle.file_planner.proofs.NewLaws.{sealed-count}
 use Rattle.file_planner.proofs.OverLaws.{keep-each, over-own, over-pin}
@@ -103,6 +104,7 @@ comes p found file N old stands own cs pieces sealed next e up known holding low
           let writes : Scattered all file mid = subst (λ (ps : List Piece). Scattered ps file mid) are scattered in
           let holds : HoldsEach mid all = subst (HoldsEach mid) are each in
           let has = KnownLaws.has is known over low page_low d stands.long mid writes holds in
+          let later = lays-renewed (renews mid writes holds) in
           let block_count : length d.block_places ≡ length d.blocks = ap length (sym d.of_entries) ∙ length-map d.entries _ ∙ sealed-count d.blocks d.entries d.block_pieces d.sealed_blocks in
           let page_count : length (d.first_places ++ d.last_places) ≡ length d.block_pages + length d.node_pages =
           let a = length-append d.first_places d.last_places in let b = (d.block_tree).count in let c = (d.node_tree).count in omega (arith, a, b, c) in
@@ -129,6 +131,9 @@ comes p found file N old stands own cs pieces sealed next e up known holding low
             unique = d.unique;
             next_block = let a = d.next_block in let b = known.next_block in omega (arith, a, b, block_count);
             next_page = let a = d.next_page in let b = known.next_page in omega (arith, a, b, page_count);
+            n = later.0;
+            now_lays = later.1;
+            follows = FollowLaws.follows is known over low page_low d stands.long mid writes holds later.1 up;
           };
       keeps = λ mid scattered each.
           let writes : Scattered all file mid = subst (λ (ps : List Piece). Scattered ps file mid) are scattered in

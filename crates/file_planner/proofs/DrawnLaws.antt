@@ -350,10 +350,12 @@ module _ {header : Header} {file : List ℕ} {m : NodeMap} (is : Lays header fil
     stay : StayFound (found_in file (blocks_in is.blocks)) (found_after bytes (blocks_in is.blocks) block_edits) (d.sketch).put
     stay k b some found = still k b (lt-ltb 0 (numbers k) (omega (arith, some))) found
 
+    -- each new block is found
+    pub new-found : All (IsFound (found_after bytes (blocks_in is.blocks) block_edits)) d.blocks
+    new-found = all-here bytes (blocks_in is.blocks) block_edits d.blocks (all-blocks _ d.blocks (news-here bytes block 0 (recounts (blocks_in is.blocks) block e.refs.items) d.blocks d.entries d.block_pieces block-apart (d.sketch).rise d.sealed_blocks block-stood old-edits))
+
     pub contents-shown : AreChanged (found_after bytes (blocks_in is.blocks) block_edits) next.eof (nodes_in is.nodes) d.edits cs × ((k : ℕ) → count_of k (d.sketch).put ≡ put (found_after bytes (blocks_in is.blocks) block_edits) d.edits k)
-    contents-shown = ((d.sketch).contents).shows (found_after bytes (blocks_in is.blocks) block_edits) next.eof
-        (all-here bytes (blocks_in is.blocks) block_edits d.blocks (all-blocks _ d.blocks (news-here bytes block 0 (recounts (blocks_in is.blocks) block e.refs.items) d.blocks d.entries d.block_pieces block-apart (d.sketch).rise d.sealed_blocks block-stood old-edits)))
-        stay bounds
+    contents-shown = ((d.sketch).contents).shows (found_after bytes (blocks_in is.blocks) block_edits) next.eof new-found stay bounds
 
     pub shows : Shows is next (blocks_drawn d) (nodes_drawn d) cs bytes
     shows = record {

@@ -163,7 +163,7 @@ module _ {header : Header} {file : List ℕ} {m : NodeMap} (is : Lays header fil
   has = planned-has is next sealed d.growth (DrawnLaws.drawn_pieces is known over low d) (blocks_drawn d) (nodes_drawn d) d.block_places cs long (DrawnLaws.next-header is known over low d) (DrawnLaws.has-room is known over low d)
       (λ file_bytes reaches kept stood. DrawnLaws.shows is known over low d file_bytes kept stood) mid writes holds
 
-  stood : EachStands bytes (DrawnLaws.drawn_pieces is known over low d)
+  pub stood : EachStands bytes (DrawnLaws.drawn_pieces is known over low d)
   stood =
       let room = DrawnLaws.has-room is known over low d in
       stand-behind sealed mid (DrawnLaws.drawn_pieces is known over low d) d.size room.wholes

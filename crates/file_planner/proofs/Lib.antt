@@ -10,6 +10,7 @@ pub mod DrawnLaws
 pub mod FreedLaws
 pub mod CostLaws
 pub mod KnownLaws
+pub mod FollowLaws
 pub mod ComesLaws
 pub mod RoomLaws
 pub mod OldLaws

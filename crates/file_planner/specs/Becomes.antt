@@ -10,8 +10,9 @@ use Rattle.file_layout.specs.Nodes.{NodeMap, Lays, blocks_in, places_of}
 use Rattle.file_layout.specs.Numbers.{next_block, next_page}
 use Rattle.lays_kept.specs.Stands.{last_map}
 use Rattle.pst_commit.specs.Held.{IsWithHeld}
+use Rattle.file_planner.specs.Follows.{Follows}
 
--- New blocks and pages stand at the least free places beside all that stood and all that these pins hold, the blocks first. The header gives the next numbers on by 4 for each block and by 1 for each page, and its own count by 1; it vouches for no maps, names the map page of the last region, and ends the file at the least end of a region that has room for all.
+-- The file lays nodes again, and of its blocks those stay and go that `Follows` says. New blocks and pages stand at the least free places beside all that stood and all that these pins hold, the blocks first. The header gives the next numbers on by 4 for each block and by 1 for each page, and its own count by 1; it vouches for no maps, names the map page of the last region, and ends the file at the least end of a region that has room for all.
 pub record IsMade (opened : List (ℕ × List Bool)) (old new : List ℕ) : Type 0 where
   pub before : Header
   pub was : reading (take 564 old) ≡ Ok before
@@ -36,3 +37,6 @@ pub record IsMade (opened : List (ℕ × List Bool)) (old new : List ℕ) : Type
   pub unique : after.unique ≡ (before.unique + 1) % 2 ^ 32
   pub next_block : after.next_block ≡ next_block before (blocks_in lays.blocks) + 4 * length blocks
   pub next_page : after.next_page ≡ next_page before (lays.blocks.pages ++ lays.nodes.pages) + length pages
+  pub n : NodeMap
+  pub now_lays : Lays after new n
+  pub follows : Follows lays now_lays

@@ -3,6 +3,7 @@ pub mod Recounts
 pub mod Holding
 pub mod Knowing
 pub mod Drawn
+pub mod Follows
 pub mod Becomes
 pub mod Cost
 pub mod Trees
