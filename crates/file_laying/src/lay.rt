@@ -94,7 +94,7 @@ fn put_nodes<W: Outside, S: FoundStore<W> + Drop>(
 
 /// Lays a file with these nodes and counters in Main, which is empty as Side is, and gives its keeper: first a file without nodes, and then the nodes by one commit. The nodes ascend strictly by id; `None` for a node changes nothing. The file ends with the least region that has room for all.
 ///
-/// `NotEmpty` comes where one of the two has bytes, and nothing is written then; `Fault` where the disk failed; `Memory` where there was no memory, before anything is written. `Unplanned` comes behind the file without nodes: of it, `Full` and `IdsSpent` just where that file has too little room or numbers, and `Changed` never over a world that tells.
+/// `NotEmpty` comes where one of the two has bytes, and nothing is written then; `Fault` where the disk failed; `Memory` where there was no memory, which may be behind the file without nodes too. `Unplanned` comes behind that file: of it, `Full` and `IdsSpent` just where that file has too little room or numbers, and `Changed` never over a world that tells.
 pub fn lay_nodes<W: Outside, S: FoundStore<W> + Drop>(
     alloc: Global,
     w: &mut W,

@@ -1,5 +1,5 @@
 -- What stays of a file's nodes and blocks, and what goes.
-use Rattle.std.proofs.Common.{Bool, true, false, ◌≡◌, ◌∙◌, ◌&&◌, inl, inr, ℕ, ◌+◌, ◌^◌, ◌<◌, ◌≤◌, eqb, leb, List, [], ◌∷◌, ◌++◌, length, map, drop, Option, Some, None, refl, sym, ap, subst, arith, if◌then◌else◌}
+use Rattle.std.proofs.Common.{Bool, true, false, ◌≡◌, ◌∙◌, ◌⊎◌, inl, inr, ℕ, ◌+◌, ◌^◌, ◌<◌, ◌≤◌, eqb, leb, List, [], ◌∷◌, ◌++◌, length, map, drop, Option, Some, None, refl, sym, ap, subst, arith, if◌then◌else◌}
 use Rattle.std.proofs.lemmas.Bool.{and_parts, cases_eq, cases_lt, eq-eqb, leb-true, ne_eqb}
 use Rattle.pst_base.specs.declared.ids.Bid.{Bid}
 use Rattle.pst_base.specs.declared.ids.Nid.{Nid}
@@ -57,10 +57,10 @@ not-nil h = cc
 
 -- ---- edits of nodes
 
-Edits : Type 0
+abbrev pub Edits : Type 0
 Edits = List (ℕ × Option NodeEntry)
 
-Changes : Type 0
+abbrev pub Changes : Type 0
 Changes = List (Nid × Option NodeRec)
 
 module _ (find after : ℕ → Option (List ℕ)) (eof more limit : ℕ) (es : List NodeEntry) where
@@ -166,7 +166,7 @@ recount-stays (Some c) b e h = by (eqb c.after 0) h
 
 -- an entry that is there after a change of its number to 0 was there, and had no change
 recount-unused : (c : Option RefChange) (o : Option BlockEntry) (before : ℕ) (e : BlockEntry) → or_old (recount_by c o) o ≡ Some e → number_by c before ≡ 0 → (before ≡ 0) × ((f : BlockEntry) × (o ≡ Some f))
-recount-unused None o before e h none = (none, e, h)
+recount-unused None o before e h none = (none, (e, h))
 recount-unused (Some c) None before e h none = absurd (none-some h)
 recount-unused (Some c) (Some b) before e h none = absurd (none-some (sym (ap (λ (x : Bool). if x then None else Some (with_refs b c.after)) (eq-eqb c.after 0 none)) ∙ h))
 

@@ -2,7 +2,9 @@
 //!
 //! A plan that is carried out makes the file lay the changed nodes under the new header, and what the planner adopts is right for it. A plan that is given up leaves nothing. `Full` and `IdsSpent` come just where the numbers say so, before anything is read. Nothing is placed in slots that pins hold (`IsHolding`), so that the trees of each pin stay.
 //!
-//! It is made of what a scan of a file found. It leaves to others the scan, and that blocks which no node reaches leave the trees.
+//! What stays and what goes is said of the two files (`Follows`): a node that isn't put has its entry still, of one that is put just the data blocks stay whose bytes and position do, and a block that no node reaches any more goes.
+//!
+//! It is made of what a scan of a file found. It leaves the scan to others.
 #![tactic(auto)]
 
 mod draw;
