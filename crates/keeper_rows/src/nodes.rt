@@ -1,4 +1,6 @@
 //! Nodes and changes, as words spell them.
+ghost use Rattle.std.specs.Prelude.{◌≡◌, IfOk};
+
 use node_port::{Changes, Counts, NodeRec};
 use pst_base::{Blocks, Bytes, Nid, Subs};
 use std::alloc::{AllocError, Global};
@@ -42,8 +44,10 @@ fn change(alloc: Global, word: &str) -> Result<(Nid, Option<NodeRec>), Trouble> 
     Ok((nid(id)?, Some(node(alloc, bytes.as_slice())?)))
 }
 
-/// Changes, parted by semicolons.
-pub fn changes(alloc: Global, word: &str) -> Result<Changes, Trouble> {
+/// Changes, parted by semicolons, for which no room is asked beyond their own.
+pub fn changes(alloc: Global, word: &str) -> Result<Changes, Trouble>
+    ensures room { IfOk result (λ changes. changes.room ≡ 0) }
+{
     let mut nodes = Vec::new(alloc);
     for piece in word.split(';') {
         nodes.push(change(alloc, piece)?)?;
