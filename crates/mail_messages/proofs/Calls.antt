@@ -60,6 +60,7 @@ pub unrelated : {A D : Type 0} (view : D → A) (answer : Answer A) (stop : Stop
 unrelated view answer stop (Ok x) first is = absurd is
 unrelated view answer stop (Err e) first is = subst (λ z. Says view answer (Err z)) (sym is) (no_matter view answer stop first)
 
--- two parts make the changes
-pub changed_same : (D E : Changed) → D.objects ≡ E.objects → D.crowded ≡ E.crowded → D ≡ E
-changed_same D E objects crowded = ap (λ (o : map.FinMap nat_cmp (Option Object)). record D { objects = o }) objects ∙ ap (λ (b : Bool). record E { crowded = b }) crowded
+-- the same of three equal things
+pub as_at3 : {X Y Z A B : Type 0} (view : B → A) (answer : X → Y → Z → Answer A) (result : Result B Stop) {x x' : X} {y y' : Y} {z z' : Z}
+    → x ≡ x' → y ≡ y' → z ≡ z' → Says view (answer x y z) result → Says view (answer x' y' z') result
+as_at3 view answer result {x} {x'} {y} {y'} {z} {z'} e e' f said = as_at view (answer x' y') result f (as_at2 view (λ a b. answer a b z) result e e' said)

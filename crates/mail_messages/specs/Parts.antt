@@ -1,5 +1,5 @@
 -- Commands on messages, part by part.
-use Rattle.std.specs.Prelude.{ℕ, ◌==◌, ◌||◌, ◌++◌, List, length, map, nat_le, not, is_some, Option, None, Ok, false, if◌then◌else◌}
+use Rattle.std.specs.Prelude.{ℕ, ◌==◌, ◌||◌, ◌++◌, List, length, map, nat_le, not, is_some, Option, None, Ok, if◌then◌else◌}
 use Rattle.command_text.specs.declared.reply.CommandRefusal.{CommandRefusal}
 use Rattle.command_text.specs.declared.reply.CommandRefusal.TheVariants.{Ids, Limit, Object, Property, Protected, Reserved}
 use Rattle.command_text.specs.declared.reply.Limit.TheVariants.{Rows}
@@ -19,7 +19,7 @@ use Rattle.mail_tree.specs.Ids.{is_spent, message_kinds, next_index}
 use Rattle.mail_tree.specs.Names.{unless_nameless}
 use Rattle.mail_tree.specs.Folders.{Outcome, changing, making, replied, replying, unchanged, unless_full}
 use Rattle.mail_messages.specs.Finding.{plain_at}
-use Rattle.mail_tree.specs.Messages.{added_message, attachment_line, changed_message, copying, is_crowded_message, is_overfull, making_message, property_line, recipient_line, value_of}
+use Rattle.mail_tree.specs.Messages.{added_message, attachment_line, changed_message, copying, is_overfull, making_message, property_line, recipient_line, value_of}
 use Rattle.mail_tree.specs.Parts.{rows_of}
 use Rattle.mail_messages.specs.Pieces.{moving_message}
 
@@ -77,7 +77,7 @@ making_in T folder class time store = unless_full T (contents folder) >>= λ u. 
 
 -- the folder of a message that is copied is put as it is
 abbrev pub home_touched : Tree → Mes → Answer Changed
-home_touched T M = touched T M.folder (record nothing { crowded = is_crowded_message M })
+home_touched T M = touched T M.folder nothing
 
 -- a folder that has room for it gets a copy of a message
 abbrev pub copying_in : Tree → ℕ → Mes → Answer Outcome
