@@ -1,7 +1,7 @@
 -- Commands on messages, part by part.
-use Rattle.std.specs.Prelude.{ℕ, ◌==◌, ◌||◌, ◌++◌, List, length, map, nat_le, not, is_some, Option, None, Ok, if◌then◌else◌}
+use Rattle.std.specs.Prelude.{ℕ, ◌==◌, ◌||◌, ◌++◌, List, length, map, nat_le, not, is_some, Option, Ok, if◌then◌else◌}
 use Rattle.command_text.specs.declared.reply.CommandRefusal.{CommandRefusal}
-use Rattle.command_text.specs.declared.reply.CommandRefusal.TheVariants.{Ids, Limit, Object, Property, Protected, Reserved}
+use Rattle.command_text.specs.declared.reply.CommandRefusal.TheVariants.{Limit, Property, Protected, Reserved}
 use Rattle.command_text.specs.declared.reply.Limit.TheVariants.{Rows}
 use Rattle.command_text.specs.declared.reply.DataLine.{DataLine}
 use Rattle.command_text.specs.declared.reply.LastLine.{LastLine}
@@ -15,7 +15,7 @@ use Rattle.mail_tree.specs.Tree.{Tree}
 use Rattle.mail_tree.specs.Values.{bytes_of, is_set_protected, is_unset_protected}
 use Rattle.mail_tree.specs.Changing.{Answer, Changed, ◌>>=◌, add_shown, contents, found, nothing, put_shown, refused_if}
 use Rattle.mail_tree.specs.Settling.{settled, touched}
-use Rattle.mail_tree.specs.Ids.{is_spent, message_kinds, next_index}
+use Rattle.mail_tree.specs.Ids.{message_kinds, next_index}
 use Rattle.mail_tree.specs.Names.{unless_nameless}
 use Rattle.mail_tree.specs.Folders.{Outcome, changing, making, replied, replying, unchanged, unless_full}
 use Rattle.mail_messages.specs.Finding.{plain_at}
@@ -54,10 +54,6 @@ removing_value T tag M = may_unset tag M.props >>= λ u. changed_message T M (re
 -- the value is the reply
 abbrev pub telling_value : Tree → Tag → List Val → Answer Outcome
 telling_value T tag props = found Property (value_of tag props) >>= λ v. Ok (unchanged T (replied (Value v)))
-
--- an index, if one was left
-abbrev pub left : ℕ → Answer ℕ
-left index = refused_if (is_spent index) Ids >>= λ u. Ok index
 
 -- a table has few enough rows to get another
 abbrev pub may_grow : Tbl → Answer (Unit {0})

@@ -1,6 +1,6 @@
 //! Messages with other values, in other places, and new ones.
-ghost use Rattle.std.specs.Prelude.{◌≡◌, ◌+◌, ◌++◌, IfOk, IfErr, OnOk, Some, length};
-ghost use Rattle.mapi_values.specs.Messages.{Mes, size};
+ghost use Rattle.std.specs.Prelude.{◌≡◌, ◌+◌, ◌++◌, IfOk, OnOk, Some, length};
+ghost use Rattle.mapi_values.specs.Messages.{size};
 ghost use Rattle.mapi_values.specs.Properties.{put, remove_id};
 ghost use Rattle.mail_tree.specs.Changing.{nothing, with_object};
 ghost use Rattle.mail_tree.specs.Values.{bytes_of, finished, has_parts, key_front, message_props, number, search_key, with_attachment_flag, with_flag, with_props};
