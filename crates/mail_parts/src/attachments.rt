@@ -1,5 +1,5 @@
 //! `attach`, `detach` and `fetch`
-ghost use Rattle.std.specs.Prelude.{◌≡◌, false, IfErr, IfOk, if◌then◌else◌, None, Some};
+ghost use Rattle.std.specs.Prelude.{◌≡◌, IfErr, IfOk, if◌then◌else◌, None, Some};
 ghost use Rattle.command_text.specs.declared.reply.CommandRefusal.TheVariants as refusal;
 ghost use Rattle.command_text.specs.declared.reply.Limit.TheVariants as limit;
 ghost use Rattle.command_text.specs.declared.reply.LastLine.TheVariants as last;

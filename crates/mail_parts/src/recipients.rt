@@ -1,5 +1,5 @@
 //! `rcpt` and `unrcpt`
-ghost use Rattle.std.specs.Prelude.{◌≡◌, false, IfErr, not};
+ghost use Rattle.std.specs.Prelude.{◌≡◌, IfErr, not};
 ghost use Rattle.command_text.specs.declared.reply.CommandRefusal.TheVariants as refusal;
 ghost use Rattle.command_text.specs.declared.reply.Limit.TheVariants as limit;
 ghost use Rattle.command_text.specs.declared.reply.LastLine.TheVariants as last;

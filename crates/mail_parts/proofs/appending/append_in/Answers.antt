@@ -1,6 +1,6 @@
-use Rattle.std.proofs.Common.{◌≡◌, ◌∙◌, length, sym, ap}
+use Rattle.std.proofs.Common.{◌∙◌}
 use Rattle.command_text.specs.declared.reply.CommandRefusal.TheVariants.{Object}
-use Rattle.mapi_values.specs.Messages.{Mes, part_id}
+use Rattle.mapi_values.specs.Messages.{part_id}
 use Rattle.mail_draft.specs.Outcomes.{outcome_of}
 use Rattle.mail_tree.specs.Parts.{part_in}
 use Rattle.mail_tree.proofs.PartLaws.{found_key}

@@ -1,4 +1,4 @@
-use Rattle.std.proofs.Common.{◌≡◌, ◌∙◌, Bool, Option, false, None, not, length, sym, ap}
+use Rattle.std.proofs.Common.{Option, None, not, ap}
 use Rattle.std.specs.Option.{is_some}
 use Rattle.command_text.specs.declared.reply.CommandRefusal.{CommandRefusal}
 use Rattle.command_text.specs.declared.reply.CommandRefusal.TheVariants.{Object}
