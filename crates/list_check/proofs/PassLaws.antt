@@ -79,10 +79,10 @@ each-row P (r ∷ rows) k four some each = elim (cases_Bool (r.0 == k)) [
 -- ---- what stands at an id
 
 table-now : (T : Tree) (q : ℕ) (t : Tbl) → object_at T q ≡ Some (Table t) → known (as_table (now_at T nothing q)) ≡ Ok t
-table-now T q t at = ap (λ o. known (as_table o)) (ap (λ g. g q) (now_nothing T false) ∙ at)
+table-now T q t at = ap (λ o. known (as_table o)) (ap (λ g. g q) (now_nothing T) ∙ at)
 
 message-now : (T : Tree) (q : ℕ) (M : Mes) → object_at T q ≡ Some (Message M) → known (as_message (now_at T nothing q)) ≡ Ok M
-message-now T q M at = ap (λ o. known (as_message o)) (ap (λ g. g q) (now_nothing T false) ∙ at)
+message-now T q M at = ap (λ o. known (as_message o)) (ap (λ g. g q) (now_nothing T) ∙ at)
 
 message-is : (o : Option Object) (M : Mes) → as_message o ≡ Some M → o ≡ Some (Message M)
 message-is None M e = absurd (none-some M e)

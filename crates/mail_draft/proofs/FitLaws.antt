@@ -1,21 +1,11 @@
 -- Objects of a draft that keeps to the limits.
-use Rattle.std.proofs.Common.{◌≡◌, ℕ, Bool, true, false, not, List, [], ◌∷◌, length, Option, None, Some, Ok, Err, refl, sym, ◌∙◌, subst, ap, arith}
+use Rattle.std.proofs.Common.{◌≡◌, ℕ, true, List, [], ◌∷◌, length, Option, None, Some, refl, sym, ◌∙◌, ap, arith}
 use Rattle.std.specs.FinMap as map
 use Rattle.std.specs.List.{list_all}
-use Rattle.command_text.specs.declared.reply.CommandRefusal.{CommandRefusal}
 use Rattle.mail_objects.specs.declared.object.Object.{Object}
 use Rattle.std.specs.Ordering.{nat_cmp}
 use Rattle.mail_draft.specs.Drafts.{all_fit}
-use Rattle.mail_tree.specs.Changing.{Answer, Changed, ◌>>=◌, entry_fits, refused_if, within_limits}
-
-not-refused : {A : Type 0} (b : Bool) (refusal : CommandRefusal) (f : Unit {0} → Answer A) (x : A) → (refused_if (not b) refusal >>= f) ≡ Ok x → b ≡ true
-not-refused true refusal f x e = refl
-not-refused false refusal f x e = cc
-
--- where nothing is refused, all fit
-pub all-fit : (D : Changed) → within_limits D ≡ Ok tt → list_all entry_fits (map.entries D.objects) ≡ true
-unfolding within_limits
-all-fit D e = not-refused (list_all entry_fits (map.entries D.objects)) _ _ tt e
+use Rattle.mail_tree.specs.Changing.{Changed, entry_fits}
 
 -- what fits at one id fits at another
 pub fits-anywhere : (p q : ℕ) (object : Option Object) → entry_fits (p, object) ≡ true → entry_fits (q, object) ≡ true

@@ -1,5 +1,5 @@
 -- What a message's node tells, and what the tree has.
-use Rattle.std.proofs.Common.{◌≡◌, ℕ, Bool, is_some, false, List, [], ◌∷◌, Option, None, Some, Result, Ok, Err, refl, sym, ap, ◌∙◌, subst}
+use Rattle.std.proofs.Common.{◌≡◌, ℕ, Bool, is_some, List, [], ◌∷◌, Option, None, Some, Result, Ok, Err, refl, sym, ap, ◌∙◌, subst}
 use Rattle.std.proofs.lemmas.Option.{same_Some}
 use Rattle.std.proofs.lemmas.Bool.{ne_eqb}
 use Rattle.std.specs.Option.{option_and_then, unwrap_or}
@@ -116,7 +116,7 @@ told-row node t row told tells are =
 
 -- before any change, what stands at an id is what the tree has there
 pub table-there : (T : Tree) (q : ℕ) (t : Tbl) → as_table (now_at T nothing q) ≡ Some t → as_table (object_at T q) ≡ Some t
-table-there T q t here = ap as_table (sym (ap (λ at. at q) (now_nothing T false))) ∙ here
+table-there T q t here = ap as_table (sym (ap (λ at. at q) (now_nothing T))) ∙ here
 
 -- what is told of a row is the answer
 pub has-said : (row : ℕ) (t : Tbl) (result : Result Bool Stop) → TellsHas row t result → Says (λ (b : Bool). b) (Ok (is_some (find_row row t.table.rows))) result

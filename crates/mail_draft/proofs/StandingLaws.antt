@@ -1,5 +1,5 @@
 -- What was read of a node is the object that the tree has there.
-use Rattle.std.proofs.Common.{◌≡◌, ℕ, Option, None, Some, Ok, subst, sym}
+use Rattle.std.proofs.Common.{ℕ, Option, None, Some, Ok, subst, sym}
 use Rattle.std.proofs.lemmas.Option.{same_Some}
 use Rattle.mapi_values.specs.Messages.{Mes}
 use Rattle.node_port.specs.declared.node.NodeRec.{NodeRec}

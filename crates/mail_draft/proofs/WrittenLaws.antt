@@ -1,14 +1,13 @@
 -- What a tree shows once the nodes of a draft's objects are changed.
-use Rattle.std.proofs.Common.{◌≡◌, ◌∙◌, ℕ, ◌+◌, ◌≤◌, ◌&&◌, nat_le, Bool, true, false, cond, List, [], ◌∷◌, Option, None, Some, Ok, is_some, refl, sym, ap, subst, arith}
+use Rattle.std.proofs.Common.{◌≡◌, ◌∙◌, ℕ, ◌+◌, ◌≤◌, nat_le, Bool, true, false, cond, List, [], ◌∷◌, Option, None, Some, is_some, refl, sym, ap, subst, arith}
 use Rattle.std.proofs.lemmas.Bool.{and_from, and_parts, le-leb}
 use Rattle.std.specs.Ordering.{nat_cmp, eq_by_cmp}
 use Rattle.std.specs.FinMap as map
-use Rattle.std.specs.List.{AllZip, list_all}
+use Rattle.std.specs.List.{AllZip}
 use Rattle.pst_base.specs.declared.ids.Nid.{Nid}
 use Rattle.node_port.specs.Nodes.{Nodes, ascend, changed, node_at, set_at, get-set_at}
 use Rattle.node_port.specs.Stops.{size}
 use Rattle.node_port.specs.declared.node.NodeRec.{NodeRec}
-use Rattle.mail_objects.specs.Objects.{stands_at}
 use Rattle.mail_objects.specs.declared.object.Object.{Object}
 use Rattle.mail_tree.proofs.AfterLaws.{get-with_changes, get-without_changed}
 use Rattle.mail_tree.specs.Tree.{Objects, StandsAt, Tree, object_at}

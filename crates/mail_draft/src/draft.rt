@@ -7,11 +7,10 @@ use pst_base::Nid;
 use std::alloc::{AllocError, Global};
 use std::collections::BTreeMap;
 
-/// Objects that a command has put, or removed (`None`), by their ids, and whether one of them got too many values. Contracts see `changed_of` it.
+/// Objects that a command has put, or removed (`None`), by their ids. Contracts see `changed_of` it.
 #[derive(Debug, Drop)]
 pub struct Draft {
     pub(crate) objects: BTreeMap<u32, Option<Object>>,
-    pub(crate) crowded: bool,
     ghost placed: { are_placed objects.entries ≡ true },
 }
 
@@ -23,7 +22,6 @@ impl Draft {
     ghost use Rattle.mail_draft.specs.Drafts.{changed_of};
     ghost use Rattle.mail_tree.specs.Changing.{nothing, with_object};
     ghost use Rattle.mail_objects.specs.declared.object.Object.{Object};
-    ghost use Rattle.std.specs.Prelude.{Bool, ◌||◌};
 
     /// No changes. Takes no memory.
     pub fn new(alloc: Global) -> Draft
@@ -31,7 +29,6 @@ impl Draft {
     {
         Draft {
             objects: BTreeMap::new(alloc),
-            crowded: false,
         }
     }
 
@@ -55,12 +52,9 @@ impl Draft {
         requires { is_placed (nid.bits, object) ≡ true }
         ensures { IfOk result (λ d. changed_of d ≡ with_object nid.bits object (changed_of self)) }
     {
-        let Draft {
-            mut objects,
-            crowded,
-        } = self;
+        let Draft { mut objects } = self;
         let _replaced = objects.insert(nid.bits, object)?;
-        Ok(Draft { objects, crowded })
+        Ok(Draft { objects })
     }
 
     /// The draft without what was put at an id or removed from it, and what that was, if anything. Takes no memory.
@@ -68,23 +62,8 @@ impl Draft {
         ensures rest { (object : Option Object) → with_object nid.bits object (changed_of result.0) ≡ with_object nid.bits object (changed_of self) }
         ensures taken { result.1 ≡ map.get (changed_of self).objects nid.bits }
     {
-        let Draft {
-            mut objects,
-            crowded,
-        } = self;
+        let Draft { mut objects } = self;
         let taken = objects.remove(&nid.bits);
-        (Draft { objects, crowded }, taken)
-    }
-
-    /// The draft in which some object got too many values, if so.
-    pub fn crowded(self, crowds: bool) -> Draft
-        ensures objects { (changed_of result).objects ≡ (changed_of self).objects }
-        ensures crowded { (changed_of result).crowded ≡ (changed_of self).crowded || crowds }
-    {
-        let Draft { objects, crowded } = self;
-        Draft {
-            objects,
-            crowded: crowded || crowds,
-        }
+        (Draft { objects }, taken)
     }
 }

@@ -12,6 +12,7 @@ mod flags;
 mod glance;
 mod ids;
 mod kept;
+mod limits;
 mod listed;
 mod outcome;
 mod outcomes;
@@ -26,10 +27,11 @@ mod values;
 
 pub use beside::{associated, contents, hierarchy};
 pub use draft::Draft;
-pub use ending::{finish, within_limits};
+pub use ending::finish;
 pub use flags::{flag_changes, flag_of};
 pub use glance::{content_at, glance_of, has_row, message_content, number_told, text_told};
 pub use ids::{new_id, next_index};
+pub use limits::within_limits;
 pub use listed::message_ids_at;
 pub use outcome::Outcome;
 pub use outcomes::{changing, making, moving, replying};
@@ -40,6 +42,6 @@ pub use space::space_needed;
 pub use stop::Stop;
 pub use touch::touched;
 pub use values::{
-    bytes_of, crowds, folded_name, is_read, name_of, number_of, put_number, put_text, put_time,
-    put_truth, text_of, with_counts,
+    bytes_of, folded_name, is_read, name_of, number_of, put_number, put_text, put_time, put_truth,
+    text_of, with_counts,
 };

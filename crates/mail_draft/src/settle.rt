@@ -16,7 +16,7 @@ use crate::rows::put_shown;
 use crate::stop::Stop;
 use crate::touch::table_as_is;
 use crate::unread::unread_among;
-use crate::values::{crowds, with_counts};
+use crate::values::with_counts;
 use mail_objects::{Context, Object};
 use mail_tree::{Flags, FolderPlace, Places, ROOT_FOLDER};
 use mapi_values::Props;
@@ -51,9 +51,7 @@ pub fn with_context(
 ) -> Result<Draft, AllocError>
     ensures { IfOk result (λ d. changed_of d ≡ with_context nid.bits context props (changed_of draft)) }
 {
-    let crowds = crowds(context.props().len(), &props);
-    let put = draft.with(nid, Some(Object::Context(context.with_props(props))))?;
-    Ok(put.crowded(crowds))
+    draft.with(nid, Some(Object::Context(context.with_props(props))))
 }
 
 /// Counts a folder anew, whose folders are those of these places: its messages, those that are unread, and whether it has folders. A message is read only where nothing is known of it.

@@ -3,7 +3,7 @@ ghost use Rattle.std.specs.Prelude.{◌≡◌, false, IfOk, IfSome, IsTrue, OnEr
 ghost use Rattle.mapi_values.specs.Characters.{folded};
 ghost use Rattle.mapi_values.specs.Properties.{put};
 ghost use Rattle.mapi_values.specs.Values.{Val, fits};
-ghost use Rattle.mail_tree.specs.Values.{bytes_of, crowds, is_read, name_of, number, number_of, text, text_of, time_value, truth, with_counts};
+ghost use Rattle.mail_tree.specs.Values.{bytes_of, is_read, name_of, number, number_of, text, text_of, time_value, truth, with_counts};
 
 use mapi_values::tags::{
     PID_TAG_CONTENT_COUNT, PID_TAG_CONTENT_UNREAD_COUNT, PID_TAG_DISPLAY_NAME,
@@ -68,13 +68,6 @@ pub fn is_read(props: &Props) -> bool
     ensures { result ≡ is_read props.now }
 {
     number_of(props, PID_TAG_MESSAGE_FLAGS.id) % 2 == 1
-}
-
-/// Whether an object has more than 1,000 values, and more than it had.
-pub fn crowds(old_len: usize, props: &Props) -> bool
-    ensures { (old : List Val) → length old ≡ old_len → result ≡ crowds old props.now }
-{
-    props.len() > 1000 && props.len() > old_len
 }
 
 /// Puts a text, in place of the value of its id. An `Err` changes nothing: memory ran out, or the text has 2^31 units or more.

@@ -146,5 +146,6 @@ fn making_folder<W: Outside, K: Keeper<W>>(
     let after = with_place(alloc, &known.places, folder, parent)?;
     let with_row = added(alloc, keeper, w, folder, parent, name)?;
     let draft = settled(alloc, keeper, w, with_row, &known.flags, &after, parent)?;
-    making(alloc, keeper.counts(), draft, Some(after), 2, index)
+    let counts = keeper.counts();
+    making(alloc, keeper, w, counts, draft, Some(after), 2, index)
 }

@@ -108,7 +108,7 @@ fn placing_folder<W: Outside, K: NodeReader<W>>(
 {
     let after = with_place(alloc, &known.places, folder, to)?;
     let draft = moved_between(alloc, keeper, w, &known.flags, &after, folder, from, to)?;
-    moving(alloc, draft, after)
+    moving(alloc, keeper, w, draft, after)
 }
 
 /// A draft in which a folder has another parent.

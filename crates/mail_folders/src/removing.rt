@@ -159,5 +159,5 @@ fn removing_folder<W: Outside, K: NodeReader<W>>(
     let without = without_folder(alloc, keeper, w, folder)?;
     let unlisted = drop_shown(alloc, keeper, w, without, hierarchy(parent), folder)?;
     let draft = settled(alloc, keeper, w, unlisted, &known.flags, &after, parent)?;
-    moving(alloc, draft, after)
+    moving(alloc, keeper, w, draft, after)
 }

@@ -42,7 +42,7 @@ pub fn rename_folder<W: Outside, K: NodeReader<W>>(
     unless_protected(alloc, keeper, w, folder)?;
     unless_beside(alloc, keeper, w, known, place.parent, folder, name)?;
     let draft = named_anew(alloc, keeper, w, folder, name)?;
-    changing(alloc, draft)
+    changing(alloc, keeper, w, draft)
 }
 
 /// Refused where another folder in a folder's parent has this name.

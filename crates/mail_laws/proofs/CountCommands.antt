@@ -22,7 +22,7 @@ use Rattle.mail_objects.specs.declared.object.Object.TheVariants.{Context, Table
 use Rattle.mail_tree.specs.declared.places.FolderPlace.{FolderPlace}
 use Rattle.mail_tree.specs.Places.{ROOT, children, find_place, is_child, is_deep, is_plain, is_within, moves_deep, place_id}
 use Rattle.mail_tree.specs.Tree.{Tree}
-use Rattle.mail_tree.specs.Values.{bytes_of, crowds, finished, folder_props, is_set_protected, is_unset_protected, message_props, name_of, text, truth, with_props}
+use Rattle.mail_tree.specs.Values.{bytes_of, finished, folder_props, is_set_protected, is_unset_protected, message_props, name_of, text, truth, with_props}
 use Rattle.command_text.specs.declared.reply.CommandRefusal.TheVariants.{Ids, Limit, Object as NoObject, Property as NoProperty}
 use Rattle.mail_tree.specs.Names.{NAMES, named_property, unless_nameless}
 use Rattle.mail_laws.proofs.NameSteps.{PutsNames, puts_names_after}
@@ -31,10 +31,10 @@ use Rattle.mail_tree.specs.Columns.{contents_table, hierarchy_table}
 use Rattle.mail_tree.specs.Settling.{message_ids, mirrored, settled, with_context, touched}
 use Rattle.mail_tree.specs.Ids.{folder_kinds, is_spent, is_taken, message_kinds, new_id, next_index}
 use Rattle.mail_tree.specs.Folders.{Outcome, associated_in, changing, folder_lines, has_associated, has_rows, listing, made_folder, making, making_folder, moved_between, moved_folder, nid, place, removed_folder, without_folder, without_node, message_lines, moving, renamed_folder, replied, siblings, unless_full, unless_named, unless_protected, with_folder}
-use Rattle.mail_tree.specs.Messages.{added_attachment, added_message, added_recipient, adding_attachment, adding_recipient, appended_data, appending, fetched_data, removed_attachment, spent_index, too_long, changed_message, copied_message, copy_of, copying, details, in_folder, is_crowded_message, is_overfull, making_message, message_in, moved_message, new_message, plain_message, remaking, removed_message, removed_recipient, set_value, spent_row, unset_value, value_in, value_of, with_message}
+use Rattle.mail_tree.specs.Messages.{added_attachment, added_message, added_recipient, adding_attachment, adding_recipient, appended_data, appending, fetched_data, removed_attachment, spent_index, too_long, changed_message, copied_message, copy_of, copying, details, in_folder, is_overfull, making_message, message_in, moved_message, new_message, plain_message, remaking, removed_message, removed_recipient, set_value, spent_row, unset_value, value_in, value_of}
 use Rattle.mail_tree.specs.Parts.{attachment_props, attachment_tags, data_tag, has_recipient, is_full, is_wide, lengthened, new_row, next_part, next_row, part_in, part_nid, part_with, plain_part, recipient_props, recipient_tags, room_for, rows_of, with_attachment, with_bytes, with_part, with_recipient, without_attachment, without_recipient}
 use Rattle.mail_laws.specs.Laws.{AreCountedBut, IsCounted}
-use Rattle.mail_tree.proofs.AfterTree.{puts_object, puts_values}
+use Rattle.mail_tree.proofs.AfterTree.{puts_object}
 use Rattle.mail_tree.proofs.FineLaws.{cases_Option}
 use Rattle.mapi_values.proofs.KeyedLaws.{put-ascends}
 use Rattle.std.specs.List.{list_any}
@@ -49,6 +49,7 @@ use Rattle.mail_laws.proofs.Touches.{if_context}
 use Rattle.mail_laws.proofs.CountSteps.{PlainIds, add_counts, any_drop, any_put, counted_fewer, counted_places, counted_put, counted_too, drop_counts, mirrored_counts, no_contents, none_passes, own_contents, put_counts, then_counts, values_put}
 use Rattle.mail_tree.proofs.Nearly.{Puts, nearly, plain_id}
 use Rattle.mail_tree.proofs.Settles.{store_of}
+use Rattle.pst_base.specs.declared.ids.Nid.{Nid}
 
 module _ (T : Tree) (w : Before T) (E : ℕ → Type 0) (s : AreCountedBut E T.places (now_at T nothing)) where
   -- the counts of this folder are right too
@@ -70,8 +71,8 @@ module _ (T : Tree) (w : Before T) (E : ℕ → Type 0) (s : AreCountedBut E T.p
   ids : PlainIds T.places
   ids f p e plain = plain_id (nearly (λ x. ⊥) T.places (now_at T nothing) w) f p e plain
 
-  limited : {B : Type 0} (Q : B → Type 0) (D : Changed) (f : Unit {0} → Answer B) → IfOk (f tt) Q → IfOk (within_limits D >>= f) Q
-  limited Q D f h = if_then (λ u. Unit {0}) Q (within_limits D) f (if_any (within_limits D)) (λ u v. h)
+  limited : {B : Type 0} (new : Option Nid) (Q : B → Type 0) (D : Changed) (f : Unit {0} → Answer B) → IfOk (f tt) Q → IfOk (within_limits T new D >>= f) Q
+  limited new Q D f h = if_then (λ u. Unit {0}) Q (within_limits T new D) f (if_any (within_limits T new D)) (λ u v. h)
 
   -- but for these counts are right after changes
   abbrev In : List FolderPlace → (ℕ → Type 0) → Changed → Type 0
@@ -83,11 +84,11 @@ module _ (T : Tree) (w : Before T) (E : ℕ → Type 0) (s : AreCountedBut E T.p
 
   changing_ends : (F : ℕ) (a : Answer Changed) (reply : Reply) → IfOk a (In T.places (λ x. (E x ⊎ (x ≡ F)) × (x ≡ F → ⊥))) → IfOk (a >>= changing T reply) (Ends F)
   unfolding Ends
-  changing_ends F a reply h = if_then (In T.places (λ x. (E x ⊎ (x ≡ F)) × (x ≡ F → ⊥))) (Ends F) a (changing T reply) h (λ D k. limited (Ends F) D _ (ended E F T.places D k))
+  changing_ends F a reply h = if_then (In T.places (λ x. (E x ⊎ (x ≡ F)) × (x ≡ F → ⊥))) (Ends F) a (changing T reply) h (λ D k. limited _ (Ends F) D _ (ended E F T.places D k))
 
   making_ends : (F : ℕ) (a : Answer Changed) (kind index : ℕ) → IfOk a (In T.places (λ x. (E x ⊎ (x ≡ F)) × (x ≡ F → ⊥))) → IfOk (a >>= making T T.places kind index) (Ends F)
   unfolding Ends
-  making_ends F a kind index h = if_then (In T.places (λ x. (E x ⊎ (x ≡ F)) × (x ≡ F → ⊥))) (Ends F) a (making T T.places kind index) h (λ D k. limited (Ends F) D _ (if_test (Ends F) (is_spent index) Ids _ (ended E F T.places D k)))
+  making_ends F a kind index h = if_then (In T.places (λ x. (E x ⊎ (x ≡ F)) × (x ≡ F → ⊥))) (Ends F) a (making T T.places kind index) h (λ D k. limited _ (Ends F) D _ (if_test (Ends F) (is_spent index) Ids _ (ended E F T.places D k)))
 
   -- a message is put
   message_put : (D D' : Changed) (m F : ℕ) (o : Option Object) → m % 32 ≡ 4 → In T.places E D → Puts (now_at T D) (now_at T D') m o → ((c : Ctx) → o ≡ Some (Context c) → ⊥)
@@ -126,12 +127,12 @@ module _ (T : Tree) (w : Before T) (E : ℕ → Type 0) (s : AreCountedBut E T.p
       (message_put nothing D m F None h.1 s (puts_object T nothing m None) (λ c e. none-some (Context c) e) (only_home m M h.0 h.1)))))
       (λ o k. (M, h.0, k)))
 
-  remakes : (m : ℕ) (M new : Mes) (crowded : Bool) (reason : Option CommandRefusal) (last : LastLine) → now_at T nothing m ≡ Some (Message M) → m % 32 ≡ 4 → new.nid ≡ M.nid → new.folder ≡ M.folder → IfOk (remaking T M new crowded reason last) (Ends M.folder)
+  remakes : (m : ℕ) (M new : Mes) (reason : Option CommandRefusal) (last : LastLine) → now_at T nothing m ≡ Some (Message M) → m % 32 ≡ 4 → new.nid ≡ M.nid → new.folder ≡ M.folder → IfOk (remaking T new reason last) (Ends M.folder)
   unfolding remaking
-  remakes m M new crowded reason last is four same there =
+  remakes m M new reason last is four same there =
       let N = finished new in
-      let D0 = record nothing { crowded = crowded } in
-      let D = with_message M N D0 in let v = home_of T w m M is in
+      let D0 = nothing in
+      let D = with_object N.nid (Some (Message N)) D0 in let v = home_of T w m M is in
       let nid : N.nid ≡ m = finished_id new ∙ same ∙ v.0 in
       let four' : N.nid % 32 ≡ 4 = ap (λ x. x % 32) nid ∙ four in
       let folder : N.folder ≡ M.folder = finished_folder new ∙ there in
@@ -143,26 +144,26 @@ module _ (T : Tree) (w : Before T) (E : ℕ → Type 0) (s : AreCountedBut E T.p
       if_replying T (a >>= settled T T.places F) reason (replied last) (Ends M.folder) (subst (λ x. IfOk (a >>= settled T T.places F >>= changing T (replied last)) (Ends x)) folder
       (changing_ends F (a >>= settled T T.places F) (replied last) (then_counts T T.places ids E1 a F two
       (put_counts T T.places ids E1 D (contents F) N.nid N.props (contents_high F) (own_contents T T.places ids E1 F two (inr refl))
-      (message_put D0 D N.nid F (Some (Message N)) four' s (puts_values T D0 N.nid (Message N) M.props N.props) (λ c e. cc)
+      (message_put D0 D N.nid F (Some (Message N)) four' s (puts_object T D0 N.nid (Some (Message N))) (λ c e. cc)
       (λ f q u e plain at_u row. only_home N.nid M (ap (now_at T nothing) nid ∙ is) four' f q u e plain at_u row ∙ sym folder))))))
 
   changes : (m : ℕ) (M : Mes) (props : List Val) → now_at T nothing m ≡ Some (Message M) → m % 32 ≡ 4 → IfOk (changed_message T M props) (Ends M.folder)
   unfolding changed_message
-  changes m M props is four = remakes m M (with_props props M) false None Done is four refl refl
+  changes m M props is four = remakes m M (with_props props M) None Done is four refl refl
 
   pub adds_recipient : (m kind : ℕ) (address name : List ℕ) → IfOk (added_recipient T m kind address name) (Home m)
   unfolding added_recipient adding_recipient Home
   adds_recipient m kind address name = if_then _ (Home m) (message_in T m) _ (from_fine _ (message_in T m) (fine_message_in T m w)) (λ M h.
       let row = next_row (rows_of M.recipients) in
       let new = with_recipient (new_row row) (recipient_props kind address name) M in
-      if_test (Home m) (is_full M.recipients) (Limit Rows) _ (if_test (Home m) (is_wide recipient_tags M.recipients) (Limit Rows) _ (if_weaker (Ends M.folder) (Home m) (remaking T M new false (spent_row row) (Row (new_row row)))
-      (remakes m M new false (spent_row row) (Row (new_row row)) h.0 h.1 refl refl) (λ o k. (M, h.0, k)))))
+      if_test (Home m) (is_full M.recipients) (Limit Rows) _ (if_test (Home m) (is_wide recipient_tags M.recipients) (Limit Rows) _ (if_weaker (Ends M.folder) (Home m) (remaking T new (spent_row row) (Row (new_row row)))
+      (remakes m M new (spent_row row) (Row (new_row row)) h.0 h.1 refl refl) (λ o k. (M, h.0, k)))))
 
   pub removes_recipient : (m row : ℕ) → IfOk (removed_recipient T m row) (Home m)
   unfolding removed_recipient Home
   removes_recipient m row = if_then _ (Home m) (message_in T m) _ (from_fine _ (message_in T m) (fine_message_in T m w)) (λ M h.
-      if_test (Home m) (not (has_recipient row M)) NoObject _ (if_weaker (Ends M.folder) (Home m) (remaking T M (without_recipient row M) false None Done)
-      (remakes m M (without_recipient row M) false None Done h.0 h.1 refl refl) (λ o k. (M, h.0, k))))
+      if_test (Home m) (not (has_recipient row M)) NoObject _ (if_weaker (Ends M.folder) (Home m) (remaking T (without_recipient row M) None Done)
+      (remakes m M (without_recipient row M) None Done h.0 h.1 refl refl) (λ o k. (M, h.0, k))))
 
   pub adds_attachment : (m : ℕ) (name bytes : List ℕ) → IfOk (added_attachment T m name bytes) (Home m)
   unfolding added_attachment adding_attachment Home
@@ -170,19 +171,19 @@ module _ (T : Tree) (w : Before T) (E : ℕ → Type 0) (s : AreCountedBut E T.p
       let index = next_part M in
       let new = with_attachment (plain_part (part_nid index) (attachment_props name bytes)) (room_for index M) in
       if_test (Home m) (is_full M.attachments) (Limit Rows) _ (if_test (Home m) (is_wide attachment_tags M.attachments) (Limit Rows) _
-      (if_weaker (Ends M.folder) (Home m) (remaking T M new false (spent_index index) (Attached (part_nid index))) (remakes m M new false (spent_index index) (Attached (part_nid index)) h.0 h.1 refl refl) (λ o k. (M, h.0, k)))))
+      (if_weaker (Ends M.folder) (Home m) (remaking T new (spent_index index) (Attached (part_nid index))) (remakes m M new (spent_index index) (Attached (part_nid index)) h.0 h.1 refl refl) (λ o k. (M, h.0, k)))))
 
   pub appends_data : (m n : ℕ) (more : List ℕ) → IfOk (appended_data T m n more) (Home m)
   unfolding appended_data appending Home
   appends_data m n more = if_then _ (Home m) (message_in T m) _ (from_fine _ (message_in T m) (fine_message_in T m w)) (λ M h.
       if_found (Home m) NoObject (part_in n M) _ (λ part is. if_found (Home m) NoProperty (bytes_of 0x3701 0x0102 part.props) _ (λ old is'.
       let props = with_bytes (lengthened old more) part.props in
-      (if_weaker (Ends M.folder) (Home m) (remaking T M (with_part (part_with props part) M) (crowds part.props props) (too_long old more) Done) (remakes m M (with_part (part_with props part) M) (crowds part.props props) (too_long old more) Done h.0 h.1 refl refl) (λ o k. (M, h.0, k))))))
+      (if_weaker (Ends M.folder) (Home m) (remaking T (with_part (part_with props part) M) (too_long old more) Done) (remakes m M (with_part (part_with props part) M) (too_long old more) Done h.0 h.1 refl refl) (λ o k. (M, h.0, k))))))
 
   pub removes_attachment : (m n : ℕ) → IfOk (removed_attachment T m n) (Home m)
   unfolding removed_attachment Home
   removes_attachment m n = if_then _ (Home m) (message_in T m) _ (from_fine _ (message_in T m) (fine_message_in T m w)) (λ M h.
-      if_test (Home m) (not (is_some (part_in n M))) NoObject _ (if_weaker (Ends M.folder) (Home m) (remaking T M (without_attachment n M) false None Done) (remakes m M (without_attachment n M) false None Done h.0 h.1 refl refl) (λ o k. (M, h.0, k))))
+      if_test (Home m) (not (is_some (part_in n M))) NoObject _ (if_weaker (Ends M.folder) (Home m) (remaking T (without_attachment n M) None Done) (remakes m M (without_attachment n M) None Done h.0 h.1 refl refl) (λ o k. (M, h.0, k))))
 
   pub sets : (m : ℕ) (v : Val) → IfOk (set_value T m v) (Home m)
   unfolding set_value Home
@@ -224,11 +225,11 @@ module _ (T : Tree) (w : Before T) (E : ℕ → Type 0) (s : AreCountedBut E T.p
       | inl plain ↦ rw plain (elim (cases_Bool (is_overfull M.recipients || is_overfull M.attachments)) [
         | inl b ↦ rw b tt
         | inr b ↦ rw b (if_then (λ u. Unit {0}) (Ends folder) (unless_full T (contents folder)) _ (if_any (unless_full T (contents folder))) (λ u v. elim (cases_Bool (is_spent (next_index T 4 message_kinds))) [
-          | inl t ↦ never_made T T.places 4 (next_index T 4 message_kinds) (Ends folder) (touched T M.folder (record nothing { crowded = is_crowded_message M }) >>= added_message T (copy_of (new_id 4 (next_index T 4 message_kinds)) folder M)) t
+          | inl t ↦ never_made T T.places 4 (next_index T 4 message_kinds) (Ends folder) (touched T M.folder nothing >>= added_message T (copy_of (new_id 4 (next_index T 4 message_kinds)) folder M)) t
           | inr t ↦
               let id = new_message_id T t in
-              let touches = touched T M.folder (record nothing { crowded = is_crowded_message M }) in
-              (adds touches (from_fine (λ D. now_at T D ≡ now_at T nothing) touches (fine_home T w m M h.0 (is_crowded_message M))) (copy_of (new_id 4 (next_index T 4 message_kinds)) folder M) p.0 (next_index T 4 message_kinds) id.0 id.1 p.1 plain)
+              let touches = touched T M.folder nothing in
+              (adds touches (from_fine (λ D. now_at T D ≡ now_at T nothing) touches (fine_home T w m M h.0)) (copy_of (new_id 4 (next_index T 4 message_kinds)) folder M) p.0 (next_index T 4 message_kinds) id.0 id.1 p.1 plain)
         ]))
       ])
     ])
@@ -285,7 +286,7 @@ module _ (T : Tree) (w : Before T) (E : ℕ → Type 0) (s : AreCountedBut E T.p
             if_then (In T.places (λ x. E3 x × (x ≡ folder → ⊥))) (Moved m folder) (a >>= settled T T.places from >>= settled T T.places folder) (changing T (replied Done))
             (then_counts T T.places ids E3 (a >>= settled T T.places from) folder two' (then_counts T T.places ids E2 a from two
             (add_counts T T.places ids E2 D1 (contents folder) m M.props (contents_high folder) (own_contents T T.places ids E2 folder two' (inr refl)) (counted_fewer E1 E2 T.places (now_at T D1) (λ x e. inl e) k1))))
-            (λ D2 k2. limited (Moved m folder) D2 _ (let k3 = both_ended from folder T.places D2 k2 in (M, h.0, counted_fewer (λ x. (E x × (x ≡ from → ⊥)) × (x ≡ folder → ⊥)) E T.places (now_at T D2) (λ x h. h.0.0) k3, λ other. k3)))))
+            (λ D2 k2. limited _ (Moved m folder) D2 _ (let k3 = both_ended from folder T.places D2 k2 in (M, h.0, counted_fewer (λ x. (E x × (x ≡ from → ⊥)) × (x ≡ folder → ⊥)) E T.places (now_at T D2) (λ x h. h.0.0) k3, λ other. k3)))))
       ])
     ])
   ])
@@ -328,19 +329,19 @@ module _ (T : Tree) (w : Before T) (E : ℕ → Type 0) (s : AreCountedBut E T.p
           let props = put (text 0x3001 name) c.props in
           let D = with_context f c props nothing in
           let other : (id : ℕ) → (id ≡ 0x3001 → ⊥) → find id props ≡ find id c.props = λ id other. find-put_other (λ v. v.id) id (text 0x3001 name) c.props other in
-          let k = values_put T T.places ids E nothing D f (record c { props = props }) (ids f p.0 p.1 plain) s (puts_values T nothing f (Context (record c { props = props })) c.props props)
+          let k = values_put T T.places ids E nothing D f (record c { props = props }) (ids f p.0 p.1 plain) s (puts_object T nothing f (Some (Context (record c { props = props }))))
           (λ free. (c, is, record { messages = other 0x3602 (λ e. omega arith); unread = other 0x3603 (λ e. omega arith); folders = other 0x360A (λ e. omega arith) })) in
-          if_then (In T.places E) Keeps (mirrored T f D) (changing T (replied Done)) (mirrored_counts T T.places ids E D f k) (λ D' k'. limited Keeps D' _ k')))))
+          if_then (In T.places E) Keeps (mirrored T f D) (changing T (replied Done)) (mirrored_counts T T.places ids E D f k) (λ D' k'. limited _ Keeps D' _ k')))))
     ])
   ]
 
   moving_ends : (F : ℕ) (places : List FolderPlace) (a : Answer Changed) (reply : Reply) → IfOk a (In places (λ x. (E x ⊎ (x ≡ F)) × (x ≡ F → ⊥))) → IfOk (a >>= moving T places reply) (Ends F)
   unfolding Ends
-  moving_ends F places a reply h = if_then (In places (λ x. (E x ⊎ (x ≡ F)) × (x ≡ F → ⊥))) (Ends F) a (moving T places reply) h (λ D k. limited (Ends F) D _ (ended E F places D k))
+  moving_ends F places a reply h = if_then (In places (λ x. (E x ⊎ (x ≡ F)) × (x ≡ F → ⊥))) (Ends F) a (moving T places reply) h (λ D k. limited _ (Ends F) D _ (ended E F places D k))
 
   moving_both : (F G : ℕ) (places : List FolderPlace) (a : Answer Changed) (reply : Reply) → IfOk a (In places (λ x. (E x × (x ≡ F → ⊥)) × (x ≡ G → ⊥))) → IfOk (a >>= moving T places reply) (EndsBoth F G)
   unfolding EndsBoth
-  moving_both F G places a reply h = if_then (In places (λ x. (E x × (x ≡ F → ⊥)) × (x ≡ G → ⊥))) (EndsBoth F G) a (moving T places reply) h (λ D k. limited (EndsBoth F G) D _ k)
+  moving_both F G places a reply h = if_then (In places (λ x. (E x × (x ≡ F → ⊥)) × (x ≡ G → ⊥))) (EndsBoth F G) a (moving T places reply) h (λ D k. limited _ (EndsBoth F G) D _ k)
 
   put_ids : (f parent : ℕ) → f % 32 ≡ 2 → PlainIds (put_key place_id (place f parent) T.places)
   put_ids f parent two g p e plain = elim (cases_eq g f) [
@@ -497,7 +498,7 @@ module _ (T : Tree) (w : Before T) (E : ℕ → Type 0) (s : AreCountedBut E T.p
                   (if_then (In places (λ x. E3 x × (x ≡ parent → ⊥))) (MadeFolder parent) (a >>= settled T places parent) (making T places 2 index)
                   (then_counts T places places_ids E3 a parent (ids parent p.0 p.1 plain)
                   (add_counts T places places_ids E3 D4 (hierarchy parent) f (folder_props name) (hierarchy_high parent) (no_contents T places places_ids E3 parent) k5))
-                  (λ D k. limited (MadeFolder parent) D _ (if_test (MadeFolder parent) (is_spent index) Ids _
+                  (λ D k. limited _ (MadeFolder parent) D _ (if_test (MadeFolder parent) (is_spent index) Ids _
                   (f, refl, counted_fewer (λ x. E3 x × (x ≡ parent → ⊥)) Q places (now_at T D) (λ x h. ((elim h.0.0 [ inl e ↦ e | inr e ↦ absurd (h.1 e) ], h.0.1), h.1)) k))))
             ]))
           ]))

@@ -18,7 +18,7 @@ use Rattle.mail_tree.specs.Values.{is_read, number, truth}
 use Rattle.mail_tree.specs.Changing.{Answer, Changed, ◌>>=◌, add_shown, as_message, contents, context_at, drop_shown, hierarchy, known, message_at, now_at, overfills, put_shown, shown_row, table_at, with_object}
 use Rattle.mail_tree.specs.Settling.{counted, is_message_row, message_ids, mirrored, table_as_is, settled, unread_among, with_context}
 use Rattle.mail_laws.specs.Laws.{AreCountedBut, IsCounted, is_unread}
-use Rattle.mail_tree.proofs.AfterTree.{puts_object, puts_values}
+use Rattle.mail_tree.proofs.AfterTree.{puts_object}
 use Rattle.mail_tree.proofs.KeyedFinds.{below, find-put_other, find-put_same}
 use Rattle.mail_laws.proofs.Keeping.{if_any, if_then, if_weaker}
 use Rattle.mail_tree.proofs.KindsOfPuts.{beside_kind, same_folder}
@@ -192,7 +192,7 @@ module _ (T : Tree) (places : List FolderPlace) (ids : PlainIds places) where
       let v3 = put (truth 0x360A folders) v2 in
       let new : Ctx = record c { props = v3 } in
       let D' = with_context f c v3 D in
-      let puts = puts_values T D f (Context new) c.props v3 in
+      let puts = puts_object T D f (Some (Context new)) in
       counted_too E places (now_at T D') f
       (values_put (λ x. E x ⊎ (x ≡ f)) D D' f new two (counted_fewer E (λ x. E x ⊎ (x ≡ f)) places (now_at T D) (λ x h. inl h) s) puts (λ free. absurd (free (inr refl))))
       (λ c' t' is_c' is_t'.

@@ -17,19 +17,19 @@ use Rattle.mail_objects.specs.declared.object.Object.TheVariants.{Context, Table
 use Rattle.mail_tree.specs.declared.places.FolderPlace.{FolderPlace}
 use Rattle.mail_tree.specs.Places.{find_place, is_plain}
 use Rattle.mail_tree.specs.Tree.{Tree, object_at}
-use Rattle.mail_tree.specs.Values.{bytes_of, crowds, finished, has_object, has_parts, is_own_id, is_set_protected, is_unset_protected, message_props, number, number_of, text, time_value, with_attachment_flag, with_flag, with_props}
+use Rattle.mail_tree.specs.Values.{bytes_of, finished, has_object, has_parts, is_own_id, is_set_protected, is_unset_protected, message_props, number, number_of, text, time_value, with_attachment_flag, with_flag, with_props}
 use Rattle.mail_tree.specs.Names.{unless_nameless}
 use Rattle.mail_tree.specs.Changing.{◌>>=◌, add_shown, as_message, contents, drop_shown, nothing, now_at, put_shown, with_object, within_limits, Answer, Changed}
 use Rattle.mail_tree.specs.Settling.{settled, touched}
 use Rattle.mail_tree.specs.Ids.{is_spent, message_kinds, new_id, next_index}
 use Rattle.mail_tree.specs.Folders.{Outcome, changing, making, nid, replied, unless_full}
-use Rattle.mail_tree.specs.Messages.{added_attachment, added_message, added_recipient, adding_attachment, adding_recipient, appended_data, appending, removed_attachment, spent_index, too_long, changed_message, copied_message, copy_of, copying, in_folder, is_crowded_message, is_overfull, making_message, message_in, moved_message, new_message, plain_message, remaking, removed_message, removed_recipient, set_value, spent_row, unset_value, with_message}
+use Rattle.mail_tree.specs.Messages.{added_attachment, added_message, added_recipient, adding_attachment, adding_recipient, appended_data, appending, removed_attachment, spent_index, too_long, changed_message, copied_message, copy_of, copying, in_folder, is_overfull, making_message, message_in, moved_message, new_message, plain_message, remaking, removed_message, removed_recipient, set_value, spent_row, unset_value}
 use Rattle.mail_tree.specs.Parts.{attachment_props, attachment_tags, greatest_kept, greatest_part, has_recipient, is_full, is_spent_row, is_too_long, is_wide, lengthened, new_row, next_part, next_row, part_in, part_nid, part_with, plain_part, recipient_props, recipient_tags, room_for, rows_of, with_attachment, with_bytes, with_part, with_recipient, without_attachment, without_recipient}
 use Rattle.mail_tree.specs.Step.{after}
 use Rattle.mail_tree.specs.Whole.{fits_id}
 use Rattle.mail_laws.specs.Laws.{OnlyMessage}
 use Rattle.mail_tree.proofs.KeyedFinds.{find-put_other}
-use Rattle.mail_tree.proofs.AfterTree.{after_now, now_nothing, puts_object, puts_values}
+use Rattle.mail_tree.proofs.AfterTree.{after_now, now_nothing, puts_object}
 use Rattle.mail_tree.proofs.FineLaws.{cases_Option}
 use Rattle.mail_tree.proofs.Nearly.{folder_kind, message_id, Puts}
 use Rattle.mail_tree.proofs.KindsOfPuts.{low}
@@ -69,7 +69,7 @@ only_message T m now o w w' c = record {
   others = λ k other. ap (λ g. as_message (g k)) (sym (after_now T o)) ∙ elim (cases_eq (k % 32) 4) [
     | inl four ↦ ap as_message (c.others k four other)
     | inr four ↦ no_message k (now_at T o.changed k) (w'.typed k) four ∙ sym (no_message k (now_at T nothing k) (w.typed k) four)
-  ] ∙ ap (λ g. as_message (g k)) (now_nothing T false);
+  ] ∙ ap (λ g. as_message (g k)) (now_nothing T);
   places = c.places_are;
 }
 
@@ -137,13 +137,13 @@ copies T m folder w = if_then _ (Copied T m folder) (message_in T m) _ (from_fin
     | inl plain ↦ rw plain (elim (cases_Bool (is_overfull M.recipients || is_overfull M.attachments)) [
       | inl b ↦ rw b tt
       | inr b ↦ rw b (if_then (λ u. Unit {0}) (Copied T m folder) (unless_full T (contents folder)) _ (if_any (unless_full T (contents folder))) (λ u v. elim (cases_Bool (is_spent (next_index T 4 message_kinds))) [
-        | inl t ↦ never_made T T.places 4 (next_index T 4 message_kinds) (Copied T m folder) (touched T M.folder (record nothing { crowded = is_crowded_message M }) >>= added_message T (copy_of (new_id 4 (next_index T 4 message_kinds)) folder M)) t
+        | inl t ↦ never_made T T.places 4 (next_index T 4 message_kinds) (Copied T m folder) (touched T M.folder nothing >>= added_message T (copy_of (new_id 4 (next_index T 4 message_kinds)) folder M)) t
         | inr t ↦
             let index = next_index T 4 message_kinds in let id = new_message_id T t in
             let N = copy_of (new_id 4 index) folder M in
-            let touches = touched T M.folder (record nothing { crowded = is_crowded_message M }) in
+            let touches = touched T M.folder nothing in
             (if_weaker (Adds T N index) (Copied T m folder) (touches >>= added_message T N >>= making T T.places 4 index)
-            (adds T touches (from_fine (λ D. now_at T D ≡ now_at T nothing) touches (fine_home T w m M h.0 (is_crowded_message M))) N p.0 index w id.0 p.1) (λ o a. (M, index, h.0, id.1, a)))
+            (adds T touches (from_fine (λ D. now_at T D ≡ now_at T nothing) touches (fine_home T w m M h.0)) N p.0 index w id.0 p.1) (λ o a. (M, index, h.0, id.1, a)))
       ]))
     ])
   ])
@@ -206,13 +206,13 @@ makes T folder class time w = elim (cases_Option (find_place folder T.places)) [
 ]
 
 -- a message that became another
-pub remakes : (T : Tree) (m : ℕ) (M new : Mes) (crowded : Bool) (reason : Option CommandRefusal) (last : LastLine) → Before T → now_at T nothing m ≡ Some (Message M) → m % 32 ≡ 4 → new.nid ≡ M.nid → new.folder ≡ M.folder
-    → IfOk (remaking T M new crowded reason last) (λ o. Changes T m (Some (finished new)) o × (o.reply ≡ replied last))
+pub remakes : (T : Tree) (m : ℕ) (M new : Mes) (reason : Option CommandRefusal) (last : LastLine) → Before T → now_at T nothing m ≡ Some (Message M) → m % 32 ≡ 4 → new.nid ≡ M.nid → new.folder ≡ M.folder
+    → IfOk (remaking T new reason last) (λ o. Changes T m (Some (finished new)) o × (o.reply ≡ replied last))
 unfolding remaking
-remakes T m M new crowded reason last w is four same there =
+remakes T m M new reason last w is four same there =
     let N = finished new in
-    let D0 = record nothing { crowded = crowded } in
-    let D = with_message M N D0 in let v = home_of T w m M is in
+    let D0 = nothing in
+    let D = with_object N.nid (Some (Message N)) D0 in let v = home_of T w m M is in
     let nid : N.nid ≡ m = finished_id new ∙ same ∙ v.0 in
     let folder : N.folder ≡ M.folder = finished_folder new ∙ there in
     let a = put_shown T (contents N.folder) N.nid N.props D in
@@ -222,7 +222,7 @@ remakes T m M new crowded reason last w is four same there =
     (then_changing Four no_table T D (a >>= settled T T.places N.folder) (replied last) (then_settled Four no_table T T.places N.folder D a (place_apart T w N.folder v.1 (ap (λ x. find_place x T.places) folder ∙ v.2))
     (put_keeps Four no_table T (contents N.folder) N.nid N.props D (table_apart N.folder 14 (omega arith) (omega arith)))))
     (λ o c. (
-      subst (λ x. Changes T x (Some N) o) nid (changes T N.nid (Some (Message N)) o (kept_after _ _ _ N.nid (Some (Message N)) (ap (λ x. x % 32) nid ∙ four) (puts_values T D0 N.nid (Message N) M.props N.props) c.keeps) c.places_are),
+      subst (λ x. Changes T x (Some N) o) nid (changes T N.nid (Some (Message N)) o (kept_after _ _ _ N.nid (Some (Message N)) (ap (λ x. x % 32) nid ∙ four) (puts_object T D0 N.nid (Some (Message N))) c.keeps) c.places_are),
       c.reply_is,
     )))
 
@@ -241,11 +241,11 @@ Remade T m make o = (M : Mes) × (props : List Val) × (now_at T nothing m ≡ S
 abbrev is_remade : (T : Tree) (m : ℕ) (M : Mes) (make : Mes → Mes) (o : Outcome) → now_at T nothing m ≡ Some (Message M) → Changes T m (Some (finished (make M))) o → Remade T m make o
 is_remade T m M make o is c = (M, (finished (make M)).props, is, subst (λ x. Changes T m (Some x) o) (finished_is (make M)) c, λ id no_flags no_size. finished_find (make M) id no_flags no_size)
 
-remade : (T : Tree) (m : ℕ) (M : Mes) (make : Mes → Mes) (crowded : Bool) (reason : Option CommandRefusal) (last : LastLine) → Before T → now_at T nothing m ≡ Some (Message M) → m % 32 ≡ 4 → (make M).nid ≡ M.nid → (make M).folder ≡ M.folder
-    → IfOk (remaking T M (make M) crowded reason last) (λ o. Remade T m make o × (o.reply ≡ replied last))
-remade T m M make crowded reason last w is four same there =
-    if_weaker (λ o. Changes T m (Some (finished (make M))) o × (o.reply ≡ replied last)) (λ o. Remade T m make o × (o.reply ≡ replied last)) (remaking T M (make M) crowded reason last)
-    (remakes T m M (make M) crowded reason last w is four same there)
+remade : (T : Tree) (m : ℕ) (M : Mes) (make : Mes → Mes) (reason : Option CommandRefusal) (last : LastLine) → Before T → now_at T nothing m ≡ Some (Message M) → m % 32 ≡ 4 → (make M).nid ≡ M.nid → (make M).folder ≡ M.folder
+    → IfOk (remaking T (make M) reason last) (λ o. Remade T m make o × (o.reply ≡ replied last))
+remade T m M make reason last w is four same there =
+    if_weaker (λ o. Changes T m (Some (finished (make M))) o × (o.reply ≡ replied last)) (λ o. Remade T m make o × (o.reply ≡ replied last)) (remaking T (make M) reason last)
+    (remakes T m M (make M) reason last w is four same there)
     (λ o c. (is_remade T m M make o is c.0, c.1))
 
 -- no row has the number that follows the greatest, or a greater one
@@ -258,14 +258,14 @@ row_is : (row : ℕ) → is_spent_row row ≡ false → new_row row ≡ row
 row_is row left = let le = ltb-false 4294967295 row left in omega arith
 
 -- a recipient's row is given only where one is left
-given_row : (T : Tree) (old new : Mes) (crowded : Bool) (row : ℕ) (last : LastLine) (Q : Outcome → Type 0) → (is_spent_row row ≡ false → IfOk (remaking T old new crowded (spent_row row) last) Q) → IfOk (remaking T old new crowded (spent_row row) last) Q
+given_row : (T : Tree) (new : Mes) (row : ℕ) (last : LastLine) (Q : Outcome → Type 0) → (is_spent_row row ≡ false → IfOk (remaking T new (spent_row row) last) Q) → IfOk (remaking T new (spent_row row) last) Q
 unfolding remaking
-given_row T old new crowded row last Q left = elim (cases_Bool (is_spent_row row)) [
+given_row T new row last Q left = elim (cases_Bool (is_spent_row row)) [
   | inr f ↦ left f
   | inl t ↦
       let N = finished new in
-      let a = put_shown T (contents N.folder) N.nid N.props (with_message old N (record nothing { crowded = crowded })) >>= settled T T.places N.folder in
-      rw t (if_then (λ D. Unit {0}) Q a _ (if_any a) (λ D u. if_then (λ v. Unit {0}) Q (within_limits D) _ (if_any (within_limits D)) (λ v v'. tt)))
+      let a = put_shown T (contents N.folder) N.nid N.props (with_object N.nid (Some (Message N)) nothing) >>= settled T T.places N.folder in
+      rw t (if_then (λ D. Unit {0}) Q a _ (if_any a) (λ D u. if_then (λ v. Unit {0}) Q (within_limits T _ D) _ (if_any (within_limits T _ D)) (λ v v'. tt)))
 ]
 
 -- `rcpt`
@@ -279,10 +279,10 @@ adds_recipient T m kind address name w =
     if_then _ Q (message_in T m) _ (from_fine _ (message_in T m) (fine_message_in T m w)) (λ M h.
     let row = next_row (rows_of M.recipients) in
     let make = with_recipient (new_row row) (recipient_props kind address name) in
-    if_test Q (is_full M.recipients) (Limit Rows) _ (if_test Q (is_wide recipient_tags M.recipients) (Limit Rows) _ (given_row T M (make M) false row (Row (new_row row)) Q (λ left.
+    if_test Q (is_full M.recipients) (Limit Rows) _ (if_test Q (is_wide recipient_tags M.recipients) (Limit Rows) _ (given_row T (make M) row (Row (new_row row)) Q (λ left.
     let free = past_rows (rows_of M.recipients) (new_row row) (omega (arith, row_is row left)) in
-    if_weaker (λ o. Changes T m (Some (finished (make M))) o × (o.reply ≡ replied (Row (new_row row)))) Q (remaking T M (make M) false (spent_row row) (Row (new_row row)))
-    (remakes T m M (make M) false (spent_row row) (Row (new_row row)) w h.0 h.1 refl refl) (λ o k. let r = is_remade T m M make o h.0 k.0 in (new_row row, (M, r.1, h.0, r.3, r.4), k.1, free))))))
+    if_weaker (λ o. Changes T m (Some (finished (make M))) o × (o.reply ≡ replied (Row (new_row row)))) Q (remaking T (make M) (spent_row row) (Row (new_row row)))
+    (remakes T m M (make M) (spent_row row) (Row (new_row row)) w h.0 h.1 refl refl) (λ o k. let r = is_remade T m M make o h.0 k.0 in (new_row row, (M, r.1, h.0, r.3, r.4), k.1, free))))))
 
 -- `unrcpt`
 pub removes_recipient : (T : Tree) (m row : ℕ) → Before T → IfOk (removed_recipient T m row) (Remade T m (without_recipient row))
@@ -290,18 +290,18 @@ unfolding removed_recipient
 removes_recipient T m row w =
     let Q = Remade T m (without_recipient row) in
     if_then _ Q (message_in T m) _ (from_fine _ (message_in T m) (fine_message_in T m w)) (λ M h.
-    if_test Q (not (has_recipient row M)) NoObject _ (if_weaker (λ o. Remade T m (without_recipient row) o × (o.reply ≡ replied Done)) Q (remaking T M (without_recipient row M) false None Done)
-    (remade T m M (without_recipient row) false None Done w h.0 h.1 refl refl) (λ o k. k.0)))
+    if_test Q (not (has_recipient row M)) NoObject _ (if_weaker (λ o. Remade T m (without_recipient row) o × (o.reply ≡ replied Done)) Q (remaking T (without_recipient row M) None Done)
+    (remade T m M (without_recipient row) None Done w h.0 h.1 refl refl) (λ o k. k.0)))
 
 -- what is refused where there is a reason answers only where there is none
-no_reason : (T : Tree) (old new : Mes) (crowded : Bool) (spent : Bool) (refusal : CommandRefusal) (last : LastLine) (Q : Outcome → Type 0)
-    → (spent ≡ false → IfOk (remaking T old new crowded (if spent then Some refusal else None) last) Q) → IfOk (remaking T old new crowded (if spent then Some refusal else None) last) Q
+no_reason : (T : Tree) (new : Mes) (spent : Bool) (refusal : CommandRefusal) (last : LastLine) (Q : Outcome → Type 0)
+    → (spent ≡ false → IfOk (remaking T new (if spent then Some refusal else None) last) Q) → IfOk (remaking T new (if spent then Some refusal else None) last) Q
 unfolding remaking
-no_reason T old new crowded false refusal last Q left = left refl
-no_reason T old new crowded true refusal last Q left =
+no_reason T new false refusal last Q left = left refl
+no_reason T new true refusal last Q left =
     let N = finished new in
-    let a = put_shown T (contents N.folder) N.nid N.props (with_message old N (record nothing { crowded = crowded })) >>= settled T T.places N.folder in
-    if_then (λ D. Unit {0}) Q a _ (if_any a) (λ D u. if_then (λ v. Unit {0}) Q (within_limits D) _ (if_any (within_limits D)) (λ v v'. tt))
+    let a = put_shown T (contents N.folder) N.nid N.props (with_object N.nid (Some (Message N)) nothing) >>= settled T T.places N.folder in
+    if_then (λ D. Unit {0}) Q a _ (if_any a) (λ D u. if_then (λ v. Unit {0}) Q (within_limits T _ D) _ (if_any (within_limits T _ D)) (λ v v'. tt))
 
 -- where an index is left a message gets its attachment as it is
 room_is : (index : ℕ) (M : Mes) → is_spent index ≡ false → room_for index M ≡ M
@@ -328,9 +328,9 @@ adds_attachment T m name bytes w =
     let make = with_attachment (plain_part (part_nid index) (attachment_props name bytes)) in
     let new = make (room_for index M) in
     let last = Attached (part_nid index) in
-    if_test Q (is_full M.attachments) (Limit Rows) _ (if_test Q (is_wide attachment_tags M.attachments) (Limit Rows) _ (no_reason T M new false (is_spent index) Ids last Q (λ left.
-    if_weaker (λ o. Changes T m (Some (finished new)) o × (o.reply ≡ replied last)) Q (remaking T M new false (spent_index index) last)
-    (remakes T m M new false (spent_index index) last w h.0 h.1 refl refl)
+    if_test Q (is_full M.attachments) (Limit Rows) _ (if_test Q (is_wide attachment_tags M.attachments) (Limit Rows) _ (no_reason T new (is_spent index) Ids last Q (λ left.
+    if_weaker (λ o. Changes T m (Some (finished new)) o × (o.reply ≡ replied last)) Q (remaking T new (spent_index index) last)
+    (remakes T m M new (spent_index index) last w h.0 h.1 refl refl)
     (λ o k. let r = is_remade T m M make o h.0 (subst (λ x. Changes T m (Some (finished (make x))) o) (room_is index M left) k.0) in (part_nid index, (M, r.1, h.0, r.3, r.4), k.1, free_part M left))))))
 
 -- data that doesn't get too long has these bytes more
@@ -351,9 +351,9 @@ appends_data T m n more w =
     let planned = with_bytes (lengthened old more) part.props in
     let make = with_part (part_with (with_bytes (old ++ more) part.props) part) in
     let new = with_part (part_with planned part) M in
-    no_reason T M new (crowds part.props planned) (is_too_long old more) (Limit LongValue) Done Q (λ short.
-    if_weaker (λ o. Changes T m (Some (finished new)) o × (o.reply ≡ replied Done)) Q (remaking T M new (crowds part.props planned) (too_long old more) Done)
-    (remakes T m M new (crowds part.props planned) (too_long old more) Done w h.0 h.1 refl refl)
+    no_reason T new (is_too_long old more) (Limit LongValue) Done Q (λ short.
+    if_weaker (λ o. Changes T m (Some (finished new)) o × (o.reply ≡ replied Done)) Q (remaking T new (too_long old more) Done)
+    (remakes T m M new (too_long old more) Done w h.0 h.1 refl refl)
     (λ o k. let r = is_remade T m M make o h.0 (subst (λ x. Changes T m (Some (finished (with_part (part_with (with_bytes x part.props) part) M))) o) (lengthened_is old more short) k.0) in
     ((part, old), (M, r.1, h.0, r.3, r.4), (is, is')))))))
 
@@ -363,8 +363,8 @@ unfolding removed_attachment
 removes_attachment T m n w =
     let Q = Remade T m (without_attachment n) in
     if_then _ Q (message_in T m) _ (from_fine _ (message_in T m) (fine_message_in T m w)) (λ M h.
-    if_test Q (not (is_some (part_in n M))) NoObject _ (if_weaker (λ o. Remade T m (without_attachment n) o × (o.reply ≡ replied Done)) Q (remaking T M (without_attachment n M) false None Done)
-    (remade T m M (without_attachment n) false None Done w h.0 h.1 refl refl) (λ o k. k.0)))
+    if_test Q (not (is_some (part_in n M))) NoObject _ (if_weaker (λ o. Remade T m (without_attachment n) o × (o.reply ≡ replied Done)) Q (remaking T (without_attachment n M) None Done)
+    (remade T m M (without_attachment n) None Done w h.0 h.1 refl refl) (λ o k. k.0)))
 
 -- `set` and `unset`
 abbrev pub ChangedValues : Tree → ℕ → (Mes → List Val) → Outcome → Type 0
@@ -373,8 +373,8 @@ ChangedValues T m values o = (M : Mes) × (props : List Val) × (now_at T nothin
 changed : (T : Tree) (m : ℕ) (M : Mes) (values : Mes → List Val) → Before T → now_at T nothing m ≡ Some (Message M) → m % 32 ≡ 4 → IfOk (changed_message T M (values M)) (ChangedValues T m values)
 unfolding changed_message
 changed T m M values w is four =
-    if_weaker (λ o. Remade T m (λ N. with_props (values N) N) o × (o.reply ≡ replied Done)) (ChangedValues T m values) (remaking T M (with_props (values M) M) false None Done)
-    (remade T m M (λ N. with_props (values N) N) false None Done w is four refl refl) (λ o k. k.0)
+    if_weaker (λ o. Remade T m (λ N. with_props (values N) N) o × (o.reply ≡ replied Done)) (ChangedValues T m values) (remaking T (with_props (values M) M) None Done)
+    (remade T m M (λ N. with_props (values N) N) None Done w is four refl refl) (λ o k. k.0)
 
 pub sets : (T : Tree) (m : ℕ) (v : Val) → Before T → IfOk (set_value T m v) (λ o. ChangedValues T m (λ M. put v M.props) o × (v.id ≡ 0x0E08 → ⊥))
 unfolding set_value
@@ -404,6 +404,6 @@ unfolding message_in
 message_found T m M w is =
     let four = (message_id m M (w.typed m (Message M) is)).0 in
     let v = w.held m M is in
-    let is' : object_at T m ≡ Some (Message M) = sym (ap (λ g. g m) (now_nothing T false)) ∙ is in
+    let is' : object_at T m ≡ Some (Message M) = sym (ap (λ g. g m) (now_nothing T)) ∙ is in
     let now = rw is' at is in
     rw (eq-eqb (m % 32) 4 four) (rw is' (rw (v.1, v.2, v.3.1, v.3.2, now) refl))

@@ -1,5 +1,5 @@
 -- The commands on folders leave a tree whole.
-use Rattle.std.proofs.Common.{◌≡◌, ℕ, ◌%◌, ◌/◌, ◌==◌, ◌||◌, ◌≤◌, ◌<◌, Bool, true, false, not, nat_eq, length, filter, map, List, [], ◌∷◌, Option, None, Some, IsSome, is_some, Ok, arith, refl, sym, subst, ap, ◌∙◌, ◌⊎◌, inl, inr}
+use Rattle.std.proofs.Common.{◌≡◌, ℕ, ◌%◌, ◌/◌, ◌==◌, ◌||◌, ◌≤◌, ◌<◌, Bool, true, false, not, nat_eq, length, filter, map, List, [], ◌∷◌, Option, None, Some, IsSome, is_some, Ok, arith, refl, sym, subst, ap, ◌∙◌, ◌⊎◌, inl, inr, IfOk}
 use Rattle.std.specs.Cmp.Lexicographic.{pointwise}
 use Rattle.std.proofs.lemmas.Bool.{cases_Bool, eqb-true, eqb-false, eq-eqb, false≢true, not-false, or_left, or_parts, or_right}
 use Rattle.std.proofs.lemmas.Option.{same_Some, none-some}
@@ -21,22 +21,24 @@ use Rattle.mail_tree.specs.Places.{ROOT, children, find_place, is_child, is_deep
 use Rattle.mail_tree.specs.Tree.{Tree, object_at}
 use Rattle.mail_tree.specs.Values.{folder_props, is_special, name_of, text}
 use Rattle.command_text.specs.declared.reply.CommandRefusal.TheVariants.{Ids}
-use Rattle.mail_tree.specs.Changing.{Changed, ◌>>=◌, add_shown, associated, beside, contents, drop_shown, hierarchy, nothing, now_at, overfills, shown_row, with_object, with_rows}
+use Rattle.mail_tree.specs.Changing.{Changed, ◌>>=◌, add_shown, associated, beside, contents, drop_shown, hierarchy, nothing, now_at, overfills, shown_row, with_object, with_rows, Answer}
 use Rattle.mail_tree.specs.Columns.{contents_table, hierarchy_table}
 use Rattle.mail_tree.specs.Settling.{message_ids, mirrored, settled, with_context}
 use Rattle.mail_tree.specs.Ids.{folder_kinds, is_spent, is_taken, new_id, next_index}
-use Rattle.mail_tree.specs.Folders.{associated_in, changing, folder_lines, has_associated, has_rows, listing, made_folder, making, making_folder, message_lines, moved_between, moved_folder, moving, place, removed_folder, renamed_folder, replied, siblings, table_if, unless_full, unless_named, unless_protected, with_folder, without_folder, without_node}
+use Rattle.mail_tree.specs.Folders.{associated_in, folder_lines, has_associated, has_rows, listing, made_folder, making_folder, message_lines, moved_between, moved_folder, moving, place, removed_folder, renamed_folder, replied, siblings, table_if, unless_full, unless_named, unless_protected, with_folder, without_folder, without_node, nid}
 use Rattle.mail_tree.specs.Whole.{AreWhole, Fine, HasNoStray, HasRow, fits_id}
 use Rattle.mail_tree.proofs.AfterTree.{now_nothing, puts_object}
 use Rattle.mail_tree.proofs.KeyedFinds.{find-put_same, find-drop_same, find-drop_other, kept-put}
 use Rattle.mail_laws.proofs.NewIds.{free_folder, new_id_is, next_is_free}
-use Rattle.mail_tree.proofs.FineLaws.{after_limits, after_test, cases_Option, fine_then, fine_weaker}
+use Rattle.mail_tree.proofs.FineLaws.{after_test, cases_Option, fine_then, fine_weaker}
 use Rattle.mail_laws.proofs.Spent.{fine_planned_folder, new_id_kind, refused_later}
 use Rattle.mail_tree.proofs.Nearly.{AreNearly, nearly, plain_id, table_of, whole}
 use Rattle.mail_tree.proofs.KindsOfPuts.{beside_kind, folder_fits, puts_context, puts_folders, puts_free, same_folder, same_table}
 use Rattle.mail_laws.proofs.Closing.{plain_still, whole_folder, whole_without}
 use Rattle.mail_tree.proofs.Settles.{EachMessage, fine_mirrored, fine_settled, folders_of, messages_of, other_values, store_of}
-use Rattle.mail_laws.proofs.MessageSteps.{Before, Keeps, Leaves, fine_changing, fine_unless_full}
+use Rattle.mail_laws.proofs.MessageSteps.{Before, Keeps, fine_unless_full, fine_ending}
+use Rattle.mail_tree.proofs.StoodLaws.{AreStood, IsNew}
+use Rattle.mail_laws.proofs.Comparing.{fine_limits, own_new, renamed_stood, between_stood, folder_comes, folder_goes}
 
 -- the root and what the store names stay
 pub fine_protected : (T : Tree) (f : ℕ) → Before T → Fine (unless_protected T f) (λ u. f ≡ ROOT → ⊥)
@@ -95,7 +97,7 @@ fine_renamed T f name w = elim (cases_Option (find_place f T.places)) [
         let c = w.contexts f p.0 p.1 in
         let props = put (text 0x3001 name) c.0.props in
         let D = with_context f c.0 props nothing in
-        rw c.1 (fine_then (Leaves T) (Keeps T) (mirrored T f D) (changing T (replied Done)) (fine_mirrored T T.places f p.0 D (other_values T T.places f p.0 nothing w p.1 c.0 props c.1) p.1) (λ D' w'. fine_changing T D' w')))))
+        rw c.1 (fine_ending T (replied Done) (mirrored T f D) (fine_mirrored T T.places f p.0 D (other_values T T.places f p.0 nothing w p.1 c.0 props c.1) p.1) (renamed_stood T (IsNew None) f c.0 props c.1)))))
   ])
 ]
 
@@ -128,8 +130,8 @@ fine_listing T f w = elim (cases_Option (find_place f T.places)) [
 abbrev LeavesIn : List FolderPlace → Tree → Changed → Type 0
 LeavesIn places T D = AreWhole places (now_at T D)
 
-fine_moving : (T : Tree) (places : List FolderPlace) (D : Changed) → LeavesIn places T D → Fine (moving T places (replied Done) D) (Keeps T)
-fine_moving T places D w = after_limits (Keeps T) D (λ u. Ok (record { changed = D; places = places; last = T.last; reply = replied Done })) w
+fine_moving : (T : Tree) (places : List FolderPlace) (a : Answer Changed) → Fine a (LeavesIn places T) → IfOk a (AreStood T (IsNew None)) → Fine (a >>= moving T places (replied Done)) (Keeps T)
+fine_moving T places a fine stood = fine_limits (LeavesIn places T) (Keeps T) T None a (λ D u. Ok (record { changed = D; places = places; last = T.last; reply = replied Done })) fine stood (λ D w. w)
 
 -- the rows of a plain folder's table change
 pub record RowsChange (E : ℕ → Type 0) (places : List FolderPlace) (parent : ℕ) (at at' : ℕ → Option Object) : Type 0 where
@@ -266,6 +268,7 @@ fine_making_folder T parent q name w found plain = elim (cases_Bool (is_spent (n
       let index = next_index T 2 folder_kinds in let f = new_id 2 index in let places = put_key place_id (place f parent) T.places in
       refused_later T places 2 index (Keeps T) (add_shown T (hierarchy parent) f (folder_props name) (with_folder f parent name nothing) >>= settled T places parent) t
       (fine_planned_folder T f parent q name places w (new_id_kind 2 (next_index T 2 folder_kinds) (omega arith)) found plain)
+      (folder_comes T (IsNew (Some (nid f))) f parent name (folder_props name) places (own_new f))
   | inr t ↦
       let index = next_index T 2 folder_kinds in
       let f = new_id 2 index in
@@ -273,12 +276,13 @@ fine_making_folder T parent q name w found plain = elim (cases_Bool (is_spent (n
       let free = next_is_free T 2 folder_kinds t in
       let id = new_id_is 2 index free.1 in
       let two : f % 32 ≡ 2 = ap (λ x. x % 32) id ∙ kind_two index in
-      let none : now_at T nothing f ≡ None = ap (now_at T nothing) id ∙ ap (λ g. g (nid_of 2 index)) (now_nothing T false) ∙ free_folder T index free.0 in
+      let none : now_at T nothing f ≡ None = ap (now_at T nothing) id ∙ ap (λ g. g (nid_of 2 index)) (now_nothing T) ∙ free_folder T index free.0 in
       let still = plain_still T.places f parent parent q found plain in
-      (fine_then (LeavesIn places T) (Keeps T) (add_shown T (hierarchy parent) f (folder_props name) (with_folder f parent name nothing) >>= settled T places parent) (making T places 2 index)
+      (fine_limits (LeavesIn places T) (Keeps T) T (Some (nid f)) (add_shown T (hierarchy parent) f (folder_props name) (with_folder f parent name nothing) >>= settled T places parent) _
       (fine_then (LeavesIn places T) (LeavesIn places T) (add_shown T (hierarchy parent) f (folder_props name) (with_folder f parent name nothing)) (settled T places parent)
       (listed_new T f parent q name w two none found plain) (λ D v. fine_settled T places parent still.0 D v still.1 still.2))
-      (λ D v. after_limits (Keeps T) D _ (after_test (Keeps T) (is_spent index) Ids _ (λ left. v))))
+      (folder_comes T (IsNew (Some (nid f))) f parent name (folder_props name) places (own_new f))
+      (λ D v. after_test (Keeps T) (is_spent index) Ids _ (λ left. v)))
 ]
   where
     kind_two : (index : ℕ) → nid_of 2 index % 32 ≡ 2
@@ -350,8 +354,8 @@ fine_moved_folder T f parent w = elim (cases_Option (find_place f T.places)) [
                 rw (b, c.1) (fine_then _ (Keeps T) (unless_named T (folded false (name_of c.0.props)) (children parent T.places)) _ (fine_named T (folded false (name_of c.0.props)) (children parent T.places) (children_of w parent)) (λ v v'.
                 elim (cases_Bool (moves_deep T.places f parent)) [
                   | inl b ↦ rw b tt
-                  | inr b ↦ rw b (fine_then (LeavesIn places T) (Keeps T) (moved_between T f p.0.parent.bits parent places) (moving T places (replied Done))
-                      (fine_between T f p.0.parent.bits parent p.0 from.0 q.0 w p.1 plain_p no_root from.1 from.2 q.1 plain_q) (λ D v. fine_moving T places D v))
+                  | inr b ↦ rw b (fine_moving T places (moved_between T f p.0.parent.bits parent places)
+                      (fine_between T f p.0.parent.bits parent p.0 from.0 q.0 w p.1 plain_p no_root from.1 from.2 q.1 plain_q) (between_stood T (IsNew None) f p.0.parent.bits parent places))
                 ]))
           ])
         ]))
@@ -376,7 +380,7 @@ fine_associated T f w no_node = go (is_taken T (associated f)) refl
     go : (b : Bool) → is_taken T (associated f) ≡ b → Fine (table_if T (associated f) b) (λ c. Unit {0})
     go false e = tt
     go true e =
-        let is = ap (λ g. is_some (g (associated f))) (now_nothing T false) ∙ taken_object (object_at T (associated f)) (node_at T.others (associated f)) no_node e in
+        let is = ap (λ g. is_some (g (associated f))) (now_nothing T) ∙ taken_object (object_at T (associated f)) (node_at T.others (associated f)) no_node e in
         let t = table_of (associated f) (now_at T nothing (associated f)) (w.typed (associated f)) (inr (inr (beside_kind f 15 (omega arith)))) is in
         rw t.1 tt
 
@@ -427,10 +431,10 @@ fine_removed_folder T f w clear = elim (cases_Option (find_place f T.places)) [
         let q = w.parents f p e no_root in
         let other : p.parent.bits ≡ f → ⊥ = λ same. no_folders f (subst (λ x. HasRow (now_at T nothing (hierarchy x)) f) same q.3) in
         let found : find_place p.parent.bits places ≡ Some q.0 = find-drop_other place_id p.parent.bits f T.places other ∙ q.1 in
-        fine_then (LeavesIn places T) (Keeps T) (drop_shown T (hierarchy p.parent.bits) f (without_folder T f nothing) >>= settled T places p.parent.bits) (moving T places (replied Done))
+        fine_moving T places (drop_shown T (hierarchy p.parent.bits) f (without_folder T f nothing) >>= settled T places p.parent.bits)
         (fine_then (LeavesIn places T) (LeavesIn places T) (drop_shown T (hierarchy p.parent.bits) f (without_folder T f nothing)) (settled T places p.parent.bits)
         (fine_weaker _ (LeavesIn places T) (drop_shown T (hierarchy p.parent.bits) f (without_folder T f nothing))
         (dropped_folder (λ x. ⊥) places T (without_folder T f nothing) p.parent.bits q.0 f n found q.2 (λ g r eg free same. none-some r (sym none ∙ ap (λ x. find_place x places) (sym same) ∙ eg)))
         (λ D d. whole places (now_at T D) d.nearly_whole))
         (λ D v. fine_settled T places p.parent.bits q.0 D v found q.2))
-        (λ D v. fine_moving T places D v)
+        (folder_goes T (IsNew None) f p.parent.bits places)

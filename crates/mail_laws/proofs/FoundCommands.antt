@@ -25,7 +25,7 @@ use Rattle.mail_objects.specs.declared.object.Object.TheVariants.{Context, Messa
 use Rattle.mail_tree.specs.declared.places.FolderPlace.{FolderPlace}
 use Rattle.mail_tree.specs.Places.{ROOT, children, find_place, is_deep, is_plain, is_within, moves_deep, place_id}
 use Rattle.mail_tree.specs.Tree.{Tree, object_at}
-use Rattle.mail_tree.specs.Values.{bytes_of, crowds, finished, folder_props, is_set_protected, is_unset_protected, message_props, name_of, text, with_props}
+use Rattle.mail_tree.specs.Values.{bytes_of, finished, folder_props, is_set_protected, is_unset_protected, message_props, name_of, text, with_props}
 use Rattle.command_text.specs.declared.reply.CommandRefusal.TheVariants.{Ids, Limit, Object as NoObject, Property as NoProperty}
 use Rattle.mail_tree.specs.Names.{NAMES, named_property, unless_nameless}
 use Rattle.mail_laws.proofs.NameSteps.{PutsNames, puts_names_after}
@@ -34,12 +34,12 @@ use Rattle.mail_tree.specs.Columns.{contents_table, hierarchy_table}
 use Rattle.mail_tree.specs.Settling.{mirrored, settled, with_context, touched}
 use Rattle.mail_tree.specs.Ids.{folder_kinds, is_spent, is_taken, message_kinds, new_id, next_index}
 use Rattle.mail_tree.specs.Folders.{Outcome, associated_in, changing, has_associated, has_rows, made_folder, making, making_folder, moved_between, moved_folder, moving, nid, place, removed_folder, renamed_folder, replied, siblings, unchanged, unless_full, unless_named, unless_protected, with_folder, without_folder, without_node}
-use Rattle.mail_tree.specs.Messages.{added_attachment, added_message, added_recipient, adding_attachment, adding_recipient, appended_data, appending, removed_attachment, spent_index, too_long, changed_message, copied_message, copy_of, copying, in_folder, is_crowded_message, is_overfull, making_message, message_in, moved_message, new_message, plain_message, remaking, removed_message, removed_recipient, set_value, spent_row, unset_value, with_message}
+use Rattle.mail_tree.specs.Messages.{added_attachment, added_message, added_recipient, adding_attachment, adding_recipient, appended_data, appending, removed_attachment, spent_index, too_long, changed_message, copied_message, copy_of, copying, in_folder, is_overfull, making_message, message_in, moved_message, new_message, plain_message, remaking, removed_message, removed_recipient, set_value, spent_row, unset_value}
 use Rattle.mail_tree.specs.Parts.{attachment_props, attachment_tags, has_recipient, is_full, is_wide, lengthened, new_row, next_part, next_row, part_in, part_nid, part_with, plain_part, recipient_props, recipient_tags, room_for, rows_of, with_attachment, with_bytes, with_part, with_recipient, without_attachment, without_recipient}
 use Rattle.mail_tree.specs.Step.{after, outcome}
 use Rattle.mail_tree.specs.Whole.{IsWhole}
 use Rattle.mail_tree.specs.Found.{BelongsAt, BelongsOr, IsFound, IsFoundBeside}
-use Rattle.mail_tree.proofs.AfterTree.{now_nothing, puts_object, puts_values}
+use Rattle.mail_tree.proofs.AfterTree.{now_nothing, puts_object}
 use Rattle.mail_laws.proofs.Closing.{plain_still}
 use Rattle.mail_laws.proofs.Depths.{AreReached, SameBut, made_reached, moved_reached, removed_reached}
 use Rattle.mail_tree.proofs.FineLaws.{cases_Option}
@@ -56,6 +56,7 @@ use Rattle.mail_laws.proofs.Touches.{if_context, if_table, touched_stays}
 use Rattle.mail_tree.proofs.Nearly.{Puts, nearly, plain_id}
 use Rattle.mail_laws.proofs.NewIds.{new_folder_id}
 use Rattle.mail_tree.proofs.Settles.{store_of}
+use Rattle.pst_base.specs.declared.ids.Nid.{Nid}
 
 -- the id is none of a folder's nodes
 abbrev Elsewhere : ℕ → ℕ → Type 0
@@ -117,22 +118,22 @@ module _ (aside : ℕ → Type 0) (T : Tree) (w : Before T) (h : IsFoundBeside a
   -- before the command
   start : Finds aside T T.places nothing
   start = record {
-    listed = λ f p t r e plain is row s named. h.listed f p t r s e plain (sym (ap (λ g. g (hierarchy f)) (now_nothing T false)) ∙ is) row named;
+    listed = λ f p t r e plain is row s named. h.listed f p t r s e plain (sym (ap (λ g. g (hierarchy f)) (now_nothing T)) ∙ is) row named;
     told = λ f p c e plain no_root is. let d = w.contexts f p e in let same : d.0 ≡ c = cc in ap (λ (x : Ctx). x.parent) (sym same) ∙ d.2 no_root;
-    owned = λ q o e. h.owned q o (sym (ap (λ g. g q) (now_nothing T false)) ∙ e);
+    owned = λ q o e. h.owned q o (sym (ap (λ g. g q) (now_nothing T)) ∙ e);
   }
 
-  limited : {B : Type 0} (Q : B → Type 0) (D : Changed) (f : Unit {0} → Answer B) → IfOk (f tt) Q → IfOk (within_limits D >>= f) Q
-  limited Q D f k = if_then (λ u. Unit {0}) Q (within_limits D) f (if_any (within_limits D)) (λ u v. k)
+  limited : {B : Type 0} (new : Option Nid) (Q : B → Type 0) (D : Changed) (f : Unit {0} → Answer B) → IfOk (f tt) Q → IfOk (within_limits T new D >>= f) Q
+  limited new Q D f k = if_then (λ u. Unit {0}) Q (within_limits T new D) f (if_any (within_limits T new D)) (λ u v. k)
 
   then_changing : (a : Answer Changed) (reply : Reply) → IfOk a (Finds aside T T.places) → IfOk (a >>= changing T reply) After
-  then_changing a reply k = if_then (Finds aside T T.places) After a (changing T reply) k (λ D s. limited After D _ (s, h.reached))
+  then_changing a reply k = if_then (Finds aside T T.places) After a (changing T reply) k (λ D s. limited _ After D _ (s, h.reached))
 
   then_moving : (places : List FolderPlace) → AreReached places → (a : Answer Changed) (reply : Reply) → IfOk a (Finds aside T places) → IfOk (a >>= moving T places reply) After
-  then_moving places reached a reply k = if_then (Finds aside T places) After a (moving T places reply) k (λ D s. limited After D _ (s, reached))
+  then_moving places reached a reply k = if_then (Finds aside T places) After a (moving T places reply) k (λ D s. limited _ After D _ (s, reached))
 
   then_making : (places : List FolderPlace) → AreReached places → (a : Answer Changed) (kind index : ℕ) → IfOk a (Finds aside T places) → IfOk (a >>= making T places kind index) After
-  then_making places reached a kind index k = if_then (Finds aside T places) After a (making T places kind index) k (λ D s. limited After D _ (if_test After (is_spent index) Ids _ (s, reached)))
+  then_making places reached a kind index k = if_then (Finds aside T places) After a (making T places kind index) k (λ D s. limited _ After D _ (if_test After (is_spent index) Ids _ (s, reached)))
 
   -- a message is put, or goes
   message_changes : (D D' : Changed) (m : ℕ) (o : Option Object) → m % 32 ≡ 4 → Finds aside T T.places D → Puts (now_at T D) (now_at T D') m o → ((x : Object) → o ≡ Some x → BelongsOr aside T.places m x) → Finds aside T T.places D'
@@ -177,8 +178,8 @@ module _ (aside : ℕ → Type 0) (T : Tree) (w : Before T) (h : IsFoundBeside a
       (finds_add_message aside T T.places ids D M.folder M.nid M.props (message_changes D0 D M.nid o four s0 (puts_object T D0 M.nid o) (some_belongs aside T.places M.nid (Message M) (inr tt))))))
 
   -- the folder of a message, put as it is before other changes
-  touches : (m : ℕ) (M : Mes) → now_at T nothing m ≡ Some (Message M) → (crowded : Bool) → IfOk (touched T M.folder (record nothing { crowded = crowded })) (Finds aside T T.places)
-  touches m M is crowded = touched_stays T (Finds aside T T.places) (finds_same aside T T.places ids) M.folder (record nothing { crowded = crowded }) (home_kind T w m M is) (record { listed = start.listed; told = start.told; owned = start.owned })
+  touches : (m : ℕ) (M : Mes) → now_at T nothing m ≡ Some (Message M) → IfOk (touched T M.folder nothing) (Finds aside T T.places)
+  touches m M is = touched_stays T (Finds aside T T.places) (finds_same aside T T.places ids) M.folder nothing (home_kind T w m M is) (record { listed = start.listed; told = start.told; owned = start.owned })
 
   -- `cp`
   copies : (m folder : ℕ) → IfOk (copied_message T m folder) After
@@ -190,8 +191,8 @@ module _ (aside : ℕ → Type 0) (T : Tree) (w : Before T) (h : IsFoundBeside a
       | inl plain ↦ rw plain (elim (cases_Bool (is_overfull M.recipients || is_overfull M.attachments)) [
         | inl b ↦ rw b tt
         | inr b ↦ rw b (if_then (λ u. Unit {0}) After (unless_full T (contents folder)) _ (if_any (unless_full T (contents folder))) (λ u v. elim (cases_Bool (is_spent (next_index T 4 message_kinds))) [
-          | inl t ↦ never_made T T.places 4 (next_index T 4 message_kinds) After (touched T M.folder (record nothing { crowded = is_crowded_message M }) >>= added_message T (copy_of (new_id 4 (next_index T 4 message_kinds)) folder M)) t
-          | inr t ↦ (adds (touched T M.folder (record nothing { crowded = is_crowded_message M })) (touches m M k.0 (is_crowded_message M)) (copy_of (new_id 4 (next_index T 4 message_kinds)) folder M) p.0 (next_index T 4 message_kinds) (new_message_id T t).0 p.1 plain)
+          | inl t ↦ never_made T T.places 4 (next_index T 4 message_kinds) After (touched T M.folder nothing >>= added_message T (copy_of (new_id 4 (next_index T 4 message_kinds)) folder M)) t
+          | inr t ↦ (adds (touched T M.folder nothing) (touches m M k.0) (copy_of (new_id 4 (next_index T 4 message_kinds)) folder M) p.0 (next_index T 4 message_kinds) (new_message_id T t).0 p.1 plain)
         ]))
       ])
     ])
@@ -220,16 +221,16 @@ module _ (aside : ℕ → Type 0) (T : Tree) (w : Before T) (h : IsFoundBeside a
   ]
 
   -- a message becomes another
-  remakes : (m : ℕ) (M new : Mes) (crowded : Bool) (reason : Option CommandRefusal) (last : LastLine) → now_at T nothing m ≡ Some (Message M) → m % 32 ≡ 4 → new.nid ≡ M.nid → new.folder ≡ M.folder → IfOk (remaking T M new crowded reason last) After
+  remakes : (m : ℕ) (M new : Mes) (reason : Option CommandRefusal) (last : LastLine) → now_at T nothing m ≡ Some (Message M) → m % 32 ≡ 4 → new.nid ≡ M.nid → new.folder ≡ M.folder → IfOk (remaking T new reason last) After
   unfolding remaking
-  remakes m M new crowded reason last is four same there =
+  remakes m M new reason last is four same there =
       let N = finished new in
-      let D0 = record nothing { crowded = crowded } in
-      let D = with_message M N D0 in let v = home_of T w m M is in
+      let D0 = nothing in
+      let D = with_object N.nid (Some (Message N)) D0 in let v = home_of T w m M is in
       let four' : N.nid % 32 ≡ 4 = ap (λ x. x % 32) (finished_id new ∙ same ∙ v.0) ∙ four in
       let folder : N.folder ≡ M.folder = finished_folder new ∙ there in
       let s0 : Finds aside T T.places D0 = record { listed = start.listed; told = start.told; owned = start.owned } in
-      let s = message_changes D0 D N.nid (Some (Message N)) four' s0 (puts_values T D0 N.nid (Message N) M.props N.props) (some_belongs aside T.places N.nid (Message N) (inr tt)) in
+      let s = message_changes D0 D N.nid (Some (Message N)) four' s0 (puts_object T D0 N.nid (Some (Message N))) (some_belongs aside T.places N.nid (Message N) (inr tt)) in
       let a = put_shown T (contents N.folder) N.nid N.props D in
       if_replying T (a >>= settled T T.places N.folder) reason (replied last) After
       (then_changing (a >>= settled T T.places N.folder) (replied last) (then_finds aside T T.places ids a N.folder v.1 (ap (λ x. find_place x T.places) folder ∙ v.2) v.3
@@ -238,19 +239,19 @@ module _ (aside : ℕ → Type 0) (T : Tree) (w : Before T) (h : IsFoundBeside a
   -- a message gets other values
   changes : (m : ℕ) (M : Mes) (props : List Val) → now_at T nothing m ≡ Some (Message M) → m % 32 ≡ 4 → IfOk (changed_message T M props) After
   unfolding changed_message
-  changes m M props is four = remakes m M (with_props props M) false None Done is four refl refl
+  changes m M props is four = remakes m M (with_props props M) None Done is four refl refl
 
   adds_recipient : (m kind : ℕ) (address name : List ℕ) → IfOk (added_recipient T m kind address name) After
   unfolding added_recipient adding_recipient
   adds_recipient m kind address name = if_then _ After (message_in T m) _ (from_fine _ (message_in T m) (fine_message_in T m w)) (λ M h.
       let row = next_row (rows_of M.recipients) in
       if_test After (is_full M.recipients) (Limit Rows) _ (if_test After (is_wide recipient_tags M.recipients) (Limit Rows) _
-      (remakes m M (with_recipient (new_row row) (recipient_props kind address name) M) false (spent_row row) (Row (new_row row)) h.0 h.1 refl refl)))
+      (remakes m M (with_recipient (new_row row) (recipient_props kind address name) M) (spent_row row) (Row (new_row row)) h.0 h.1 refl refl)))
 
   removes_recipient : (m row : ℕ) → IfOk (removed_recipient T m row) After
   unfolding removed_recipient
   removes_recipient m row = if_then _ After (message_in T m) _ (from_fine _ (message_in T m) (fine_message_in T m w)) (λ M h.
-      if_test After (not (has_recipient row M)) NoObject _ (remakes m M (without_recipient row M) false None Done h.0 h.1 refl refl))
+      if_test After (not (has_recipient row M)) NoObject _ (remakes m M (without_recipient row M) None Done h.0 h.1 refl refl))
 
   adds_attachment : (m : ℕ) (name bytes : List ℕ) → IfOk (added_attachment T m name bytes) After
   unfolding added_attachment adding_attachment
@@ -258,19 +259,19 @@ module _ (aside : ℕ → Type 0) (T : Tree) (w : Before T) (h : IsFoundBeside a
       let index = next_part M in
       let new = with_attachment (plain_part (part_nid index) (attachment_props name bytes)) (room_for index M) in
       if_test After (is_full M.attachments) (Limit Rows) _ (if_test After (is_wide attachment_tags M.attachments) (Limit Rows) _
-      (remakes m M new false (spent_index index) (Attached (part_nid index)) h.0 h.1 refl refl)))
+      (remakes m M new (spent_index index) (Attached (part_nid index)) h.0 h.1 refl refl)))
 
   appends_data : (m n : ℕ) (more : List ℕ) → IfOk (appended_data T m n more) After
   unfolding appended_data appending
   appends_data m n more = if_then _ After (message_in T m) _ (from_fine _ (message_in T m) (fine_message_in T m w)) (λ M h.
       if_found After NoObject (part_in n M) _ (λ part is. if_found After NoProperty (bytes_of 0x3701 0x0102 part.props) _ (λ old is'.
       let props = with_bytes (lengthened old more) part.props in
-      (remakes m M (with_part (part_with props part) M) (crowds part.props props) (too_long old more) Done h.0 h.1 refl refl))))
+      (remakes m M (with_part (part_with props part) M) (too_long old more) Done h.0 h.1 refl refl))))
 
   removes_attachment : (m n : ℕ) → IfOk (removed_attachment T m n) After
   unfolding removed_attachment
   removes_attachment m n = if_then _ After (message_in T m) _ (from_fine _ (message_in T m) (fine_message_in T m w)) (λ M h.
-      if_test After (not (is_some (part_in n M))) NoObject _ (remakes m M (without_attachment n M) false None Done h.0 h.1 refl refl))
+      if_test After (not (is_some (part_in n M))) NoObject _ (remakes m M (without_attachment n M) None Done h.0 h.1 refl refl))
 
   -- `set`
   sets : (m : ℕ) (v : Val) → IfOk (set_value T m v) After
@@ -370,7 +371,7 @@ module _ (aside : ℕ → Type 0) (T : Tree) (w : Before T) (h : IsFoundBeside a
   folder_left f x o false taken e =
       let r = three_left f x o e in
       let free : is_some (object_at T (associated f)) ≡ false = (or_parts (is_some (object_at T (associated f))) (is_some (node_at T.others (associated f))) taken).0 in
-      ((r.0.0, r.0.1, r.0.2, λ same. false≢true (sym free ∙ ap (λ g. is_some (g (associated f))) (sym (now_nothing T false)) ∙ ap (λ y. is_some (now_at T nothing y)) (sym same) ∙ ap is_some r.1)), r.1)
+      ((r.0.0, r.0.1, r.0.2, λ same. false≢true (sym free ∙ ap (λ g. is_some (g (associated f))) (sym (now_nothing T)) ∙ ap (λ y. is_some (now_at T nothing y)) (sym same) ∙ ap is_some r.1)), r.1)
 
   belongs_less : (f q : ℕ) (o : Object) → Elsewhere f q → BelongsAt T.places q o → BelongsAt (drop_key place_id f T.places) q o
   belongs_less f q (Context c) away (inl e) = inl e

@@ -1,5 +1,5 @@
 -- A message is found exactly where the tree has it.
-use Rattle.std.proofs.Common.{◌≡◌, false, ℕ, ◌%◌, ◌==◌, ◌⊎◌, inl, inr, None, Some, is_some, Ok, Err, refl, sym, ap, ◌∙◌}
+use Rattle.std.proofs.Common.{◌≡◌, ℕ, ◌%◌, ◌==◌, ◌⊎◌, inl, inr, None, Some, is_some, Ok, Err, refl, sym, ap, ◌∙◌}
 use Rattle.std.proofs.lemmas.Bool.{cases_Bool, eqb-true}
 use Rattle.std.proofs.lemmas.Option.{none-some}
 use Rattle.mapi_values.specs.Messages.{Mes}
@@ -54,7 +54,7 @@ only_there T m M w e = elim (answers T m (before T w)) [
 ]
 
 pub found_there : (T : Tree) (m : ℕ) (M : Mes) → IsWhole T → message_with T m ≡ Some M → message_in T m ≡ Ok M
-found_there T m M w is = message_found T m M (before T w) (ap (λ g. g m) (now_nothing T false) ∙ is_message (object_at T m) M is)
+found_there T m M w is = message_found T m M (before T w) (ap (λ g. g m) (now_nothing T) ∙ is_message (object_at T m) M is)
 
 pub refused_there : (T : Tree) (m : ℕ) → IsWhole T → message_with T m ≡ None → message_in T m ≡ Err (Some NoObject)
 refused_there T m w none = elim (answers T m (before T w)) [

@@ -26,7 +26,7 @@ use Rattle.mail_tree.specs.Ids.{is_taken}
 use Rattle.mail_tree.specs.Step.{after}
 use Rattle.mail_tree.specs.Found.{BelongsOr, IsFound, IsFoundBeside, named_sort}
 use Rattle.mail_tree.proofs.AfterLaws.{get-without_changed}
-use Rattle.mail_tree.proofs.AfterTree.{after_now, puts_object, puts_values, same_now, tied}
+use Rattle.mail_tree.proofs.AfterTree.{after_now, puts_object, same_now, tied}
 use Rattle.mail_laws.proofs.Depths.{AreReached}
 use Rattle.mail_laws.proofs.Keeping.{if_any, if_then}
 use Rattle.mail_tree.proofs.KeyedFinds.{find-put_other}
@@ -99,7 +99,7 @@ module _ (aside : ℕ → Type 0) (T : Tree) (places : List FolderPlace) (ids : 
   pub finds_values : (D : Changed) (f : ℕ) (c : Ctx) (props : List Val) → f % 32 ≡ 2 → Finds aside T places D → now_at T D f ≡ Some (Context c) → Finds aside T places (with_context f c props D)
   finds_values D f c props two s at =
       let new : Ctx = record c { props = props } in
-      let puts = puts_values T D f (Context new) c.props props in record {
+      let puts = puts_object T D f (Some (Context new)) in record {
         listed = λ g p t r e plain is row. s.listed g p t r e plain (sym (puts.others (hierarchy g) (λ same. kind_apart f g 13 (omega arith) (λ k. omega arith) (sym same))) ∙ is) row;
         told = λ g p d e plain no_root is. elim (cases_eq g f) [
           | inl same ↦ told_here g p d e plain no_root (sym (ap (now_at T (with_context f c props D)) same ∙ puts.here) ∙ is) (ap (now_at T D) same ∙ at)

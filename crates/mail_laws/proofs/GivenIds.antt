@@ -1,7 +1,7 @@
 -- Each id that a command gives lies behind the counter of its kind, which has its index then.
 use Rattle.command_text.specs.declared.reply.LastLine.{LastLine}
 use Rattle.command_text.specs.declared.reply.CommandRefusal.{CommandRefusal}
-use Rattle.std.proofs.Common.{◌≡◌, ℕ, suc, ◌%◌, ◌/◌, ◌<◌, ◌==◌, ◌||◌, false, max, not, filter, set, get_or, List, None, Some, is_some, IfOk, arith, refl, sym, subst, ap, ◌∙◌, inl, inr, Bool, Option}
+use Rattle.std.proofs.Common.{◌≡◌, ℕ, suc, ◌%◌, ◌/◌, ◌<◌, ◌==◌, ◌||◌, false, max, not, filter, set, get_or, List, None, Some, is_some, IfOk, arith, refl, sym, subst, ap, ◌∙◌, inl, inr, Option}
 use Rattle.std.proofs.lemmas.Bool.{cases_Bool}
 use Rattle.pst_base.specs.Ids.{index_of, nid_of}
 use Rattle.mapi_values.specs.Characters.{folded}
@@ -19,7 +19,7 @@ use Rattle.mail_objects.specs.declared.object.Object.TheVariants.{Message}
 use Rattle.mail_tree.specs.declared.places.FolderPlace.{FolderPlace}
 use Rattle.mail_tree.specs.Places.{children, is_child, is_deep, is_plain, is_within, moves_deep, place_id}
 use Rattle.mail_tree.specs.Tree.{Tree}
-use Rattle.mail_tree.specs.Values.{bytes_of, crowds, finished, folder_props, is_set_protected, is_unset_protected, message_props, name_of, text, with_props}
+use Rattle.mail_tree.specs.Values.{bytes_of, finished, folder_props, is_set_protected, is_unset_protected, message_props, name_of, text, with_props}
 use Rattle.mail_tree.specs.Changing.{Answer, Changed, ◌>>=◌, add_shown, contents, context_at, drop_shown, found, hierarchy, nothing, put_shown, refused_if, table_at, with_object, within_limits, known}
 use Rattle.named_props.specs.Finding.{name_at}
 use Rattle.named_props.specs.Holding.{names_of, written}
@@ -29,7 +29,7 @@ use Rattle.mail_objects.specs.Forms.{Ctx}
 use Rattle.mail_tree.specs.Settling.{message_ids, mirrored, settled, with_context, touched}
 use Rattle.mail_tree.specs.Ids.{LAST_INDEX, folder_kinds, greatest, is_spent, is_used, message_kinds, new_id, next_index}
 use Rattle.mail_tree.specs.Folders.{Outcome, associated_in, changing, folder_in, folder_lines, has_associated, has_rows, listing, made_folder, making, making_folder, message_lines, moved_between, moved_folder, moving, place, removed_folder, renamed_folder, replied, siblings, unless_full, unless_named, unless_plain, unless_protected, with_folder, without_folder, replying, unless}
-use Rattle.mail_tree.specs.Messages.{added_attachment, added_message, added_recipient, adding_attachment, adding_recipient, appended_data, appending, fetched_data, removed_attachment, spent_index, too_long, changed_message, copied_message, copy_of, copying, details, in_folder, is_crowded_message, is_overfull, making_message, message_in, moved_message, new_message, plain_message, remaking, removed_message, removed_recipient, set_value, spent_row, unset_value, value_in, value_of, with_message}
+use Rattle.mail_tree.specs.Messages.{added_attachment, added_message, added_recipient, adding_attachment, adding_recipient, appended_data, appending, fetched_data, removed_attachment, spent_index, too_long, changed_message, copied_message, copy_of, copying, details, in_folder, is_overfull, making_message, message_in, moved_message, new_message, plain_message, remaking, removed_message, removed_recipient, set_value, spent_row, unset_value, value_in, value_of}
 use Rattle.mail_tree.specs.Parts.{attachment_props, attachment_tags, data_tag, has_recipient, is_full, is_wide, lengthened, new_row, next_part, next_row, part_in, part_nid, part_with, plain_part, recipient_props, recipient_tags, room_for, rows_of, with_attachment, with_bytes, with_part, with_recipient, without_attachment, without_recipient}
 use Rattle.mail_laws.specs.Stays.{Counted}
 use Rattle.mail_tree.specs.Step.{outcome}
@@ -58,13 +58,13 @@ module _ (T : Tree) where
   then_any a f next = if_then (λ x. Unit {0}) Right a f (if_any a) (λ x u. next x)
 
   then_changing : (a : Answer Changed) → IfOk (a >>= changing T (replied Done)) Right
-  then_changing a = then_any a (changing T (replied Done)) (λ D. then_any (within_limits D) _ (λ u. refl))
+  then_changing a = then_any a (changing T (replied Done)) (λ D. then_any (within_limits T _ D) _ (λ u. refl))
 
   then_replying : (a : Answer Changed) (reason : Option CommandRefusal) (last : LastLine) → Counted T.last T.last last → IfOk (a >>= replying T reason (replied last)) Right
-  then_replying a reason last given = then_any a (replying T reason (replied last)) (λ D. then_any (within_limits D) _ (λ u. then_any (unless reason) _ (λ v. given)))
+  then_replying a reason last given = then_any a (replying T reason (replied last)) (λ D. then_any (within_limits T _ D) _ (λ u. then_any (unless reason) _ (λ v. given)))
 
   then_moving : (places : List FolderPlace) (a : Answer Changed) → IfOk (a >>= moving T places (replied Done)) Right
-  then_moving places a = then_any a (moving T places (replied Done)) (λ D. then_any (within_limits D) _ (λ u. refl))
+  then_moving places a = then_any a (moving T places (replied Done)) (λ D. then_any (within_limits T _ D) _ (λ u. refl))
 
   then_making : (places : List FolderPlace) (kind : ℕ) (kinds : List ℕ) (a : Answer Changed) → kind < 32 → is_spent (next_index T kind kinds) ≡ false → IfOk (a >>= making T places kind (next_index T kind kinds)) Right
   then_making places kind kinds a small left =
@@ -72,7 +72,7 @@ module _ (T : Tree) where
       let id = new_id_is kind index (next_is_free T kind kinds left).1 in
       let is_kind : kind ≡ new_id kind index % 32 = sym (ap (λ x. x % 32) id ∙ kind_is kind index small) in
       let is_index : index ≡ index_of (new_id kind index) = sym (ap index_of id ∙ index_is kind index small) in
-      then_any a (making T places kind index) (λ D. then_any (within_limits D) _ (λ u. if_test Right (is_spent index) Ids _ (
+      then_any a (making T places kind index) (λ D. then_any (within_limits T _ D) _ (λ u. if_test Right (is_spent index) Ids _ (
         subst (λ k. get_or T.last k 0 < index_of (new_id kind index)) is_kind (subst (λ i. get_or T.last kind 0 < i) is_index (above_counter T kind kinds)),
         λ i. set T.last (is_kind i) (is_index i),
       )))
@@ -142,47 +142,47 @@ module _ (T : Tree) where
       then_any (unless_full T (contents folder)) _ (λ w. elim (cases_Bool (is_spent (next_index T 4 message_kinds))) [
         | inl t ↦
             let n = new_id 4 (next_index T 4 message_kinds) in
-            never_made T T.places 4 (next_index T 4 message_kinds) Right (touched T M.folder (record nothing { crowded = is_crowded_message M }) >>= added_message T (copy_of n folder M)) t
+            never_made T T.places 4 (next_index T 4 message_kinds) Right (touched T M.folder nothing >>= added_message T (copy_of n folder M)) t
         | inr t ↦
             let n = new_id 4 (next_index T 4 message_kinds) in
-            (then_making T.places 4 message_kinds (touched T M.folder (record nothing { crowded = is_crowded_message M }) >>= added_message T (copy_of n folder M)) (omega arith) t)
+            (then_making T.places 4 message_kinds (touched T M.folder nothing >>= added_message T (copy_of n folder M)) (omega arith) t)
       ])))))
 
-  remakes : (M new : Mes) (crowded : Bool) (reason : Option CommandRefusal) (last : LastLine) → Counted T.last T.last last → IfOk (remaking T M new crowded reason last) Right
+  remakes : (M new : Mes) (reason : Option CommandRefusal) (last : LastLine) → Counted T.last T.last last → IfOk (remaking T new reason last) Right
   unfolding remaking
-  remakes M new crowded reason last given =
+  remakes M new reason last given =
       let N = finished new in
-      then_replying (put_shown T (contents N.folder) N.nid N.props (with_message M N (record nothing { crowded = crowded })) >>= settled T T.places N.folder) reason last given
+      then_replying (put_shown T (contents N.folder) N.nid N.props (with_object N.nid (Some (Message N)) nothing) >>= settled T T.places N.folder) reason last given
 
   changes : (M : Mes) (props : List Val) → IfOk (changed_message T M props) Right
   unfolding changed_message
-  changes M props = remakes M (with_props props M) false None Done refl
+  changes M props = remakes M (with_props props M) None Done refl
 
   adds_recipient : (m kind : ℕ) (address name : List ℕ) → IfOk (added_recipient T m kind address name) Right
   unfolding added_recipient adding_recipient
   adds_recipient m kind address name = then_any (message_in T m) _ (λ M. then_any (refused_if (is_full M.recipients) (Limit Rows)) _ (λ u. then_any (refused_if (is_wide recipient_tags M.recipients) (Limit Rows)) _ (λ v.
       let row = next_row (rows_of M.recipients) in
-      remakes M (with_recipient (new_row row) (recipient_props kind address name) M) false (spent_row row) (Row (new_row row)) refl)))
+      remakes M (with_recipient (new_row row) (recipient_props kind address name) M) (spent_row row) (Row (new_row row)) refl)))
 
   removes_recipient : (m row : ℕ) → IfOk (removed_recipient T m row) Right
   unfolding removed_recipient
-  removes_recipient m row = then_any (message_in T m) _ (λ M. then_any (refused_if (not (has_recipient row M)) Object) _ (λ u. remakes M (without_recipient row M) false None Done refl))
+  removes_recipient m row = then_any (message_in T m) _ (λ M. then_any (refused_if (not (has_recipient row M)) Object) _ (λ u. remakes M (without_recipient row M) None Done refl))
 
   adds_attachment : (m : ℕ) (name bytes : List ℕ) → IfOk (added_attachment T m name bytes) Right
   unfolding added_attachment adding_attachment
   adds_attachment m name bytes = then_any (message_in T m) _ (λ M. then_any (refused_if (is_full M.attachments) (Limit Rows)) _ (λ u. then_any (refused_if (is_wide attachment_tags M.attachments) (Limit Rows)) _ (λ v.
       let index = next_part M in
-      remakes M (with_attachment (plain_part (part_nid index) (attachment_props name bytes)) (room_for index M)) false (spent_index index) (Attached (part_nid index)) refl)))
+      remakes M (with_attachment (plain_part (part_nid index) (attachment_props name bytes)) (room_for index M)) (spent_index index) (Attached (part_nid index)) refl)))
 
   appends_data : (m n : ℕ) (more : List ℕ) → IfOk (appended_data T m n more) Right
   unfolding appended_data appending
   appends_data m n more = then_any (message_in T m) _ (λ M. then_any (found Object (part_in n M)) _ (λ part. then_any (found Property (bytes_of 0x3701 0x0102 part.props)) _ (λ old.
       let props = with_bytes (lengthened old more) part.props in
-      remakes M (with_part (part_with props part) M) (crowds part.props props) (too_long old more) Done refl)))
+      remakes M (with_part (part_with props part) M) (too_long old more) Done refl)))
 
   removes_attachment : (m n : ℕ) → IfOk (removed_attachment T m n) Right
   unfolding removed_attachment
-  removes_attachment m n = then_any (message_in T m) _ (λ M. then_any (refused_if (not (is_some (part_in n M))) Object) _ (λ u. remakes M (without_attachment n M) false None Done refl))
+  removes_attachment m n = then_any (message_in T m) _ (λ M. then_any (refused_if (not (is_some (part_in n M))) Object) _ (λ u. remakes M (without_attachment n M) None Done refl))
 
   fetches : (m n : ℕ) → IfOk (fetched_data T m n) Right
   unfolding fetched_data
@@ -223,7 +223,7 @@ module _ (T : Tree) where
     where
       by_name : (c : Ctx) (n : Names) (o : Option ℕ) → IfOk (found_or_added T c n guid number o) Right
       by_name c n (Some property) = refl
-      by_name c n None = then_any (within_limits (with_context NAMES c (written (with_another n guid number)) nothing)) _ (λ u. then_any (unless (no_room n guid number)) _ (λ v. refl))
+      by_name c n None = then_any (within_limits T _ (with_context NAMES c (written (with_another n guid number)) nothing)) _ (λ u. then_any (unless (no_room n guid number)) _ (λ v. refl))
 
   pub gives_new : (c : Command) → IfOk (outcome T c) (λ o. Counted T.last o.last o.reply.last)
   unfolding outcome

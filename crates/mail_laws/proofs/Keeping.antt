@@ -18,9 +18,10 @@ use Rattle.mail_tree.specs.Folders.{Outcome, changing, making, moving, nid, repl
 use Rattle.command_text.specs.declared.reply.LastLine.TheVariants.{Made}
 use Rattle.mail_tree.specs.Ids.{is_spent, new_id}
 use Rattle.mail_tree.specs.Whole.{Fine}
-use Rattle.mail_tree.proofs.AfterTree.{puts_object, puts_values}
+use Rattle.mail_tree.proofs.AfterTree.{puts_object}
 use Rattle.mail_tree.proofs.Nearly.{Puts}
 use Rattle.mail_tree.proofs.KindsOfPuts.{beside_kind}
+use Rattle.pst_base.specs.declared.ids.Nid.{Nid}
 
 -- a step, and what follows it
 pub if_then : {A B : Type 0} (P : A → Type 0) (Q : B → Type 0) (a : Answer A) (f : A → Answer B) → IfOk a P → ((x : A) → P x → IfOk (f x) Q) → IfOk (a >>= f) Q
@@ -43,13 +44,13 @@ if_test Q false refusal f h = h
 
 -- where no index is left nothing is made
 pub never_made : (T : Tree) (places : List FolderPlace) (kind index : ℕ) (Q : Outcome → Type 0) (a : Answer Changed) → is_spent index ≡ true → IfOk (a >>= making T places kind index) Q
-never_made T places kind index Q a spent = if_then (λ D. Unit {0}) Q a (making T places kind index) (if_any a) (λ D u. if_then (λ v. Unit {0}) Q (within_limits D) _ (if_any (within_limits D)) (λ v v'. rw spent tt))
+never_made T places kind index Q a spent = if_then (λ D. Unit {0}) Q a (making T places kind index) (if_any a) (λ D u. if_then (λ v. Unit {0}) Q (within_limits T _ D) _ (if_any (within_limits T _ D)) (λ v v'. rw spent tt))
 
 -- what holds without another reason against it holds where there may be one
 pub if_replying : (T : Tree) (a : Answer Changed) (reason : Option CommandRefusal) (reply : Reply) (Q : Outcome → Type 0) → IfOk (a >>= changing T reply) Q → IfOk (a >>= replying T reason reply) Q
 if_replying T (Err e) reason reply Q k = tt
 if_replying T (Ok D) None reply Q k = k
-if_replying T (Ok D) (Some refusal) reply Q k = if_then (λ u. Unit {0}) Q (within_limits D) _ (if_any (within_limits D)) (λ u v. tt)
+if_replying T (Ok D) (Some refusal) reply Q k = if_then (λ u. Unit {0}) Q (within_limits T _ D) _ (if_any (within_limits T _ D)) (λ u v. tt)
 
 -- what an answer is
 pub if_is : {A : Type 0} (a : Answer A) → IfOk a (λ x. a ≡ Ok x)
@@ -115,7 +116,7 @@ module _ (S : ℕ → Type 0) (no_hierarchy : (g : ℕ) → S (hierarchy g) → 
   drop_keeps q id D other = if_then (λ t. Unit {0}) (KeepsAt S T D) (table_at T D q) _ (if_any (table_at T D q)) (λ t u. kept_put S _ _ q _ (puts_object T D q (Some (with_rows (drop_row id t.table.rows) t))) other)
 
   context_keeps : (f : ℕ) (c : Ctx) (props : List Val) (D : Changed) → (S f → ⊥) → KeepsAt S T D (with_context f c props D)
-  context_keeps f c props D other = kept_put S _ _ f _ (puts_values T D f (Context (record c { props = props })) c.props props) other
+  context_keeps f c props D other = kept_put S _ _ f _ (puts_object T D f (Some (Context (record c { props = props })))) other
 
   counted_keeps : (places : List FolderPlace) (f : ℕ) (D : Changed) → (S f → ⊥) → IfOk (counted T places f D) (KeepsAt S T D)
   unfolding counted
@@ -151,16 +152,16 @@ module _ (S : ℕ → Type 0) (no_hierarchy : (g : ℕ) → S (hierarchy g) → 
     pub places_are : o.places ≡ places
     pub reply_is : o.reply ≡ reply
 
-  limited : {B : Type 0} (Q : B → Type 0) (D : Changed) (f : Unit {0} → Answer B) → IfOk (f tt) Q → IfOk (within_limits D >>= f) Q
-  limited Q D f h = if_then (λ u. Unit {0}) Q (within_limits D) f (if_any (within_limits D)) (λ u v. h)
+  limited : {B : Type 0} (new : Option Nid) (Q : B → Type 0) (D : Changed) (f : Unit {0} → Answer B) → IfOk (f tt) Q → IfOk (within_limits T new D >>= f) Q
+  limited new Q D f h = if_then (λ u. Unit {0}) Q (within_limits T new D) f (if_any (within_limits T new D)) (λ u v. h)
 
   pub then_changing : (D : Changed) (a : Answer Changed) (reply : Reply) → IfOk a (KeepsAt S T D) → IfOk (a >>= changing T reply) (Comes D T.places reply)
-  then_changing D a reply h = if_then (KeepsAt S T D) (Comes D T.places reply) a (changing T reply) h (λ D' k. limited (Comes D T.places reply) D' _ (record { keeps = k; places_are = refl; reply_is = refl }))
+  then_changing D a reply h = if_then (KeepsAt S T D) (Comes D T.places reply) a (changing T reply) h (λ D' k. limited _ (Comes D T.places reply) D' _ (record { keeps = k; places_are = refl; reply_is = refl }))
 
   pub then_moving : (D : Changed) (a : Answer Changed) (places : List FolderPlace) (reply : Reply) → IfOk a (KeepsAt S T D) → IfOk (a >>= moving T places reply) (Comes D places reply)
-  then_moving D a places reply h = if_then (KeepsAt S T D) (Comes D places reply) a (moving T places reply) h (λ D' k. limited (Comes D places reply) D' _ (record { keeps = k; places_are = refl; reply_is = refl }))
+  then_moving D a places reply h = if_then (KeepsAt S T D) (Comes D places reply) a (moving T places reply) h (λ D' k. limited _ (Comes D places reply) D' _ (record { keeps = k; places_are = refl; reply_is = refl }))
 
   pub then_making : (D : Changed) (a : Answer Changed) (places : List FolderPlace) (kind index : ℕ) → IfOk a (KeepsAt S T D) → IfOk (a >>= making T places kind index) (Comes D places (replied (Made (nid (new_id kind index)))))
   then_making D a places kind index h = if_then (KeepsAt S T D) (Comes D places (replied (Made (nid (new_id kind index))))) a (making T places kind index) h
-      (λ D' k. limited (Comes D places (replied (Made (nid (new_id kind index))))) D' _
+      (λ D' k. limited _ (Comes D places (replied (Made (nid (new_id kind index))))) D' _
       (if_test (Comes D places (replied (Made (nid (new_id kind index))))) (is_spent index) Ids _ (record { keeps = k; places_are = refl; reply_is = refl })))

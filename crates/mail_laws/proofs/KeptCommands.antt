@@ -24,7 +24,7 @@ use Rattle.mail_objects.specs.declared.object.Object.TheVariants.{Context, Table
 use Rattle.mail_tree.specs.declared.places.FolderPlace.{FolderPlace}
 use Rattle.mail_tree.specs.Places.{ROOT, children, find_place, is_deep, is_plain, is_within, moves_deep, place_id}
 use Rattle.mail_tree.specs.Tree.{Tree, object_at}
-use Rattle.mail_tree.specs.Values.{bytes_of, crowds, finished, folder_props, is_set_protected, is_unset_protected, message_props, name_of, text, with_props}
+use Rattle.mail_tree.specs.Values.{bytes_of, finished, folder_props, is_set_protected, is_unset_protected, message_props, name_of, text, with_props}
 use Rattle.command_text.specs.declared.reply.CommandRefusal.TheVariants.{Ids, Limit, Object as NoObject, Property as NoProperty}
 use Rattle.mail_tree.specs.Names.{NAMES, named_property, unless_nameless}
 use Rattle.mail_laws.proofs.Touches.{touched_stays}
@@ -34,7 +34,7 @@ use Rattle.mail_tree.specs.Columns.{contents_table, hierarchy_table}
 use Rattle.mail_tree.specs.Settling.{mirrored, settled, with_context, touched}
 use Rattle.mail_tree.specs.Ids.{folder_kinds, is_spent, is_taken, message_kinds, new_id, next_index}
 use Rattle.mail_tree.specs.Folders.{Outcome, associated_in, changing, has_associated, has_rows, made_folder, making, making_folder, moved_between, moved_folder, moving, place, removed_folder, renamed_folder, replied, siblings, unchanged, unless_full, unless_named, unless_protected, without_folder, without_node, with_folder}
-use Rattle.mail_tree.specs.Messages.{added_attachment, added_message, added_recipient, adding_attachment, adding_recipient, appended_data, appending, removed_attachment, spent_index, too_long, changed_message, copied_message, copy_of, copying, in_folder, is_crowded_message, is_overfull, making_message, message_in, moved_message, new_message, plain_message, remaking, removed_message, removed_recipient, set_value, spent_row, unset_value, with_message}
+use Rattle.mail_tree.specs.Messages.{added_attachment, added_message, added_recipient, adding_attachment, adding_recipient, appended_data, appending, removed_attachment, spent_index, too_long, changed_message, copied_message, copy_of, copying, in_folder, is_overfull, making_message, message_in, moved_message, new_message, plain_message, remaking, removed_message, removed_recipient, set_value, spent_row, unset_value}
 use Rattle.mail_tree.specs.Parts.{attachment_props, attachment_tags, has_recipient, is_full, is_wide, lengthened, new_row, next_part, next_row, part_in, part_nid, part_with, plain_part, recipient_props, recipient_tags, room_for, rows_of, with_attachment, with_bytes, with_part, with_recipient, without_attachment, without_recipient}
 use Rattle.mail_laws.specs.ComesAndGoes.{takes}
 use Rattle.mail_laws.specs.Stays.{StaysFolder, gives_name, adds_name}
@@ -52,6 +52,7 @@ use Rattle.mail_laws.proofs.MessageSteps.{Before, fine_message_in, finished_fold
 use Rattle.mail_tree.proofs.Nearly.{nearly, plain_id}
 use Rattle.mail_laws.proofs.NewIds.{new_id_is, next_is_free}
 use Rattle.mail_tree.proofs.Settles.{store_of}
+use Rattle.pst_base.specs.declared.ids.Nid.{Nid}
 
 -- neither an object nor another node stands there
 abbrev Free : Tree → ℕ → Type 0
@@ -122,7 +123,7 @@ module _ (T : Tree) (whole : IsWhole T) (scope : Scope) where
   After o = KeepsObjects T scope o.changed.objects
 
   in_tree : (q : ℕ) (x : Object) → now_at T nothing q ≡ Some x → object_at T q ≡ Some x
-  in_tree q x is = sym (ap (λ g. g q) (now_nothing T false)) ∙ is
+  in_tree q x is = sym (ap (λ g. g q) (now_nothing T)) ∙ is
 
   -- a plain folder stands at an id of its kind
   place_usual : (f : ℕ) (p : FolderPlace) → find_place f T.places ≡ Some p → is_plain p ≡ true → is_usual (f % 32) ≡ true
@@ -131,17 +132,17 @@ module _ (T : Tree) (whole : IsWhole T) (scope : Scope) where
   then_settled : (places : List FolderPlace) (a : Answer Changed) (f : ℕ) (p : FolderPlace) → find_place f T.places ≡ Some p → is_plain p ≡ true → IfOk a Kept → IfOk (a >>= settled T places f) Kept
   then_settled places a f p e plain h = let c = whole.objects.contexts f p e in then_good T scope places a f (Context c.0) (place_usual f p e plain) c.1 h
 
-  limited : {B : Type 0} (Q : B → Type 0) (D : Changed) (f : Unit {0} → Answer B) → IfOk (f tt) Q → IfOk (within_limits D >>= f) Q
-  limited Q D f h = if_then (λ u. Unit {0}) Q (within_limits D) f (if_any (within_limits D)) (λ u v. h)
+  limited : {B : Type 0} (new : Option Nid) (Q : B → Type 0) (D : Changed) (f : Unit {0} → Answer B) → IfOk (f tt) Q → IfOk (within_limits T new D >>= f) Q
+  limited new Q D f h = if_then (λ u. Unit {0}) Q (within_limits T new D) f (if_any (within_limits T new D)) (λ u v. h)
 
   then_changing : (a : Answer Changed) (reply : Reply) → IfOk a Kept → IfOk (a >>= changing T reply) After
-  then_changing a reply h = if_then Kept After a (changing T reply) h (λ D k. limited After D _ k)
+  then_changing a reply h = if_then Kept After a (changing T reply) h (λ D k. limited _ After D _ k)
 
   then_moving : (places : List FolderPlace) (a : Answer Changed) (reply : Reply) → IfOk a Kept → IfOk (a >>= moving T places reply) After
-  then_moving places a reply h = if_then Kept After a (moving T places reply) h (λ D k. limited After D _ k)
+  then_moving places a reply h = if_then Kept After a (moving T places reply) h (λ D k. limited _ After D _ k)
 
   then_making : (places : List FolderPlace) (a : Answer Changed) (kind index : ℕ) → IfOk a Kept → IfOk (a >>= making T places kind index) After
-  then_making places a kind index h = if_then Kept After a (making T places kind index) h (λ D k. limited After D _ (if_test After (is_spent index) Ids _ k))
+  then_making places a kind index h = if_then Kept After a (making T places kind index) h (λ D k. limited _ After D _ (if_test After (is_spent index) Ids _ k))
 
   none_yet : KeepsObjects T scope nothing.objects
   none_yet = keeps_all T scope
@@ -188,8 +189,8 @@ module _ (T : Tree) (whole : IsWhole T) (scope : Scope) where
       (keeps_more T scope D0.objects M.nid (Some (Message M)) k0 (fits_message T scope D0.objects M.nid (Some (Message M)) (whole.objects.typed M.nid) four (λ none. (refl, free.1)) (λ e. absurd (none-some (Message M) (sym e))) (λ none. brings))))))
 
   -- the folder of a message, put as it is before other changes
-  touches : (m : ℕ) (M : Mes) → now_at T nothing m ≡ Some (Message M) → (crowded : Bool) → IfOk (touched T M.folder (record nothing { crowded = crowded })) Kept
-  touches m M is crowded = touched_stays T Kept (good_same T scope) M.folder (record nothing { crowded = crowded }) (home_kind T w m M is) none_yet
+  touches : (m : ℕ) (M : Mes) → now_at T nothing m ≡ Some (Message M) → IfOk (touched T M.folder nothing) Kept
+  touches m M is = touched_stays T Kept (good_same T scope) M.folder nothing (home_kind T w m M is) none_yet
 
   copies : (m folder : ℕ) → scope.brings (new_id 4 (next_index T 4 message_kinds)) ≡ true → IfOk (copied_message T m folder) After
   unfolding copied_message copying
@@ -200,8 +201,8 @@ module _ (T : Tree) (whole : IsWhole T) (scope : Scope) where
       | inl plain ↦ rw plain (elim (cases_Bool (is_overfull M.recipients || is_overfull M.attachments)) [
         | inl t ↦ rw t tt
         | inr t ↦ rw t (if_then (λ u. Unit {0}) After (unless_full T (contents folder)) _ (if_any (unless_full T (contents folder))) (λ u v. elim (cases_Bool (is_spent (next_index T 4 message_kinds))) [
-          | inl t ↦ never_made T T.places 4 (next_index T 4 message_kinds) After (touched T M.folder (record nothing { crowded = is_crowded_message M }) >>= added_message T (copy_of (new_id 4 (next_index T 4 message_kinds)) folder M)) t
-          | inr t ↦ let id = new_message_free T t in (adds (touched T M.folder (record nothing { crowded = is_crowded_message M })) (touches m M h.0 (is_crowded_message M)) (copy_of (new_id 4 (next_index T 4 message_kinds)) folder M) p.0 (next_index T 4 message_kinds) id.0 id.1 brings p.1 plain)
+          | inl t ↦ never_made T T.places 4 (next_index T 4 message_kinds) After (touched T M.folder nothing >>= added_message T (copy_of (new_id 4 (next_index T 4 message_kinds)) folder M)) t
+          | inr t ↦ let id = new_message_free T t in (adds (touched T M.folder nothing) (touches m M h.0) (copy_of (new_id 4 (next_index T 4 message_kinds)) folder M) p.0 (next_index T 4 message_kinds) id.0 id.1 brings p.1 plain)
         ]))
       ])
     ])
@@ -229,11 +230,11 @@ module _ (T : Tree) (whole : IsWhole T) (scope : Scope) where
     ])
   ]
 
-  remakes : (m : ℕ) (M new : Mes) (crowded : Bool) (reason : Option CommandRefusal) (last : LastLine) → now_at T nothing m ≡ Some (Message M) → m % 32 ≡ 4 → new.nid ≡ M.nid → new.folder ≡ M.folder → IfOk (remaking T M new crowded reason last) After
+  remakes : (m : ℕ) (M new : Mes) (reason : Option CommandRefusal) (last : LastLine) → now_at T nothing m ≡ Some (Message M) → m % 32 ≡ 4 → new.nid ≡ M.nid → new.folder ≡ M.folder → IfOk (remaking T new reason last) After
   unfolding remaking
-  remakes m M new crowded reason last now four same there =
+  remakes m M new reason last now four same there =
       let N = finished new in
-      let D = with_message M N (record nothing { crowded = crowded }) in let v = home_of T w m M now in
+      let D = with_object N.nid (Some (Message N)) nothing in let v = home_of T w m M now in
       let nid : N.nid ≡ m = finished_id new ∙ same ∙ v.0 in
       let is : object_at T N.nid ≡ Some (Message M) = ap (object_at T) nid ∙ in_tree m (Message M) now in
       let folder : N.folder ≡ M.folder = finished_folder new ∙ there in
@@ -245,19 +246,19 @@ module _ (T : Tree) (whole : IsWhole T) (scope : Scope) where
 
   changes : (m : ℕ) (M : Mes) (props : List Val) → now_at T nothing m ≡ Some (Message M) → m % 32 ≡ 4 → IfOk (changed_message T M props) After
   unfolding changed_message
-  changes m M props now four = remakes m M (with_props props M) false None Done now four refl refl
+  changes m M props now four = remakes m M (with_props props M) None Done now four refl refl
 
   adds_recipient : (m kind : ℕ) (address name : List ℕ) → IfOk (added_recipient T m kind address name) After
   unfolding added_recipient adding_recipient
   adds_recipient m kind address name = if_then _ After (message_in T m) _ (from_fine _ (message_in T m) (fine_message_in T m w)) (λ M h.
       let row = next_row (rows_of M.recipients) in
       if_test After (is_full M.recipients) (Limit Rows) _ (if_test After (is_wide recipient_tags M.recipients) (Limit Rows) _
-      (remakes m M (with_recipient (new_row row) (recipient_props kind address name) M) false (spent_row row) (Row (new_row row)) h.0 h.1 refl refl)))
+      (remakes m M (with_recipient (new_row row) (recipient_props kind address name) M) (spent_row row) (Row (new_row row)) h.0 h.1 refl refl)))
 
   removes_recipient : (m row : ℕ) → IfOk (removed_recipient T m row) After
   unfolding removed_recipient
   removes_recipient m row = if_then _ After (message_in T m) _ (from_fine _ (message_in T m) (fine_message_in T m w)) (λ M h.
-      if_test After (not (has_recipient row M)) NoObject _ (remakes m M (without_recipient row M) false None Done h.0 h.1 refl refl))
+      if_test After (not (has_recipient row M)) NoObject _ (remakes m M (without_recipient row M) None Done h.0 h.1 refl refl))
 
   adds_attachment : (m : ℕ) (name bytes : List ℕ) → IfOk (added_attachment T m name bytes) After
   unfolding added_attachment adding_attachment
@@ -265,19 +266,19 @@ module _ (T : Tree) (whole : IsWhole T) (scope : Scope) where
       let index = next_part M in
       let new = with_attachment (plain_part (part_nid index) (attachment_props name bytes)) (room_for index M) in
       if_test After (is_full M.attachments) (Limit Rows) _ (if_test After (is_wide attachment_tags M.attachments) (Limit Rows) _
-      (remakes m M new false (spent_index index) (Attached (part_nid index)) h.0 h.1 refl refl)))
+      (remakes m M new (spent_index index) (Attached (part_nid index)) h.0 h.1 refl refl)))
 
   appends_data : (m n : ℕ) (more : List ℕ) → IfOk (appended_data T m n more) After
   unfolding appended_data appending
   appends_data m n more = if_then _ After (message_in T m) _ (from_fine _ (message_in T m) (fine_message_in T m w)) (λ M h.
       if_found After NoObject (part_in n M) _ (λ part is. if_found After NoProperty (bytes_of 0x3701 0x0102 part.props) _ (λ old is'.
       let props = with_bytes (lengthened old more) part.props in
-      (remakes m M (with_part (part_with props part) M) (crowds part.props props) (too_long old more) Done h.0 h.1 refl refl))))
+      (remakes m M (with_part (part_with props part) M) (too_long old more) Done h.0 h.1 refl refl))))
 
   removes_attachment : (m n : ℕ) → IfOk (removed_attachment T m n) After
   unfolding removed_attachment
   removes_attachment m n = if_then _ After (message_in T m) _ (from_fine _ (message_in T m) (fine_message_in T m w)) (λ M h.
-      if_test After (not (is_some (part_in n M))) NoObject _ (remakes m M (without_attachment n M) false None Done h.0 h.1 refl refl))
+      if_test After (not (is_some (part_in n M))) NoObject _ (remakes m M (without_attachment n M) None Done h.0 h.1 refl refl))
 
   sets : (m : ℕ) (v : Val) → IfOk (set_value T m v) After
   unfolding set_value

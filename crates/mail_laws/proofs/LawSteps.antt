@@ -1,5 +1,5 @@
 -- From the steps of a proof to the words of mail.
-use Rattle.std.proofs.Common.{◌≡◌, ℕ, filter, List, inl, inr, false, true, Option, None, Some, IfOk, Ok, refl, sym, subst, ap, ◌∙◌}
+use Rattle.std.proofs.Common.{◌≡◌, ℕ, filter, List, inl, inr, true, Option, None, Some, IfOk, Ok, refl, sym, subst, ap, ◌∙◌}
 use Rattle.std.proofs.lemmas.Bool.{cases_Bool, eq-eqb}
 use Rattle.mapi_values.specs.Messages.{Mes}
 use Rattle.mapi_values.specs.Properties.{find}
@@ -29,17 +29,17 @@ use Rattle.mail_laws.proofs.PlaceEffects.{NamedNow}
 use Rattle.mail_laws.proofs.MessageSteps.{Before, Keeps}
 
 pub before : (T : Tree) → IsWhole T → Before T
-before T w = subst (AreWhole T.places) (sym (now_nothing T false)) w.objects
+before T w = subst (AreWhole T.places) (sym (now_nothing T)) w.objects
 
 -- what a command does, and that the tree is whole after it
 pub both_hold : (T : Tree) (c : Command) → IsWhole T → (P Q : Outcome → Type 0) → IfOk (outcome T c) P → ((o : Outcome) → Keeps T o → P o → Q o) → IfOk (outcome T c) Q
 both_hold T c w P Q p next = both (Keeps T) P Q (outcome T c) (from_fine (Keeps T) (outcome T c) (keeps_whole T c (before T w) w.no_stray)) p next
 
 pub was_message : (T : Tree) (m : ℕ) (M : Mes) → now_at T nothing m ≡ Some (Message M) → message_with T m ≡ Some M
-was_message T m M is = ap (λ g. as_message (g m)) (sym (now_nothing T false)) ∙ ap as_message is
+was_message T m M is = ap (λ g. as_message (g m)) (sym (now_nothing T)) ∙ ap as_message is
 
 pub was_nothing : (T : Tree) (q : ℕ) → now_at T nothing q ≡ None → object_at T q ≡ None
-was_nothing T q is = ap (λ g. g q) (sym (now_nothing T false)) ∙ is
+was_nothing T q is = ap (λ g. g q) (sym (now_nothing T)) ∙ is
 
 -- an object that is a message
 pub is_message : (o : Option Object) (M : Mes) → as_message o ≡ Some M → o ≡ Some (Message M)
@@ -55,9 +55,9 @@ pub gets : (T : Tree) (o : Outcome) (m : ℕ) (v : Val) (M : Mes) → Keeps T o 
 unfolding value_in
 gets T o m v M k is found =
     let T' = after T o in
-    let w : Before T' = subst (AreWhole o.places) (after_now T o ∙ sym (now_nothing T' false)) k in
+    let w : Before T' = subst (AreWhole o.places) (after_now T o ∙ sym (now_nothing T')) k in
     let at : object_at T' m ≡ Some (Message M) = ap (λ g. g m) (sym (after_now T o)) ∙ is_message (now_at T o.changed m) M is in
-    let at' : now_at T' nothing m ≡ Some (Message M) = ap (λ g. g m) (now_nothing T' false) ∙ at in
+    let at' : now_at T' nothing m ≡ Some (Message M) = ap (λ g. g m) (now_nothing T') ∙ at in
     rw (message_found T' m M w at', found, eq-eqb v.kind v.kind refl) refl
 
 -- a folder that has a name now has it after the command

@@ -1,4 +1,5 @@
 pub mod Closing
+pub mod Comparing
 pub mod Spent
 pub mod MessagePuts
 pub mod NewIds
@@ -36,3 +37,4 @@ pub mod Newness
 pub mod Listings
 pub mod PartRows
 pub mod PartCommands
+pub mod StoodCommands

@@ -1,5 +1,5 @@
 -- A listing shows just the folders and the messages that are there.
-use Rattle.std.proofs.Common.{◌≡◌, ℕ, suc, ◌%◌, ◌==◌, ◌&&◌, Bool, true, false, nat_le, List, [], ◌∷◌, ◌++◌, map, filter, IsSome, is_some, Option, None, Some, Ok, arith, refl, sym, subst, ap, ◌∙◌, inl, inr}
+use Rattle.std.proofs.Common.{◌≡◌, ℕ, suc, ◌%◌, ◌==◌, ◌&&◌, Bool, true, nat_le, List, [], ◌∷◌, ◌++◌, map, filter, IsSome, is_some, Option, None, Some, Ok, arith, refl, sym, subst, ap, ◌∙◌, inl, inr}
 use Rattle.std.proofs.lemmas.Bool.{and_parts, cases_Bool, eq-eqb, eqb-true, false≢true}
 use Rattle.std.proofs.lemmas.Option.{none-some, same_Some}
 use Rattle.mapi_values.specs.Keyed.{find_key, keys_ascend}
@@ -61,7 +61,7 @@ map_ascends key low (x ∷ xs) = ap (λ b. nat_le low (key x) && b) (map_ascends
 
 module _ (T : Tree) (w : Before T) where
   was : (q : ℕ) (o : Option Object) → now_at T nothing q ≡ o → object_at T q ≡ o
-  was q o is = ap (λ g. g q) (sym (now_nothing T false)) ∙ is
+  was q o is = ap (λ g. g q) (sym (now_nothing T)) ∙ is
 
   -- the lines of folders that stand in the tree
   folders_are : (low : ℕ) (ps : List FolderPlace) → keys_ascend place_id low ps ≡ true → ((g : ℕ) (p : FolderPlace) → find_place g ps ≡ Some p → find_place g T.places ≡ Some p)
@@ -145,7 +145,7 @@ module _ (T : Tree) (w : Before T) where
     -- a message in the folder is shown
     each_one : (m : ℕ) (M : Mes) → message_with T m ≡ Some M → M.folder ≡ f → find_key (λ (N : Mes). N.nid) m b.messages ≡ Some M
     each_one m M there folder =
-        let is : now_at T nothing m ≡ Some (Message M) = ap (λ g. g m) (now_nothing T false) ∙ is_message (object_at T m) M there in
+        let is : now_at T nothing m ≡ Some (Message M) = ap (λ g. g m) (now_nothing T) ∙ is_message (object_at T m) M there in
         let four = (message_id m M (w.typed m (Message M) is)).0 in
         let v = w.held m M is in
         let same : t ≡ v.3.0 = same_table t v.3.0 (sym is_t ∙ ap (λ x. now_at T nothing (contents x)) (sym folder) ∙ v.3.1) in

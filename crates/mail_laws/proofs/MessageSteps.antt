@@ -3,7 +3,7 @@ use Rattle.command_text.specs.declared.reply.Reply.{Reply}
 use Rattle.command_text.specs.declared.reply.LastLine.{LastLine}
 use Rattle.command_text.specs.declared.reply.Limit.TheVariants.{Rows}
 use Rattle.command_text.specs.declared.reply.CommandRefusal.{CommandRefusal}
-use Rattle.std.proofs.Common.{◌≡◌, ℕ, ◌%◌, ◌==◌, true, false, nat_le, length, ◌||◌, List, Option, None, Some, IsSome, is_some, Ok, arith, refl, sym, subst, ap, ◌∙◌, inl, inr, Err, Bool, not}
+use Rattle.std.proofs.Common.{◌≡◌, ℕ, ◌%◌, ◌==◌, true, false, nat_le, length, ◌||◌, List, Option, None, Some, IsSome, is_some, Ok, arith, refl, sym, subst, ap, ◌∙◌, inl, inr, Err, not, IfOk}
 use Rattle.std.proofs.lemmas.Bool.{cases_Bool, eqb-true}
 use Rattle.std.proofs.lemmas.Option.{none-some}
 use Rattle.pst_base.specs.Ids.{nid_of}
@@ -19,26 +19,28 @@ use Rattle.mail_objects.specs.declared.object.Object.TheVariants.{Table, Message
 use Rattle.mail_tree.specs.declared.places.FolderPlace.{FolderPlace}
 use Rattle.mail_tree.specs.Places.{find_place, is_plain}
 use Rattle.mail_tree.specs.Tree.{Tree}
-use Rattle.mail_tree.specs.Values.{bytes_of, crowds, finished, is_set_protected, is_unset_protected, message_props, with_props}
+use Rattle.mail_tree.specs.Values.{bytes_of, finished, is_set_protected, is_unset_protected, message_props, with_props}
 use Rattle.command_text.specs.declared.reply.CommandRefusal.TheVariants.{Ids, Limit, Object as NoObject, Property as NoProperty}
 use Rattle.named_props.specs.Finding.{is_property_named}
 use Rattle.mail_tree.specs.Names.{names_in, unless_nameless}
 use Rattle.mail_tree.specs.Changing.{Answer, Changed, ◌>>=◌, add_shown, contents, drop_shown, nothing, now_at, overfills, put_shown, shown_row, with_object, with_rows, within_limits}
 use Rattle.mail_tree.specs.Settling.{settled, touched}
-use Rattle.mail_tree.specs.Folders.{Outcome, changing, making, replied, unless_full, replying}
-use Rattle.mail_tree.specs.Messages.{added_attachment, added_message, added_recipient, adding_attachment, adding_recipient, appended_data, appending, fetched_data, removed_attachment, spent_index, too_long, changed_message, copied_message, copy_of, copying, details, in_folder, is_crowded_message, is_overfull, making_message, message_in, moved_message, new_message, parent_at, plain_message, remaking, removed_message, removed_recipient, set_value, spent_row, unset_value, value_in, value_of, with_message}
+use Rattle.mail_tree.specs.Folders.{Outcome, changing, making, replied, unless_full, replying, nid}
+use Rattle.mail_tree.specs.Messages.{added_attachment, added_message, added_recipient, adding_attachment, adding_recipient, appended_data, appending, fetched_data, removed_attachment, spent_index, too_long, changed_message, copied_message, copy_of, copying, details, in_folder, is_overfull, making_message, message_in, moved_message, new_message, parent_at, plain_message, remaking, removed_message, removed_recipient, set_value, spent_row, unset_value, value_in, value_of}
 use Rattle.mail_tree.specs.Parts.{attachment_props, attachment_tags, data_tag, has_recipient, is_full, is_wide, lengthened, new_row, next_part, next_row, part_in, part_nid, part_with, plain_part, recipient_props, recipient_tags, room_for, rows_of, with_attachment, with_bytes, with_part, with_recipient, without_attachment, without_recipient}
 use Rattle.mail_tree.specs.Ids.{is_spent, message_kinds, new_id, next_index}
 use Rattle.mail_tree.specs.Whole.{AreWhole, Fine}
-use Rattle.mail_tree.proofs.AfterTree.{now_nothing, puts_object, puts_values}
+use Rattle.mail_tree.proofs.AfterTree.{now_nothing, puts_object}
 use Rattle.mail_laws.proofs.NewIds.{free_message, new_id_is, next_is_free}
-use Rattle.mail_tree.proofs.FineLaws.{after_found, after_limits, after_test, cases_Option, fine_then, fine_either, fine_test}
+use Rattle.mail_tree.proofs.FineLaws.{after_found, after_test, cases_Option, fine_then, fine_either, fine_test}
 use Rattle.mail_tree.proofs.Nearly.{AreNearly, Puts, message_id, table_of, nearly, plain_id}
 use Rattle.mail_tree.proofs.KindsOfPuts.{beside_kind}
 use Rattle.mail_laws.proofs.Closing.{whole_message}
 use Rattle.mail_laws.proofs.MessagePuts.{apart, drops_message, lists_message, puts_at, removes_at}
 use Rattle.mail_tree.proofs.Settles.{fine_settled, fine_touched, messages_of, store_of}
 use Rattle.mail_laws.proofs.Spent.{fine_planned, new_id_kind, refused_later}
+use Rattle.mail_tree.proofs.StoodLaws.{AreStood, IsNew, added_stood, dropped_stood, none_stood, settled_stood, stood_then, touched_stood, fine_stood}
+use Rattle.mail_laws.proofs.Comparing.{fine_limits, own_new, message_stood, remade_stood, gone_stood, message_comes}
 
 -- the tree is whole before the command
 abbrev pub Before : Tree → Type 0
@@ -94,11 +96,8 @@ unfolding finished
 finished_folder m = refl
 
 -- what is settled and keeps to the limits is done
-fine_ending : (T : Tree) (reply : Reply) (D : Changed) → Leaves T D → Fine (changing T reply D) (Keeps T)
-fine_ending T reply D w = after_limits (Keeps T) D (λ u. Ok (record { changed = D; places = T.places; last = T.last; reply = reply })) w
-
-pub fine_changing : (T : Tree) (D : Changed) → Leaves T D → Fine (changing T (replied Done) D) (Keeps T)
-fine_changing T D w = fine_ending T (replied Done) D w
+pub fine_ending : (T : Tree) (reply : Reply) (a : Answer Changed) → Fine a (Leaves T) → IfOk a (AreStood T (IsNew None)) → Fine (a >>= changing T reply) (Keeps T)
+fine_ending T reply a fine stood = fine_limits (Leaves T) (Keeps T) T None a (λ D u. Ok (record { changed = D; places = T.places; last = T.last; reply = reply })) fine stood (λ D w. w)
 
 fine_refused : {A B : Type 0} (P : B → Type 0) (a : Answer A) (f : A → Answer B) (refusal : CommandRefusal) → Fine (a >>= f) P → Fine (a >>= λ x. Err (Some refusal)) P
 fine_refused P (Ok x) f refusal k = tt
@@ -110,16 +109,16 @@ fine_replying : (T : Tree) (a : Answer Changed) (reason : Option CommandRefusal)
 fine_replying T (Err None) reason reply k = k
 fine_replying T (Err (Some r)) reason reply k = tt
 fine_replying T (Ok D) None reply k = k
-fine_replying T (Ok D) (Some refusal) reply k = fine_refused (Keeps T) (within_limits D) _ refusal k
+fine_replying T (Ok D) (Some refusal) reply k = fine_refused (Keeps T) (within_limits T _ D) _ refusal k
 
 -- a message gets other values
-shown_message : (T : Tree) (old new : Mes) (crowded : Bool) (p : FolderPlace) → Before T → now_at T nothing new.nid ≡ Some (Message old) → new.nid % 32 ≡ 4 → new.folder ≡ old.folder → old.nid ≡ new.nid → find_place new.folder T.places ≡ Some p → is_plain p ≡ true
-    → Fine (put_shown T (contents new.folder) new.nid new.props (with_message old new (record nothing { crowded = crowded }))) (Leaves T)
+shown_message : (T : Tree) (old new : Mes) (p : FolderPlace) → Before T → now_at T nothing new.nid ≡ Some (Message old) → new.nid % 32 ≡ 4 → new.folder ≡ old.folder → old.nid ≡ new.nid → find_place new.folder T.places ≡ Some p → is_plain p ≡ true
+    → Fine (put_shown T (contents new.folder) new.nid new.props (with_object new.nid (Some (Message new)) nothing)) (Leaves T)
 unfolding put_shown
-shown_message T old new crowded p w is four folder nid found plain =
-    let D0 = record nothing { crowded = crowded } in
-    let D = with_message old new D0 in
-    let puts = puts_values T D0 new.nid (Message new) old.props new.props in
+shown_message T old new p w is four folder nid found plain =
+    let D0 = nothing in
+    let D = with_object new.nid (Some (Message new)) D0 in
+    let puts = puts_object T D0 new.nid (Some (Message new)) in
     let n = puts_at T.places new.nid four (now_at T nothing) (now_at T D) new w refl puts in
     let t = table_now n new.folder p found plain in
     rw t.1 (lists_message T.places new.nid four (now_at T D) _ n new.folder p found plain t.0 t.1 new new.props puts.here refl
@@ -131,39 +130,38 @@ pub home_of : (T : Tree) → Before T → (m : ℕ) (M : Mes) → now_at T nothi
 home_of T w m M is = let v = w.held m M is in ((message_id m M (w.typed m (Message M) is)).1, v.0, v.1, v.2)
 
 -- the folder of a message, put as it is before other changes
-pub fine_home : (T : Tree) → Before T → (m : ℕ) (M : Mes) → now_at T nothing m ≡ Some (Message M) → (crowded : Bool) → Fine (touched T M.folder (record nothing { crowded = crowded })) (λ D. now_at T D ≡ now_at T nothing)
-fine_home T w m M is crowded = let v = home_of T w m M is in fine_touched T T.places M.folder v.1 (record nothing { crowded = crowded }) w v.2 v.3
+pub fine_home : (T : Tree) → Before T → (m : ℕ) (M : Mes) → now_at T nothing m ≡ Some (Message M) → Fine (touched T M.folder nothing) (λ D. now_at T D ≡ now_at T nothing)
+fine_home T w m M is = let v = home_of T w m M is in fine_touched T T.places M.folder v.1 nothing w v.2 v.3
 
 pub home_kind : (T : Tree) → Before T → (m : ℕ) (M : Mes) → now_at T nothing m ≡ Some (Message M) → M.folder % 32 ≡ 2
 home_kind T w m M is = let v = home_of T w m M is in plain_id (nearly (λ x. ⊥) T.places (now_at T nothing) w) M.folder v.1 v.2 v.3
 
 -- settled, and within the limits
-settled_ending : (T : Tree) (a : Answer Changed) (f : ℕ) (p : FolderPlace) (reply : Reply) → find_place f T.places ≡ Some p → is_plain p ≡ true → Fine a (Leaves T) → Fine (a >>= settled T T.places f >>= changing T reply) (Keeps T)
-settled_ending T a f p reply found plain fine =
-    fine_then (Leaves T) (Keeps T) (a >>= settled T T.places f) (changing T reply)
-    (fine_then (Leaves T) (Leaves T) a (settled T T.places f) fine (λ D w. fine_settled T T.places f p D w found plain))
-    (λ D w. fine_ending T reply D w)
+settled_ending : (T : Tree) (a : Answer Changed) (f : ℕ) (p : FolderPlace) (reply : Reply) → find_place f T.places ≡ Some p → is_plain p ≡ true → Fine a (Leaves T) → IfOk a (AreStood T (IsNew None)) → Fine (a >>= settled T T.places f >>= changing T reply) (Keeps T)
+settled_ending T a f p reply found plain fine stood =
+    fine_ending T reply (a >>= settled T T.places f) (fine_then (Leaves T) (Leaves T) a (settled T T.places f) fine (λ D w. fine_settled T T.places f p D w found plain))
+    (stood_then a (settled T T.places f) stood (λ D k. settled_stood T (IsNew None) T.places f D k))
 
-settled_changing : (T : Tree) (a : Answer Changed) (f : ℕ) (p : FolderPlace) → find_place f T.places ≡ Some p → is_plain p ≡ true → Fine a (Leaves T) → Fine (a >>= settled T T.places f >>= changing T (replied Done)) (Keeps T)
-settled_changing T a f p found plain fine = settled_ending T a f p (replied Done) found plain fine
+settled_changing : (T : Tree) (a : Answer Changed) (f : ℕ) (p : FolderPlace) → find_place f T.places ≡ Some p → is_plain p ≡ true → Fine a (Leaves T) → IfOk a (AreStood T (IsNew None)) → Fine (a >>= settled T T.places f >>= changing T (replied Done)) (Keeps T)
+settled_changing T a f p found plain fine stood = settled_ending T a f p (replied Done) found plain fine stood
 
 -- a message becomes another of its id, in its folder
-fine_remaking : (T : Tree) (m : ℕ) (M new : Mes) (crowded : Bool) (reason : Option CommandRefusal) (last : LastLine) → Before T → now_at T nothing m ≡ Some (Message M) → m % 32 ≡ 4 → new.nid ≡ M.nid → new.folder ≡ M.folder
-    → Fine (remaking T M new crowded reason last) (Keeps T)
+fine_remaking : (T : Tree) (m : ℕ) (M new : Mes) (reason : Option CommandRefusal) (last : LastLine) → Before T → now_at T nothing m ≡ Some (Message M) → m % 32 ≡ 4 → new.nid ≡ M.nid → new.folder ≡ M.folder
+    → Fine (remaking T new reason last) (Keeps T)
 unfolding remaking
-fine_remaking T m M new crowded reason last w is four same there =
+fine_remaking T m M new reason last w is four same there =
     let N = finished new in
     let v = home_of T w m M is in
     let nid : N.nid ≡ m = finished_id new ∙ same ∙ v.0 in
     let folder : N.folder ≡ M.folder = finished_folder new ∙ there in
     let found : find_place N.folder T.places ≡ Some v.1 = ap (λ x. find_place x T.places) folder ∙ v.2 in
-    let a = put_shown T (contents N.folder) N.nid N.props (with_message M N (record nothing { crowded = crowded })) in
+    let a = put_shown T (contents N.folder) N.nid N.props (with_object N.nid (Some (Message N)) nothing) in
     fine_replying T (a >>= settled T T.places N.folder) reason (replied last) (settled_ending T a N.folder v.1 (replied last) found v.3
-    (shown_message T M N crowded v.1 w (ap (now_at T nothing) nid ∙ is) (ap (λ x. x % 32) nid ∙ four) folder (v.0 ∙ sym nid) found v.3))
+    (shown_message T M N v.1 w (ap (now_at T nothing) nid ∙ is) (ap (λ x. x % 32) nid ∙ four) folder (v.0 ∙ sym nid) found v.3) (remade_stood T (IsNew None) M N (ap (now_at T nothing) nid ∙ is)))
 
 fine_changed : (T : Tree) (m : ℕ) (M : Mes) (props : List Val) → Before T → now_at T nothing m ≡ Some (Message M) → m % 32 ≡ 4 → Fine (changed_message T M props) (Keeps T)
 unfolding changed_message
-fine_changed T m M props w is four = fine_remaking T m M (with_props props M) false None Done w is four refl refl
+fine_changed T m M props w is four = fine_remaking T m M (with_props props M) None Done w is four refl refl
 
 -- `rcpt`
 pub fine_added_recipient : (T : Tree) (m kind : ℕ) (address name : List ℕ) → Before T → Fine (added_recipient T m kind address name) (Keeps T)
@@ -171,13 +169,13 @@ unfolding added_recipient adding_recipient
 fine_added_recipient T m kind address name w = fine_then _ (Keeps T) (message_in T m) _ (fine_message_in T m w) (λ M h.
     let row = next_row (rows_of M.recipients) in
     after_test (Keeps T) (is_full M.recipients) (Limit Rows) _ (λ u. after_test (Keeps T) (is_wide recipient_tags M.recipients) (Limit Rows) _ (λ v.
-    fine_remaking T m M (with_recipient (new_row row) (recipient_props kind address name) M) false (spent_row row) (Row (new_row row)) w h.0 h.1 refl refl)))
+    fine_remaking T m M (with_recipient (new_row row) (recipient_props kind address name) M) (spent_row row) (Row (new_row row)) w h.0 h.1 refl refl)))
 
 -- `unrcpt`
 pub fine_removed_recipient : (T : Tree) (m row : ℕ) → Before T → Fine (removed_recipient T m row) (Keeps T)
 unfolding removed_recipient
 fine_removed_recipient T m row w = fine_then _ (Keeps T) (message_in T m) _ (fine_message_in T m w) (λ M h.
-    after_test (Keeps T) (not (has_recipient row M)) NoObject _ (λ u. fine_remaking T m M (without_recipient row M) false None Done w h.0 h.1 refl refl))
+    after_test (Keeps T) (not (has_recipient row M)) NoObject _ (λ u. fine_remaking T m M (without_recipient row M) None Done w h.0 h.1 refl refl))
 
 -- `attach`
 pub fine_added_attachment : (T : Tree) (m : ℕ) (name bytes : List ℕ) → Before T → Fine (added_attachment T m name bytes) (Keeps T)
@@ -186,7 +184,7 @@ fine_added_attachment T m name bytes w = fine_then _ (Keeps T) (message_in T m) 
     let index = next_part M in
     let new = with_attachment (plain_part (part_nid index) (attachment_props name bytes)) (room_for index M) in
     after_test (Keeps T) (is_full M.attachments) (Limit Rows) _ (λ u. after_test (Keeps T) (is_wide attachment_tags M.attachments) (Limit Rows) _ (λ v.
-    fine_remaking T m M new false (spent_index index) (Attached (part_nid index)) w h.0 h.1 refl refl)))
+    fine_remaking T m M new (spent_index index) (Attached (part_nid index)) w h.0 h.1 refl refl)))
 
 -- `append`
 pub fine_appended_data : (T : Tree) (m n : ℕ) (more : List ℕ) → Before T → Fine (appended_data T m n more) (Keeps T)
@@ -194,13 +192,13 @@ unfolding appended_data appending
 fine_appended_data T m n more w = fine_then _ (Keeps T) (message_in T m) _ (fine_message_in T m w) (λ M h.
     after_found (Keeps T) NoObject (part_in n M) _ (λ part is. after_found (Keeps T) NoProperty (bytes_of 0x3701 0x0102 part.props) _ (λ old is'.
     let props = with_bytes (lengthened old more) part.props in
-    fine_remaking T m M (with_part (part_with props part) M) (crowds part.props props) (too_long old more) Done w h.0 h.1 refl refl)))
+    fine_remaking T m M (with_part (part_with props part) M) (too_long old more) Done w h.0 h.1 refl refl)))
 
 -- `detach`
 pub fine_removed_attachment : (T : Tree) (m n : ℕ) → Before T → Fine (removed_attachment T m n) (Keeps T)
 unfolding removed_attachment
 fine_removed_attachment T m n w = fine_then _ (Keeps T) (message_in T m) _ (fine_message_in T m w) (λ M h.
-    after_test (Keeps T) (not (is_some (part_in n M))) NoObject _ (λ u. fine_remaking T m M (without_attachment n M) false None Done w h.0 h.1 refl refl))
+    after_test (Keeps T) (not (is_some (part_in n M))) NoObject _ (λ u. fine_remaking T m M (without_attachment n M) None Done w h.0 h.1 refl refl))
 
 -- `fetch`
 pub fine_fetched_data : (T : Tree) (m n : ℕ) → Before T → Fine (fetched_data T m n) (Keeps T)
@@ -260,7 +258,7 @@ pub fine_removed : (T : Tree) (m : ℕ) → Before T → Fine (removed_message T
 unfolding removed_message
 fine_removed T m w = fine_then _ (Keeps T) (message_in T m) _ (fine_message_in T m w) (λ M h.
     let v = home_of T w m M h.0 in
-    settled_changing T (drop_shown T (contents M.folder) m (with_object m None nothing)) M.folder v.1 v.2 v.3 (dropped_message T m M v.1 w h.0 h.1 v.2 v.3))
+    settled_changing T (drop_shown T (contents M.folder) m (with_object m None nothing)) M.folder v.1 v.2 v.3 (dropped_message T m M v.1 w h.0 h.1 v.2 v.3) (gone_stood T (IsNew None) m M.folder))
 
 -- a row that shows a message that stands there is added
 listed_message : (T : Tree) (D : Changed) (m : ℕ) (M : Mes) (props : List Val) (p : FolderPlace) → AreNearly (λ x. x ≡ m) T.places (now_at T D) → m % 32 ≡ 4 → now_at T D m ≡ Some (Message M) → find_place M.folder T.places ≡ Some p → is_plain p ≡ true
@@ -298,13 +296,13 @@ pub new_message_id : (T : Tree) → is_spent (next_index T 4 message_kinds) ≡ 
 new_message_id T left =
     let free = next_is_free T 4 message_kinds left in
     let id = new_id_is 4 (next_index T 4 message_kinds) free.1 in
-    (ap (λ x. x % 32) id ∙ kind_four (next_index T 4 message_kinds), ap (now_at T nothing) id ∙ ap (λ g. g (nid_of 4 (next_index T 4 message_kinds))) (now_nothing T false) ∙ free_message T (next_index T 4 message_kinds) free.0)
+    (ap (λ x. x % 32) id ∙ kind_four (next_index T 4 message_kinds), ap (now_at T nothing) id ∙ ap (λ g. g (nid_of 4 (next_index T 4 message_kinds))) (now_nothing T) ∙ free_message T (next_index T 4 message_kinds) free.0)
   where
     kind_four : (index : ℕ) → nid_of 4 index % 32 ≡ 4
     kind_four index = omega arith
 
-fine_making : (T : Tree) (a : Answer Changed) (kind index : ℕ) → Fine a (Leaves T) → Fine (a >>= making T T.places kind index) (Keeps T)
-fine_making T a kind index fine = fine_then (Leaves T) (Keeps T) a (making T T.places kind index) fine (λ D w. after_limits (Keeps T) D _ (after_test (Keeps T) (is_spent index) Ids _ (λ left. w)))
+fine_making : (T : Tree) (a : Answer Changed) (kind index : ℕ) → Fine a (Leaves T) → IfOk a (AreStood T (IsNew (Some (nid (new_id kind index))))) → Fine (a >>= making T T.places kind index) (Keeps T)
+fine_making T a kind index fine stood = fine_limits (Leaves T) (Keeps T) T (Some (nid (new_id kind index))) a _ fine stood (λ D w. after_test (Keeps T) (is_spent index) Ids _ (λ left. w))
 
 -- `new`
 fine_made : (T : Tree) (folder : ℕ) (p : FolderPlace) (class : List ℕ) (time : ℕ) (store : List Val) → Before T → find_place folder T.places ≡ Some p → is_plain p ≡ true
@@ -316,12 +314,14 @@ fine_made T folder p class time store w found plain = elim (cases_Bool (is_spent
       let M = plain_message m folder (message_props m class time store) in
       refused_later T T.places 4 (next_index T 4 message_kinds) (Keeps T) (added_message T (finished M) nothing) t
       (fine_planned T (finished M) nothing p w (ap (λ x. x % 32) (finished_id M) ∙ new_id_kind 4 (next_index T 4 message_kinds) (omega arith)) (ap (λ x. find_place x T.places) (finished_folder M) ∙ found) plain)
+      (message_comes T (IsNew (Some (nid m))) (finished M) nothing (subst (IsNew (Some (nid m))) (sym (finished_id M)) (own_new m)) (none_stood T (IsNew (Some (nid m)))))
   | inr t ↦
       let m = new_id 4 (next_index T 4 message_kinds) in
       let id = new_message_id T t in
       let M = plain_message m folder (message_props m class time store) in
       (fine_making T (added_message T (finished M) nothing) 4 (next_index T 4 message_kinds)
-      (fine_added T nothing (finished M) p w (ap (λ x. x % 32) (finished_id M) ∙ id.0) (ap (now_at T nothing) (finished_id M) ∙ id.1) (ap (λ x. find_place x T.places) (finished_folder M) ∙ found) plain))
+      (fine_added T nothing (finished M) p w (ap (λ x. x % 32) (finished_id M) ∙ id.0) (ap (now_at T nothing) (finished_id M) ∙ id.1) (ap (λ x. find_place x T.places) (finished_folder M) ∙ found) plain)
+      (message_comes T (IsNew (Some (nid m))) (finished M) nothing (subst (IsNew (Some (nid m))) (sym (finished_id M)) (own_new m)) (none_stood T (IsNew (Some (nid m))))))
 ]
 
 pub fine_new : (T : Tree) (folder : ℕ) (class : List ℕ) (time : ℕ) → Before T → Fine (new_message T folder class time) (Keeps T)
@@ -341,19 +341,22 @@ fine_copying : (T : Tree) (m : ℕ) (M : Mes) (folder : ℕ) (p : FolderPlace) �
     → Fine (copying T M folder (next_index T 4 message_kinds)) (Keeps T)
 unfolding copying
 fine_copying T m M folder p w is found plain =
-    let D : Changed = record nothing { crowded = is_crowded_message M } in
+    let D : Changed = nothing in
     let N = copy_of (new_id 4 (next_index T 4 message_kinds)) folder M in
     let Same : Changed → Type 0 = λ D'. now_at T D' ≡ now_at T nothing in
-    let touches : Fine (touched T M.folder D) Same = fine_home T w m M is (is_crowded_message M) in
+    let touches : Fine (touched T M.folder D) Same = fine_home T w m M is in
+    let New = IsNew (Some (nid N.nid)) in
+    let stood : IfOk (touched T M.folder D >>= added_message T N) (AreStood T New) =
+    stood_then (touched T M.folder D) (added_message T N) (touched_stood T New M.folder D (none_stood T New)) (λ D' k. message_comes T New N D' (own_new N.nid) k) in
     elim (cases_Bool (is_spent (next_index T 4 message_kinds))) [
       | inl t ↦ refused_later T T.places 4 (next_index T 4 message_kinds) (Keeps T) (touched T M.folder D >>= added_message T N) t
           (fine_then Same (λ D'. Unit {0}) (touched T M.folder D) (added_message T N) touches (λ D' same.
-          fine_planned T N D' p (subst (AreWhole T.places) (sym same) w) (new_id_kind 4 (next_index T 4 message_kinds) (omega arith)) found plain))
+          fine_planned T N D' p (subst (AreWhole T.places) (sym same) w) (new_id_kind 4 (next_index T 4 message_kinds) (omega arith)) found plain)) stood
       | inr t ↦
           let id = new_message_id T t in
           (fine_making T (touched T M.folder D >>= added_message T N) 4 (next_index T 4 message_kinds)
           (fine_then Same (Leaves T) (touched T M.folder D) (added_message T N) touches (λ D' same.
-          fine_added T D' N p (subst (AreWhole T.places) (sym same) w) id.0 (ap (λ at. at N.nid) same ∙ id.1) found plain)))
+          fine_added T D' N p (subst (AreWhole T.places) (sym same) w) id.0 (ap (λ at. at N.nid) same ∙ id.1) found plain)) stood)
     ]
 
 pub fine_copied : (T : Tree) (m folder : ℕ) → Before T → Fine (copied_message T m folder) (Keeps T)
@@ -398,12 +401,16 @@ fine_moved T m folder w = fine_then _ (Keeps T) (message_in T m) _ (fine_message
       | inl b ↦ rw b w
       | inr b ↦
           let v = home_of T w m M h.0 in
-          rw b (fine_then (MovedFrom T m (in_folder folder M)) (Keeps T) (drop_shown T (contents M.folder) m (with_object m (Some (Message (in_folder folder M))) nothing)) _
-          (moved_from T m folder M v.1 w h.0 h.1 v.0 v.2 v.3)
-          (λ D d. settled_changing T (add_shown T (contents folder) m M.props D >>= settled T T.places M.folder) folder p.0 p.1 plain
+          let P = MovedFrom T m (in_folder folder M) in let S = AreStood T (IsNew None) in
+          let drops = drop_shown T (contents M.folder) m (with_object m (Some (Message (in_folder folder M))) nothing) in
+          let stood = dropped_stood T (IsNew None) (contents M.folder) m _ (message_stood T (IsNew None) m M (in_folder folder M) h.0) in
+          rw b (fine_then (λ D. P D × S D) (Keeps T) drops _
+          (fine_stood P S drops (moved_from T m folder M v.1 w h.0 h.1 v.0 v.2 v.3) stood)
+          (λ D k. let d = k.0 in settled_changing T (add_shown T (contents folder) m M.props D >>= settled T T.places M.folder) folder p.0 p.1 plain
           (fine_then (Leaves T) (Leaves T) (add_shown T (contents folder) m M.props D) (settled T T.places M.folder)
           (listed_message T D m (in_folder folder M) M.props p.0 d.0 h.1 d.1 p.1 plain (λ f q u e plain_q at_u row. absurd (d.2 f q u e plain_q at_u row)))
-          (λ D' w'. fine_settled T T.places M.folder v.1 D' w' v.2 v.3))))
+          (λ D' w'. fine_settled T T.places M.folder v.1 D' w' v.2 v.3))
+          (stood_then (add_shown T (contents folder) m M.props D) (settled T T.places M.folder) (added_stood T (IsNew None) (contents folder) m M.props D k.1) (λ D' j. settled_stood T (IsNew None) T.places M.folder D' j))))
     ])
   ])
 ])

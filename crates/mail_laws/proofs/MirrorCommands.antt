@@ -22,7 +22,7 @@ use Rattle.mail_objects.specs.declared.object.Object.TheVariants.{Context, Table
 use Rattle.mail_tree.specs.declared.places.FolderPlace.{FolderPlace}
 use Rattle.mail_tree.specs.Places.{ROOT, children, find_place, is_child, is_deep, is_plain, is_within, moves_deep, place_id}
 use Rattle.mail_tree.specs.Tree.{Tree}
-use Rattle.mail_tree.specs.Values.{bytes_of, crowds, finished, folder_props, is_set_protected, is_unset_protected, message_props, name_of, text, with_props}
+use Rattle.mail_tree.specs.Values.{bytes_of, finished, folder_props, is_set_protected, is_unset_protected, message_props, name_of, text, with_props}
 use Rattle.command_text.specs.declared.reply.CommandRefusal.TheVariants.{Ids, Limit, Object as NoObject, Property as NoProperty}
 use Rattle.mail_tree.specs.Names.{NAMES, named_property, unless_nameless}
 use Rattle.mail_laws.proofs.NameSteps.{PutsNames, puts_names_after}
@@ -31,10 +31,10 @@ use Rattle.mail_tree.specs.Columns.{contents_table, hierarchy_table}
 use Rattle.mail_tree.specs.Settling.{message_ids, mirrored, settled, with_context, touched}
 use Rattle.mail_tree.specs.Ids.{folder_kinds, is_spent, is_taken, message_kinds, new_id, next_index}
 use Rattle.mail_tree.specs.Folders.{Outcome, associated_in, changing, folder_lines, has_associated, has_rows, listing, made_folder, making, making_folder, moved_between, moved_folder, place, removed_folder, without_folder, without_node, message_lines, moving, renamed_folder, replied, siblings, unless_full, unless_named, unless_protected, with_folder}
-use Rattle.mail_tree.specs.Messages.{added_attachment, added_message, added_recipient, adding_attachment, adding_recipient, appended_data, appending, fetched_data, removed_attachment, spent_index, too_long, changed_message, copied_message, copy_of, copying, details, in_folder, is_crowded_message, is_overfull, making_message, message_in, moved_message, new_message, plain_message, remaking, removed_message, removed_recipient, set_value, spent_row, unset_value, value_in, value_of, with_message}
+use Rattle.mail_tree.specs.Messages.{added_attachment, added_message, added_recipient, adding_attachment, adding_recipient, appended_data, appending, fetched_data, removed_attachment, spent_index, too_long, changed_message, copied_message, copy_of, copying, details, in_folder, is_overfull, making_message, message_in, moved_message, new_message, plain_message, remaking, removed_message, removed_recipient, set_value, spent_row, unset_value, value_in, value_of}
 use Rattle.mail_tree.specs.Parts.{attachment_props, attachment_tags, data_tag, has_recipient, is_full, is_wide, lengthened, new_row, next_part, next_row, part_in, part_nid, part_with, plain_part, recipient_props, recipient_tags, room_for, rows_of, with_attachment, with_bytes, with_part, with_recipient, without_attachment, without_recipient}
 use Rattle.mail_laws.specs.Laws.{Shows}
-use Rattle.mail_tree.proofs.AfterTree.{puts_object, puts_values}
+use Rattle.mail_tree.proofs.AfterTree.{puts_object}
 use Rattle.mail_tree.proofs.FineLaws.{cases_Option}
 use Rattle.mail_tree.proofs.KeyedFinds.{find-put_other, find-drop_other, find-drop_same}
 use Rattle.mail_laws.proofs.FolderSteps.{beside_apart, fine_protected, no_rows}
@@ -48,6 +48,7 @@ use Rattle.mail_laws.proofs.MirrorSteps.{add_folder, add_message, context_opens,
 use Rattle.mail_laws.proofs.Touches.{if_table}
 use Rattle.mail_tree.proofs.Nearly.{Puts, folder_kind, nearly, plain_id}
 use Rattle.mail_tree.proofs.Settles.{store_of}
+use Rattle.pst_base.specs.declared.ids.Nid.{Nid}
 
 module _ (T : Tree) (w : Before T) (s : AreShownBut (λ x. ⊥) T.places (now_at T nothing)) where
   After : Outcome → Type 0
@@ -59,16 +60,16 @@ module _ (T : Tree) (w : Before T) (s : AreShownBut (λ x. ⊥) T.places (now_at
   Shows_now : Changed → Type 0
   Shows_now D = AreShownBut (λ x. ⊥) T.places (now_at T D)
 
-  limited : {B : Type 0} (Q : B → Type 0) (D : Changed) (f : Unit {0} → Answer B) → IfOk (f tt) Q → IfOk (within_limits D >>= f) Q
-  limited Q D f h = if_then (λ u. Unit {0}) Q (within_limits D) f (if_any (within_limits D)) (λ u v. h)
+  limited : {B : Type 0} (new : Option Nid) (Q : B → Type 0) (D : Changed) (f : Unit {0} → Answer B) → IfOk (f tt) Q → IfOk (within_limits T new D >>= f) Q
+  limited new Q D f h = if_then (λ u. Unit {0}) Q (within_limits T new D) f (if_any (within_limits T new D)) (λ u v. h)
 
   then_changing : (a : Answer Changed) (reply : Reply) → IfOk a Shows_now → IfOk (a >>= changing T reply) After
   unfolding Shows_now After
-  then_changing a reply h = if_then Shows_now After a (changing T reply) h (λ D k. limited After D _ k)
+  then_changing a reply h = if_then Shows_now After a (changing T reply) h (λ D k. limited _ After D _ k)
 
   then_making : (a : Answer Changed) (kind index : ℕ) → IfOk a Shows_now → IfOk (a >>= making T T.places kind index) After
   unfolding Shows_now After
-  then_making a kind index h = if_then Shows_now After a (making T T.places kind index) h (λ D k. limited After D _ (if_test After (is_spent index) Ids _ k))
+  then_making a kind index h = if_then Shows_now After a (making T T.places kind index) h (λ D k. limited _ After D _ (if_test After (is_spent index) Ids _ k))
 
   -- a message is put: its row needn't show it yet
   message_opens : (D : Changed) (m : ℕ) (o : Option Object) (at' : ℕ → Option Object) → m % 32 ≡ 4 → Shows_now D → Puts (now_at T D) at' m o → AreShownBut (λ x. x ≡ m) T.places at'
@@ -123,11 +124,11 @@ module _ (T : Tree) (w : Before T) (s : AreShownBut (λ x. ⊥) T.places (now_at
       (add_message T T.places ids D M.nid M four (message_opens D0 M.nid (Some (Message M)) (now_at T D) four s0 puts) puts.here)))
 
   -- the folder of a message, put as it is before other changes
-  touches : (m : ℕ) (M : Mes) → now_at T nothing m ≡ Some (Message M) → (crowded : Bool) → IfOk (touched T M.folder (record nothing { crowded = crowded })) Shows_now
+  touches : (m : ℕ) (M : Mes) → now_at T nothing m ≡ Some (Message M) → IfOk (touched T M.folder nothing) Shows_now
   unfolding Shows_now
-  touches m M is crowded =
-      let a = touched T M.folder (record nothing { crowded = crowded }) in
-      if_weaker (λ D. now_at T D ≡ now_at T nothing) Shows_now a (from_fine (λ D. now_at T D ≡ now_at T nothing) a (fine_home T w m M is crowded)) (λ D same. subst (AreShownBut (λ x. ⊥) T.places) (sym same) s)
+  touches m M is =
+      let a = touched T M.folder nothing in
+      if_weaker (λ D. now_at T D ≡ now_at T nothing) Shows_now a (from_fine (λ D. now_at T D ≡ now_at T nothing) a (fine_home T w m M is)) (λ D same. subst (AreShownBut (λ x. ⊥) T.places) (sym same) s)
 
   starts : Shows_now nothing
   unfolding Shows_now
@@ -142,8 +143,8 @@ module _ (T : Tree) (w : Before T) (s : AreShownBut (λ x. ⊥) T.places (now_at
       | inl plain ↦ rw plain (elim (cases_Bool (is_overfull M.recipients || is_overfull M.attachments)) [
         | inl b ↦ rw b tt
         | inr b ↦ rw b (if_then (λ u. Unit {0}) After (unless_full T (contents folder)) _ (if_any (unless_full T (contents folder))) (λ u v. elim (cases_Bool (is_spent (next_index T 4 message_kinds))) [
-          | inl t ↦ never_made T T.places 4 (next_index T 4 message_kinds) After (touched T M.folder (record nothing { crowded = is_crowded_message M }) >>= added_message T (copy_of (new_id 4 (next_index T 4 message_kinds)) folder M)) t
-          | inr t ↦ (adds (touched T M.folder (record nothing { crowded = is_crowded_message M })) (touches m M h.0 (is_crowded_message M)) (copy_of (new_id 4 (next_index T 4 message_kinds)) folder M) p.0 (next_index T 4 message_kinds) (new_message_id T t).0 p.1)
+          | inl t ↦ never_made T T.places 4 (next_index T 4 message_kinds) After (touched T M.folder nothing >>= added_message T (copy_of (new_id 4 (next_index T 4 message_kinds)) folder M)) t
+          | inr t ↦ (adds (touched T M.folder nothing) (touches m M h.0) (copy_of (new_id 4 (next_index T 4 message_kinds)) folder M) p.0 (next_index T 4 message_kinds) (new_message_id T t).0 p.1)
         ]))
       ])
     ])
@@ -170,16 +171,16 @@ module _ (T : Tree) (w : Before T) (s : AreShownBut (λ x. ⊥) T.places (now_at
     ])
   ]
 
-  remakes : (m : ℕ) (M new : Mes) (crowded : Bool) (reason : Option CommandRefusal) (last : LastLine) → now_at T nothing m ≡ Some (Message M) → m % 32 ≡ 4 → new.nid ≡ M.nid → new.folder ≡ M.folder → IfOk (remaking T M new crowded reason last) After
+  remakes : (m : ℕ) (M new : Mes) (reason : Option CommandRefusal) (last : LastLine) → now_at T nothing m ≡ Some (Message M) → m % 32 ≡ 4 → new.nid ≡ M.nid → new.folder ≡ M.folder → IfOk (remaking T new reason last) After
   unfolding remaking Shows_now
-  remakes m M new crowded reason last is four same there =
+  remakes m M new reason last is four same there =
       let N = finished new in
-      let D0 = record nothing { crowded = crowded } in
-      let D = with_message M N D0 in let v = home_of T w m M is in
+      let D0 = nothing in
+      let D = with_object N.nid (Some (Message N)) D0 in let v = home_of T w m M is in
       let nid : N.nid ≡ m = finished_id new ∙ same ∙ v.0 in
       let four' : N.nid % 32 ≡ 4 = ap (λ x. x % 32) nid ∙ four in
       let folder : N.folder ≡ M.folder = finished_folder new ∙ there in
-      let puts = puts_values T D0 N.nid (Message N) M.props N.props in
+      let puts = puts_object T D0 N.nid (Some (Message N)) in
       let a = put_shown T (contents N.folder) N.nid N.props D in
       if_replying T (a >>= settled T T.places N.folder) reason (replied last) After
       (then_changing (a >>= settled T T.places N.folder) (replied last) (then_shows T T.places ids a N.folder (ids N.folder v.1 (ap (λ x. find_place x T.places) folder ∙ v.2))
@@ -187,19 +188,19 @@ module _ (T : Tree) (w : Before T) (s : AreShownBut (λ x. ⊥) T.places (now_at
 
   changes : (m : ℕ) (M : Mes) (props : List Val) → now_at T nothing m ≡ Some (Message M) → m % 32 ≡ 4 → IfOk (changed_message T M props) After
   unfolding changed_message
-  changes m M props is four = remakes m M (with_props props M) false None Done is four refl refl
+  changes m M props is four = remakes m M (with_props props M) None Done is four refl refl
 
   adds_recipient : (m kind : ℕ) (address name : List ℕ) → IfOk (added_recipient T m kind address name) After
   unfolding added_recipient adding_recipient
   adds_recipient m kind address name = if_then _ After (message_in T m) _ (from_fine _ (message_in T m) (fine_message_in T m w)) (λ M h.
       let row = next_row (rows_of M.recipients) in
       if_test After (is_full M.recipients) (Limit Rows) _ (if_test After (is_wide recipient_tags M.recipients) (Limit Rows) _
-      (remakes m M (with_recipient (new_row row) (recipient_props kind address name) M) false (spent_row row) (Row (new_row row)) h.0 h.1 refl refl)))
+      (remakes m M (with_recipient (new_row row) (recipient_props kind address name) M) (spent_row row) (Row (new_row row)) h.0 h.1 refl refl)))
 
   removes_recipient : (m row : ℕ) → IfOk (removed_recipient T m row) After
   unfolding removed_recipient
   removes_recipient m row = if_then _ After (message_in T m) _ (from_fine _ (message_in T m) (fine_message_in T m w)) (λ M h.
-      if_test After (not (has_recipient row M)) NoObject _ (remakes m M (without_recipient row M) false None Done h.0 h.1 refl refl))
+      if_test After (not (has_recipient row M)) NoObject _ (remakes m M (without_recipient row M) None Done h.0 h.1 refl refl))
 
   adds_attachment : (m : ℕ) (name bytes : List ℕ) → IfOk (added_attachment T m name bytes) After
   unfolding added_attachment adding_attachment
@@ -207,19 +208,19 @@ module _ (T : Tree) (w : Before T) (s : AreShownBut (λ x. ⊥) T.places (now_at
       let index = next_part M in
       let new = with_attachment (plain_part (part_nid index) (attachment_props name bytes)) (room_for index M) in
       if_test After (is_full M.attachments) (Limit Rows) _ (if_test After (is_wide attachment_tags M.attachments) (Limit Rows) _
-      (remakes m M new false (spent_index index) (Attached (part_nid index)) h.0 h.1 refl refl)))
+      (remakes m M new (spent_index index) (Attached (part_nid index)) h.0 h.1 refl refl)))
 
   appends_data : (m n : ℕ) (more : List ℕ) → IfOk (appended_data T m n more) After
   unfolding appended_data appending
   appends_data m n more = if_then _ After (message_in T m) _ (from_fine _ (message_in T m) (fine_message_in T m w)) (λ M h.
       if_found After NoObject (part_in n M) _ (λ part is. if_found After NoProperty (bytes_of 0x3701 0x0102 part.props) _ (λ old is'.
       let props = with_bytes (lengthened old more) part.props in
-      (remakes m M (with_part (part_with props part) M) (crowds part.props props) (too_long old more) Done h.0 h.1 refl refl))))
+      (remakes m M (with_part (part_with props part) M) (too_long old more) Done h.0 h.1 refl refl))))
 
   removes_attachment : (m n : ℕ) → IfOk (removed_attachment T m n) After
   unfolding removed_attachment
   removes_attachment m n = if_then _ After (message_in T m) _ (from_fine _ (message_in T m) (fine_message_in T m w)) (λ M h.
-      if_test After (not (is_some (part_in n M))) NoObject _ (remakes m M (without_attachment n M) false None Done h.0 h.1 refl refl))
+      if_test After (not (is_some (part_in n M))) NoObject _ (remakes m M (without_attachment n M) None Done h.0 h.1 refl refl))
 
   sets : (m : ℕ) (v : Val) → IfOk (set_value T m v) After
   unfolding set_value
@@ -282,11 +283,11 @@ module _ (T : Tree) (w : Before T) (s : AreShownBut (λ x. ⊥) T.places (now_at
 
   then_moving : (places : List FolderPlace) (a : Answer Changed) (reply : Reply) → IfOk a (Shows_in places) → IfOk (a >>= moving T places reply) After
   unfolding Shows_in After
-  then_moving places a reply h = if_then (Shows_in places) After a (moving T places reply) h (λ D k. limited After D _ k)
+  then_moving places a reply h = if_then (Shows_in places) After a (moving T places reply) h (λ D k. limited _ After D _ k)
 
   then_making_in : (places : List FolderPlace) (a : Answer Changed) (kind index : ℕ) → IfOk a (Shows_in places) → IfOk (a >>= making T places kind index) After
   unfolding Shows_in After
-  then_making_in places a kind index h = if_then (Shows_in places) After a (making T places kind index) h (λ D k. limited After D _ (if_test After (is_spent index) Ids _ k))
+  then_making_in places a kind index h = if_then (Shows_in places) After a (making T places kind index) h (λ D k. limited _ After D _ (if_test After (is_spent index) Ids _ k))
 
   put_ids : (f parent : ℕ) → f % 32 ≡ 2 → FolderIds (put_key place_id (place f parent) T.places)
   put_ids f parent two g p e = elim (cases_eq g f) [

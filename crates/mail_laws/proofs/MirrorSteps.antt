@@ -15,7 +15,7 @@ use Rattle.mail_tree.specs.Values.{with_counts}
 use Rattle.mail_tree.specs.Changing.{Answer, Changed, ◌>>=◌, add_shown, contents, context_at, drop_shown, hierarchy, now_at, overfills, put_shown, shown_row, table_at, with_object, with_rows}
 use Rattle.mail_tree.specs.Settling.{counted, message_ids, mirrored, table_as_is, settled, unread_among, with_context}
 use Rattle.mail_laws.specs.Laws.{Shows}
-use Rattle.mail_tree.proofs.AfterTree.{puts_object, puts_values}
+use Rattle.mail_tree.proofs.AfterTree.{puts_object}
 use Rattle.mail_tree.proofs.KeyedFinds.{find-put_other, find-put_same, find-drop_other}
 use Rattle.mail_laws.proofs.Keeping.{if_any, if_then, if_weaker}
 use Rattle.mail_laws.proofs.Touches.{if_table, table_same}
@@ -101,7 +101,7 @@ module _ (T : Tree) where
     -- a folder that gets other values needn't be shown
     pub context_opens : (D : Changed) (f : ℕ) (c : Ctx) (props : List Val) → (f % 32 ≡ 2) ⊎ (f % 32 ≡ 3) → Shown D → ShownBut f (with_context f c props D) × (now_at T (with_context f c props D) f ≡ Some (Context (record c { props = props })))
     context_opens D f c props kind s =
-        let puts = puts_values T D f (Context (record c { props = props })) c.props props in (
+        let puts = puts_object T D f (Some (Context (record c { props = props }))) in (
           shown_put (λ x. ⊥) (λ x. x ≡ f) places (now_at T D) _ f (Some (Context (record c { props = props }))) s (λ x e. absurd e) puts
               (λ e. elim kind [ inl k ↦ omega arith | inr k ↦ omega arith ]) (λ e. elim kind [ inl k ↦ omega arith | inr k ↦ omega arith ]) (λ p e. refl) (λ M e. refl),
           puts.here,

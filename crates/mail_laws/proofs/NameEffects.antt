@@ -13,22 +13,22 @@ use Rattle.command_text.specs.declared.reply.LastLine.TheVariants.{Named}
 use Rattle.mail_objects.specs.Forms.{Ctx}
 use Rattle.mail_objects.specs.declared.object.Object.TheVariants.{Context}
 use Rattle.mail_tree.specs.Tree.{Tree}
-use Rattle.mail_tree.specs.Changing.{nothing, now_at}
+use Rattle.mail_tree.specs.Changing.{nothing, now_at, with_object}
 use Rattle.mail_tree.specs.Folders.{Outcome, replied, unchanged}
 use Rattle.mail_tree.specs.Names.{NAMES, found_or_added, is_name, named_property, names_in, with_another}
 use Rattle.mail_tree.specs.Settling.{with_context}
 use Rattle.mail_tree.specs.Step.{after}
 use Rattle.mail_tree.specs.Whole.{Fine}
-use Rattle.mail_tree.proofs.AfterTree.{after_now, now_nothing, puts_values}
-use Rattle.mail_tree.proofs.FineLaws.{after_limits}
+use Rattle.mail_tree.proofs.AfterTree.{after_now, now_nothing, puts_object}
 use Rattle.mail_laws.specs.Laws.{FindsName}
 use Rattle.mail_laws.proofs.Keeping.{from_fine}
 use Rattle.mail_laws.proofs.MessageSteps.{Before}
 use Rattle.mail_laws.proofs.NameSteps.{another_is}
+use Rattle.mail_tree.proofs.StoodLaws.{AreStood, IsNew, none_stood, values_stood, after_limits}
 
 -- what stands there after changes stands there in the tree after them
 in_after : (T : Tree) (o : Outcome) (q : ℕ) → now_at (after T o) nothing q ≡ now_at T o.changed q
-in_after T o q = ap (λ g. g q) (now_nothing (after T o) false ∙ sym (after_now T o))
+in_after T o q = ap (λ g. g q) (now_nothing (after T o) ∙ sym (after_now T o))
 
 -- the names of a tree
 names_are : (T : Tree) (c : Ctx) (n : Names) → now_at T nothing NAMES ≡ Some (Context c) → names_of c.props ≡ Some n → names_in T ≡ Ok n
@@ -49,7 +49,7 @@ module _ (T : Tree) (guid : List ℕ) (number : ℕ) (is : is_name guid number �
         reply = ap (λ (x : Outcome). x.reply) same;
         finds = λ known. e;
         keeps = λ known other id kept f. f;
-        others = λ q apart. ap (λ g. g q) (sym (after_now T o)) ∙ stays q ∙ ap (λ g. g q) (now_nothing T false);
+        others = λ q apart. ap (λ g. g q) (sym (after_now T o)) ∙ stays q ∙ ap (λ g. g q) (now_nothing T);
         places = ap (λ (x : Outcome). x.places) same;
       }
 
@@ -61,7 +61,7 @@ module _ (T : Tree) (guid : List ℕ) (number : ℕ) (is : is_name guid number �
       let new : Ctx = record c { props = written m } in
       let parts = and_parts (length guid == 16) (nat_lt number (2 ^ 32)) is in
       let w = writes-added c.props n guid number reads writes numbers (eqb-true (length guid) 16 parts.0) (ltb-true number (2 ^ 32) parts.1) room in
-      let puts = puts_values T nothing NAMES (Context new) c.props (written m) in record {
+      let puts = puts_object T nothing NAMES (Some (Context new)) in record {
         old = n;
         new = m;
         property = 0x8000 + adding.next_index n.entries;
@@ -70,16 +70,19 @@ module _ (T : Tree) (guid : List ℕ) (number : ℕ) (is : is_name guid number �
         reply = reply;
         finds = λ known. name_at-added n guid number known none;
         keeps = λ known other id kept f. name_at-kept n guid other number id kept known f;
-        others = λ q apart. ap (λ g. g q) (sym (after_now T o)) ∙ ap (λ D. now_at T D q) changed ∙ puts.others q apart ∙ ap (λ g. g q) (now_nothing T false);
+        others = λ q apart. ap (λ g. g q) (sym (after_now T o)) ∙ ap (λ D. now_at T D q) changed ∙ puts.others q apart ∙ ap (λ g. g q) (now_nothing T);
         places = places;
       }
+
+  names_stood : (new : Ctx) → AreStood T (IsNew None) (with_object NAMES (Some (Context new)) nothing)
+  names_stood new = values_stood T (IsNew None) NAMES c new nothing (none_stood T (IsNew None)) at
 
   either : (found : Option ℕ) → name_at n.guids n.entries guid number ≡ found → Fine (found_or_added T c n guid number found) (FindsName T guid number)
   unfolding found_or_added
   either (Some property) e = there property e _ refl
   either None e = elim (cases_Bool (adding.is_full n guid number)) [
-    | inl full ↦ rw full (after_limits (FindsName T guid number) (with_context NAMES c (written (with_another n guid number)) nothing) _ tt)
-    | inr room ↦ rw (room, another_is n guid number room) (after_limits (FindsName T guid number) (with_context NAMES c (written (adding.added n guid number)) nothing) _ (added e room _ refl refl refl))
+    | inl full ↦ rw full (after_limits (FindsName T guid number) T None (with_context NAMES c (written (with_another n guid number)) nothing) _ (names_stood _) tt)
+    | inr room ↦ rw (room, another_is n guid number room) (after_limits (FindsName T guid number) T None (with_context NAMES c (written (adding.added n guid number)) nothing) _ (names_stood _) (added e room _ refl refl refl))
   ]
 
 -- `name`

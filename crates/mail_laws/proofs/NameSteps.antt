@@ -13,17 +13,18 @@ use Rattle.command_text.specs.declared.reply.LastLine.TheVariants.{Named}
 use Rattle.mail_objects.specs.Forms.{Ctx}
 use Rattle.mail_objects.specs.declared.object.Object.TheVariants.{Context}
 use Rattle.mail_tree.specs.Tree.{Tree}
-use Rattle.mail_tree.specs.Changing.{nothing, now_at}
+use Rattle.mail_tree.specs.Changing.{nothing, now_at, with_object}
 use Rattle.mail_tree.specs.Folders.{Outcome, replied, unchanged}
 use Rattle.mail_tree.specs.Names.{AreNames, NAMES, found_or_added, is_name, named_property, with_another}
 use Rattle.mail_tree.specs.Settling.{with_context}
 use Rattle.mail_tree.specs.Whole.{AreWhole, Fine}
-use Rattle.mail_tree.proofs.AfterTree.{puts_values}
-use Rattle.mail_tree.proofs.FineLaws.{after_limits, fine_weaker}
+use Rattle.mail_tree.proofs.AfterTree.{puts_object}
+use Rattle.mail_tree.proofs.FineLaws.{fine_weaker}
 use Rattle.mail_tree.proofs.KindsOfPuts.{puts_names}
 use Rattle.mail_tree.proofs.Nearly.{Puts, nearly, whole}
 use Rattle.mail_laws.proofs.Keeping.{from_fine}
 use Rattle.mail_laws.proofs.MessageSteps.{Before, Keeps}
+use Rattle.mail_tree.proofs.StoodLaws.{AreStood, IsNew, none_stood, values_stood, after_limits}
 
 -- after a command the names are these values, and elsewhere all is as it was
 pub record PutsNames (T : Tree) (o : Outcome) : Type 0 where
@@ -64,17 +65,20 @@ module _ (T : Tree) (guid : List ℕ) (number : ℕ) (is : is_name guid number �
         new = new;
         was = at;
         names = (adding.added n guid number, w.0, w.1, w.2);
-        puts = subst (λ D. Puts (now_at T nothing) (now_at T D) NAMES (Some (Context new))) (sym changed) (puts_values T nothing NAMES (Context new) c.props props);
+        puts = subst (λ D. Puts (now_at T nothing) (now_at T D) NAMES (Some (Context new))) (sym changed) (puts_object T nothing NAMES (Some (Context new)));
         objects_are = inr (subst (λ D. D.objects ≡ map.insert map.empty NAMES (Some (Context new))) (sym changed) refl);
         places_are = places;
       }
+
+  names_stood : (new : Ctx) → AreStood T (IsNew None) (with_object NAMES (Some (Context new)) nothing)
+  names_stood new = values_stood T (IsNew None) NAMES c new nothing (none_stood T (IsNew None)) at
 
   by_name : (property : Option ℕ) → Fine (found_or_added T c n guid number property) (PutsNames T)
   unfolding found_or_added
   by_name (Some property) = found_one property
   by_name None = elim (cases_Bool (adding.is_full n guid number)) [
-    | inl full ↦ rw full (after_limits (PutsNames T) (with_context NAMES c (written (with_another n guid number)) nothing) _ tt)
-    | inr room ↦ rw (room, another_is n guid number room) (after_limits (PutsNames T) (with_context NAMES c (written (adding.added n guid number)) nothing) _ (added_one room _ refl refl))
+    | inl full ↦ rw full (after_limits (PutsNames T) T None (with_context NAMES c (written (with_another n guid number)) nothing) _ (names_stood _) tt)
+    | inr room ↦ rw (room, another_is n guid number room) (after_limits (PutsNames T) T None (with_context NAMES c (written (adding.added n guid number)) nothing) _ (names_stood _) (added_one room _ refl refl))
   ]
 
 -- `name`

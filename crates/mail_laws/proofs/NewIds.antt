@@ -77,7 +77,7 @@ new_folder_id T left =
     two index = omega arith
 
     gone : (q r : ℕ) → q ≡ r → is_taken T r ≡ false → now_at T nothing q ≡ None
-    gone q r same free = ap (now_at T nothing) same ∙ ap (λ g. g r) (now_nothing T false) ∙ not_there (object_at T r) (or_parts (is_some (object_at T r)) (is_some (node_at T.others r)) free).0
+    gone q r same free = ap (now_at T nothing) same ∙ ap (λ g. g r) (now_nothing T) ∙ not_there (object_at T r) (or_parts (is_some (object_at T r)) (is_some (node_at T.others r)) free).0
 
 -- no other node stands beside a new folder
 pub no_stray_beside : (T : Tree) → is_spent (next_index T 2 folder_kinds) ≡ false → node_at T.others (associated (new_id 2 (next_index T 2 folder_kinds))) ≡ None

@@ -1,5 +1,5 @@
 -- After each command rows mirror attachments, where they did before.
-use Rattle.std.proofs.Common.{◌≡◌, ℕ, ◌++◌, true, false, List, Option, None, Some, IfOk, refl, sym, subst, ap, ◌∙◌, inl, inr}
+use Rattle.std.proofs.Common.{◌≡◌, ℕ, ◌++◌, true, List, Option, None, Some, IfOk, refl, sym, subst, ap, ◌∙◌, inl, inr}
 use Rattle.std.proofs.lemmas.Bool.{cases_eq}
 use Rattle.std.proofs.lemmas.Option.{none-some, same_Some}
 use Rattle.mapi_values.specs.Messages.{Mes}
@@ -60,7 +60,7 @@ module _ (T : Tree) (w : IsWhole T) (D : ℕ → Type 0) (shown : (k : ℕ) (M :
 
   reads : (c : Command) → only_reads c ≡ true → IfOk (outcome T c) Mirror
   reads c e = if_weaker (λ o. o ≡ unchanged T o.reply) Mirror (outcome T c) (reads_only T c e) (λ o same q M d is.
-      let objects : object_at (after T o) ≡ object_at T = sym (after_now T o) ∙ ap (λ (x : Outcome). now_at T x.changed) same ∙ now_nothing T false in
+      let objects : object_at (after T o) ≡ object_at T = sym (after_now T o) ∙ ap (λ (x : Outcome). now_at T x.changed) same ∙ now_nothing T in
       shown q M d (ap (λ g. as_message (g q)) (sym objects) ∙ is))
 
   names : (guid : List ℕ) (number : ℕ) → IfOk (named_property T guid number) Mirror
@@ -68,7 +68,7 @@ module _ (T : Tree) (w : IsWhole T) (D : ℕ → Type 0) (shown : (k : ℕ) (M :
       let now : as_message (now_at T o.changed q) ≡ Some M = ap (λ g. as_message (g q)) (after_now T o) ∙ is in
       elim (cases_eq q NAMES) [
         | inl same ↦ absurd (none-some M (sym (ap as_message (ap (now_at T o.changed) same ∙ k.puts.here)) ∙ now))
-        | inr other ↦ shown q M d (ap (λ g. as_message (g q)) (sym (now_nothing T false)) ∙ sym (ap as_message (k.puts.others q other)) ∙ now)
+        | inr other ↦ shown q M d (ap (λ g. as_message (g q)) (sym (now_nothing T)) ∙ sym (ap as_message (k.puts.others q other)) ∙ now)
       ])
 
   pub mirror_after : (c : Command) → IfOk (outcome T c) Mirror

@@ -24,7 +24,7 @@ use Rattle.mail_tree.specs.Folders.{Outcome, associated_in, changing, has_associ
 use Rattle.mail_tree.specs.Step.{after}
 use Rattle.mail_laws.specs.Laws.{OnlyPlace}
 use Rattle.mail_tree.proofs.KeyedFinds.{find-put_same, find-put_other, find-drop_same, find-drop_other}
-use Rattle.mail_tree.proofs.AfterTree.{after_now, now_nothing, puts_object, puts_values}
+use Rattle.mail_tree.proofs.AfterTree.{after_now, now_nothing, puts_object}
 use Rattle.mail_tree.proofs.FineLaws.{cases_Option}
 use Rattle.mail_laws.proofs.NewIds.{free_folder, new_id_is, next_is_free, no_stray_beside}
 use Rattle.mail_tree.proofs.Nearly.{nearly, plain_id}
@@ -47,7 +47,7 @@ only_place T f now o w w' c = record {
   messages = λ k. ap (λ g. as_message (g k)) (sym (after_now T o)) ∙ elim (cases_eq (k % 32) 4) [
     | inl four ↦ ap as_message (c.keeps k four)
     | inr four ↦ no_message k (now_at T o.changed k) (w'.typed k) four ∙ sym (no_message k (now_at T nothing k) (w.typed k) four)
-  ] ∙ ap (λ g. as_message (g k)) (now_nothing T false);
+  ] ∙ ap (λ g. as_message (g k)) (now_nothing T);
 }
 
 put_placed : (T : Tree) (f parent : ℕ) (o : Outcome) → Kept Four (now_at T nothing) (now_at T o.changed) → o.places ≡ put_key place_id (place f parent) T.places → Placed T f (Some (place f parent)) o
@@ -116,7 +116,7 @@ makes_folder T parent name w = elim (cases_Option (find_place parent T.places)) 
                 let free = next_is_free T 2 folder_kinds t in
                 let id = new_id_is 2 index free.1 in
                 let two : f % 32 ≡ 2 = ap (λ x. x % 32) id ∙ kind_two index in
-                let none : now_at T nothing f ≡ None = ap (now_at T nothing) id ∙ ap (λ g. g (nid_of 2 index)) (now_nothing T false) ∙ free_folder T index free.0 in
+                let none : now_at T nothing f ≡ None = ap (now_at T nothing) id ∙ ap (λ g. g (nid_of 2 index)) (now_nothing T) ∙ free_folder T index free.0 in
                 let D = with_folder f parent name nothing in
                 let a = add_shown T (hierarchy parent) f (folder_props name) D in
                 let other : parent ≡ f → ⊥ = λ e. none-some p.0 (sym (not_placed T f w none) ∙ ap (λ x. find_place x T.places) (sym e) ∙ p.1) in
@@ -160,7 +160,7 @@ renames_folder T f name w = elim (cases_Option (find_place f T.places)) [
         let props = put (text 0x3001 name) c.props in
         let new : Ctx = record c { props = props } in
         let D = with_context f c props nothing in
-        let puts = puts_values T nothing f (Context new) c.props props in
+        let puts = puts_object T nothing f (Some (Context new)) in
         let two = plain_id (nearly (λ x. ⊥) T.places (now_at T nothing) w) f p.0 p.1 plain in
         both (Comes Four no_table T D T.places (replied Done)) (Comes (λ k. k ≡ f) (no_folder_table f two) T D T.places (replied Done)) (Renamed T f name) (mirrored T f D >>= changing T (replied Done))
         (then_changing Four no_table T D (mirrored T f D) (replied Done) (mirrored_keeps Four no_table T f D))

@@ -1,5 +1,5 @@
 -- Where no index is left a command is planned with the last one, whatever stands there, and then it is refused.
-use Rattle.std.proofs.Common.{◌≡◌, ◌<◌, ℕ, ◌%◌, ◌==◌, true, List, [], length, Option, Some, IsSome, arith, sym, subst, ap, ◌∙◌, inl, inr}
+use Rattle.std.proofs.Common.{◌≡◌, ◌<◌, ℕ, ◌%◌, ◌==◌, true, List, [], length, Option, Some, IsSome, arith, sym, subst, ap, ◌∙◌, inl, inr, IfOk}
 use Rattle.std.specs.List.{list_any}
 use Rattle.std.proofs.lemmas.Bool.{cases_Bool, cases_eq, eqb-false}
 use Rattle.mapi_values.specs.Messages.{Mes}
@@ -16,23 +16,26 @@ use Rattle.mail_tree.specs.Changing.{Answer, Changed, ◌>>=◌, add_shown, asso
 use Rattle.mail_tree.specs.Columns.{contents_table, hierarchy_table}
 use Rattle.mail_tree.specs.Settling.{counted, message_ids, mirrored, table_as_is, settled, unread_among}
 use Rattle.mail_tree.specs.Ids.{is_spent, new_id}
-use Rattle.mail_tree.specs.Folders.{Outcome, making, with_folder}
+use Rattle.mail_tree.specs.Folders.{Outcome, making, with_folder, nid}
 use Rattle.mail_tree.specs.Messages.{added_message}
 use Rattle.mail_tree.specs.Whole.{AreWhole, Fine}
-use Rattle.mail_tree.proofs.AfterTree.{puts_object, puts_values}
-use Rattle.mail_tree.proofs.FineLaws.{after_limits, fine_then, fine_weaker}
+use Rattle.mail_tree.proofs.AfterTree.{puts_object}
+use Rattle.mail_tree.proofs.FineLaws.{fine_then, fine_weaker}
 use Rattle.mail_tree.proofs.KeyedFinds.{find-put_other}
 use Rattle.mail_tree.proofs.KindsOfPuts.{beside_kind}
 use Rattle.mail_tree.proofs.Nearly.{nearly, plain_id}
 use Rattle.mail_tree.proofs.Settles.{EachMessage, each_message, fine_same, fine_unread, folders_of, messages_of}
+use Rattle.mail_tree.proofs.StoodLaws.{AreStood, IsNew}
+use Rattle.mail_laws.proofs.Comparing.{fine_limits}
 
 -- a new id is of its kind
 pub new_id_kind : (kind index : ℕ) → kind < 32 → new_id kind index % 32 ≡ kind
 new_id_kind kind index small = omega arith
 
 -- where no index is left, what was planned is refused
-pub refused_later : (T : Tree) (places : List FolderPlace) (kind index : ℕ) (Q : Outcome → Type 0) (a : Answer Changed) → is_spent index ≡ true → Fine a (λ D. Unit {0}) → Fine (a >>= making T places kind index) Q
-refused_later T places kind index Q a spent fine = fine_then (λ D. Unit {0}) Q a (making T places kind index) fine (λ D u. after_limits Q D _ (rw spent tt))
+pub refused_later : (T : Tree) (places : List FolderPlace) (kind index : ℕ) (Q : Outcome → Type 0) (a : Answer Changed) → is_spent index ≡ true → Fine a (λ D. Unit {0}) → IfOk a (AreStood T (IsNew (Some (nid (new_id kind index)))))
+    → Fine (a >>= making T places kind index) Q
+refused_later T places kind index Q a spent fine stood = fine_limits (λ D. Unit {0}) Q T (Some (nid (new_id kind index))) a _ fine stood (λ D u. rw spent tt)
 
 -- the root's table of folders is there
 abbrev pub HasRootTable : (ℕ → Option Object) → Type 0
@@ -58,7 +61,7 @@ fine_counts T places f D two r =
     rw (c.1, t.1) (fine_then (λ n. Unit {0}) (λ D'. CanMirror (now_at T D') f) (unread_among T D (message_ids t.0.table)) _ (fine_unread T D (message_ids t.0.table) t.2)
     (λ n u.
     let props = with_counts (length (message_ids t.0.table)) n (list_any (is_child f) places) c.0.props in
-    let puts = puts_values T D f (Context (record c.0 { props = props })) c.0.props props in
+    let puts = puts_object T D f (Some (Context (record c.0 { props = props }))) in
     ((r.root.0, puts.others (hierarchy ROOT) (λ e. omega (arith, beside_kind ROOT 13 (omega arith))) ∙ r.root.1), (record c.0 { props = props }, puts.here, (λ no_root. let u = c.2 no_root in (u.0, puts.others (hierarchy c.0.parent) (λ e. omega (arith, beside_kind c.0.parent 13 (omega arith))) ∙ u.1))))))
 
 -- a table that is there is put as it is

@@ -1,10 +1,7 @@
 -- Calls one after another: what the later ones say goes on from what the earlier ones said.
-use Rattle.std.proofs.Common.{◌≡◌, ◌∙◌, Bool, Option, None, Some, Result, Ok, Err, sym, ap, subst}
-use Rattle.std.specs.FinMap as map
-use Rattle.std.specs.Ordering.{nat_cmp}
+use Rattle.std.proofs.Common.{◌≡◌, None, Some, Result, Ok, Err, sym, ap, subst}
 use Rattle.std.specs.Result.{IsErrAnd}
-use Rattle.mail_tree.specs.Changing.{Answer, Changed, ◌>>=◌}
-use Rattle.mail_objects.specs.declared.object.Object.{Object}
+use Rattle.mail_tree.specs.Changing.{Answer, ◌>>=◌}
 use Rattle.mail_draft.specs.declared.stop.Stop.{Stop}
 use Rattle.mail_draft.specs.Answers.{IsNoMatter, Says}
 use Rattle.mail_draft.proofs.Passes.{no_matter, stop_says}
@@ -24,6 +21,17 @@ pub as_at2 : {X Y A B : Type 0} (view : B → A) (answer : X → Y → Answer A)
     → x ≡ x' → y ≡ y' → Says view (answer x y) result → Says view (answer x' y') result
 as_at2 view answer result {x} {x'} {y} {y'} e e' said = subst (λ z. Says view (answer x' z) result) e' (subst (λ z. Says view (answer z y) result) e said)
 
+-- the same of three equal things
+pub as_at3 : {X Y Z A B : Type 0} (view : B → A) (answer : X → Y → Z → Answer A) (result : Result B Stop) {x x' : X} {y y' : Y} {z z' : Z}
+    → x ≡ x' → y ≡ y' → z ≡ z' → Says view (answer x y z) result → Says view (answer x' y' z') result
+as_at3 view answer result {x} {x'} {y} {y'} {z} {z'} e e' f said = as_at view (answer x' y') result f (as_at2 view (λ a b. answer a b z) result e e' said)
+
+-- the same of four equal things
+pub as_at4 : {X Y Z U A B : Type 0} (view : B → A) (answer : X → Y → Z → U → Answer A) (result : Result B Stop) {x x' : X} {y y' : Y} {z z' : Z} {u u' : U}
+    → x ≡ x' → y ≡ y' → z ≡ z' → u ≡ u' → Says view (answer x y z u) result → Says view (answer x' y' z' u') result
+as_at4 view answer result {x} {x'} {y} {y'} {z} {z'} {u} {u'} e e' f f' said =
+    as_at2 view (answer x' y') result f f' (as_at2 view (λ a b. answer a b z u) result e e' said)
+
 -- steps grouped from the right
 pub regroup : {A B C D : Type 0} (view : D → C) (answer : Answer A) (f : A → Answer B) (g : B → Answer C) (result : Result D Stop)
     → Says view ((answer >>= f) >>= g) result → Says view (answer >>= λ x. f x >>= g) result
@@ -35,12 +43,6 @@ pub ungroup : {A B C D : Type 0} (view : D → C) (answer : Answer A) (f : A →
     → Says view (answer >>= λ x. f x >>= g) result → Says view ((answer >>= f) >>= g) result
 ungroup view (Ok x) f g result said = said
 ungroup view (Err e) f g result said = said
-
--- the same of four equal things
-pub as_at4 : {X Y Z U A B : Type 0} (view : B → A) (answer : X → Y → Z → U → Answer A) (result : Result B Stop) {x x' : X} {y y' : Y} {z z' : Z} {u u' : U}
-    → x ≡ x' → y ≡ y' → z ≡ z' → u ≡ u' → Says view (answer x y z u) result → Says view (answer x' y' z' u') result
-as_at4 view answer result {x} {x'} {y} {y'} {z} {z'} {u} {u'} e e' f f' said =
-    as_at2 view (answer x' y') result f f' (as_at2 view (λ a b. answer a b z u) result e e' said)
 
 -- four steps grouped from the left
 pub ungroup3 : {A B C D E : Type 0} (view : E → D) (answer : Answer A) (f : A → Answer B) (g : B → Answer C) (h : C → Answer D) (result : Result E Stop)
@@ -59,7 +61,3 @@ then_is view view' (Err (Some refusal)) f y result first then = absurd first
 pub unrelated : {A D : Type 0} (view : D → A) (answer : Answer A) (stop : Stop) (result : Result D Stop) → IsNoMatter stop → IsErrAnd result (λ e. e ≡ stop) → Says view answer result
 unrelated view answer stop (Ok x) first is = absurd is
 unrelated view answer stop (Err e) first is = subst (λ z. Says view answer (Err z)) (sym is) (no_matter view answer stop first)
-
--- two parts make the changes
-pub changed_same : (D E : Changed) → D.objects ≡ E.objects → D.crowded ≡ E.crowded → D ≡ E
-changed_same D E objects crowded = ap (λ (o : map.FinMap nat_cmp (Option Object)). record D { objects = o }) objects ∙ ap (λ (b : Bool). record E { crowded = b }) crowded

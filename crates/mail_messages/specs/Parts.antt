@@ -1,7 +1,7 @@
 -- Commands on messages, part by part.
-use Rattle.std.specs.Prelude.{ℕ, ◌==◌, ◌||◌, ◌++◌, List, length, map, nat_le, not, is_some, Option, None, Ok, false, if◌then◌else◌}
+use Rattle.std.specs.Prelude.{ℕ, ◌==◌, ◌||◌, ◌++◌, List, length, map, nat_le, not, is_some, Option, Ok, if◌then◌else◌}
 use Rattle.command_text.specs.declared.reply.CommandRefusal.{CommandRefusal}
-use Rattle.command_text.specs.declared.reply.CommandRefusal.TheVariants.{Ids, Limit, Object, Property, Protected, Reserved}
+use Rattle.command_text.specs.declared.reply.CommandRefusal.TheVariants.{Limit, Property, Protected, Reserved}
 use Rattle.command_text.specs.declared.reply.Limit.TheVariants.{Rows}
 use Rattle.command_text.specs.declared.reply.DataLine.{DataLine}
 use Rattle.command_text.specs.declared.reply.LastLine.{LastLine}
@@ -15,11 +15,11 @@ use Rattle.mail_tree.specs.Tree.{Tree}
 use Rattle.mail_tree.specs.Values.{bytes_of, is_set_protected, is_unset_protected}
 use Rattle.mail_tree.specs.Changing.{Answer, Changed, ◌>>=◌, add_shown, contents, found, nothing, put_shown, refused_if}
 use Rattle.mail_tree.specs.Settling.{settled, touched}
-use Rattle.mail_tree.specs.Ids.{is_spent, message_kinds, next_index}
+use Rattle.mail_tree.specs.Ids.{message_kinds, next_index}
 use Rattle.mail_tree.specs.Names.{unless_nameless}
 use Rattle.mail_tree.specs.Folders.{Outcome, changing, making, replied, replying, unchanged, unless_full}
 use Rattle.mail_messages.specs.Finding.{plain_at}
-use Rattle.mail_tree.specs.Messages.{added_message, attachment_line, changed_message, copying, is_crowded_message, is_overfull, making_message, property_line, recipient_line, value_of}
+use Rattle.mail_tree.specs.Messages.{added_message, attachment_line, changed_message, copying, is_overfull, making_message, property_line, recipient_line, value_of}
 use Rattle.mail_tree.specs.Parts.{rows_of}
 use Rattle.mail_messages.specs.Pieces.{moving_message}
 
@@ -55,10 +55,6 @@ removing_value T tag M = may_unset tag M.props >>= λ u. changed_message T M (re
 abbrev pub telling_value : Tree → Tag → List Val → Answer Outcome
 telling_value T tag props = found Property (value_of tag props) >>= λ v. Ok (unchanged T (replied (Value v)))
 
--- an index, if one was left
-abbrev pub left : ℕ → Answer ℕ
-left index = refused_if (is_spent index) Ids >>= λ u. Ok index
-
 -- a table has few enough rows to get another
 abbrev pub may_grow : Tbl → Answer (Unit {0})
 may_grow t = refused_if (nat_le 100000 (length t.table.rows)) (Limit Rows)
@@ -77,7 +73,7 @@ making_in T folder class time store = unless_full T (contents folder) >>= λ u. 
 
 -- the folder of a message that is copied is put as it is
 abbrev pub home_touched : Tree → Mes → Answer Changed
-home_touched T M = touched T M.folder (record nothing { crowded = is_crowded_message M })
+home_touched T M = touched T M.folder nothing
 
 -- a folder that has room for it gets a copy of a message
 abbrev pub copying_in : Tree → ℕ → Mes → Answer Outcome

@@ -119,5 +119,5 @@ pub(crate) fn adding<W: Outside, K: Keeper<W>>(
 {
     let draft = add_message(alloc, keeper, w, known, draft, mail)?;
     let counts = keeper.counts();
-    making(alloc, counts, draft, None, 4, index)
+    making(alloc, keeper, w, counts, draft, None, 4, index)
 }

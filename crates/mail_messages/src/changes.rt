@@ -1,6 +1,5 @@
 //! What changes of messages come to.
-ghost use Rattle.std.specs.Prelude.{◌≡◌, IfErr, length};
-ghost use Rattle.mapi_values.specs.Messages.{Mes};
+ghost use Rattle.std.specs.Prelude.{IfErr};
 ghost use Rattle.mail_tree.specs.Knowing.{Knows};
 ghost use Rattle.mail_tree.specs.Tree.{Shown, Tree};
 ghost use Rattle.mail_tree.specs.Messages.{changed_message, remaking};
@@ -36,7 +35,7 @@ pub(crate) fn settling<W: Outside, K: NodeReader<W>>(
     ensures cause { IfErr result (IsCaused K.has_disk (W.view w.old).disk_faults (W.view w.new).disk_faults) }
 {
     let draft = settled(alloc, keeper, w, draft, &known.flags, &known.places, folder)?;
-    changing(alloc, draft)
+    changing(alloc, keeper, w, draft)
 }
 
 /// Counts a folder anew, and makes the changes.
@@ -54,7 +53,7 @@ fn ending<W: Outside, K: NodeReader<W>>(
     ensures cause { IfErr result (IsCaused K.has_disk (W.view w.old).disk_faults (W.view w.new).disk_faults) }
 {
     let draft = settled(alloc, keeper, w, draft, &known.flags, &known.places, folder)?;
-    replying(alloc, draft, end.reason, end.last)
+    replying(alloc, keeper, w, draft, end.reason, end.last)
 }
 
 /// Makes the row of a message in its folder's table show these values of it, counts the folder anew, and makes the changes.
@@ -77,43 +76,41 @@ fn showing_row<W: Outside, K: NodeReader<W>>(
     ending(alloc, keeper, w, known, draft, folder, end)
 }
 
-/// Puts a message that had so many values before, and shows it as it is now.
+/// Puts a message in place of the one with its id, and shows it as it is now.
 fn showing_message<W: Outside, K: NodeReader<W>>(
     alloc: Global,
     keeper: &mut K,
     w: &mut W,
     known: &Known,
-    old_len: usize,
     mail: Mail,
     end: Ending,
 ) -> Result<Outcome, Stop>
-    ensures answer { (T : Tree) → Shown (K.holds keeper.old (W.view w.old)) (K.last keeper.old) T → Knows T known.now → (old : Mes) → length old.props ≡ old_len → Says (outcome_of T) (showing_message T old mail end.crowded end.reason end.last) result }
+    ensures answer { (T : Tree) → Shown (K.holds keeper.old (W.view w.old)) (K.last keeper.old) T → Knows T known.now → Says (outcome_of T) (showing_message T mail end.reason end.last) result }
     ensures looks { Looks (K.holds keeper.old (W.view w.old)) (K.holds keeper.new (W.view w.new)) (K.last keeper.old) (K.last keeper.new) (K.room keeper.old) (K.room keeper.new) (W.view w.old) (W.view w.new) }
     ensures cause { IfErr result (IsCaused K.has_disk (W.view w.old).disk_faults (W.view w.new).disk_faults) }
 {
     let folder = mail.message().folder;
     let nid = mail.message().nid;
     let props = mail.message().props.copy(alloc)?;
-    let draft = message_draft(alloc, old_len, mail, end.crowded)?;
+    let draft = message_draft(alloc, mail)?;
     showing_row(alloc, keeper, w, known, draft, folder, nid, &props, end)
 }
 
-/// Puts another message in place of one that had so many values: its flags and its size are made right, and it is shown.
+/// Puts another message in place of the one with its id: its flags and its size are made right, and it is shown.
 pub fn remake_message<W: Outside, K: NodeReader<W>>(
     alloc: Global,
     keeper: &mut K,
     w: &mut W,
     known: &Known,
-    old_len: usize,
     mail: Mail,
     end: Ending,
 ) -> Result<Outcome, Stop>
-    ensures answer { (T : Tree) → Shown (K.holds keeper.old (W.view w.old)) (K.last keeper.old) T → Knows T known.now → (old : Mes) → length old.props ≡ old_len → Says (outcome_of T) (remaking T old mail end.crowded end.reason end.last) result }
+    ensures answer { (T : Tree) → Shown (K.holds keeper.old (W.view w.old)) (K.last keeper.old) T → Knows T known.now → Says (outcome_of T) (remaking T mail end.reason end.last) result }
     ensures looks { Looks (K.holds keeper.old (W.view w.old)) (K.holds keeper.new (W.view w.new)) (K.last keeper.old) (K.last keeper.new) (K.room keeper.old) (K.room keeper.new) (W.view w.old) (W.view w.new) }
     ensures cause { IfErr result (IsCaused K.has_disk (W.view w.old).disk_faults (W.view w.new).disk_faults) }
 {
     let mail = finished(alloc, mail)?;
-    showing_message(alloc, keeper, w, known, old_len, mail, end)
+    showing_message(alloc, keeper, w, known, mail, end)
 }
 
 /// Gives a message other values.
@@ -129,7 +126,6 @@ pub(crate) fn change_message<W: Outside, K: NodeReader<W>>(
     ensures looks { Looks (K.holds keeper.old (W.view w.old)) (K.holds keeper.new (W.view w.new)) (K.last keeper.old) (K.last keeper.new) (K.room keeper.old) (K.room keeper.new) (W.view w.old) (W.view w.new) }
     ensures cause { IfErr result (IsCaused K.has_disk (W.view w.old).disk_faults (W.view w.new).disk_faults) }
 {
-    let old_len = old.message().props.len();
     let mail = with_props(old, props);
-    remake_message(alloc, keeper, w, known, old_len, mail, Ending::done())
+    remake_message(alloc, keeper, w, known, mail, Ending::done())
 }

@@ -10,7 +10,7 @@ ghost use Rattle.mail_messages.specs.Parts.{copying_in, copying_into, home_touch
 
 use crate::adding::{adding, next_message, unless_full};
 use crate::find::{check_plain, message_in};
-use crate::mails::{copy_of, is_crowded_message};
+use crate::mails::copy_of;
 use command_text::{CommandRefusal, Limit};
 use mail_draft::{Draft, Outcome, Stop, new_id, touched};
 use mail_objects::Mail;
@@ -57,9 +57,8 @@ fn home_touched<W: Outside, K: NodeReader<W>>(
     ensures looks { Looks (K.holds keeper.old (W.view w.old)) (K.holds keeper.new (W.view w.new)) (K.last keeper.old) (K.last keeper.new) (K.room keeper.old) (K.room keeper.new) (W.view w.old) (W.view w.new) }
     ensures cause { IfErr result (IsCaused K.has_disk (W.view w.old).disk_faults (W.view w.new).disk_faults) }
 {
-    let draft = Draft::new(alloc).crowded(is_crowded_message(mail));
     let from = mail.message().folder;
-    touched(alloc, keeper, w, draft, from)
+    touched(alloc, keeper, w, Draft::new(alloc), from)
 }
 
 /// Puts a copy of a message into a folder that has room for it.

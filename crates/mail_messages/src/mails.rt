@@ -1,13 +1,14 @@
 //! Messages with other values, in other places, and new ones.
-ghost use Rattle.std.specs.Prelude.{◌≡◌, ◌+◌, ◌++◌, IfOk, IfErr, OnOk, length};
-ghost use Rattle.mapi_values.specs.Messages.{Mes, size};
+ghost use Rattle.std.specs.Prelude.{◌≡◌, ◌+◌, ◌++◌, IfOk, OnOk, Some, length};
+ghost use Rattle.mapi_values.specs.Messages.{size};
 ghost use Rattle.mapi_values.specs.Properties.{put, remove_id};
-ghost use Rattle.mail_tree.specs.Changing.{nothing};
+ghost use Rattle.mail_tree.specs.Changing.{nothing, with_object};
 ghost use Rattle.mail_tree.specs.Values.{bytes_of, finished, has_parts, key_front, message_props, number, search_key, with_attachment_flag, with_flag, with_props};
-ghost use Rattle.mail_tree.specs.Messages.{copy_of, is_crowded_message, plain_message, with_message};
+ghost use Rattle.mail_tree.specs.Messages.{copy_of, plain_message};
 ghost use Rattle.mail_draft.specs.Drafts.{changed_of};
+ghost use Rattle.mail_objects.specs.declared.object.Object.TheVariants as objects;
 
-use mail_draft::{Draft, bytes_of, crowds, number_of, put_number, put_text, put_time};
+use mail_draft::{Draft, bytes_of, number_of, put_number, put_text, put_time};
 use mail_objects::{Mail, Object};
 use mapi_values::tags::{
     ID_MESSAGE_FLAGS, ID_MESSAGE_SIZE, PID_TAG_CREATION_TIME, PID_TAG_LAST_MODIFICATION_TIME,
@@ -16,9 +17,6 @@ use mapi_values::tags::{
 use mapi_values::{Message, Props, Tag, Units, Value, size};
 use pst_base::{Bytes, Nid, Subs};
 use std::alloc::{AllocError, Global};
-
-/// How many values an object may have that a command makes.
-const MOST_VALUES: usize = 1000;
 
 /// The same message with other properties.
 #[tactic(auto, unfolding(message_obj::specs::Message::is_formed))]
@@ -218,31 +216,10 @@ pub(crate) fn message_props(
     Ok(props)
 }
 
-/// Whether a new object of these values, of the message or of one of its attachments, has too many.
-pub(crate) fn is_crowded_message(mail: &Mail) -> bool
-    ensures { result ≡ is_crowded_message mail.now }
+/// The draft of a message.
+pub(crate) fn message_draft(alloc: Global, mail: Mail) -> Result<Draft, AllocError>
+    ensures { IfOk result (λ d. changed_of d ≡ with_object mail.nid (Some (objects.Message mail)) nothing) }
 {
-    let message = mail.message();
-    message.props.len() > MOST_VALUES
-        || message
-            .parts
-            .iter()
-            .any(|part| part.props.len() > MOST_VALUES)
-}
-
-/// The draft of a message that had so many values before, of which some part got too many or not.
-pub(crate) fn message_draft(
-    alloc: Global,
-    old_len: usize,
-    mail: Mail,
-    crowded: bool,
-) -> Result<Draft, AllocError>
-    ensures { IfOk result (λ d. (old : Mes) → length old.props ≡ old_len → changed_of d ≡ with_message old mail (record nothing { crowded = crowded })) }
-{
-    let crowds = crowds(old_len, &mail.message().props);
     let nid = mail.message().nid;
-    let draft = Draft::new(alloc)
-        .crowded(crowded)
-        .with(nid, Some(Object::Message(mail)))?;
-    Ok(draft.crowded(crowds))
+    Draft::new(alloc).with(nid, Some(Object::Message(mail)))
 }

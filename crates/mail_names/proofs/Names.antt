@@ -56,7 +56,7 @@ adds_says view T x n guid number property result given said =
 
 -- a name for which there is no room
 pub full_says : {D : Type 0} (view : D → Outcome) (T : Tree) (x : Ctx) (n : Names) (guid : List ℕ) (number : ℕ) (result : Result D Stop)
-    → None ≡ property_given n guid number → Says view (within_limits (with_context NAMES x (written (with_another n guid number)) nothing) >>= λ u. Err (Some (Limit limits.Names))) result → Says view (found_or_added T x n guid number None) result
+    → None ≡ property_given n guid number → Says view (within_limits T None (with_context NAMES x (written (with_another n guid number)) nothing) >>= λ u. Err (Some (Limit limits.Names))) result → Says view (found_or_added T x n guid number None) result
 unfolding found_or_added
 full_says view T x n guid number result none said = rw (none_full (is_full n guid number) (0x8000 + next_index n.entries) none) said
 

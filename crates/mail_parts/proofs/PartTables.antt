@@ -1,19 +1,16 @@
 -- Attachments and the rows that name them.
-use Rattle.std.proofs.Common.{◌≡◌, ℕ, ◌<◌, ◌≤◌, ◌++◌, ◌&&◌, append_assoc, drop, ◌==◌, Bool, true, false, not, List, [], ◌∷◌, length, map, get_or, suc, Option, None, Some, Result, Ok, Err, IsSome, MatchResult, ◌+◌, ◌*◌, max, min, nat_le, nat_lt, arith, refl, sym, subst, ap, ◌∙◌, inl, inr, if◌then◌else◌}
+use Rattle.std.proofs.Common.{◌≡◌, ℕ, ◌<◌, ◌≤◌, ◌++◌, drop, ◌==◌, true, List, [], ◌∷◌, length, map, get_or, suc, Option, None, Some, Result, Ok, Err, IsSome, MatchResult, ◌+◌, ◌*◌, max, min, nat_le, nat_lt, arith, refl, sym, subst, ap, ◌∙◌, inl, inr}
 use Rattle.std.specs.List.{list_all}
 use Rattle.std.specs.Option.{option_map}
 use Rattle.std.proofs.lemmas.Bool.{and_from, and_parts, cases_Bool, eqb-false, eqb-true, le-ltb, leb-true, ltb-false, ne_eqb}
-use Rattle.std.proofs.lemmas.List.{append-nil, drop_all, drop_more, get_or-map, length-map}
-use Rattle.pst_base.specs.Flat.{Flat}
-use Rattle.column_layout.specs.Layout.{completed, has_columns}
-use Rattle.mapi_values.specs.Columns.{has_column}
+use Rattle.std.proofs.lemmas.List.{append-nil, drop_all, get_or-map, length-map}
+use Rattle.column_layout.specs.Layout.{has_columns}
 use Rattle.mapi_values.specs.declared.column.Column.{Column}
 use Rattle.mapi_values.specs.declared.part.Part.{Part}
 use Rattle.mapi_values.specs.Keyed.{IsGap, IsHere, drop_key, find_key, keys_ascend, put_key}
-use Rattle.mapi_values.specs.Messages.{AreNamed, Mes, are_others, part_id, row_ids}
-use Rattle.mapi_values.specs.Tables.{Tab, drop_row, mirror, put_row}
+use Rattle.mapi_values.specs.Messages.{AreNamed, Mes, are_others, part_id}
+use Rattle.mapi_values.specs.Tables.{Tab, drop_row, mirror}
 use Rattle.mapi_values.specs.Values.{Val}
-use Rattle.mapi_values.proofs.KeyedLaws.{drop-all, put-all}
 use Rattle.message_obj.specs.Message.{is_formed, part_is_formed, table_ascends}
 use Rattle.node_values.specs.Subnodes.{ids_ascend}
 use Rattle.pst_base.specs.Ids.{nid_of}
@@ -192,10 +189,6 @@ room_free M part is others =
           rw left (past_kept M.parts part M.kept index (omega arith) (is ∙ ap (λ (n : ℕ). nid_of 5 n) (let m : min index 134217727 ≡ index = omega arith in m)) others)
     ]
 
--- a loop that pushes what is made of each, step by step and at its end
-pub row_step : {X Y : Type 0} (f : X → Y) (out : List Y) (xs : List X) (i : ℕ) (x : X) → i < length xs → x ≡ get_or xs i x → (out ++ (f x ∷ [])) ++ map f (drop (i + 1) xs) ≡ out ++ map f (drop i xs)
-row_step {X} {Y} f out xs i x h is =
-    append_assoc out (f x ∷ []) (map f (drop (i + 1) xs)) ∙ ap (λ (ys : List Y). out ++ ys) (sym (ap (λ (zs : List X). map f zs) (drop_more xs i x h ∙ ap (λ (y : X). y ∷ drop (i + 1) xs) (sym is))))
-
+-- a loop that pushes what is made of each, at its end
 pub all_rows : {X Y : Type 0} (f : X → Y) (out : List Y) (xs : List X) (n : ℕ) → out ++ map f (drop n xs) ≡ map f xs → length xs ≤ n → out ≡ map f xs
 all_rows {X} {Y} f out xs n e le = sym (append-nil out) ∙ ap (λ (zs : List X). out ++ map f zs) (sym (drop_all n xs le)) ∙ e

@@ -1,5 +1,5 @@
 -- What is there unless a test holds, and what a test refuses.
-use Rattle.std.proofs.Common.{◌≡◌, Bool, true, false, Option, None, Some, Result, Ok, Err, refl, subst, if◌then◌else◌}
+use Rattle.std.proofs.Common.{◌≡◌, Bool, true, false, Option, None, Some, Result, Err, refl, subst, if◌then◌else◌}
 use Rattle.command_text.specs.declared.reply.CommandRefusal.{CommandRefusal}
 use Rattle.mail_tree.specs.Changing.{Answer, ◌>>=◌, found, refused_if}
 use Rattle.mail_draft.specs.declared.stop.Stop.{Stop}
@@ -7,10 +7,6 @@ use Rattle.mail_draft.specs.declared.stop.Stop.TheVariants.{Refused}
 use Rattle.mail_draft.specs.Answers.{Says}
 
 -- a thing that is there unless a test holds
-pub none_where : {X : Type 0} (b : Bool) (x : X) → None ≡ (if b then None else Some x) → b ≡ true
-none_where true x e = refl
-none_where false x e = cc
-
 pub some_where : {X : Type 0} (b : Bool) (x y : X) → Some y ≡ (if b then None else Some x) → (b ≡ false) × (y ≡ x)
 some_where true x y e = cc
 some_where false x y e = (refl, cc)

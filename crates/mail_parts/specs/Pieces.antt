@@ -1,5 +1,5 @@
 -- The commands on recipients and attachments, part by part.
-use Rattle.std.specs.Prelude.{ℕ, List, length, not, Option, None, Some, false}
+use Rattle.std.specs.Prelude.{ℕ, List, not, None}
 use Rattle.std.specs.Option.{is_some}
 use Rattle.command_text.specs.declared.reply.CommandRefusal.TheVariants.{Limit, Object, Property}
 use Rattle.command_text.specs.declared.reply.Limit.TheVariants.{Rows}
@@ -25,7 +25,7 @@ adding_one T M props = refused_if (is_full M.recipients) (Limit Rows) >>= λ u. 
 
 -- a message loses the recipient in this row
 abbrev pub removing_one : Tree → ℕ → Mes → Answer Outcome
-removing_one T row M = refused_if (not (has_recipient row M)) Object >>= λ u. remaking T M (without_recipient row M) false None Done
+removing_one T row M = refused_if (not (has_recipient row M)) Object >>= λ u. remaking T (without_recipient row M) None Done
 
 -- a message with an attachment table that has room gets an attachment
 abbrev pub attaching_to : Tree → Mes → List Val → Answer Outcome
@@ -37,7 +37,7 @@ attaching T M props = refused_if (is_full M.attachments) (Limit Rows) >>= λ u. 
 
 -- a message loses the attachment with this id
 abbrev pub detaching : Tree → ℕ → Mes → Answer Outcome
-detaching T n M = refused_if (not (is_some (part_in n M))) Object >>= λ u. remaking T M (without_attachment n M) false None Done
+detaching T n M = refused_if (not (is_some (part_in n M))) Object >>= λ u. remaking T (without_attachment n M) None Done
 
 -- an attachment of a message gets bytes behind its data, if it has any
 abbrev pub appending_to : Tree → List ℕ → Mes → Part → Answer Outcome

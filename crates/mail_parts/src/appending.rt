@@ -1,5 +1,5 @@
 //! `append`
-ghost use Rattle.std.specs.Prelude.{◌≡◌, IfErr, IsSome, None, Some, if◌then◌else◌, length, true};
+ghost use Rattle.std.specs.Prelude.{◌≡◌, IfErr, IsSome, None, Some, if◌then◌else◌, true};
 ghost use Rattle.command_text.specs.declared.reply.CommandRefusal.TheVariants as refusal;
 ghost use Rattle.command_text.specs.declared.reply.Limit.TheVariants as limit;
 ghost use Rattle.command_text.specs.declared.reply.LastLine.TheVariants.{Done};
@@ -18,7 +18,7 @@ ghost use Rattle.mail_parts.specs.Pieces.{appending_in, appending_to};
 use crate::part_values::{is_too_long, lengthened, with_data};
 use crate::with_attachments::{take_attachment, with_part};
 use command_text::{CommandRefusal, LastLine, Limit};
-use mail_draft::{Outcome, Stop, bytes_of, crowds};
+use mail_draft::{Outcome, Stop, bytes_of};
 use mail_messages::{Ending, message_in, remake_message};
 use mail_objects::Mail;
 use mail_tree::Known;
@@ -29,9 +29,8 @@ use pst_base::{Bytes, Nid};
 use pst_outside::Outside;
 use std::alloc::Global;
 
-/// How a command ends that puts bytes behind the data of an attachment, which got too many values or not, and would be too long or not.
-fn append_ending(crowded: bool, too_long: bool) -> Ending
-    ensures crowded { result.crowded ≡ crowded }
+/// How a command ends that puts bytes behind the data of an attachment, which would be too long or not.
+fn append_ending(too_long: bool) -> Ending
     ensures reason { result.reason ≡ (if too_long then Some (refusal.Limit limit.Value) else None) }
     ensures last { result.last ≡ Done }
 {
@@ -41,7 +40,6 @@ fn append_ending(crowded: bool, too_long: bool) -> Ending
         None
     };
     Ending {
-        crowded,
         reason,
         last: LastLine::Done,
     }
@@ -53,7 +51,6 @@ fn append_to<W: Outside, K: NodeReader<W>>(
     keeper: &mut K,
     w: &mut W,
     known: &Known,
-    old_len: usize,
     mail: Mail,
     part: Part,
     more: &Bytes,
@@ -61,7 +58,7 @@ fn append_to<W: Outside, K: NodeReader<W>>(
     requires table { IsSome mail.attachments }
     requires free { (p : Part) → part_id p ≡ part_id part → are_others (put_key part_id p mail.parts) mail.kept ≡ true }
     requires formed { part_is_formed part ≡ true }
-    ensures answer { (T : Tree) → Shown (K.holds keeper.old (W.view w.old)) (K.last keeper.old) T → Knows T known.now → (M : Mes) → length M.props ≡ old_len → ((p : Part) → part_id p ≡ part_id part → with_part p mail ≡ with_part p M) → Says (outcome_of T) (appending_to T more.now M part) result }
+    ensures answer { (T : Tree) → Shown (K.holds keeper.old (W.view w.old)) (K.last keeper.old) T → Knows T known.now → (M : Mes) → ((p : Part) → part_id p ≡ part_id part → with_part p mail ≡ with_part p M) → Says (outcome_of T) (appending_to T more.now M part) result }
     ensures looks { Looks (K.holds keeper.old (W.view w.old)) (K.holds keeper.new (W.view w.new)) (K.last keeper.old) (K.last keeper.new) (K.room keeper.old) (K.room keeper.new) (W.view w.old) (W.view w.new) }
     ensures cause { IfErr result (IsCaused K.has_disk (W.view w.old).disk_faults (W.view w.new).disk_faults) }
 {
@@ -69,13 +66,12 @@ fn append_to<W: Outside, K: NodeReader<W>>(
     let Some(old) = bytes_of(&part.props, tag.id, tag.kind) else {
         return Err(Stop::Refused(CommandRefusal::Property));
     };
-    let values = part.props.len();
     let too_long = is_too_long(old, more.as_slice());
     let bytes = lengthened(alloc, old, more.as_slice())?;
     let part = with_data(alloc, part, bytes)?;
-    let end = append_ending(crowds(values, &part.props), too_long);
+    let end = append_ending(too_long);
     let mail = with_part(alloc, mail, part)?;
-    remake_message(alloc, keeper, w, known, old_len, mail, end)
+    remake_message(alloc, keeper, w, known, mail, end)
 }
 
 /// Puts bytes behind the data of the attachment of a message with this id.
@@ -92,9 +88,8 @@ fn append_in<W: Outside, K: NodeReader<W>>(
     ensures looks { Looks (K.holds keeper.old (W.view w.old)) (K.holds keeper.new (W.view w.new)) (K.last keeper.old) (K.last keeper.new) (K.room keeper.old) (K.room keeper.new) (W.view w.old) (W.view w.new) }
     ensures cause { IfErr result (IsCaused K.has_disk (W.view w.old).disk_faults (W.view w.new).disk_faults) }
 {
-    let old_len = mail.message().props.len();
     match take_attachment(mail, attachment) {
-        Some(taken) => append_to(alloc, keeper, w, known, old_len, taken.0, taken.1, more),
+        Some(taken) => append_to(alloc, keeper, w, known, taken.0, taken.1, more),
         None => Err(Stop::Refused(CommandRefusal::Object)),
     }
 }

@@ -1,5 +1,5 @@
 //! `attach`, `detach` and `fetch`
-ghost use Rattle.std.specs.Prelude.{◌≡◌, false, IfErr, IfOk, if◌then◌else◌, None, Some};
+ghost use Rattle.std.specs.Prelude.{◌≡◌, IfErr, IfOk, if◌then◌else◌, None, Some};
 ghost use Rattle.command_text.specs.declared.reply.CommandRefusal.TheVariants as refusal;
 ghost use Rattle.command_text.specs.declared.reply.Limit.TheVariants as limit;
 ghost use Rattle.command_text.specs.declared.reply.LastLine.TheVariants as last;
@@ -33,7 +33,6 @@ const MOST_ROWS: usize = 100_000;
 
 /// How a command ends that gives a message an attachment of this index, which may be past the last one.
 fn attachment_ending(index: u64) -> Ending
-    ensures crowded { result.crowded ≡ false }
     ensures reason { result.reason ≡ spent_index index }
     ensures last { result.last ≡ last.Attached (part_nid index) }
 {
@@ -43,7 +42,6 @@ fn attachment_ending(index: u64) -> Ending
         None
     };
     Ending {
-        crowded: false,
         reason,
         last: LastLine::Attached(new_id(5, index)),
     }
@@ -87,21 +85,10 @@ fn attach_to<W: Outside, K: NodeReader<W>>(
     ensures looks { Looks (K.holds keeper.old (W.view w.old)) (K.holds keeper.new (W.view w.new)) (K.last keeper.old) (K.last keeper.new) (K.room keeper.old) (K.room keeper.new) (W.view w.old) (W.view w.new) }
     ensures cause { IfErr result (IsCaused K.has_disk (W.view w.old).disk_faults (W.view w.new).disk_faults) }
 {
-    let old_len = mail.message().props.len();
     let index = next_part(&mail);
     let added = with_attachment(alloc, mail, index, props)?;
     match added {
-        Some(mail) => {
-            remake_message(
-                alloc,
-                keeper,
-                w,
-                known,
-                old_len,
-                mail,
-                attachment_ending(index),
-            )
-        }
+        Some(mail) => { remake_message(alloc, keeper, w, known, mail, attachment_ending(index)) }
         None => Err(Stop::Refused(CommandRefusal::Limit(Limit::Rows))),
     }
 }
@@ -166,9 +153,8 @@ fn detach_one<W: Outside, K: NodeReader<W>>(
     ensures looks { Looks (K.holds keeper.old (W.view w.old)) (K.holds keeper.new (W.view w.new)) (K.last keeper.old) (K.last keeper.new) (K.room keeper.old) (K.room keeper.new) (W.view w.old) (W.view w.new) }
     ensures cause { IfErr result (IsCaused K.has_disk (W.view w.old).disk_faults (W.view w.new).disk_faults) }
 {
-    let old_len = mail.message().props.len();
     match take_attachment(mail, attachment) {
-        Some(taken) => { remake_message(alloc, keeper, w, known, old_len, taken.0, Ending::done()) }
+        Some(taken) => remake_message(alloc, keeper, w, known, taken.0, Ending::done()),
         None => Err(Stop::Refused(CommandRefusal::Object)),
     }
 }

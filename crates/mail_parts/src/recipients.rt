@@ -1,5 +1,5 @@
 //! `rcpt` and `unrcpt`
-ghost use Rattle.std.specs.Prelude.{◌≡◌, false, IfErr, not};
+ghost use Rattle.std.specs.Prelude.{◌≡◌, IfErr, not};
 ghost use Rattle.command_text.specs.declared.reply.CommandRefusal.TheVariants as refusal;
 ghost use Rattle.command_text.specs.declared.reply.Limit.TheVariants as limit;
 ghost use Rattle.command_text.specs.declared.reply.LastLine.TheVariants as last;
@@ -31,7 +31,6 @@ const MOST_ROWS: usize = 100_000;
 
 /// How a command ends that gives a message a recipient in this row, which may be past the last one.
 fn recipient_ending(row: u64) -> Ending
-    ensures crowded { result.crowded ≡ false }
     ensures reason { result.reason ≡ spent_row row }
     ensures last { result.last ≡ last.Row (new_row row) }
 {
@@ -41,7 +40,6 @@ fn recipient_ending(row: u64) -> Ending
         None
     };
     Ending {
-        crowded: false,
         reason,
         last: LastLine::Row(new_row(row)),
     }
@@ -60,21 +58,10 @@ fn add_to<W: Outside, K: NodeReader<W>>(
     ensures looks { Looks (K.holds keeper.old (W.view w.old)) (K.holds keeper.new (W.view w.new)) (K.last keeper.old) (K.last keeper.new) (K.room keeper.old) (K.room keeper.new) (W.view w.old) (W.view w.new) }
     ensures cause { IfErr result (IsCaused K.has_disk (W.view w.old).disk_faults (W.view w.new).disk_faults) }
 {
-    let old_len = mail.message().props.len();
     let row = next_row(rows_of(&mail.message().recipients));
     let added = with_recipient(alloc, mail, new_row(row), props)?;
     match added {
-        Some(mail) => {
-            remake_message(
-                alloc,
-                keeper,
-                w,
-                known,
-                old_len,
-                mail,
-                recipient_ending(row),
-            )
-        }
+        Some(mail) => { remake_message(alloc, keeper, w, known, mail, recipient_ending(row)) }
         None => Err(Stop::Refused(CommandRefusal::Limit(Limit::Rows))),
     }
 }
@@ -152,9 +139,8 @@ fn remove_one<W: Outside, K: NodeReader<W>>(
     ensures cause { IfErr result (IsCaused K.has_disk (W.view w.old).disk_faults (W.view w.new).disk_faults) }
 {
     check_recipient(&mail, row)?;
-    let old_len = mail.message().props.len();
     let mail = without_recipient(mail, row);
-    remake_message(alloc, keeper, w, known, old_len, mail, Ending::done())
+    remake_message(alloc, keeper, w, known, mail, Ending::done())
 }
 
 /// Removes the recipient in this row from a message. Refused where the message isn't there, or has none in it.

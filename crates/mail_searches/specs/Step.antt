@@ -5,7 +5,7 @@ use Rattle.command_text.specs.declared.command.Command.TheVariants.{RenameFolder
 use Rattle.command_text.specs.declared.reply.LastLine.TheVariants.{Refused}
 use Rattle.command_text.specs.declared.reply.Reply.{Reply}
 use Rattle.mail_tree.specs.Changing.{Answer, ◌>>=◌, within_limits}
-use Rattle.mail_tree.specs.Folders.{Outcome, listing, replied}
+use Rattle.mail_tree.specs.Folders.{Outcome, listing, made_id, replied}
 use Rattle.mail_tree.specs.Step as tree
 use Rattle.mail_searches.specs.Criteria.{Coming, given_criteria, made_search, marked, search_listing, staying, told_criteria}
 use Rattle.mail_tree.specs.Tree.{Tree}
@@ -18,13 +18,13 @@ use Rattle.mail_searches.specs.Touching.{followed}
 unfoldable pub listing_in : Searching → ℕ → Answer Outcome
 listing_in X f = if is_own X.own f then search_listing X.tree f else (listing X.tree f >>= λ o. Ok (record o { reply = marked X.own o.reply }))
 
--- what a command comes to keeps to the limits
-abbrev pub if_within : Outcome → Answer Outcome
-if_within o = within_limits o.changed >>= λ u. Ok o
+-- what a command comes to in a tree keeps to the limits
+abbrev pub if_within : Tree → Outcome → Answer Outcome
+if_within T o = within_limits T (made_id o.reply.last) o.changed >>= λ u. Ok o
 
 -- what a command that knows no searches comes to: what it comes to in the tree, with what the messages that it touches change in the lists of searches, if all that keeps to the limits
 unfoldable pub concluded : Tree → List Search → Command → Outcome → Answer Outcome
-concluded T ss c o = followed T ss c o >>= if_within
+concluded T ss c o = followed T ss c o >>= if_within T
 
 -- what a command comes to that names no own search folder and knows no searches
 abbrev pub plain_outcome : Searching → Command → Answer Coming

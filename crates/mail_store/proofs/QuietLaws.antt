@@ -23,12 +23,12 @@ use Rattle.mail_objects.specs.declared.object.Object.TheVariants.{Message}
 use Rattle.mail_tree.specs.declared.places.FolderPlace.{FolderPlace}
 use Rattle.mail_tree.specs.Places.{ROOT, children, is_child, is_deep, is_plain, is_within, moves_deep, place_id}
 use Rattle.mail_tree.specs.Tree.{Tree}
-use Rattle.mail_tree.specs.Values.{bytes_of, crowds, finished, folder_props, is_set_protected, is_unset_protected, message_props, name_of, with_props}
+use Rattle.mail_tree.specs.Values.{bytes_of, finished, folder_props, is_set_protected, is_unset_protected, message_props, name_of, with_props}
 use Rattle.mail_tree.specs.Changing.{Answer, Changed, ◌>>=◌, add_shown, contents, context_at, drop_shown, found, hierarchy, nothing, put_shown, refused_if, table_at, with_object, within_limits, known}
 use Rattle.mail_tree.specs.Settling.{counted, message_ids, mirrored, settled, table_as_is, touched, unread_among, with_context}
 use Rattle.mail_tree.specs.Ids.{folder_kinds, is_spent, message_kinds, new_id, next_index}
 use Rattle.mail_tree.specs.Folders.{Outcome, associated_in, changing, folder_in, folder_lines, has_associated, has_rows, listing, made_folder, making, making_folder, message_lines, moved_between, moved_folder, moving, place, removed_folder, renamed_folder, replied, replying, siblings, unless, unless_full, unless_named, unless_plain, unless_protected, with_folder, without_folder}
-use Rattle.mail_tree.specs.Messages.{added_attachment, added_message, added_recipient, adding_attachment, adding_recipient, appended_data, appending, fetched_data, removed_attachment, spent_index, too_long, changed_message, copied_message, copy_of, copying, details, in_folder, is_crowded_message, is_overfull, making_message, message_in, moved_message, new_message, plain_message, remaking, removed_message, removed_recipient, set_value, spent_row, unset_value, value_in, value_of}
+use Rattle.mail_tree.specs.Messages.{added_attachment, added_message, added_recipient, adding_attachment, adding_recipient, appended_data, appending, fetched_data, removed_attachment, spent_index, too_long, changed_message, copied_message, copy_of, copying, details, in_folder, is_overfull, making_message, message_in, moved_message, new_message, plain_message, remaking, removed_message, removed_recipient, set_value, spent_row, unset_value, value_in, value_of}
 use Rattle.mail_tree.specs.Names.{NAMES, found_or_added, is_name, named_property, no_room, unless_nameless, with_another}
 use Rattle.named_props.specs.Finding.{name_at}
 use Rattle.named_props.specs.Holding.{names_of, written}
@@ -95,17 +95,17 @@ module _ (T : Tree) where
   then_any a f next = if_any Right a f next
 
   pub then_changing : (a : Answer Changed) → IfOk (a >>= changing T (replied Done)) Right
-  then_changing a = then_any a (changing T (replied Done)) (λ D. then_any (within_limits D) _ (λ u none. (refl, refl)))
+  then_changing a = then_any a (changing T (replied Done)) (λ D. then_any (within_limits T _ D) _ (λ u none. (refl, refl)))
 
   pub then_replying : (a : Answer Changed) (reason : Option CommandRefusal) (last : LastLine) → IfOk (a >>= replying T reason (replied last)) Right
-  then_replying a reason last = then_any a (replying T reason (replied last)) (λ D. then_any (within_limits D) _ (λ u. then_any (unless reason) _ (λ v none. (refl, refl))))
+  then_replying a reason last = then_any a (replying T reason (replied last)) (λ D. then_any (within_limits T _ D) _ (λ u. then_any (unless reason) _ (λ v none. (refl, refl))))
 
   pub then_moving : (places : List FolderPlace) (a : Answer Changed) → IfOk a WritesNodes → IfOk (a >>= moving T places (replied Done)) Right
-  then_moving places a some = if_then WritesNodes Right a (moving T places (replied Done)) some (λ D writes. then_any (within_limits D) _ (λ u none. absurd (writes none)))
+  then_moving places a some = if_then WritesNodes Right a (moving T places (replied Done)) some (λ D writes. then_any (within_limits T _ D) _ (λ u none. absurd (writes none)))
 
   pub then_making : (places : List FolderPlace) (kind index : ℕ) (a : Answer Changed) → IfOk a WritesNodes → IfOk (a >>= making T places kind index) Right
   then_making places kind index a some = if_then WritesNodes Right a (making T places kind index) some
-      (λ D writes. then_any (within_limits D) _ (λ u. then_any (refused_if (is_spent index) Ids) _ (λ v none. absurd (writes none))))
+      (λ D writes. then_any (within_limits T _ D) _ (λ u. then_any (refused_if (is_spent index) Ids) _ (λ v none. absurd (writes none))))
 
   makes_folder : (parent : ℕ) (name : List ℕ) → IfOk (made_folder T parent name) Right
   unfolding made_folder making_folder
@@ -174,42 +174,42 @@ module _ (T : Tree) where
       then_any (unless_full T (contents folder)) _ (λ w.
       let index = next_index T 4 message_kinds in
       let copy = copy_of (new_id 4 index) folder M in
-      let D : Changed = record nothing { crowded = is_crowded_message M } in
+      let D : Changed = nothing in
       then_making T.places 4 index (touched T M.folder D >>= added_message T copy) (if_any WritesNodes (touched T M.folder D) _ (λ D'. adds copy D')))))))
 
-  remakes : (M new : Mes) (crowded : Bool) (reason : Option CommandRefusal) (last : LastLine) → IfOk (remaking T M new crowded reason last) Right
+  remakes : (M new : Mes) (reason : Option CommandRefusal) (last : LastLine) → IfOk (remaking T new reason last) Right
   unfolding remaking
-  remakes M new crowded reason last = then_replying _ reason last
+  remakes M new reason last = then_replying _ reason last
 
   changes : (M : Mes) (props : List Val) → IfOk (changed_message T M props) Right
   unfolding changed_message
-  changes M props = remakes M (with_props props M) false None Done
+  changes M props = remakes M (with_props props M) None Done
 
   adds_recipient : (m kind : ℕ) (address name : List ℕ) → IfOk (added_recipient T m kind address name) Right
   unfolding added_recipient adding_recipient
   adds_recipient m kind address name = then_any (message_in T m) _ (λ M. then_any (refused_if (is_full M.recipients) (Limit Rows)) _ (λ u. then_any (refused_if (is_wide recipient_tags M.recipients) (Limit Rows)) _ (λ v.
       let row = next_row (rows_of M.recipients) in
-      remakes M (with_recipient (new_row row) (recipient_props kind address name) M) false (spent_row row) (Row (new_row row)))))
+      remakes M (with_recipient (new_row row) (recipient_props kind address name) M) (spent_row row) (Row (new_row row)))))
 
   removes_recipient : (m row : ℕ) → IfOk (removed_recipient T m row) Right
   unfolding removed_recipient
-  removes_recipient m row = then_any (message_in T m) _ (λ M. then_any (refused_if (not (has_recipient row M)) Object) _ (λ u. remakes M (without_recipient row M) false None Done))
+  removes_recipient m row = then_any (message_in T m) _ (λ M. then_any (refused_if (not (has_recipient row M)) Object) _ (λ u. remakes M (without_recipient row M) None Done))
 
   adds_attachment : (m : ℕ) (name bytes : List ℕ) → IfOk (added_attachment T m name bytes) Right
   unfolding added_attachment adding_attachment
   adds_attachment m name bytes = then_any (message_in T m) _ (λ M. then_any (refused_if (is_full M.attachments) (Limit Rows)) _ (λ u. then_any (refused_if (is_wide attachment_tags M.attachments) (Limit Rows)) _ (λ v.
       let index = next_part M in
-      remakes M (with_attachment (plain_part (part_nid index) (attachment_props name bytes)) (room_for index M)) false (spent_index index) (Attached (part_nid index)))))
+      remakes M (with_attachment (plain_part (part_nid index) (attachment_props name bytes)) (room_for index M)) (spent_index index) (Attached (part_nid index)))))
 
   appends_data : (m n : ℕ) (more : List ℕ) → IfOk (appended_data T m n more) Right
   unfolding appended_data appending
   appends_data m n more = then_any (message_in T m) _ (λ M. then_any (found Object (part_in n M)) _ (λ part. then_any (found Property (bytes_of 0x3701 0x0102 part.props)) _ (λ old.
       let props = with_bytes (lengthened old more) part.props in
-      remakes M (with_part (part_with props part) M) (crowds part.props props) (too_long old more) Done)))
+      remakes M (with_part (part_with props part) M) (too_long old more) Done)))
 
   removes_attachment : (m n : ℕ) → IfOk (removed_attachment T m n) Right
   unfolding removed_attachment
-  removes_attachment m n = then_any (message_in T m) _ (λ M. then_any (refused_if (not (is_some (part_in n M))) Object) _ (λ u. remakes M (without_attachment n M) false None Done))
+  removes_attachment m n = then_any (message_in T m) _ (λ M. then_any (refused_if (not (is_some (part_in n M))) Object) _ (λ u. remakes M (without_attachment n M) None Done))
 
   fetches_data : (m n : ℕ) → IfOk (fetched_data T m n) Right
   unfolding fetched_data
@@ -218,7 +218,7 @@ module _ (T : Tree) where
   finds_or_adds : (c : Ctx) (n : Held) (guid : List ℕ) (number : ℕ) (found_id : Option ℕ) → IfOk (found_or_added T c n guid number found_id) Right
   unfolding found_or_added
   finds_or_adds c n guid number (Some property) = λ none. (refl, refl)
-  finds_or_adds c n guid number None = then_any (within_limits (with_context NAMES c (written (with_another n guid number)) nothing)) _ (λ u.
+  finds_or_adds c n guid number None = then_any (within_limits T _ (with_context NAMES c (written (with_another n guid number)) nothing)) _ (λ u.
       then_any (unless (no_room n guid number)) _ (λ v none. (refl, refl)))
 
   names_property : (guid : List ℕ) (number : ℕ) → IfOk (named_property T guid number) Right

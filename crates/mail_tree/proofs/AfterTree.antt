@@ -1,14 +1,13 @@
 -- What stands at an id after changes, and after a command.
-use Rattle.std.proofs.Common.{◌≡◌, ℕ, ◌==◌, Bool, true, false, cond, List, Option, Some, refl, sym, ap, arith, ◌∙◌, inl, inr}
+use Rattle.std.proofs.Common.{◌≡◌, ℕ, ◌==◌, Bool, true, false, cond, Option, Some, refl, sym, ap, arith, ◌∙◌, inl, inr}
 use Rattle.std.specs.Prelude.{nat_lt}
 use Rattle.std.proofs.lemmas.Bool.{cases_Bool, cases_eq, eq-eqb, eqb-true, le-ltb, ne_eqb}
 use Rattle.std.specs.Cmp.{nat_cmp_total}
 use Rattle.std.specs.Ordering.{nat_cmp, eq_by_cmp}
 use Rattle.std.specs.FinMap as map
-use Rattle.mapi_values.specs.Values.{Val}
 use Rattle.mail_objects.specs.declared.object.Object.{Object}
 use Rattle.mail_tree.specs.Tree.{Tree, object_at}
-use Rattle.mail_tree.specs.Changing.{Changed, newest, nothing, now_at, with_object, with_values}
+use Rattle.mail_tree.specs.Changing.{Changed, newest, nothing, now_at, with_object}
 use Rattle.mail_tree.specs.Folders.{Outcome}
 use Rattle.mail_tree.specs.Step.{after}
 use Rattle.mail_tree.proofs.AfterLaws.{get-with_changes}
@@ -32,12 +31,6 @@ puts_object T D q o = record {
   others = λ x other. rw (now_put T D q x o, tied false x q (ne_eqb x q other)) refl;
 }
 
-pub puts_values : (T : Tree) (D : Changed) (q : ℕ) (o : Object) (old new : List Val) → Puts (now_at T D) (now_at T (with_values q o old new D)) q (Some o)
-puts_values T D q o old new = record {
-  here = rw (now_put T D q q (Some o), tied true q q (eq-eqb q q refl)) refl;
-  others = λ x other. rw (now_put T D q x (Some o), tied false x q (ne_eqb x q other)) refl;
-}
-
 -- where what stands there is put as it is, all stands as it stood
 pub same_now : (T : Tree) (D : Changed) (q : ℕ) (o : Object) → now_at T D q ≡ Some o → now_at T (with_object q (Some o) D) ≡ now_at T D
 same_now T D q o at i x = stays x i
@@ -49,8 +42,8 @@ same_now T D q o at i x = stays x i
     ]
 
 -- with no changes stands what stood there
-pub now_nothing : (T : Tree) (crowded : Bool) → now_at T (record nothing { crowded = crowded }) ≡ object_at T
-now_nothing T crowded i x = ap (λ r. newest r (object_at T x)) (map.get-empty nat_cmp x) i
+pub now_nothing : (T : Tree) → now_at T nothing ≡ object_at T
+now_nothing T i x = ap (λ r. newest r (object_at T x)) (map.get-empty nat_cmp x) i
 
 -- the objects after a command are those that its changes leave
 pub after_now : (T : Tree) (o : Outcome) → now_at T o.changed ≡ object_at (after T o)

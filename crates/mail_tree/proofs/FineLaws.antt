@@ -1,14 +1,11 @@
 -- Answers that are fine, one step after another.
-use Rattle.std.proofs.lemmas.Bool.{cases_Bool}
-use Rattle.std.specs.FinMap as map
-use Rattle.std.specs.List.{list_all}
-use Rattle.std.proofs.Common.{◌≡◌, ◌⊎◌, inl, inr, not, Bool, true, false, Option, None, Some, Ok, Err, refl, if◌then◌else◌, ℕ}
+use Rattle.std.proofs.Common.{◌≡◌, ◌⊎◌, inl, inr, Bool, true, false, Option, None, Some, Ok, Err, refl, if◌then◌else◌, ℕ}
 use Rattle.command_text.specs.declared.reply.CommandRefusal.{CommandRefusal}
 use Rattle.mapi_values.specs.Messages.{Mes}
 use Rattle.mail_objects.specs.Forms.{Ctx, Tbl}
 use Rattle.mail_objects.specs.declared.object.Object.TheVariants.{Context, Table, Message}
 use Rattle.mail_tree.specs.Tree.{Tree}
-use Rattle.mail_tree.specs.Changing.{entry_fits, Answer, Changed, ◌>>=◌, context_at, found, message_at, now_at, refused_if, table_at, within_limits}
+use Rattle.mail_tree.specs.Changing.{Answer, Changed, ◌>>=◌, context_at, found, message_at, now_at, refused_if, table_at}
 use Rattle.mail_tree.specs.Whole.{Fine}
 
 -- a step, and what follows it
@@ -49,14 +46,6 @@ fine_either Q false x y next other = other refl
 pub fine_test : (b : Bool) (refusal : CommandRefusal) → Fine (refused_if b refusal) (λ u. Unit {0})
 fine_test true refusal = tt
 fine_test false refusal = tt
-
--- the changes keep to the limits, or the command is refused
-pub after_limits : {B : Type 0} (Q : B → Type 0) (D : Changed) (f : Unit {0} → Answer B) → Fine (f tt) Q → Fine (within_limits D >>= f) Q
-unfolding within_limits
-after_limits Q D f next = elim (cases_Bool (not (list_all entry_fits (map.entries D.objects)))) [
-  | inl t ↦ rw t tt
-  | inr t ↦ rw t (elim (cases_Bool D.crowded) [ inl u ↦ rw u tt | inr u ↦ rw u next ])
-]
 
 -- it is there, or it isn't
 pub cases_Option : {A : Type 0} (o : Option A) → (o ≡ None) ⊎ ((x : A) × (o ≡ Some x))

@@ -3,6 +3,7 @@ pub mod PlaceLaws
 pub mod KeyedFinds
 pub mod OneList
 pub mod FineLaws
+pub mod StoodLaws
 pub mod Nearly
 pub mod AfterTree
 pub mod KindsOfPuts

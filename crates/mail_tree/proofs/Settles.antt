@@ -18,7 +18,7 @@ use Rattle.mail_tree.specs.Settling.{counted, is_message_row, message_ids, above
 use Rattle.mail_tree.specs.Whole.{AreWhole, Fine, fits_id}
 use Rattle.mail_tree.proofs.KeyedFinds.{kept-put}
 use Rattle.mail_tree.proofs.FineLaws.{fine_then, fine_weaker}
-use Rattle.mail_tree.proofs.AfterTree.{puts_object, puts_values, same_now}
+use Rattle.mail_tree.proofs.AfterTree.{puts_object, same_now}
 use Rattle.mail_tree.proofs.Nearly.{nearly, table_of, whole}
 use Rattle.mail_tree.proofs.KindsOfPuts.{beside_kind, puts_context, puts_folders, same_table}
 
@@ -79,7 +79,7 @@ module _ (T : Tree) (places : List FolderPlace) (f : ℕ) (p : FolderPlace) (D :
       let v = w.contexts f p e in
       let same : v.0 ≡ c = cc in
       whole places _ (puts_context (λ x. ⊥) places (now_at T D) _ (nearly (λ x. ⊥) places (now_at T D) w) f p (record c { props = props }) e (λ no_root free. subst (λ x. x.parent ≡ p.parent.bits) same (v.2 no_root))
-      (puts_values T D f (Context (record c { props = props })) c.props props))
+      (puts_object T D f (Some (Context (record c { props = props })))))
 
   fine_counted : is_plain p ≡ true → Fine (counted T places f D) (λ D'. AreWhole places (now_at T D'))
   unfolding counted

@@ -1,12 +1,15 @@
 -- What a command changes, and how it answers.
-use Rattle.std.specs.Prelude.{ℕ, ◌||◌, ◌&&◌, Bool, true, false, not, nat_lt, List, length, Option, None, Some, Result, Ok, Err}
-use Rattle.std.specs.List.{list_all}
+use Rattle.std.specs.Prelude.{ℕ, ◌==◌, ◌||◌, ◌&&◌, Bool, true, false, not, nat_lt, List, [], ◌∷◌, length, Option, None, Some, Result, Ok, Err, if◌then◌else◌}
+use Rattle.std.specs.List.{list_all, list_any}
 use Rattle.std.specs.Ordering.{nat_cmp}
 use Rattle.std.specs.FinMap as map
 use Rattle.pst_base.specs.Ids.{index_of, nid_of}
-use Rattle.mapi_values.specs.Messages.{Mes}
+use Rattle.pst_base.specs.declared.ids.Nid.{Nid}
+use Rattle.mapi_values.specs.Keyed.{find_key}
+use Rattle.mapi_values.specs.Messages.{Mes, part_id}
 use Rattle.mapi_values.specs.Tables.{Tab, mirror, put_row, drop_row}
 use Rattle.mapi_values.specs.Values.{Val}
+use Rattle.mapi_values.specs.declared.part.Part.{Part}
 use Rattle.command_text.specs.declared.reply.CommandRefusal.{CommandRefusal}
 use Rattle.command_text.specs.declared.reply.CommandRefusal.TheVariants.{Limit}
 use Rattle.command_text.specs.declared.reply.Limit.TheVariants.{Rows, Properties}
@@ -15,15 +18,14 @@ use Rattle.mail_objects.specs.Objects.{object_fits}
 use Rattle.mail_objects.specs.declared.object.Object.{Object}
 use Rattle.mail_objects.specs.declared.object.Object.TheVariants.{Context, Table, Message}
 use Rattle.mail_tree.specs.Tree.{Tree, object_at}
-use Rattle.mail_tree.specs.Values.{crowds}
+use Rattle.mail_tree.specs.Values.{crowds, is_crowded}
 
--- Objects that were put, or removed, by their ids, and whether one of them got too many values.
+-- Objects that were put, or removed, by their ids.
 pub record Changed : Type 0 where
   pub objects : map.FinMap nat_cmp (Option Object)
-  pub crowded : Bool
 
 abbrev pub nothing : Changed
-nothing = record { objects = map.empty; crowded = false }
+nothing = record { objects = map.empty }
 
 -- An answer, or a refusal, or none: something isn't of its form, which can't be in a tree that was opened.
 abbrev pub Answer : Type 0 → Type 0
@@ -81,11 +83,7 @@ message_at T D q = known (as_message (now_at T D q))
 
 -- the changes with this object put, or removed
 abbrev pub with_object : ℕ → Option Object → Changed → Changed
-with_object q object D = record { objects = map.insert D.objects q object; crowded = D.crowded }
-
--- the same, where an object with these values before has those now
-abbrev pub with_values : ℕ → Object → List Val → List Val → Changed → Changed
-with_values q object old new D = record { objects = map.insert D.objects q (Some object); crowded = D.crowded || crowds old new }
+with_object q object D = record { objects = map.insert D.objects q object }
 
 -- the node at a folder's index with another kind: its tables
 abbrev pub beside : ℕ → ℕ → ℕ
@@ -132,6 +130,51 @@ abbrev pub entry_fits : ℕ × Option Object → Bool
 entry_fits (q, None) = true
 entry_fits (q, Some object) = object_fits object
 
--- the changes keep to the limits on what a command writes: on rows, on what stands below a node, and on values
-unfoldable pub within_limits : Changed → Answer (Unit {0})
-within_limits D = refused_if (not (list_all entry_fits (map.entries D.objects))) (Limit Rows) >>= λ u. refused_if D.crowded (Limit Properties)
+-- the properties of a message's attachment with an id, none where it has no such attachment
+abbrev pub props_of_part : Option Part → List Val
+props_of_part None = []
+props_of_part (Some part) = part.props
+
+-- the attachment has more than 1,000 properties, and more than the one with its id in the message as it was
+abbrev pub crowds_part : Mes → Part → Bool
+crowds_part old part = crowds (props_of_part (find_key part_id (part_id part) old.parts)) part.props
+
+-- so has the message, or an attachment of it
+abbrev pub crowds_message : Mes → Mes → Bool
+crowds_message old new = crowds old.props new.props || list_any (crowds_part old) new.parts
+
+-- the message, or an attachment of it, has more than 1,000 properties
+abbrev pub is_crowded_message : Mes → Bool
+is_crowded_message m = is_crowded m.props || list_any (λ (part : Part). is_crowded part.props) m.parts
+
+-- the id is that of the new object, if a command makes one
+abbrev pub is_new : Option Nid → ℕ → Bool
+is_new None q = false
+is_new (Some new) q = q == new.bits
+
+-- properties that are put are more than 1,000, and more than stand there in the tree; new ones are compared with none
+abbrev pub context_crowds : Bool → Option Object → Ctx → Answer Bool
+context_crowds new old c = if is_crowded c.props && not new then (known (as_context old) >>= λ b. Ok (crowds b.props c.props)) else Ok (is_crowded c.props)
+
+-- so it is of a message that is put, or of an attachment of it
+abbrev pub message_crowds : Bool → Option Object → Mes → Answer Bool
+message_crowds new old m = if is_crowded_message m && not new then (known (as_message old) >>= λ b. Ok (crowds_message b m)) else Ok (is_crowded_message m)
+
+-- what is put at an id is brought past the limit on properties
+abbrev pub is_crowding : Tree → Option Nid → ℕ × Option Object → Answer Bool
+is_crowding T new (q, Some (Context c)) = context_crowds (is_new new q) (object_at T q) c
+is_crowding T new (q, Some (Message m)) = message_crowds (is_new new q) (object_at T q) m
+is_crowding T new (q, other) = Ok false
+
+-- what is put at an id isn't brought past it
+abbrev pub unless_past : Tree → Option Nid → ℕ × Option Object → Answer (Unit {0})
+unless_past T new entry = is_crowding T new entry >>= λ b. refused_if b (Limit Properties)
+
+-- nothing that is put is
+abbrev pub unless_crowding : Tree → Option Nid → List (ℕ × Option Object) → Answer (Unit {0})
+unless_crowding T new [] = Ok tt
+unless_crowding T new (e ∷ es) = unless_past T new e >>= λ u. unless_crowding T new es
+
+-- The changes keep to the limits on what a command writes: on rows, on what stands below a node, and on properties. What is put is compared with the tree, but for the new object.
+unfoldable pub within_limits : Tree → Option Nid → Changed → Answer (Unit {0})
+within_limits T new D = refused_if (not (list_all entry_fits (map.entries D.objects))) (Limit Rows) >>= λ u. unless_crowding T new (map.entries D.objects)

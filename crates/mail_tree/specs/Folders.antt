@@ -37,6 +37,11 @@ replied last = record { lines = []; last = last }
 abbrev pub listed : List DataLine → Reply
 listed data_lines = record { lines = data_lines; last = Count (length data_lines) }
 
+-- the id of the object that a command made, by the last line of its reply
+abbrev pub made_id : LastLine → Option Nid
+made_id (Made made) = Some made
+made_id other = None
+
 -- What a command comes to: the objects that it changes, the places of the folders after it, the counters after it, and the reply.
 pub record Outcome : Type 0 where
   pub changed : Changed
@@ -50,7 +55,7 @@ unchanged T reply = record { changed = nothing; places = T.places; last = T.last
 
 -- the changes keep to the limits, and the places and counters stay
 abbrev pub changing : Tree → Reply → Changed → Answer Outcome
-changing T reply D = within_limits D >>= λ u. Ok (record { changed = D; places = T.places; last = T.last; reply = reply })
+changing T reply D = within_limits T None D >>= λ u. Ok (record { changed = D; places = T.places; last = T.last; reply = reply })
 
 -- the command is refused where there is a reason
 abbrev pub unless : Option CommandRefusal → Answer (Unit {0})
@@ -59,15 +64,15 @@ unless (Some refusal) = Err (Some refusal)
 
 -- the changes keep to the limits, there is no other reason against them, and the places and counters stay
 abbrev pub replying : Tree → Option CommandRefusal → Reply → Changed → Answer Outcome
-replying T reason reply D = within_limits D >>= λ u. unless reason >>= λ v. Ok (record { changed = D; places = T.places; last = T.last; reply = reply })
+replying T reason reply D = within_limits T None D >>= λ u. unless reason >>= λ v. Ok (record { changed = D; places = T.places; last = T.last; reply = reply })
 
 -- the same, where folders come, go or move
 abbrev pub moving : Tree → List FolderPlace → Reply → Changed → Answer Outcome
-moving T places reply D = within_limits D >>= λ u. Ok (record { changed = D; places = places; last = T.last; reply = reply })
+moving T places reply D = within_limits T None D >>= λ u. Ok (record { changed = D; places = places; last = T.last; reply = reply })
 
 -- the same with a new object of a kind at this index, which the kind's counter then has, unless it is past the last one
 abbrev pub making : Tree → List FolderPlace → ℕ → ℕ → Changed → Answer Outcome
-making T places kind index D = within_limits D >>= λ u. refused_if (is_spent index) Ids >>= λ v. Ok (record { changed = D; places = places; last = set T.last kind index; reply = replied (Made (nid (new_id kind index))) })
+making T places kind index D = within_limits T (Some (nid (new_id kind index))) D >>= λ u. refused_if (is_spent index) Ids >>= λ v. Ok (record { changed = D; places = places; last = set T.last kind index; reply = replied (Made (nid (new_id kind index))) })
 
 abbrev pub folder_in : Tree → ℕ → Answer FolderPlace
 folder_in T f = found NoObject (find_place f T.places)

@@ -1,7 +1,6 @@
 -- The commands on messages: what each refuses, in its order, and what it changes.
-use Rattle.std.specs.Prelude.{ℕ, ◌==◌, ◌||◌, Bool, false, not, nat_lt, List, [], ◌++◌, length, map, Option, None, Some, Ok, if◌then◌else◌}
+use Rattle.std.specs.Prelude.{ℕ, ◌==◌, ◌||◌, Bool, not, nat_lt, List, [], ◌++◌, length, map, Option, None, Some, Ok, if◌then◌else◌}
 use Rattle.std.specs.Option.{option_map, option_and_then, is_some}
-use Rattle.std.specs.List.{list_any}
 use Rattle.pst_base.specs.Ids.{kind_of}
 use Rattle.node_port.specs.Nodes.{node_at}
 use Rattle.node_port.specs.declared.node.NodeRec.{NodeRec}
@@ -22,8 +21,8 @@ use Rattle.mail_objects.specs.declared.object.Object.{Object as Obj}
 use Rattle.mail_objects.specs.declared.object.Object.TheVariants as objects
 use Rattle.mail_tree.specs.Places.{find_place, is_plain}
 use Rattle.mail_tree.specs.Tree.{Tree, object_at}
-use Rattle.mail_tree.specs.Values.{bytes_of, crowds, finished, is_set_protected, is_unset_protected, length_of, message_props, number_of, text_of, with_props}
-use Rattle.mail_tree.specs.Changing.{Answer, Changed, ◌>>=◌, add_shown, contents, context_at, drop_shown, found, message_at, nothing, put_shown, refused_if, table_at, with_object, with_values}
+use Rattle.mail_tree.specs.Values.{bytes_of, finished, is_set_protected, is_unset_protected, length_of, message_props, number_of, text_of, with_props}
+use Rattle.mail_tree.specs.Changing.{Answer, Changed, ◌>>=◌, add_shown, contents, context_at, drop_shown, found, message_at, nothing, put_shown, refused_if, table_at, with_object}
 use Rattle.mail_tree.specs.Settling.{settled, touched}
 use Rattle.mail_tree.specs.Parts.{attachment_props, attachment_tags, data_tag, has_recipient, is_full, is_spent_row, is_too_long, is_wide, lengthened, new_row, next_part, next_row, part_in, part_nid, part_with, plain_part, recipient_props, recipient_tags, room_for, rows_of, with_attachment, with_bytes, with_part, with_recipient, without_attachment, without_recipient}
 use Rattle.mail_tree.specs.Ids.{is_spent, message_kinds, new_id, next_index}
@@ -51,19 +50,15 @@ unfoldable pub message_in : Tree → ℕ → Answer Mes
 message_in T m = refused_if (not (kind_of m == 4)) Object >>= λ u. found Object (parent_at T m) >>= λ f. found Object (find_place f T.places) >>= λ p.
     refused_if (not (is_plain p)) Object >>= λ v. table_at T nothing (contents f) >>= λ t. refused_if (not (is_some (find_row m t.table.rows))) Object >>= λ w. message_at T nothing m
 
--- a message as it was and as it is now
-abbrev pub with_message : Mes → Mes → Changed → Changed
-with_message old m D = with_values m.nid (objects.Message m) old.props m.props D
-
--- a message becomes another, of which some part got too many values or not: its flags and its size are made right, its row shows it, and its folder is counted anew; refused where there is a reason beside the limits
-unfoldable pub remaking : Tree → Mes → Mes → Bool → Option CommandRefusal → LastLine → Answer Outcome
-remaking T old new crowded reason last =
+-- a message becomes another: its flags and its size are made right, its row shows it, and its folder is counted anew; refused where there is a reason beside the limits
+unfoldable pub remaking : Tree → Mes → Option CommandRefusal → LastLine → Answer Outcome
+remaking T new reason last =
     let m = finished new in
-    put_shown T (contents m.folder) m.nid m.props (with_message old m (record nothing { crowded = crowded })) >>= settled T T.places m.folder >>= replying T reason (replied last)
+    put_shown T (contents m.folder) m.nid m.props (with_object m.nid (Some (objects.Message m)) nothing) >>= settled T T.places m.folder >>= replying T reason (replied last)
 
 -- a message gets other values
 unfoldable pub changed_message : Tree → Mes → List Val → Answer Outcome
-changed_message T old props = remaking T old (with_props props old) false None Done
+changed_message T old props = remaking T (with_props props old) None Done
 
 -- a new message: its folder lists it in a row that shows it, and is counted anew
 abbrev pub added_message : Tree → Mes → Changed → Answer Changed
@@ -129,14 +124,6 @@ moved_message T m folder = message_in T m >>= λ M. folder_in T folder >>= λ p.
 abbrev pub is_overfull : Option Tab → Bool
 is_overfull t = nat_lt 100000 (length (rows_of t))
 
--- there are more than 1,000 values
-abbrev pub is_crowded : List Val → Bool
-is_crowded props = nat_lt 1000 (length props)
-
--- a new object of these values, of the message or of one of its attachments, has too many
-abbrev pub is_crowded_message : Mes → Bool
-is_crowded_message m = is_crowded m.props || list_any (λ (part : Part). is_crowded part.props) m.parts
-
 -- a copy with its own id in a folder
 abbrev pub copy_of : ℕ → ℕ → Mes → Mes
 copy_of m folder original = record original { nid = m; folder = folder }
@@ -144,7 +131,7 @@ copy_of m folder original = record original { nid = m; folder = folder }
 -- a copy of this index, where the folder of the original stays as it is
 unfoldable pub copying : Tree → Mes → ℕ → ℕ → Answer Outcome
 copying T M folder index =
-    touched T M.folder (record nothing { crowded = is_crowded_message M }) >>= added_message T (copy_of (new_id 4 index) folder M) >>= making T T.places 4 index
+    touched T M.folder nothing >>= added_message T (copy_of (new_id 4 index) folder M) >>= making T T.places 4 index
 
 -- `cp`: recipients, attachments and all subnodes are copied
 unfoldable pub copied_message : Tree → ℕ → ℕ → Answer Outcome
@@ -161,7 +148,7 @@ spent_row row = if is_spent_row row then Some Ids else None
 
 -- a message gets a recipient of these values in this row
 unfoldable pub adding_recipient : Tree → Mes → List Val → ℕ → Answer Outcome
-adding_recipient T M props row = remaking T M (with_recipient (new_row row) props M) false (spent_row row) (Row (new_row row))
+adding_recipient T M props row = remaking T (with_recipient (new_row row) props M) (spent_row row) (Row (new_row row))
 
 -- `rcpt`
 unfoldable pub added_recipient : Tree → ℕ → ℕ → List ℕ → List ℕ → Answer Outcome
@@ -170,7 +157,7 @@ added_recipient T m kind address name = message_in T m >>= λ M. refused_if (is_
 
 -- `unrcpt`
 unfoldable pub removed_recipient : Tree → ℕ → ℕ → Answer Outcome
-removed_recipient T m row = message_in T m >>= λ M. refused_if (not (has_recipient row M)) Object >>= λ u. remaking T M (without_recipient row M) false None Done
+removed_recipient T m row = message_in T m >>= λ M. refused_if (not (has_recipient row M)) Object >>= λ u. remaking T (without_recipient row M) None Done
 
 -- no index is left
 abbrev pub spent_index : ℕ → Option CommandRefusal
@@ -178,7 +165,7 @@ spent_index index = if is_spent index then Some Ids else None
 
 -- a message gets an attachment of these values and this index
 unfoldable pub adding_attachment : Tree → Mes → List Val → ℕ → Answer Outcome
-adding_attachment T M props index = remaking T M (with_attachment (plain_part (part_nid index) props) (room_for index M)) false (spent_index index) (Attached (part_nid index))
+adding_attachment T M props index = remaking T (with_attachment (plain_part (part_nid index) props) (room_for index M)) (spent_index index) (Attached (part_nid index))
 
 -- `attach`
 unfoldable pub added_attachment : Tree → ℕ → List ℕ → List ℕ → Answer Outcome
@@ -191,7 +178,7 @@ too_long old more = if is_too_long old more then Some (Limit LongValue) else Non
 
 -- an attachment of a message gets other values
 abbrev pub changing_part : Tree → Mes → Part → List Val → Option CommandRefusal → Answer Outcome
-changing_part T M part props reason = remaking T M (with_part (part_with props part) M) (crowds part.props props) reason Done
+changing_part T M part props reason = remaking T (with_part (part_with props part) M) reason Done
 
 -- an attachment of a message gets these bytes behind its data
 unfoldable pub appending : Tree → Mes → Part → List ℕ → List ℕ → Answer Outcome
@@ -203,7 +190,7 @@ appended_data T m n more = message_in T m >>= λ M. found Object (part_in n M) >
 
 -- `detach`
 unfoldable pub removed_attachment : Tree → ℕ → ℕ → Answer Outcome
-removed_attachment T m n = message_in T m >>= λ M. refused_if (not (is_some (part_in n M))) Object >>= λ u. remaking T M (without_attachment n M) false None Done
+removed_attachment T m n = message_in T m >>= λ M. refused_if (not (is_some (part_in n M))) Object >>= λ u. remaking T (without_attachment n M) None Done
 
 -- `fetch`
 unfoldable pub fetched_data : Tree → ℕ → ℕ → Answer Outcome

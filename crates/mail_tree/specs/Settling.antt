@@ -9,7 +9,7 @@ use Rattle.mail_tree.specs.declared.places.FolderPlace.{FolderPlace}
 use Rattle.mail_tree.specs.Places.{ROOT, is_child}
 use Rattle.mail_tree.specs.Tree.{Tree}
 use Rattle.mail_tree.specs.Values.{is_read, with_counts}
-use Rattle.mail_tree.specs.Changing.{Answer, Changed, ◌>>=◌, contents, context_at, hierarchy, message_at, put_shown, table_at, with_object, with_values}
+use Rattle.mail_tree.specs.Changing.{Answer, Changed, ◌>>=◌, contents, context_at, hierarchy, message_at, put_shown, table_at, with_object}
 
 -- the row is that of a message
 abbrev pub is_message_row : ℕ × List Val → Bool
@@ -29,7 +29,7 @@ unread_among T D (m ∷ ms) = message_at T D m >>= λ M. unread_among T D ms >>=
 
 -- the same node of properties with other values
 abbrev pub with_context : ℕ → Ctx → List Val → Changed → Changed
-with_context f c props D = with_values f (Context (record c { props = props })) c.props props D
+with_context f c props D = with_object f (Some (Context (record c { props = props }))) D
 
 -- a folder is counted anew: its messages, those that are unread, and whether it has folders
 unfoldable pub counted : Tree → List FolderPlace → ℕ → Changed → Answer Changed

@@ -121,6 +121,10 @@ is_set_protected id props = is_own_id id || has_object id props
 abbrev pub is_unset_protected : ℕ → ℕ → List Val → Bool
 is_unset_protected id kind props = is_own_id id || ((id == 0x0E07) || ((kind == 0x000D) && has_object id props))
 
+-- there are more than 1,000 values
+abbrev pub is_crowded : List Val → Bool
+is_crowded props = nat_lt 1000 (length props)
+
 -- the object has more than 1,000 values, and more than it had
 abbrev pub crowds : List Val → List Val → Bool
 crowds old new = nat_lt 1000 (length new) && nat_lt (length old) (length new)

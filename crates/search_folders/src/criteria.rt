@@ -141,7 +141,7 @@ fn setting<W: Outside, K: NodeReader<W>, L: Ledger>(
     let draft = built_unless(alloc, keeper, w, places, &search, stopped, draft, steps)?;
     let after = searches.with(alloc, search)?;
     let reason = overfills(searches, &after);
-    let outcome = replying(alloc, draft, reason, LastLine::Done)?;
+    let outcome = replying(alloc, keeper, w, draft, reason, LastLine::Done)?;
     Ok(Coming {
         outcome,
         own: None,

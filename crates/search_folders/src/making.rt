@@ -146,5 +146,6 @@ fn making_search<W: Outside, K: Keeper<W>>(
     let after = with_place(alloc, &known.places, search, parent)?;
     let with_row = added(alloc, keeper, w, search, parent, name)?;
     let draft = settled(alloc, keeper, w, with_row, &known.flags, &after, parent)?;
-    making(alloc, keeper.counts(), draft, Some(after), 3, index)
+    let counts = keeper.counts();
+    making(alloc, keeper, w, counts, draft, Some(after), 3, index)
 }

@@ -65,7 +65,7 @@ fn renamed_search<W: Outside, K: NodeReader<W>>(
     unless_protected(alloc, keeper, w, search)?;
     unless_beside(alloc, keeper, w, known, place.parent, search, name)?;
     let draft = named_anew(alloc, keeper, w, search, name)?;
-    changing(alloc, draft)
+    changing(alloc, keeper, w, draft)
 }
 
 /// Moves a search folder into a parent. The refusals: `Object`, `Reserved`, `Protected`, `Cycle`, `NameTaken`, `Limit`.
@@ -147,7 +147,7 @@ fn placing_search<W: Outside, K: NodeReader<W>>(
 {
     let after = with_place(alloc, &known.places, search, to)?;
     let draft = moved_between(alloc, keeper, w, &known.flags, &after, search, from, to)?;
-    moving(alloc, draft, after)
+    moving(alloc, keeper, w, draft, after)
 }
 
 /// Removes a search folder with its criteria, whatever it lists. The refusals: `Object`, `Protected`, `Limit`.
@@ -238,5 +238,5 @@ fn dropping_search<W: Outside, K: NodeReader<W>>(
     let without = without_search(alloc, keeper, w, search)?;
     let unlisted = drop_shown(alloc, keeper, w, without, hierarchy(parent), search)?;
     let draft = settled(alloc, keeper, w, unlisted, &known.flags, &after, parent)?;
-    moving(alloc, draft, after)
+    moving(alloc, keeper, w, draft, after)
 }

@@ -1,5 +1,5 @@
 -- Every command keeps a tree with its searches in order.
-use Rattle.std.proofs.Common.{◌≡◌, ◌∙◌, ℕ, Bool, true, false, List, [], ◌∷◌, length, Option, None, Some, IfOk, IsSome, Ok, Err, ap, arith, inl, inr, refl, subst, sym}
+use Rattle.std.proofs.Common.{◌≡◌, ◌∙◌, ℕ, Bool, true, List, [], ◌∷◌, length, Option, None, Some, IfOk, IsSome, Ok, Err, ap, arith, inl, inr, refl, subst, sym}
 use Rattle.std.proofs.lemmas.Bool.{cases_Bool}
 use Rattle.std.specs.FinMap as map
 use Rattle.std.specs.Ordering.{nat_cmp}
@@ -10,7 +10,7 @@ use Rattle.command_text.specs.declared.reply.Reply.{Reply}
 use Rattle.pst_base.specs.declared.ids.Nid.{Nid}
 use Rattle.mail_objects.specs.declared.object.Object.{Object}
 use Rattle.mail_tree.specs.Changing.{Answer, ◌>>=◌, as_message, newest, nothing, now_at}
-use Rattle.mail_tree.specs.Folders.{Outcome, listing, unchanged}
+use Rattle.mail_tree.specs.Folders.{Outcome, listing, made_id, unchanged}
 use Rattle.mail_tree.specs.Found.{IsFoundBeside}
 use Rattle.mail_tree.specs.Places.{find_place}
 use Rattle.mail_tree.specs.Step as tree
@@ -18,8 +18,11 @@ use Rattle.mail_tree.specs.Step.{outcome as tree_outcome}
 use Rattle.mail_tree.specs.Tree.{Tree, object_at}
 use Rattle.mail_tree.specs.Whole.{Fine, IsWhole}
 use Rattle.mail_tree.proofs.AfterTree.{after_now, now_nothing}
-use Rattle.mail_tree.proofs.FineLaws.{after_context, after_found, after_limits, after_table, fine_either, fine_then, fine_weaker}
+use Rattle.mail_tree.proofs.FineLaws.{after_context, after_found, after_table, fine_either, fine_then, fine_weaker}
 use Rattle.mail_tree.proofs.KindsOfPuts.{beside_kind}
+use Rattle.mail_tree.proofs.StoodLaws.{AreStood, IsNew, after_limits}
+use Rattle.mail_laws.proofs.StoodCommands.{command_stood}
+use Rattle.search_lists.proofs.StoodLists.{followed_stood}
 use Rattle.mail_laws.specs.Laws.{AreCountedBut, AreShown, Counts, Mirrors}
 use Rattle.mail_laws.specs.Stays.{Leaves}
 use Rattle.mail_laws.proofs.CountCommands.{counted_after}
@@ -70,13 +73,13 @@ fine_is P Q a p q = fine_weaker (λ x. P x × Q x) Q a (fine_both P Q a p q) (λ
 mirrors_after : (T : Tree) (c : Command) → IsWhole T → Mirrors T → IfOk (tree.outcome T c) (λ o. Mirrors (tree.after T o))
 mirrors_after T c w s =
     if_weaker (λ o. AreShownBut (λ x. ⊥) o.places (now_at T o.changed)) (λ o. Mirrors (tree.after T o)) (tree.outcome T c)
-    (mirrored_after T (before T w) (shown_but T.places (now_at T nothing) (subst (AreShown T.places) (sym (now_nothing T false)) s)) c)
+    (mirrored_after T (before T w) (shown_but T.places (now_at T nothing) (subst (AreShown T.places) (sym (now_nothing T)) s)) c)
     (λ o k. subst (AreShown o.places) (after_now T o) (all_shown o.places (now_at T o.changed) k))
 
 counts_after : (T : Tree) (c : Command) → IsWhole T → Counts T → IfOk (tree.outcome T c) (λ o. Counts (tree.after T o))
 counts_after T c w s =
     if_weaker (λ o. AreCountedBut (λ x. ⊥) o.places (now_at T o.changed)) (λ o. Counts (tree.after T o)) (tree.outcome T c)
-    (counted_after T (before T w) (λ x. ⊥) (subst (AreCountedBut (λ x. ⊥) T.places) (sym (now_nothing T false)) s) c)
+    (counted_after T (before T w) (λ x. ⊥) (subst (AreCountedBut (λ x. ⊥) T.places) (sym (now_nothing T)) s) c)
     (λ o k. subst (AreCountedBut (λ x. ⊥) o.places) (after_now T o) k)
 
 -- where nothing changes the tree stays
@@ -153,17 +156,23 @@ module _ (tidy : Bool) (X : Searching) (h : InOrder tidy X) where
     marked = marks_still X o' X.searches h.marked (λ f three other. ap (λ (x : Outcome). find_place f x.places) k.1 ∙ b.1.1.1.1.0.places f three);
   }
 
-  concludes : (c : Command) (o : Outcome) → Base c o → Fine (concluded X.tree X.searches c o) Stands
+  -- what is put can be compared with the tree
+  abbrev Known : Outcome → Type 0
+  Known o = AreStood X.tree (IsNew (made_id o.reply.last)) o.changed
+
+  concludes : (c : Command) (o : Outcome) → Base c o → Known o → Fine (concluded X.tree X.searches c o) Stands
   unfolding concluded
-  concludes c o b =
-      fine_then Stands Stands (followed X.tree X.searches c o) if_within
-      (fine_weaker _ Stands (followed X.tree X.searches c o) (fine_both (Keeps o) _ (followed X.tree X.searches c o) (keeps c o b.0 b.1.1.1.1.0 b.1.1.1.1.1.0) b.1.1.1.1.1.1) (λ o' p. in_order c o o' b p.0 p.1))
-      (λ o' is. after_limits Stands o'.changed (λ u. Ok o') is)
+  concludes c o b known =
+      fine_then (λ o'. Stands o' × Known o') Stands (followed X.tree X.searches c o) (if_within X.tree)
+      (fine_both Stands Known (followed X.tree X.searches c o) (fine_weaker _ Stands (followed X.tree X.searches c o) (fine_both (Keeps o) _ (followed X.tree X.searches c o) (keeps c o b.0 b.1.1.1.1.0 b.1.1.1.1.1.0) b.1.1.1.1.1.1) (λ o' p. in_order c o o' b p.0 p.1))
+      (followed_stood X.tree X.searches c o known))
+      (λ o' is. after_limits Stands X.tree (made_id o'.reply.last) o'.changed (λ u. Ok o') is.1 is.0)
 
   plain : (c : Command) → Fine (plain_outcome X c) (λ x. InOrder tidy (after X x))
   plain c =
       fine_then Stands (λ x. InOrder tidy (after X x)) (tree.outcome X.tree c >>= concluded X.tree X.searches c) (staying X)
-      (fine_then (Base c) Stands (tree.outcome X.tree c) (concluded X.tree X.searches c) (base c) (λ o b. concludes c o b)) (λ o is. is)
+      (fine_then (λ o. Base c o × Known o) Stands (tree.outcome X.tree c) (concluded X.tree X.searches c)
+      (fine_both (Base c) Known (tree.outcome X.tree c) (base c) (command_stood X.tree (before X.tree h.whole) c)) (λ o b. concludes c o b.0 b.1)) (λ o is. is)
 
   -- what names an own search goes on
   own_after : (s : ℕ) → Fine (unless_other X s) (λ u. is_own X.own s ≡ true)
@@ -177,15 +186,15 @@ module _ (tidy : Bool) (X : Searching) (h : InOrder tidy X) where
   unfolding told_criteria
   told s = fine_then (λ u. is_own X.own s ≡ true) (λ o. o ≡ unchanged X.tree o.reply) (unless_other X s) _ (own_after s) (λ u own.
       let c = h.searches.criteria s own in
-      after_context (λ o. o ≡ unchanged X.tree o.reply) X.tree nothing (criteria_node s) c.0 _ (ap (λ g. g (criteria_node s)) (now_nothing X.tree false) ∙ c.1) (rw c.2.1 refl))
+      after_context (λ o. o ≡ unchanged X.tree o.reply) X.tree nothing (criteria_node s) c.0 _ (ap (λ g. g (criteria_node s)) (now_nothing X.tree) ∙ c.1) (rw c.2.1 refl))
 
   -- the messages of an own search are listed
   lists_own : (f : ℕ) → is_own X.own f ≡ true → Fine (search_listing X.tree f) (λ o. o ≡ unchanged X.tree o.reply)
   unfolding search_listing
   lists_own f own =
       let t = h.searches.tables f own in
-      after_table (λ o. o ≡ unchanged X.tree o.reply) X.tree nothing (results f) t.0 _ (ap (λ g. g (results f)) (now_nothing X.tree false) ∙ t.1)
-      (rw (none_stray X.tree nothing t.0.table.rows (λ r some. subst (λ at. IsSome (as_message (at r))) (sym (now_nothing X.tree false)) (h.searches.rows f t.0 r own t.1 some))) refl)
+      after_table (λ o. o ≡ unchanged X.tree o.reply) X.tree nothing (results f) t.0 _ (ap (λ g. g (results f)) (now_nothing X.tree) ∙ t.1)
+      (rw (none_stray X.tree nothing t.0.table.rows (λ r some. subst (λ at. IsSome (as_message (at r))) (sym (now_nothing X.tree)) (h.searches.rows f t.0 r own t.1 some))) refl)
 
   -- so is what is in any other folder
   lists_other : (folder : Nid) → Fine (listing X.tree folder.bits) (λ o. o ≡ unchanged X.tree o.reply)

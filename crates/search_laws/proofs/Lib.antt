@@ -34,3 +34,4 @@ pub mod ShiftingTree
 pub mod Moves
 pub mod Sound
 pub mod Joining
+pub mod MakingStood

@@ -54,7 +54,7 @@ module _ (tidy : Bool) (X : Searching) (order : InOrder tidy X) (parent : ℕ) (
   Good o = InOrder tidy (after X (coming o))
 
   w : Before T
-  w = subst (AreWhole T.places) (sym (now_nothing T false)) order.whole.objects
+  w = subst (AreWhole T.places) (sym (now_nothing T)) order.whole.objects
 
   three : s % 32 ≡ 3
   three = new_id_kind 3 index (omega arith)
@@ -67,7 +67,7 @@ module _ (tidy : Bool) (X : Searching) (order : InOrder tidy X) (parent : ℕ) (
     places = with_place T.places s parent
 
     not_there : find_place s T.places ≡ None
-    not_there = not_placed T s w (ap (λ g. g s) (now_nothing T false) ∙ free.own_free)
+    not_there = not_placed T s w (ap (λ g. g s) (now_nothing T) ∙ free.own_free)
 
     -- the new search is own, and beside it no other node stands; each other search folder stands where it stood
     marked : (D : Changed) → Makes T s parent D → AreMarked (after X (coming (made T parent index D)))

@@ -1,5 +1,5 @@
 -- After a new search was made the counts of folders are right.
-use Rattle.std.proofs.Common.{◌≡◌, ℕ, ◌%◌, List, Option, None, Some, IfOk, arith, refl, sym, subst, ap, ◌∙◌, true, false}
+use Rattle.std.proofs.Common.{◌≡◌, ℕ, ◌%◌, List, Option, None, Some, IfOk, arith, refl, sym, subst, ap, ◌∙◌, true}
 use Rattle.std.specs.List.{list_any}
 use Rattle.std.proofs.lemmas.Bool.{ne_eqb}
 use Rattle.std.proofs.lemmas.Option.{none-some}
@@ -50,7 +50,7 @@ module _ (T : Tree) (w : Before T) (s parent : ℕ) (q : FolderPlace) (name : Li
   nodes_counted counts =
       let E : ℕ → Type 0 = λ x. x ≡ parent in
       let at0 = now_at T nothing in
-      let k = counted_fewer (λ x. ⊥) E T.places at0 (λ x e. absurd e) (subst (AreCountedBut (λ x. ⊥) T.places) (sym (now_nothing T false)) counts) in
+      let k = counted_fewer (λ x. ⊥) E T.places at0 (λ x e. absurd e) (subst (AreCountedBut (λ x. ⊥) T.places) (sym (now_nothing T)) counts) in
       let k0 = counted_places E T.places places at0 k (λ g p e plain_p free. (p, plain_was T.places s parent g p e plain_p, plain_p, children_same g (λ same. free (sym same)))) in
       let k1 = search_put E places at0 (now_at T (D1 T s parent name three)) s (Some (Own T s parent name three)) ids_after (ap is_search_kind three) k0 (puts_values T s parent name three) in
       let k2 = search_put E places (now_at T (D1 T s parent name three)) (now_at T (D2 T s parent name three)) (updates s) (Some (Bare (nid 0))) ids_after (ap is_search_kind (beside_kind s 6 (omega arith))) k1 (puts_updates T s parent name three) in

@@ -97,7 +97,7 @@ module _ (T : Tree) (w : Before T) (own : List ℕ) (s parent : ℕ) (q : Folder
   plain_two f p e plain_p = plain_id (nearly (λ x. ⊥) T.places (now_at T nothing) w) f p e plain_p
 
   unplaced : find_place s T.places ≡ None
-  unplaced = not_placed T s w (ap (λ g. g s) (now_nothing T false) ∙ free.own_free)
+  unplaced = not_placed T s w (ap (λ g. g s) (now_nothing T) ∙ free.own_free)
 
   -- each row of a folder's table that names a folder names one that stands in it
   listed_after : (f : ℕ) (p : FolderPlace) (t : Tbl) (r : ℕ) (sort : Sort) → find_place f places ≡ Some p → is_plain p ≡ true → now_at T o.changed (hierarchy f) ≡ Some (Table t) → IsSome (find_row r t.table.rows)

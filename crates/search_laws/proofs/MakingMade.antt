@@ -1,5 +1,5 @@
 -- What stands in a tree after a new search was made.
-use Rattle.std.proofs.Common.{◌≡◌, ℕ, ◌%◌, true, false, List, None, Some, arith, refl, subst, ap, ◌∙◌, ◌⊎◌, inl, inr}
+use Rattle.std.proofs.Common.{◌≡◌, ℕ, ◌%◌, true, List, None, Some, arith, refl, subst, ap, ◌∙◌, ◌⊎◌, inl, inr}
 use Rattle.std.specs.FinMap as map
 use Rattle.std.specs.Ordering.{nat_cmp}
 use Rattle.std.proofs.lemmas.Bool.{cases_eq}
@@ -107,7 +107,7 @@ module _ (T : Tree) (w : Before T) (s parent : ℕ) (q : FolderPlace) (name : Li
       (settled_follows T places New D k.0 parent q still plain) (λ D' v k'. (v, follows_then T places New D0 D D' k.1 k')))
 
   before_any : (x : ℕ) → now_at T nothing x ≡ object_at T x
-  before_any x = ap (λ g. g x) (now_nothing T false)
+  before_any x = ap (λ g. g x) (now_nothing T)
 
   -- what stands at an id that is none of a plain folder's values or its table of folders
   stands_still : (D : Changed) → Follows T places New D0 D → (x : ℕ) → (x % 32 ≡ 2 → ⊥) → (x % 32 ≡ 13 → ⊥) → now_at T D x ≡ now_at T D0 x

@@ -1,5 +1,5 @@
 -- After a new search was made rows mirror what they show.
-use Rattle.std.proofs.Common.{◌≡◌, ℕ, ◌%◌, true, false, List, Some, IfOk, arith, refl, sym, subst, ap, ◌∙◌, inl, inr}
+use Rattle.std.proofs.Common.{◌≡◌, ℕ, ◌%◌, true, List, Some, IfOk, arith, refl, sym, subst, ap, ◌∙◌, inl, inr}
 use Rattle.std.proofs.lemmas.Bool.{cases_eq}
 use Rattle.mail_objects.specs.declared.object.Object.TheVariants.{Bare, Table}
 use Rattle.mail_tree.specs.declared.places.FolderPlace.{FolderPlace}
@@ -45,7 +45,7 @@ module _ (T : Tree) (w : Before T) (s parent : ℕ) (q : FolderPlace) (name : Li
       let E : ℕ → Type 0 = λ x. x ≡ s in
       let none : ℕ → Type 0 = λ x. ⊥ in
       let k6 = beside_kind s 6 (omega arith) in let k7 = beside_kind s 7 (omega arith) in let k16 = beside_kind s 16 (omega arith) in
-      let start = shown_but T.places (now_at T nothing) (subst (AreShown T.places) (sym (now_nothing T false)) mirrors) in
+      let start = shown_but T.places (now_at T nothing) (subst (AreShown T.places) (sym (now_nothing T)) mirrors) in
       let s1 = shown_put none E T.places (now_at T nothing) (now_at T (D1 T s parent name three)) s (Some (Own T s parent name three)) start (λ x e. absurd e) (puts_values T s parent name three)
       (λ e. omega arith) (λ e. omega arith) (λ p e. refl) (λ M e. cc) in
       let s2 = shown_put E E T.places (now_at T (D1 T s parent name three)) (now_at T (D2 T s parent name three)) (updates s) (Some (Bare (nid 0))) s1 (λ x e. e) (puts_updates T s parent name three)

@@ -15,7 +15,7 @@ use Rattle.mail_tree.specs.Values.{with_counts}
 use Rattle.mail_tree.specs.Changing.{Changed, ◌>>=◌, add_shown, hierarchy, now_at, overfills, put_shown, shown_row, with_object, with_rows}
 use Rattle.mail_tree.specs.Settling.{counted, message_ids, mirrored, settled, table_as_is, unread_among, with_context}
 use Rattle.mail_tree.specs.Whole.{AreWhole}
-use Rattle.mail_tree.proofs.AfterTree.{puts_object, puts_values}
+use Rattle.mail_tree.proofs.AfterTree.{puts_object}
 use Rattle.mail_tree.proofs.KeyedFinds.{find-put_other}
 use Rattle.mail_tree.proofs.KindsOfPuts.{beside_kind, same_table}
 use Rattle.mail_tree.proofs.Nearly.{Puts, nearly, plain_id}
@@ -103,7 +103,7 @@ module _ (T : Tree) (places : List FolderPlace) (New : ℕ → ℕ → Type 0) w
     mirrored_follows c props is_c =
         let D1 = with_context f c props D in
         let new : Ctx = record c { props = props } in
-        let puts = puts_values T D f (Context new) c.props props in
+        let puts = puts_object T D f (Some (Context new)) in
         let table_stays : (g : ℕ) → now_at T D1 (hierarchy g) ≡ now_at T D (hierarchy g) = λ g. puts.others (hierarchy g) (λ same. omega (arith, two, beside_kind g 13 (omega arith))) in
         elim (cases_Bool (f == ROOT)) [
           | inl b ↦ let r = w.root in let t = folders_of w ROOT r.0 r.1 r.2 in rw b (same_follows D1 t.0 ROOT r.0 r.1 r.2 (table_stays ROOT ∙ t.1))
@@ -125,5 +125,5 @@ module _ (T : Tree) (places : List FolderPlace) (New : ℕ → ℕ → Type 0) w
         (if_then (λ n. Unit {0}) _ (unread_among T D (message_ids t.0.table)) _ (if_any (unread_among T D (message_ids t.0.table))) (λ n u.
         let props = with_counts (length (message_ids t.0.table)) n (list_any (is_child f) places) c.0.props in
         let o = Some (Context (record c.0 { props = props })) in
-        (values_follow D (with_context f c.0 props D) f p o e plain two (puts_values T D f (Context (record c.0 { props = props })) c.0.props props) (λ k other. get_other D f k o other), mirrored_follows c.0 props c.1)))
+        (values_follow D (with_context f c.0 props D) f p o e plain two (puts_object T D f (Some (Context (record c.0 { props = props })))) (λ k other. get_other D f k o other), mirrored_follows c.0 props c.1)))
         (λ D1 k. if_weaker (Follows T places New D1) (Follows T places New D) (mirrored T f D1) k.1 (λ D2 k2. follows_then D D1 D2 k.0 k2)))

@@ -16,16 +16,18 @@ use Rattle.mail_tree.specs.Ids.{is_spent, new_id}
 use Rattle.mail_tree.specs.Folders.{Outcome, making, nid, replied, unless_full, unless_named}
 use Rattle.mail_tree.specs.Settling.{settled}
 use Rattle.mail_tree.specs.Whole.{AreWhole, Fine, HasRow}
-use Rattle.mail_tree.proofs.FineLaws.{after_limits, after_test, cases_Option, fine_then, fine_weaker}
+use Rattle.mail_tree.proofs.FineLaws.{after_test, cases_Option, fine_then, fine_weaker}
 use Rattle.mail_tree.proofs.KindsOfPuts.{beside_kind}
-use Rattle.mail_tree.proofs.Nearly.{AreNearly, plain_id, table_of}
+use Rattle.mail_tree.proofs.Nearly.{AreNearly, plain_id, table_of, nearly}
 use Rattle.mail_tree.proofs.Settles.{each_message, fine_settled, folders_of}
 use Rattle.mail_laws.proofs.FolderSteps.{RowsChange, added_folder, children_of, fine_named}
 use Rattle.mail_laws.proofs.FoundSteps.{kind_apart}
 use Rattle.mail_laws.proofs.MessageSteps.{Before, fine_unless_full}
-use Rattle.mail_laws.proofs.Spent.{IsReadable, fine_read, new_id_kind, refused_later}
+use Rattle.mail_laws.proofs.Spent.{IsReadable, fine_read, new_id_kind}
 use Rattle.mail_searches.specs.Criteria.{making_search, making_search_in, with_search}
 use Rattle.search_laws.proofs.MakingPuts.{new_values, nodes_nearly, place_others, search_nodes, whole_search, with_place}
+use Rattle.search_laws.proofs.MakingStood.{search_limits, steps_stood, steps_few}
+use Rattle.mail_searches.specs.Searches.{criteria_node}
 
 -- the steps of a new search: its nodes, the row that shows it, and its parent, which is counted anew
 abbrev pub steps : Tree → ℕ → ℕ → List ℕ → Answer Changed
@@ -102,8 +104,14 @@ fine_making T parent name index Q w next = elim (cases_Option (find_place parent
   where
     makes : (q : FolderPlace) → find_place parent T.places ≡ Some q → is_plain q ≡ true → is_deep T.places parent ≡ false
         → Fine (steps T (new_id 3 index) parent name >>= making T (with_place T.places (new_id 3 index) parent) 3 index) Q
-    makes q found plain deep = elim (cases_Bool (is_spent index)) [
-      | inl spent ↦ refused_later T (with_place T.places (new_id 3 index) parent) 3 index Q (steps T (new_id 3 index) parent name) spent (planned T w (new_id 3 index) parent q name (new_id_kind 3 index (omega arith)) found plain)
-      | inr left ↦ fine_then (λ D. Q (made T parent index D)) Q (steps T (new_id 3 index) parent name) (making T (with_place T.places (new_id 3 index) parent) 3 index) (next left q found plain deep)
-          (λ D k. after_limits Q D _ (after_test Q (is_spent index) Ids _ (λ e. k)))
-    ]
+    makes q found plain deep =
+        let s = new_id 3 index in
+        let three = new_id_kind 3 index (omega arith) in
+        let two = plain_id (nearly (λ x. ⊥) T.places (now_at T nothing) w) parent q found plain in
+        let seven : criteria_node s % 32 ≡ 7 = beside_kind s 7 (omega arith) in
+        let stood = steps_stood T s parent name (with_place T.places s parent) in
+        let few = steps_few T s parent name (with_place T.places s parent) (λ e. omega (arith, three, seven)) (λ e. omega (arith, two, seven)) in
+        elim (cases_Bool (is_spent index)) [
+          | inl spent ↦ search_limits T s (λ D. Unit {0}) Q (steps T s parent name) _ (planned T w s parent q name three found plain) stood few (λ D u. rw spent tt)
+          | inr left ↦ search_limits T s (λ D. Q (made T parent index D)) Q (steps T s parent name) _ (next left q found plain deep) stood few (λ D k. after_test Q (is_spent index) Ids _ (λ e. k))
+        ]

@@ -1,5 +1,5 @@
 -- What the commands that name an own search folder have in common.
-use Rattle.std.proofs.Common.{◌≡◌, ◌∙◌, ℕ, ◌%◌, false, List, None, Some, Ok, Err, IfOk, IsSome, ap, arith, subst, sym, inl, inr}
+use Rattle.std.proofs.Common.{◌≡◌, ◌∙◌, ℕ, ◌%◌, List, None, Some, Ok, Err, IfOk, IsSome, ap, arith, subst, sym, inl, inr}
 use Rattle.std.proofs.lemmas.Bool.{cases_eq, false≢true}
 use Rattle.mail_tree.specs.declared.places.FolderPlace.{FolderPlace}
 use Rattle.mail_tree.specs.Changing.{Answer, as_message, hierarchy, nothing, now_at}
@@ -29,7 +29,7 @@ if_four P Q R S U (Err e) p q r s next = tt
 
 -- before a command
 pub now_before : (T : Tree) (q : ℕ) → now_at T nothing q ≡ object_at T q
-now_before T q = ap (λ at. at q) (now_nothing T false)
+now_before T q = ap (λ at. at q) (now_nothing T)
 
 -- the place of a folder that has one
 pub place_of : (places : List FolderPlace) (s : ℕ) → IsSome (find_place s places) → (p : FolderPlace) × (find_place s places ≡ Some p)
@@ -55,7 +55,7 @@ no_hierarchy g quiet = quiet.1 (beside_kind g 13 (omega arith))
 
 -- before a command rows show what they name, and counts are right
 pub shown_before : (T : Tree) → Mirrors T → AreShownBut (λ x. ⊥) T.places (now_at T nothing)
-shown_before T m = shown_but T.places (now_at T nothing) (subst (AreShown T.places) (sym (now_nothing T false)) m)
+shown_before T m = shown_but T.places (now_at T nothing) (subst (AreShown T.places) (sym (now_nothing T)) m)
 
 pub counted_before : (T : Tree) → Counts T → AreCountedBut (λ x. ⊥) T.places (now_at T nothing)
-counted_before T k = subst (AreCountedBut (λ x. ⊥) T.places) (sym (now_nothing T false)) k
+counted_before T k = subst (AreCountedBut (λ x. ⊥) T.places) (sym (now_nothing T)) k

@@ -74,7 +74,7 @@ module _ (T : Tree) (s : ℕ) (p : FolderPlace) (own : List ℕ) (w : Before T) 
   owned_less q o e = elim (node_cases s q) [
     | inl node ↦ absurd (none-some o (sym (all_gone T s q node) ∙ e))
     | inr other ↦
-        let stood : object_at T q ≡ Some o = sym (ap (λ at. at q) (now_nothing T false)) ∙ sym (goes_elsewhere T s q other) ∙ e in
+        let stood : object_at T q ≡ Some o = sym (ap (λ at. at q) (now_nothing T)) ∙ sym (goes_elsewhere T s q other) ∙ e in
         elim (h.owned q o stood) [
           | inl of ↦
               let stays : of.0 ≡ s → ⊥ = λ same. other (elim of.2 [
@@ -91,7 +91,7 @@ module _ (T : Tree) (s : ℕ) (p : FolderPlace) (own : List ℕ) (w : Before T) 
 
   -- a plain folder's values and its table of folders stay where the nodes go
   table_there : (g : ℕ) → now_at T (without_search T s nothing) (hierarchy g) ≡ object_at T (hierarchy g)
-  table_there g = goes_elsewhere T s (hierarchy g) (λ n. not_thirteen n) ∙ ap (λ at. at (hierarchy g)) (now_nothing T false)
+  table_there g = goes_elsewhere T s (hierarchy g) (λ n. not_thirteen n) ∙ ap (λ at. at (hierarchy g)) (now_nothing T)
     where
       not_thirteen : IsNode s (hierarchy g) → ⊥
       not_thirteen n = let kind = beside_kind g 13 (omega arith) in elim n [

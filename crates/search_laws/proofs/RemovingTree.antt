@@ -19,7 +19,7 @@ use Rattle.mail_tree.specs.Settling.{settled}
 use Rattle.mail_tree.specs.Tree.{Tree, object_at}
 use Rattle.mail_tree.specs.Whole.{AreWhole, Fine}
 use Rattle.mail_tree.proofs.AfterTree.{now_nothing, puts_object}
-use Rattle.mail_tree.proofs.FineLaws.{after_limits, fine_then}
+use Rattle.mail_tree.proofs.FineLaws.{fine_then}
 use Rattle.mail_tree.proofs.KeyedFinds.{find-drop_other, find-drop_same}
 use Rattle.mail_tree.proofs.KindsOfPuts.{beside_kind, low, puts_folders, same_table}
 use Rattle.mail_tree.proofs.Nearly.{AreNearly, folder_kind, nearly, puts_suiting, table_of, whole}
@@ -30,6 +30,8 @@ use Rattle.mail_laws.proofs.MessageSteps.{Before, Keeps}
 use Rattle.search_laws.proofs.PlainPlaces.{plain_other}
 use Rattle.mail_searches.specs.Moving.{removing_search, without_search}
 use Rattle.mail_searches.specs.Searches.{criteria_node, results, updates}
+use Rattle.mail_tree.proofs.StoodLaws.{AreStood, IsNew, dropped_stood, none_stood, settled_stood, stood_put, stood_then}
+use Rattle.mail_laws.proofs.Comparing.{fine_limits}
 
 -- the id is none of values of the store, of a plain folder, of a message, or of a folder's tables
 abbrev pub IsAside : ℕ → Type 0
@@ -133,7 +135,7 @@ not_there (Some x) e = cc
 -- where no node stands, or the one that does goes, none is left
 free_goes : (T : Tree) (q : ℕ) (b : Bool) (D : Changed) → is_taken T q ≡ b → (now_at T nothing q ≡ None → now_at T D q ≡ None) → now_at T (without_node q b D) q ≡ None
 free_goes T q true D taken still = (puts_object T D q None).here
-free_goes T q false D taken still = still (ap (λ at. at q) (now_nothing T false) ∙ not_there (object_at T q) (or_parts (is_some (object_at T q)) (is_some (node_at T.others q)) taken).0)
+free_goes T q false D taken still = still (ap (λ at. at q) (now_nothing T) ∙ not_there (object_at T q) (or_parts (is_some (object_at T q)) (is_some (node_at T.others q)) taken).0)
 
 -- nothing stands at the ids of a search's nodes
 pub all_gone : (T : Tree) (s q : ℕ) → IsNode s q → now_at T (without_search T s nothing) q ≡ None
@@ -193,7 +195,19 @@ removing T s p = drop_shown T (hierarchy p.parent.bits) s (without_search T s no
 pub if_removed : (T : Tree) (s : ℕ) (p : FolderPlace) (Q : Outcome → Type 0) → find_place s T.places ≡ Some p → IfOk (removing T s p) (λ D. Q (removed_outcome T s D)) → IfOk (removing_search T s) Q
 unfolding removing_search
 if_removed T s p Q found h = rw found (if_then (λ u. Unit {0}) Q (unless_protected T s) _ (if_any (unless_protected T s)) (λ u u'.
-    if_then (λ D. Q (removed_outcome T s D)) Q (removing T s p) (moving T (drop_key place_id s T.places) (replied Done)) h (λ D k. if_then (λ v. Unit {0}) Q (within_limits D) _ (if_any (within_limits D)) (λ v v'. k))))
+    if_then (λ D. Q (removed_outcome T s D)) Q (removing T s p) (moving T (drop_key place_id s T.places) (replied Done)) h (λ D k. if_then (λ v. Unit {0}) Q (within_limits T _ D) _ (if_any (within_limits T _ D)) (λ v v'. k))))
+
+node_stood : (T : Tree) (q : ℕ) (b : Bool) (D : Changed) → AreStood T (IsNew None) D → AreStood T (IsNew None) (without_node q b D)
+node_stood T q false D all = all
+node_stood T q true D all = stood_put T (IsNew None) q None D tt all
+
+-- nothing is put but tables, and what stands there
+search_goes : (T : Tree) (s from : ℕ) (places : List FolderPlace) → IfOk (drop_shown T (hierarchy from) s (without_search T s nothing) >>= settled T places from) (AreStood T (IsNew None))
+search_goes T s from places =
+    let New = IsNew None in
+    let D3 = stood_put T New (results s) None _ tt (stood_put T New (criteria_node s) None _ tt (stood_put T New s None nothing tt (none_stood T New))) in
+    stood_then (drop_shown T (hierarchy from) s (without_search T s nothing)) (settled T places from)
+    (dropped_stood T New (hierarchy from) s _ (node_stood T (updates s) (is_taken T (updates s)) _ D3)) (λ D k. settled_stood T New places from D k)
 
 -- `rmdir` of a search folder
 pub fine_removed : (T : Tree) (s : ℕ) (p : FolderPlace) → Before T → s % 32 ≡ 3 → find_place s T.places ≡ Some p → Fine (removing_search T s) (Keeps T)
@@ -207,6 +221,6 @@ fine_removed T s p w three found = rw found (fine_then _ (Keeps T) (unless_prote
     let there : find_place from places ≡ Some v.0 = find-drop_other place_id from s T.places (plain_other (nearly (λ x. ⊥) T.places (now_at T nothing) w) s three from v.0 v.1 v.2) ∙ v.1 in
     let gone = search_gone T places s three none (without_place T.places (now_at T nothing) s three w) in
     let D = without_search T s nothing in
-    fine_then LeavesIn (Keeps T) (drop_shown T (hierarchy from) s D >>= settled T places from) (moving T places (replied Done))
+    fine_limits LeavesIn (Keeps T) T None (drop_shown T (hierarchy from) s D >>= settled T places from) _
     (fine_then LeavesIn LeavesIn (drop_shown T (hierarchy from) s D) (settled T places from) (row_gone places T D from v.0 s gone there v.2 none) (λ D' x. fine_settled T places from v.0 D' x there v.2))
-    (λ D' x. after_limits (Keeps T) D' _ x)))
+    (search_goes T s from places) (λ D' x. x)))

@@ -1,5 +1,5 @@
 -- `rename` of an own search folder leaves all in order.
-use Rattle.std.proofs.Common.{◌≡◌, ◌∙◌, ℕ, ◌%◌, Bool, true, false, List, Some, IsSome, IfOk, ap, arith, refl, subst, sym, inr}
+use Rattle.std.proofs.Common.{◌≡◌, ◌∙◌, ℕ, ◌%◌, Bool, true, false, List, Some, IsSome, IfOk, ap, arith, refl, subst, sym, inr, None}
 use Rattle.std.proofs.lemmas.Bool.{ne_eqb}
 use Rattle.mapi_values.specs.Characters.{folded}
 use Rattle.mapi_values.specs.Properties.{put}
@@ -9,15 +9,15 @@ use Rattle.mail_objects.specs.Forms.{Ctx}
 use Rattle.mail_objects.specs.declared.object.Object.TheVariants.{Context}
 use Rattle.mail_tree.specs.declared.places.FolderPlace.{FolderPlace}
 use Rattle.mail_tree.specs.Changing.{Changed, nothing, now_at}
-use Rattle.mail_tree.specs.Folders.{Outcome, changing, nid, replied, siblings, unless_named, unless_protected}
+use Rattle.mail_tree.specs.Folders.{Outcome, nid, replied, siblings, unless_named, unless_protected}
 use Rattle.mail_tree.specs.Found.{IsFoundBeside}
 use Rattle.mail_tree.specs.Places.{ROOT, children, find_place}
 use Rattle.mail_tree.specs.Settling.{mirrored, with_context}
 use Rattle.mail_tree.specs.Tree.{Tree}
 use Rattle.mail_tree.specs.Values.{text}
 use Rattle.mail_tree.specs.Whole.{AreWhole, Fine}
-use Rattle.mail_tree.proofs.AfterTree.{puts_values}
-use Rattle.mail_tree.proofs.FineLaws.{after_limits, fine_then}
+use Rattle.mail_tree.proofs.AfterTree.{puts_object}
+use Rattle.mail_tree.proofs.FineLaws.{fine_then}
 use Rattle.mail_tree.proofs.KindsOfPuts.{beside_kind}
 use Rattle.mail_tree.proofs.Nearly.{folder_kind, nearly}
 use Rattle.mail_tree.proofs.Settles.{fine_mirrored, other_values}
@@ -43,6 +43,8 @@ use Rattle.search_laws.proofs.OwnSteps.{IsQuietId, counted_before, no_hierarchy,
 use Rattle.search_laws.proofs.PlainPlaces.{plain_other, foreign_sort, plain_ids}
 use Rattle.search_laws.proofs.ShiftingFound.{foreign_named}
 use Rattle.search_laws.proofs.ShiftingTree.{each_chosen}
+use Rattle.mail_tree.proofs.StoodLaws.{IsNew}
+use Rattle.mail_laws.proofs.Comparing.{fine_limits, renamed_stood}
 
 -- what the changes come to
 abbrev renamed_outcome : Tree → Changed → Outcome
@@ -68,7 +70,7 @@ module _ (T : Tree) (s : ℕ) (name : List ℕ) (p : FolderPlace) (w : Before T)
       let brothers = siblings T p.parent.bits s in
       rw found (fine_then _ Q (unless_protected T s) _ (fine_protected T s w) (λ u u'.
       fine_then (λ v. Unit {0}) Q (unless_named T (folded false name) brothers) _ (fine_named T (folded false name) brothers (each_chosen (now_at T nothing) _ (children p.parent.bits T.places) (children_of w p.parent.bits))) (λ v v'.
-      rw old.1 (fine_then (λ D'. Q (renamed_outcome T D')) Q (mirrored T s D) (changing T (replied Done)) h (λ D' k. after_limits Q D' _ k)))))
+      rw old.1 (fine_limits (λ D'. Q (renamed_outcome T D')) Q T None (mirrored T s D) _ h (renamed_stood T (IsNew None) s old.0 props old.1) (λ D' k. k)))))
 
   fine_row : Fine (mirrored T s D) (λ D'. AreWhole T.places (now_at T D'))
   fine_row = fine_mirrored T T.places s p D (other_values T T.places s p nothing w found old.0 props old.1) found
@@ -90,7 +92,7 @@ module _ (T : Tree) (s : ℕ) (name : List ℕ) (p : FolderPlace) (w : Before T)
   finds_row : (beside : ℕ → Type 0) → IsFoundBeside beside T → (s ≡ ROOT → ⊥) → IfOk (mirrored T s D) (Finds beside T T.places)
   unfolding mirrored
   finds_row beside h root =
-      let puts = puts_values T nothing s (Context new) old.0.props props in
+      let puts = puts_object T nothing s (Some (Context new)) in
       let up = old.2 root in
       let v = w.parents s p found root in
       let two : old.0.parent % 32 ≡ 2 = ap (λ x. x % 32) up ∙ (ids p.parent.bits v.0 v.1 v.2).0 in
@@ -103,7 +105,7 @@ module _ (T : Tree) (s : ℕ) (name : List ℕ) (p : FolderPlace) (w : Before T)
 
   counted_row : Counts T → IfOk (mirrored T s D) (λ D'. AreCountedBut (λ x. ⊥) T.places (now_at T D'))
   counted_row k = mirrored_counts T T.places (λ g q e plain. (ids g q e plain).0) (λ x. ⊥) D s (counted_put (λ x. ⊥) T.places (now_at T nothing) (now_at T D) s (Some (Context new)) (counted_before T k)
-      (puts_values T nothing s (Context new) old.0.props props)
+      (puts_object T nothing s (Some (Context new)))
       (λ f q c e plain free same is. absurd (omega (arith, three, same, (ids f q e plain).0)))
       (λ f q e plain free same. omega (arith, three, same, beside_kind f 14 (omega arith)))
       (λ f q t e plain free is row four. omega (arith, three, four)))
@@ -135,7 +137,7 @@ module _ (tidy : Bool) (X : Searching) (s : ℕ) (name : List ℕ) (h : InOrder 
       (mirrored_keeps IsQuietId no_hierarchy T' s first) (finds_row T' s name at.0 whole kind at.1 (IsOfSearch X.own) h.found root)
       (if_given (tidy ≡ true) Shown (mirrored T' s first) (λ t. shown_row T' s name at.0 whole kind at.1 (h.mirrors t))) (if_given (tidy ≡ true) Counted (mirrored T' s first) (λ t. counted_row T' s name at.0 whole kind at.1 (h.counts t)))
       (λ D' kept finds shown counted. record {
-        kept = λ q quiet other. kept q quiet ∙ (puts_values T' nothing s (Context (record c.0 { props = values })) c.0.props values).others q other ∙ now_before T' q;
+        kept = λ q quiet other. kept q quiet ∙ (puts_object T' nothing s (Some (Context (record c.0 { props = values })))).others q other ∙ now_before T' q;
         here = h.searches.placed s own;
         others = λ g other. refl;
         foreign = λ g q e plain. plain_other (nearly (λ x. ⊥) T'.places (now_at T' nothing) whole) s kind g q e plain;

@@ -150,7 +150,7 @@ module _ (T : Tree) (s : Search) (columns : List Column) (w : IsWhole T) where
   rows-among f scope [] held rows a = record { ascend_still = a; have = λ k. sym (or-false (has k rows)) }
   rows-among f scope (m ∷ ms) held rows a =
       let h = held m (first-in m ms) in
-      let now : now_at T nothing m ≡ Some (Message h.0) = ap (λ at. at m) (now_nothing T false) ∙ h.1 in
+      let now : now_at T nothing m ≡ Some (Message h.0) = ap (λ at. at m) (now_nothing T) ∙ h.1 in
       let one = one-row m h.0 rows h.1 (ap (in_scope T.places s) h.2 ∙ scope) a in
       after_message (AreWith (is_among (m ∷ ms)) rows) T nothing m h.0 (λ M. found_among T s columns ms (with_found s columns m M rows)) now
       (fine_weaker (AreWith (is_among ms) (with_found s columns m h.0 rows)) (AreWith (is_among (m ∷ ms)) rows) (found_among T s columns ms (with_found s columns m h.0 rows))
@@ -250,7 +250,7 @@ module _ (T : Tree) (s : Search) (columns : List Column) (w : IsWhole T) where
         let kind = beside_kind f 14 (omega arith) in
         let table = table_of (contents f) (object_at T (contents f)) (λ x e. w.objects.typed (contents f) x e) (inr (inl kind)) (w.objects.tables f p each.0 plain).1 in
         let t = table.0 in
-        let now : now_at T nothing (contents f) ≡ Some (Table t) = ap (λ at. at (contents f)) (now_nothing T false) ∙ table.1 in
+        let now : now_at T nothing (contents f) ≡ Some (Table t) = ap (λ at. at (contents f)) (now_nothing T) ∙ table.1 in
         after_table (AreWith (stands_in (p ∷ ps)) rows) T nothing (contents f) t (λ u. found_among T s columns (message_ids u.table) rows >>= found_below T s columns ps) now
         (fine_then (AreWith (is_among (message_ids t.table)) rows) (AreWith (stands_in (p ∷ ps)) rows) (found_among T s columns (message_ids t.table) rows) (found_below T s columns ps)
         (rows-among f scope (message_ids t.table) (all-held f p t each.0 plain table.1) rows a)

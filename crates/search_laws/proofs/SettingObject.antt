@@ -24,7 +24,7 @@ use Rattle.mail_tree.specs.Tree.{Tree, object_at}
 use Rattle.mail_tree.specs.Values.{number}
 use Rattle.mail_tree.specs.Whole.{AreWhole, IsWhole, fits_id}
 use Rattle.mail_tree.proofs.AfterLaws.{get-without_changed}
-use Rattle.mail_tree.proofs.AfterTree.{after_now, now_nothing, puts_values, tied}
+use Rattle.mail_tree.proofs.AfterTree.{after_now, now_nothing, puts_object, tied}
 use Rattle.mail_tree.proofs.KindsOfPuts.{beside_kind, low}
 use Rattle.mail_tree.proofs.Nearly.{Puts, folder_kind, nearly, puts_suiting, whole}
 use Rattle.mail_laws.specs.Laws.{AreCountedBut, AreShown, Counts, Mirrors, is_unread}
@@ -97,7 +97,7 @@ module _ (T : Tree) (q : ℕ) (old : Ctx) (props : List Val) (reply : Reply) (ki
 
   -- the values stand there, and elsewhere what stood there
   pub object_puts : Puts (object_at T) (now_at T D) q (Some (Context new))
-  object_puts = subst (λ at. Puts at (now_at T D) q (Some (Context new))) (now_nothing T false) (puts_values T nothing q (Context new) old.props props)
+  object_puts = subst (λ at. Puts at (now_at T D) q (Some (Context new))) (now_nothing T) (puts_object T nothing q (Some (Context new)))
 
   pub object_after : Puts (object_at T) (object_at (after T o)) q (Some (Context new))
   object_after = subst (λ at. Puts (object_at T) at q (Some (Context new))) (after_now T o) object_puts

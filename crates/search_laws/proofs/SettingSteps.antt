@@ -34,8 +34,8 @@ use Rattle.mail_tree.specs.Step as tree
 use Rattle.mail_tree.specs.Tree.{Tree, object_at}
 use Rattle.mail_tree.specs.Values.{with_counts}
 use Rattle.mail_tree.specs.Whole.{Fine, IsWhole}
-use Rattle.mail_tree.proofs.AfterTree.{after_now, now_nothing, puts_object, puts_values}
-use Rattle.mail_tree.proofs.FineLaws.{after_context, after_found, after_limits, after_table, after_test, fine_then}
+use Rattle.mail_tree.proofs.AfterTree.{after_now, now_nothing, puts_object}
+use Rattle.mail_tree.proofs.FineLaws.{after_context, after_found, after_table, after_test, fine_then}
 use Rattle.mail_tree.proofs.KeyedFinds.{find-put_other, find-put_same}
 use Rattle.mail_tree.proofs.KindsOfPuts.{beside_kind, same_table}
 use Rattle.mail_tree.proofs.Nearly.{Puts}
@@ -54,6 +54,8 @@ use Rattle.search_laws.proofs.Marked.{marks_still}
 use Rattle.search_laws.proofs.SettingLists.{AreBuilt, each-found, rows_built}
 use Rattle.search_laws.proofs.SettingObject.{counts_after_object, found_after_object, messages_after_object, mirrors_after_object, object_puts, put_so, whole_after_object}
 use Rattle.search_laws.proofs.SettingSays.{held_parts, says_written}
+use Rattle.mail_tree.proofs.StoodLaws.{AreStood, IsNew, none_stood, values_stood, fine_stood, after_limits}
+use Rattle.search_lists.proofs.StoodLists.{built_stood}
 
 -- ---- elements of lists
 
@@ -103,8 +105,8 @@ unless-fine : {B : Type 0} (Q : B → Type 0) (reason : Option CommandRefusal) (
 unless-fine Q None x q = q
 unless-fine Q (Some refusal) x q = tt
 
-replying-fine : (P : Outcome → Type 0) (T : Tree) (reason : Option CommandRefusal) (reply : Reply) (D : Changed) → P (put_so T reply D) → Fine (replying T reason reply D) P
-replying-fine P T reason reply D p = after_limits P D (λ u. unless reason >>= λ v. Ok (put_so T reply D)) (unless-fine P reason (put_so T reply D) p)
+replying-fine : (P : Outcome → Type 0) (T : Tree) (reason : Option CommandRefusal) (reply : Reply) (D : Changed) → AreStood T (IsNew None) D → P (put_so T reply D) → Fine (replying T reason reply D) P
+replying-fine P T reason reply D stood p = after_limits P T None D (λ u. unless reason >>= λ v. Ok (put_so T reply D)) stood (unless-fine P reason (put_so T reply D) p)
 
 not-false : (b : Bool) → not b ≡ false → b ≡ true
 not-false true e = refl
@@ -169,7 +171,7 @@ module _ (S : ℕ → Type 0) (no_hierarchy : (g : ℕ) → S (hierarchy g) → 
       if_then (λ c. Unit {0}) (KeepsAt S T D) (context_at T D s) _ (if_any (context_at T D s)) (λ c u.
       if_then (λ v. Unit {0}) (KeepsAt S T D) (unless_stray T D rows) _ (if_any (unless_stray T D rows)) (λ v u.
       let props = with_counts (length (named T D rows)) (length (unread (named T D rows))) false c.props in
-      kept_put S _ _ s _ (puts_values T D s (Context (record c { props = props })) c.props props) other))
+      kept_put S _ _ s _ (puts_object T D s (Some (Context (record c { props = props })))) other))
 
   ends-keep : (s : ℕ) (rows : List (ℕ × List Val)) (D : Changed) → (S s → ⊥) → IfOk (counted_search T s rows D >>= mirrored T s) (KeepsAt S T D)
   ends-keep s rows D other = if_then (KeepsAt S T D) (KeepsAt S T D) (counted_search T s rows D) (mirrored T s) (counted-keeps s rows D other)
@@ -244,6 +246,9 @@ module _ (results_keep : ResultsKeepOrder) (tidy : Bool) (X : Searching) (s : �
 
   kind : s % 32 ≡ 3
   kind = order.searches.kinds s own
+
+  first-stood : AreStood T (IsNew None) first
+  first-stood = values_stood T (IsNew None) (criteria_node s) c (record c { props = props }) nothing (none_stood T (IsNew None)) (ap (λ g. g (criteria_node s)) (now_nothing T) ∙ at)
 
   node : criteria_node s % 32 ≡ 7
   node = beside_kind s 7 (omega arith)
@@ -390,8 +395,9 @@ module _ (results_keep : ResultsKeepOrder) (tidy : Bool) (X : Searching) (s : �
   criteria-set : Fine (built_unless set.flags.stop T search first >>= replying T reason (replied Done) >>= λ o. Ok (coming o)) (λ o. InOrder tidy (after X o))
   criteria-set =
       fine_then (λ o. InOrder tidy (after X (coming o))) (λ o. InOrder tidy (after X o)) (built_unless set.flags.stop T search first >>= replying T reason (replied Done)) (λ o. Ok (coming o))
-      (fine_then (Sets T s search first) (λ o. InOrder tidy (after X (coming o))) (built_unless set.flags.stop T search first) (replying T reason (replied Done)) (by-stop set.flags.stop refl)
-      (λ D sets. replying-fine (λ o. InOrder tidy (after X (coming o))) T reason (replied Done) D (order-now D sets)))
+      (fine_then (λ D. Sets T s search first D × AreStood T (IsNew None) D) (λ o. InOrder tidy (after X (coming o))) (built_unless set.flags.stop T search first) (replying T reason (replied Done))
+      (fine_stood (Sets T s search first) (AreStood T (IsNew None)) (built_unless set.flags.stop T search first) (by-stop set.flags.stop refl) (built_stood T (IsNew None) set.flags.stop search first first-stood))
+      (λ D sets. replying-fine (λ o. InOrder tidy (after X (coming o))) T reason (replied Done) D sets.1 (order-now D sets.0)))
       (λ o p. p)
 
 -- the criteria that a line makes of those that the object says
@@ -415,6 +421,6 @@ sets_keeping results_keep tidy X s number scope bytes order =
     fine_then (λ r. Unit {0}) (λ o. InOrder tidy (after X o)) (given_restriction bytes) _ (restriction-fine bytes) (λ restriction u.
     fine_then (λ ids. Unit {0}) (λ o. InOrder tidy (after X o)) (given_scope X.tree scope) _ (scope-fine X.tree scope) (λ ids u.
     let object = order.searches.criteria s own in
-    let now : now_at X.tree nothing (criteria_node s) ≡ Some (Context object.0) = ap (λ g. g (criteria_node s)) (now_nothing X.tree false) ∙ object.1 in
+    let now : now_at X.tree nothing (criteria_node s) ≡ Some (Context object.0) = ap (λ g. g (criteria_node s)) (now_nothing X.tree) ∙ object.1 in
     after_context (λ o. InOrder tidy (after X o)) X.tree nothing (criteria_node s) object.0 _ now
     (in-criteria results_keep tidy X s object.0 flags ids restriction order own object.1 object.2)))))

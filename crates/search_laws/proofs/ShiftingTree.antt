@@ -1,5 +1,5 @@
 -- A search folder that moves leaves the tree whole.
-use Rattle.std.proofs.Common.{◌≡◌, ◌∙◌, ℕ, ◌%◌, ◌==◌, Bool, true, false, List, [], ◌∷◌, filter, Option, Some, IsSome, ap, arith, refl, subst, sym, inl, inr}
+use Rattle.std.proofs.Common.{◌≡◌, ◌∙◌, ℕ, ◌%◌, ◌==◌, Bool, true, false, List, [], ◌∷◌, filter, Option, Some, IsSome, ap, arith, refl, subst, sym, inl, inr, IfOk, None}
 use Rattle.std.proofs.lemmas.Bool.{cases_Bool, cases_eq, eqb-false, false≢true}
 use Rattle.std.proofs.lemmas.Option.{same_Some}
 use Rattle.mapi_values.specs.Characters.{folded}
@@ -12,14 +12,14 @@ use Rattle.mail_objects.specs.declared.object.Object.{Object}
 use Rattle.mail_objects.specs.declared.object.Object.TheVariants.{Context, Table, Message}
 use Rattle.mail_tree.specs.declared.places.FolderPlace.{FolderPlace}
 use Rattle.mail_tree.specs.Changing.{Answer, Changed, ◌>>=◌, add_shown, drop_shown, hierarchy, nothing, now_at, with_object, with_rows}
-use Rattle.mail_tree.specs.Folders.{Outcome, moved_between, moving, replied, unchanged, unless_named, unless_protected}
+use Rattle.mail_tree.specs.Folders.{Outcome, moved_between, replied, unchanged, unless_named, unless_protected}
 use Rattle.mail_tree.specs.Places.{ROOT, children, find_place, is_plain, is_within, moves_deep, place_id}
 use Rattle.mail_tree.specs.Settling.{settled}
 use Rattle.mail_tree.specs.Tree.{Tree}
 use Rattle.mail_tree.specs.Values.{name_of}
 use Rattle.mail_tree.specs.Whole.{AreWhole, Fine, HasRow, kind_of_sort}
 use Rattle.mail_tree.proofs.AfterTree.{puts_object}
-use Rattle.mail_tree.proofs.FineLaws.{after_limits, cases_Option, fine_then, fine_weaker}
+use Rattle.mail_tree.proofs.FineLaws.{cases_Option, fine_then, fine_weaker}
 use Rattle.mail_tree.proofs.KeyedFinds.{find-drop_other, find-put_other, find-put_same}
 use Rattle.mail_tree.proofs.KindsOfPuts.{beside_kind, puts_context, puts_folders, same_table}
 use Rattle.mail_tree.proofs.Nearly.{AreNearly, message_id, nearly, table_of}
@@ -29,6 +29,8 @@ use Rattle.mail_laws.proofs.MessageSteps.{Before}
 use Rattle.mail_searches.specs.Criteria.{search_place}
 use Rattle.mail_searches.specs.Moving.{moved_search}
 use Rattle.search_laws.proofs.PlainPlaces.{plain_other}
+use Rattle.mail_tree.proofs.StoodLaws.{AreStood, IsNew, added_stood, dropped_stood, none_stood, settled_stood, stood_then, values_stood}
+use Rattle.mail_laws.proofs.Comparing.{fine_limits}
 
 -- values stand at some of the ids at which they stand
 pub each_chosen : (at : ℕ → Option Object) (test : ℕ → Bool) (fs : List ℕ) → EachContext at fs → EachContext at (filter test fs)
@@ -152,6 +154,14 @@ module _ (T : Tree) (s to : ℕ) (p r : FolderPlace) (w : Before T) (three : s %
       (λ D2 x. fine_settled T places from v.0 D2 x from_there v.2))
       (λ D3 x. fine_settled T places to r D3 x to_there plain_to))
 
+shifting_stood : (T : Tree) (s : ℕ) (c : Ctx) (from to : ℕ) → now_at T nothing s ≡ Some (Context c) → IfOk (shifting T s c from to) (AreStood T (IsNew None))
+shifting_stood T s c from to is =
+    let New = IsNew None in let places = shifted T.places s to in
+    stood_then (drop_shown T (hierarchy from) s (with_parent s to c)) (λ D. add_shown T (hierarchy to) s c.props D >>= settled T places from >>= settled T places to)
+    (dropped_stood T New (hierarchy from) s _ (values_stood T New s c (in_parent to c) nothing (none_stood T New) is))
+    (λ D k. stood_then (add_shown T (hierarchy to) s c.props D >>= settled T places from) (settled T places to)
+    (stood_then (add_shown T (hierarchy to) s c.props D) (settled T places from) (added_stood T New (hierarchy to) s c.props D k) (λ D' j. settled_stood T New places from D' j)) (λ D' j. settled_stood T New places to D' j))
+
 -- what `mvdir` comes to
 abbrev pub shifted_outcome : Tree → ℕ → ℕ → Changed → Outcome
 shifted_outcome T s to D = record { changed = D; places = shifted T.places s to; last = T.last; reply = replied Done }
@@ -175,8 +185,8 @@ fine_shifted T s to p Q w three found same moves = rw found (elim (cases_Option 
             rw (b, c.1) (fine_then (λ x. Unit {0}) Q (unless_named T (folded false (name_of c.0.props)) (children to T.places)) _ (fine_named T (folded false (name_of c.0.props)) (children to T.places) (children_of w to)) (λ x x'.
             elim (cases_Bool (moves_deep T.places s to)) [
               | inl d ↦ rw d tt
-              | inr deep ↦ rw deep (fine_then (λ D. Q (shifted_outcome T s to D)) Q (shifting T s c.0 p.parent.bits to) (moving T (shifted T.places s to) (replied Done))
-                  (moves r.0 r.1 plain (eqb-false p.parent.bits to b) out deep) (λ D k. after_limits Q D _ k))
+              | inr deep ↦ rw deep (fine_limits (λ D. Q (shifted_outcome T s to D)) Q T None (shifting T s c.0 p.parent.bits to) _
+                  (moves r.0 r.1 plain (eqb-false p.parent.bits to b) out deep) (shifting_stood T s c.0 p.parent.bits to c.1) (λ D k. k))
             ]))
       ])
     ]))

@@ -66,7 +66,7 @@ module _ (T : Tree) (w : Before T) (f : ℕ) where
   carries [] each = (tt, λ k e. e)
   carries (m ∷ ms) each =
       let M = each.0.0 in
-      let is : Some M ≡ message_with T m = sym (ap as_message (sym (ap (λ g. g m) (now_nothing T false)) ∙ each.0.1)) in
+      let is : Some M ≡ message_with T m = sym (ap as_message (sym (ap (λ g. g m) (now_nothing T)) ∙ each.0.1)) in
       after_message (Carries (m ∷ ms)) T nothing m M _ each.0.1 (fine_then (Carries ms) (Carries (m ∷ ms)) (carried T ms) _ (carries ms each.1) (λ ts c. (
         ((is, is), c.0),
         λ k e. elim (cases_Bool (m == k)) [ inl t ↦ rw t refl | inr n ↦ rw n (c.1 k (sym (rw n refl) ∙ e)) ],
@@ -133,7 +133,7 @@ module _ (T : Tree) (w : Before T) (f : ℕ) where
       outside ts c k M is none (Some (Bare x)) at = absurd (none-some M (ap as_message (sym at) ∙ is))
       outside ts c k M is none (Some (Message N)) at =
           let same : N ≡ M = same_Some N M (ap as_message (sym at) ∙ is) in
-          let at' : now_at T nothing k ≡ Some (Message M) = ap (λ g. g k) (now_nothing T false) ∙ at ∙ ap (λ (x : Mes). Some (Message x)) same in
+          let at' : now_at T nothing k ≡ Some (Message M) = ap (λ g. g k) (now_nothing T) ∙ at ∙ ap (λ (x : Mes). Some (Message x)) same in
           elim (cases_Bool (is_within T.places f M.folder)) [
             | inr out ↦ out
             | inl within ↦

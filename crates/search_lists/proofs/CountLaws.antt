@@ -11,7 +11,7 @@ use Rattle.mail_tree.specs.Changing.{Changed, as_message, context_at, hierarchy,
 use Rattle.mail_tree.specs.Settling.{mirrored, with_context}
 use Rattle.mail_tree.specs.Tree.{Tree}
 use Rattle.mail_tree.specs.Values.{number, truth, with_counts}
-use Rattle.mail_tree.proofs.AfterTree.{puts_object, puts_values}
+use Rattle.mail_tree.proofs.AfterTree.{puts_object}
 use Rattle.mail_tree.proofs.KeyedFinds.{find-put_other, find-put_same}
 use Rattle.mail_tree.proofs.KindsOfPuts.{beside_kind}
 use Rattle.mail_laws.proofs.Keeping.{KeepsAt, both, if_any, if_then, mirrored_keeps}
@@ -63,7 +63,7 @@ module _ (T : Tree) (s : ℕ) (search : s % 32 ≡ 3) where
       let props = with_counts (length ms) (length (unread ms)) false c.props in
       let k : Ctx = record c { props = props } in
       let D' = with_context s c props D in
-      let puts = puts_values T D s (Context k) c.props props in
+      let puts = puts_object T D s (Some (Context k)) in
       let same : SameMessages T D D' = put-apart T D D' s (Some (Context k)) puts (ap as_message there) refl in
       (k, puts.here, subst (λ ms. TellsCounts ms props) (sym (named-same T D D' same rows)) (counts-are ms c.props), puts.others (results s) (λ e. omega (arith, e, search, at-results)))))
 

@@ -13,3 +13,4 @@ pub mod CountLaws
 pub mod ApartLaws
 pub mod NamedLaws
 pub mod PlainLaws
+pub mod StoodLists

@@ -10,7 +10,7 @@ use Rattle.mail_tree.specs.Places.{ROOT}
 use Rattle.mail_tree.specs.Settling.{mirrored, table_as_is, with_context}
 use Rattle.mail_tree.specs.Tree.{Tree}
 use Rattle.mail_tree.specs.Values.{with_counts}
-use Rattle.mail_tree.proofs.AfterTree.{puts_object, puts_values}
+use Rattle.mail_tree.proofs.AfterTree.{puts_object}
 use Rattle.mail_tree.proofs.KindsOfPuts.{beside_kind}
 use Rattle.mail_tree.proofs.Nearly.{Puts}
 use Rattle.mail_laws.proofs.Keeping.{KeepsAt, both, if_any, if_then, if_weaker, kept_put, mirrored_keeps}
@@ -67,7 +67,7 @@ module _ (T : Tree) where
   counted-apart s rows D = if_then (λ c. now_at T D s ≡ Some (Context c)) (SameMessages T D) (context_at T D s) _ (found-context (now_at T D s)) (λ c there.
       if_then (λ u. Unit {0}) (SameMessages T D) (unless_stray T D rows) _ (if_any (unless_stray T D rows)) (λ u u'.
       let props = with_counts (length (named T D rows)) (length (unread (named T D rows))) false c.props in
-      put-apart T D (with_context s c props D) s (Some (Context (record c { props = props }))) (puts_values T D s (Context (record c { props = props })) c.props props) (ap as_message there) refl))
+      put-apart T D (with_context s c props D) s (Some (Context (record c { props = props }))) (puts_object T D s (Some (Context (record c { props = props })))) (ap as_message there) refl))
 
   results-apart : (s : ℕ) (rows : List (ℕ × List Val)) (t : Tbl) (D : Changed) → now_at T D (results s) ≡ Some (Table t) → IfOk (with_results T s rows t D) (SameMessages T D)
   unfolding with_results
@@ -84,7 +84,7 @@ module _ (T : Tree) where
     counted-keeps s rows D other = if_then (λ c. Unit {0}) (KeepsAt S T D) (context_at T D s) _ (if_any (context_at T D s)) (λ c u.
         if_then (λ v. Unit {0}) (KeepsAt S T D) (unless_stray T D rows) _ (if_any (unless_stray T D rows)) (λ v v'.
         let props = with_counts (length (named T D rows)) (length (unread (named T D rows))) false c.props in
-        kept_put S _ _ s _ (puts_values T D s (Context (record c { props = props })) c.props props) other))
+        kept_put S _ _ s _ (puts_object T D s (Some (Context (record c { props = props })))) other))
 
     ends-keep : (s : ℕ) (rows : List (ℕ × List Val)) (D : Changed) → (S s → ⊥) → IfOk (counted_search T s rows D >>= mirrored T s) (KeepsAt S T D)
     ends-keep s rows D other = if_then (KeepsAt S T D) (KeepsAt S T D) (counted_search T s rows D) (mirrored T s) (counted-keeps s rows D other)

@@ -18,7 +18,7 @@ use Rattle.mail_tree.specs.Ids.{is_taken}
 use Rattle.mail_tree.proofs.KindsOfPuts.{beside_kind}
 use Rattle.mail_tree.specs.Values.{with_counts}
 use Rattle.mail_tree.specs.Whole.{Fine}
-use Rattle.mail_tree.proofs.AfterTree.{puts_object, puts_values}
+use Rattle.mail_tree.proofs.AfterTree.{puts_object}
 use Rattle.mail_tree.proofs.FineLaws.{after_context, after_table, fine_either, fine_then, fine_weaker}
 use Rattle.mail_tree.proofs.Nearly.{Puts}
 use Rattle.mail_searches.specs.Searches.{Search, results, runs}
@@ -122,7 +122,7 @@ module _ (T : Tree) where
   counted-there s rows D c is names =
       let props = with_counts (length (named T D rows)) (length (unread (named T D rows))) false c.props in
       let k : Ctx = record c { props = props } in
-      after_context (Forms D) T D s c _ is (rw (named-fine rows D names) (put-context (now_at T D) _ s c k (puts_values T D s (Context k) c.props props) is refl))
+      after_context (Forms D) T D s c _ is (rw (named-fine rows D names) (put-context (now_at T D) _ s c k (puts_object T D s (Some (Context k))) is refl))
 
   -- the nodes of a search are there still
   nodes-stay : (D D' : Changed) → Forms D D' → (s : Search) → HasNodes T D s → HasNodes T D' s

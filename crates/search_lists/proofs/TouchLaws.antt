@@ -142,7 +142,7 @@ stays_there T f parent there = elim (cases_Option (find_place f T.places)) [
 -- nothing changed
 nothing_touched : (T : Tree) (o : Outcome) (reply : Reply) → o ≡ unchanged T reply → AreTouched T o []
 nothing_touched T o reply same = none_touched T o
-    (λ k. ap (λ g. as_message (g k)) (sym (after_now T o)) ∙ ap (λ (x : Outcome). as_message (now_at T x.changed k)) same ∙ ap (λ g. as_message (g k)) (now_nothing T false))
+    (λ k. ap (λ g. as_message (g k)) (sym (after_now T o)) ∙ ap (λ (x : Outcome). as_message (now_at T x.changed k)) same ∙ ap (λ g. as_message (g k)) (now_nothing T))
     (ap (λ (x : Outcome). x.places) same)
 
 -- a message that was made is touched
@@ -160,7 +160,7 @@ names_apart T o guid number b k r q = elim (cases_eq q NAMES) [
   | inl e ↦
       let old : as_message (now_at T nothing NAMES) ≡ None = ap as_message b.names.1 in
       let new : as_message (now_at T o.changed NAMES) ≡ None = ap as_message k.names.1 in
-      ap (λ x. message_with (after T o) x) e ∙ ap (λ g. as_message (g NAMES)) (sym (after_now T o)) ∙ new ∙ sym old ∙ ap (λ g. as_message (g NAMES)) (now_nothing T false) ∙ ap (λ x. message_with T x) (sym e)
+      ap (λ x. message_with (after T o) x) e ∙ ap (λ g. as_message (g NAMES)) (sym (after_now T o)) ∙ new ∙ sym old ∙ ap (λ g. as_message (g NAMES)) (now_nothing T) ∙ ap (λ x. message_with T x) (sym e)
 ]
 
 abbrev Touches : Tree → Command → Outcome → Type 0

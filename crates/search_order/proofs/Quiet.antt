@@ -14,7 +14,7 @@ use Rattle.mail_tree.specs.Changing.{Changed, as_message, now_at, with_object}
 use Rattle.mail_tree.specs.Found.{BelongsAt}
 use Rattle.mail_tree.specs.Settling.{with_context}
 use Rattle.mail_tree.specs.Tree.{Tree}
-use Rattle.mail_tree.proofs.AfterTree.{puts_object, puts_values, tied}
+use Rattle.mail_tree.proofs.AfterTree.{puts_object, tied}
 use Rattle.mail_tree.proofs.KindsOfPuts.{same_table}
 use Rattle.mail_tree.proofs.Nearly.{Puts}
 use Rattle.mail_laws.proofs.FoundSteps.{get_other}
@@ -109,6 +109,6 @@ no_table c t e = cc
 pub quiet_context : (T : Tree) (D : Changed) (f : ℕ) (c : Ctx) (props : List Val) → now_at T D f ≡ Some (Context c) → (f % 32 ≡ 7 → ⊥) → IsQuiet T D (with_context f c props D)
 quiet_context T D f c props stood other =
     let new : Ctx = record c { props = props } in
-    quiet_put T D (with_context f c props D) f (Context c) (Context new) stood (puts_values T D f (Context new) c.props props)
+    quiet_put T D (with_context f c props D) f (Context c) (Context new) stood (puts_object T D f (Some (Context new)))
     (λ k n. get_other D f k (Some (Context new)) n) (ap is_some (got_here D f (Some (Context new)))) refl refl
     (λ t e. absurd (no_table c t e)) (λ places b. b) other

@@ -19,7 +19,7 @@ use Rattle.mail_tree.specs.Settling.{mirrored, with_context}
 use Rattle.mail_tree.specs.Tree.{Tree, object_at}
 use Rattle.mail_tree.specs.Values.{with_counts}
 use Rattle.mail_tree.specs.Whole.{AreWhole, Fine}
-use Rattle.mail_tree.proofs.AfterTree.{puts_values}
+use Rattle.mail_tree.proofs.AfterTree.{puts_object}
 use Rattle.mail_tree.proofs.FineLaws.{after_context, fine_then, fine_weaker}
 use Rattle.mail_tree.proofs.KeyedFinds.{find-put_other}
 use Rattle.mail_tree.proofs.KindsOfPuts.{beside_kind, same_table}
@@ -81,7 +81,7 @@ module _ (T : Tree) (places : List FolderPlace) (s : ℕ) (p : FolderPlace) (thr
   opens : (D : Changed) (c : Ctx) (props : List Val) → AreWhole places (now_at T D) → now_at T D s ≡ Some (Context c) → Opens D (with_context s c props D)
   opens D c props w is =
       let new : Ctx = record c { props = props } in
-      let puts = puts_values T D s (Context new) c.props props in
+      let puts = puts_object T D s (Some (Context new)) in
       record {
         quiet = quiet_context T D s c props is (λ seven. omega arith);
         whole = other_values T places s p D w placed c props is;

@@ -3,7 +3,7 @@ use Rattle.std.proofs.Common.{◌≡◌, ◌≤◌, ◌+◌, ℕ, ◌&&◌, leng
 use Rattle.mail_tree.specs.declared.places.FolderPlace.{FolderPlace}
 use Rattle.command_text.specs.declared.command.Command.{Command}
 use Rattle.mail_tree.specs.Changing.{Answer, Changed, ◌>>=◌, contents, known, message_at, nothing, table_at, within_limits}
-use Rattle.mail_tree.specs.Folders.{Outcome}
+use Rattle.mail_tree.specs.Folders.{Outcome, made_id}
 use Rattle.mail_tree.specs.Places.{is_plain, is_within, place_id}
 use Rattle.mail_tree.specs.Settling.{message_ids}
 use Rattle.mail_tree.specs.Tree.{Tree}
@@ -67,21 +67,21 @@ module _ (T : Tree) where
   touched_never c o = subst Unrefused (sym (touched_is T c o)) (by_form (form_of c) o)
 
   -- where there are no searches, only the limits are looked at
-  pub idle : {E : Type 0} (view : E → Outcome) (ss : List Search) (c : Command) (o : Outcome) (r : Result E Stop) → ss ≡ [] → Says view (if_within o) r → Says view (concluded T ss c o) r
+  pub idle : {E : Type 0} (view : E → Outcome) (ss : List Search) (c : Command) (o : Outcome) (r : Result E Stop) → ss ≡ [] → Says view (if_within T o) r → Says view (concluded T ss c o) r
   unfolding concluded
   idle {E} view ss c o r none h = rw none (pick (touched T c o) (touched_never c o))
     where
-      pick : (a : Answer (List Touch)) → Unrefused a → Says view ((a >>= λ ts. with_searches T [] ts o) >>= if_within) r
+      pick : (a : Answer (List Touch)) → Unrefused a → Says view ((a >>= λ ts. with_searches T [] ts o) >>= if_within T) r
       pick (Ok ts) never = h
       pick (Err None) never = tt
       pick (Err (Some refusal)) never = absurd never
 
   -- with the touched messages, the lists follow them
-  pub follows : {E : Type 0} (view : E → Outcome) (ss : List Search) (c : Command) (o : Outcome) (r : Result E Stop) → Says view (touched T c o >>= λ ts. with_searches T ss ts o >>= if_within) r → Says view (concluded T ss c o) r
+  pub follows : {E : Type 0} (view : E → Outcome) (ss : List Search) (c : Command) (o : Outcome) (r : Result E Stop) → Says view (touched T c o >>= λ ts. with_searches T ss ts o >>= if_within T) r → Says view (concluded T ss c o) r
   unfolding concluded
   follows view ss c o r h = pick (touched T c o) h
     where
-      pick : (a : Answer (List Touch)) → Says view (a >>= λ ts. with_searches T ss ts o >>= if_within) r → Says view ((a >>= λ ts. with_searches T ss ts o) >>= if_within) r
+      pick : (a : Answer (List Touch)) → Says view (a >>= λ ts. with_searches T ss ts o >>= if_within T) r → Says view ((a >>= λ ts. with_searches T ss ts o) >>= if_within T) r
       pick (Ok ts) said = said
       pick (Err e) said = said
 
@@ -94,41 +94,41 @@ pub same_around : (T : Tree) (old new : List FolderPlace) (o : Came) → T.place
 same_around T old new o e same = ap (places_around old) same ∙ ap (λ p. places_around p (places_after p o.places)) (sym e)
 
 -- what keeps to the limits
-pub if_fits : {E : Type 0} (view : E → Outcome) (o : Outcome) (y : E) → Says (λ u. u) (within_limits o.changed) (Ok tt) → view y ≡ o → Says view (if_within o) (Ok y)
-if_fits view o y h e = pick (within_limits o.changed) h
+pub if_fits : {E : Type 0} (T : Tree) (view : E → Outcome) (o : Outcome) (y : E) → Says (λ u. u) (within_limits T (made_id o.reply.last) o.changed) (Ok tt) → view y ≡ o → Says view (if_within T o) (Ok y)
+if_fits T view o y h e = pick (within_limits T (made_id o.reply.last) o.changed) h
   where
     pick : (a : Answer (Unit {0})) → Says (λ u. u) a (Ok tt) → Says view (a >>= λ u. Ok o) (Ok y)
     pick (Ok u) said = e
     pick (Err None) said = tt
     pick (Err (Some refusal)) said = absurd said
 
-pub if_passes : {E : Type 0} (view : E → Outcome) (o : Outcome) (stop : Stop) → Says {A = Unit {0}} {B = Unit {0}} (λ u. u) (within_limits o.changed) (Err stop) → Says view (if_within o) (Err stop)
-if_passes view o stop h = stop_says {B = Unit {0}} (λ u. u) view (within_limits o.changed) (λ u. Ok o) stop h
+pub if_passes : {E : Type 0} (T : Tree) (view : E → Outcome) (o : Outcome) (stop : Stop) → Says {A = Unit {0}} {B = Unit {0}} (λ u. u) (within_limits T (made_id o.reply.last) o.changed) (Err stop) → Says view (if_within T o) (Err stop)
+if_passes T view o stop h = stop_says {B = Unit {0}} (λ u. u) view (within_limits T (made_id o.reply.last) o.changed) (λ u. Ok o) stop h
 
 module _ (T : Tree) (ss : List Search) (ts : List Touch) (o : Outcome) where
   -- a search can't be settled
   pub within_stops : {E : Type 0} (view : E → Outcome) (d : Around) (stop : Stop) → d ≡ around T o → Says {B = Draft} changed_of (settled_searches T d ts ss o.changed) (Err stop) → Says view (settled_within T ss ts o) (Err stop)
   within_stops {E} view d stop e h = pick (settled_searches T (around T o) ts ss o.changed) (subst (λ (x : Around). Says {B = Draft} changed_of (settled_searches T x ts ss o.changed) (Err stop)) e h)
     where
-      pick : (a : Answer Changed) → Says {B = Draft} changed_of a (Err stop) → Says view ((a >>= λ D. Ok (record o { changed = D })) >>= if_within) (Err stop)
-      pick (Ok D) said = no_matter view (if_within (record o { changed = D })) stop said
+      pick : (a : Answer Changed) → Says {B = Draft} changed_of a (Err stop) → Says view ((a >>= λ D. Ok (record o { changed = D })) >>= if_within T) (Err stop)
+      pick (Ok D) said = no_matter view (if_within T (record o { changed = D })) stop said
       pick (Err None) said = tt
       pick (Err (Some refusal)) said = said
 
   -- all are settled
   pub within_goes : {E : Type 0} (view : E → Outcome) (d : Around) (settled : Draft) (r : Result E Stop) → d ≡ around T o → Says changed_of (settled_searches T d ts ss o.changed) (Ok settled)
-      → Says view (if_within (record o { changed = changed_of settled })) r → Says view (settled_within T ss ts o) r
+      → Says view (if_within T (record o { changed = changed_of settled })) r → Says view (settled_within T ss ts o) r
   within_goes {E} view d settled r e h after = pick (settled_searches T (around T o) ts ss o.changed) (subst (λ (x : Around). Says changed_of (settled_searches T x ts ss o.changed) (Ok settled)) e h)
     where
-      pick : (a : Answer Changed) → Says changed_of a (Ok settled) → Says view ((a >>= λ D. Ok (record o { changed = D })) >>= if_within) r
-      pick (Ok D) said = subst (λ (x : Changed). Says view (if_within (record o { changed = x })) r) said after
+      pick : (a : Answer Changed) → Says changed_of a (Ok settled) → Says view ((a >>= λ D. Ok (record o { changed = D })) >>= if_within T) r
+      pick (Ok D) said = subst (λ (x : Changed). Says view (if_within T (record o { changed = x })) r) said after
       pick (Err None) said = tt
       pick (Err (Some refusal)) said = absurd said
 
   -- all are settled, and what is then written keeps to the limits
   pub within_fits : {E : Type 0} (view : E → Outcome) (d : Around) (settled : Draft) (y : E) → d ≡ around T o → Says changed_of (settled_searches T d ts ss o.changed) (Ok settled)
-      → Says (λ u. u) (within_limits (changed_of settled)) (Ok tt) → view y ≡ record o { changed = changed_of settled } → Says view (settled_within T ss ts o) (Ok y)
-  within_fits view d settled y e h fits is = within_goes view d settled (Ok y) e h (if_fits view (record o { changed = changed_of settled }) y fits is)
+      → Says (λ u. u) (within_limits T (made_id o.reply.last) (changed_of settled)) (Ok tt) → view y ≡ record o { changed = changed_of settled } → Says view (settled_within T ss ts o) (Ok y)
+  within_fits view d settled y e h fits is = within_goes view d settled (Ok y) e h (if_fits T view (record o { changed = changed_of settled }) y fits is)
 
 -- the same places, the same work
 pub more_work : (ts : List Touch) (ss : List Search) (d e : Around) (old new : ℕ) → d ≡ e → new ≤ old + work_of d ts ss → new ≤ old + work_of e ts ss

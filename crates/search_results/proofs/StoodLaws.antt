@@ -102,7 +102,7 @@ module _ (T : Tree) where
   New o = IsNew T o.reply.last
 
   made_new : (D : Changed) → IfOk (making T T.places 4 (next_index T 4 message_kinds) D) New
-  made_new D = if_next New (within_limits D) _ (λ u. elim (cases_Bool (is_spent (next_index T 4 message_kinds))) [
+  made_new D = if_next New (within_limits T _ D) _ (λ u. elim (cases_Bool (is_spent (next_index T 4 message_kinds))) [
     | inl b ↦ rw b tt
     | inr b ↦ rw b (free b)
   ])

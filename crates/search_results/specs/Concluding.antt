@@ -9,4 +9,4 @@ use Rattle.mail_searches.specs.Step.{if_within}
 
 -- the lists of searches follow the messages, if what is then written keeps to the limits
 abbrev pub settled_within : Tree → List Search → List Touch → Outcome → Answer Outcome
-settled_within T ss ts o = with_searches T ss ts o >>= if_within
+settled_within T ss ts o = with_searches T ss ts o >>= if_within T

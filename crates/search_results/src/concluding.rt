@@ -1,5 +1,6 @@
 //! What a command comes to where there are searches.
-ghost use Rattle.std.specs.Prelude.{◌≡◌, ◌≤◌, ◌+◌, ℕ, Bool, List, Ok, IfErr};
+ghost use Rattle.std.specs.Prelude.{◌≡◌, ◌≤◌, ◌+◌, List, Ok, IfErr};
+ghost use Rattle.mail_tree.specs.Folders.{made_id};
 ghost use Rattle.mail_tree.specs.Knowing.{Knows};
 ghost use Rattle.mail_tree.specs.Step.{outcome as outcome_in_tree};
 ghost use Rattle.mail_tree.specs.Tree.{Shown, Tree};
@@ -13,21 +14,38 @@ ghost use Rattle.search_results.specs.Concluding.{settled_within};
 
 use crate::settling::settled_searches;
 use crate::touched::{TouchedMessage, touched};
-use command_text::Command;
+use command_text::{Command, LastLine};
 use mail_draft::{Outcome, Stop, within_limits};
 use mail_searches::{OwnSearch, Searches};
 use mail_tree::{Known, Places};
 use node_port::NodeReader;
-use pst_base::{Ledger, Steps};
+use pst_base::{Ledger, Nid, Steps};
 use pst_outside::Outside;
 use std::alloc::Global;
 
-/// What a command comes to, if it keeps to the limits.
-fn if_within(outcome: Outcome) -> Result<Outcome, Stop>
-    ensures answer { (T : Tree) → Says (outcome_of T) (if_within (outcome_of T outcome)) result }
-    ensures cause { (disk : Bool) (before after : ℕ) → IfErr result (IsCaused disk before after) }
+/// The id of the object that a command made, by the last line of its reply.
+fn made_id(last: &LastLine) -> Option<Nid>
+    ensures { result ≡ made_id last.now }
 {
-    within_limits(&outcome.draft)?;
+    match last {
+        LastLine::Made(made) => Some(*made),
+        _ => None,
+    }
+}
+
+/// What a command comes to, if it keeps to the limits.
+fn if_within<W: Outside, K: NodeReader<W>>(
+    alloc: Global,
+    keeper: &mut K,
+    w: &mut W,
+    outcome: Outcome,
+) -> Result<Outcome, Stop>
+    ensures answer { (T : Tree) → Shown (K.holds keeper.old (W.view w.old)) (K.last keeper.old) T → Says (outcome_of T) (if_within T (outcome_of T outcome)) result }
+    ensures looks { Looks (K.holds keeper.old (W.view w.old)) (K.holds keeper.new (W.view w.new)) (K.last keeper.old) (K.last keeper.new) (K.room keeper.old) (K.room keeper.new) (W.view w.old) (W.view w.new) }
+    ensures cause { IfErr result (IsCaused K.has_disk (W.view w.old).disk_faults (W.view w.new).disk_faults) }
+{
+    let made = made_id(&outcome.reply.last);
+    within_limits(alloc, keeper, w, &outcome.draft, made)?;
     Ok(outcome)
 }
 
@@ -67,7 +85,7 @@ fn with_searches<W: Outside, K: NodeReader<W>, L: Ledger>(
     let settled = settled_searches(
         alloc, keeper, w, known, new, touches, searches, draft, steps,
     )?;
-    within_limits(&settled)?;
+    within_limits(alloc, keeper, w, &settled, made_id(&reply.last))?;
     Ok(Outcome {
         draft: settled,
         places,
@@ -95,7 +113,7 @@ pub fn conclude<W: Outside, K: NodeReader<W>, L: Ledger>(
     ensures cause { IfErr result (IsCaused K.has_disk (W.view w.old).disk_faults (W.view w.new).disk_faults) }
 {
     if searches.count() == 0 {
-        return if_within(outcome);
+        return if_within(alloc, keeper, w, outcome);
     }
     let touches = touched(alloc, keeper, w, known, command, &outcome)?;
     with_searches(

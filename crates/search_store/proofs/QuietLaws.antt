@@ -72,9 +72,9 @@ module _ (T : Tree) where
 
   right_concluded : (ss : List Search) (c : Command) (o : Outcome) → Right T o → IfOk (concluded T ss c o) (Right T)
   unfolding concluded
-  right_concluded ss c o is = if_then (Right T) (Right T) (followed T ss c o) if_within
+  right_concluded ss c o is = if_then (Right T) (Right T) (followed T ss c o) (if_within T)
       (if_any (Right T) (touched T c o) _ (λ ts. if_then (Grows o.changed) (Right T) (settled_searches T (around T o) ts ss o.changed) _ (grows_searches (around T o) ts ss o.changed) (λ D grows. still_right o D is grows)))
-      (λ o' is'. if_any (Right T) (within_limits o'.changed) _ (λ u. is'))
+      (λ o' is'. if_any (Right T) (within_limits T _ o'.changed) _ (λ u. is'))
 
   right_made : (parent : ℕ) (name : List ℕ) (index : ℕ) → IfOk (making_search_in T parent name index) (Right T)
   unfolding making_search_in making_search

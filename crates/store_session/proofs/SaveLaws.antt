@@ -33,15 +33,15 @@ all_stay T d [] D = refl
 all_stay T d (s ∷ ss) D = ap (λ a. a >>= settled_searches T d [] ss) (one_stays T d s D) ∙ all_stay T d ss D
 
 -- nothing keeps to the limits
-nothing_within : within_limits nothing ≡ Ok tt
+nothing_within : (T : Tree) → within_limits T None nothing ≡ Ok tt
 unfolding within_limits
-nothing_within = rw (no-entries nothing refl) refl
+nothing_within T = rw (no-entries nothing refl) refl
 
 concludes : (T : Tree) (ss : List Search) → concluded T ss Save (unchanged T (replied Done)) ≡ Ok (unchanged T (replied Done))
 unfolding concluded
 concludes T ss =
     let o = unchanged T (replied Done) in
-    ap (λ a. (a >>= λ D. Ok (record o { changed = D })) >>= if_within) (all_stay T (around T o) ss o.changed) ∙ ap (λ a. a >>= λ u. Ok o) nothing_within
+    ap (λ a. (a >>= λ D. Ok (record o { changed = D })) >>= if_within T) (all_stay T (around T o) ss o.changed) ∙ ap (λ a. a >>= λ u. Ok o) (nothing_within T)
 
 pub saved_outcome : (X : Searching) → outcome X Save ≡ Ok (saved X)
 unfolding outcome tree_outcome

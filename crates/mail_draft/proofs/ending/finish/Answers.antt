@@ -1,7 +1,6 @@
-use Rattle.std.proofs.Common.{◌≡◌, ◌∙◌, ◌++◌, ◌∷◌, [], ℕ, true, List, Option, ap, append-nil, append_assoc, arith, refl, sym, subst}
+use Rattle.std.proofs.Common.{◌≡◌, ◌∙◌, ◌++◌, ◌∷◌, [], ℕ, List, Option, ap, append-nil, append_assoc, arith, refl, sym, subst}
 use Rattle.std.proofs.lemmas.Bool.{and_parts}
 use Rattle.std.proofs.lemmas.Slice.Zip.{all_zipped_more}
-use Rattle.std.specs.FinMap as map
 use Rattle.std.specs.List.{AllZip, list_all}
 use Rattle.pst_base.specs.declared.ids.Nid.{Nid}
 use Rattle.node_port.specs.declared.node.NodeRec.{NodeRec}

@@ -1,4 +1,4 @@
-use Rattle.std.proofs.Common.{◌≡◌, Bool, None, Some, is_some}
+use Rattle.std.proofs.Common.{◌≡◌, None, Some, is_some}
 use Rattle.std.proofs.lemmas.Option.{same_Some}
 use Rattle.mapi_values.specs.Tables.{find_row}
 use Rattle.mail_draft.proofs.GlanceLaws.{told-row}

@@ -53,4 +53,4 @@ returns-clause-answer g c = λ T s k.
     (then_says _ _ _ _ _ _ (c.in_ok-unless_protected.ensures.answer T s)
     (then_says _ _ _ _ _ _ (c.in_ok-unless_beside.ensures.answer T (shown_still T c.in_ok-unless_protected.ensures.looks s) k)
     (regroup (outcome_of T) (context_at T nothing c.args.folder.bits) (λ x. mirrored T c.args.folder.bits (with_context c.args.folder.bits x (put (text 0x3001 c.args.name.now) x.props) nothing)) (changing T (replied Done)) c.changing.result
-    (then_says changed_of (outcome_of T) (named_anew T c.args.folder.bits c.args.name.now) (changing T (replied Done)) _ c.changing.result (c.in_ok-draft.ensures.answer T (shown_still T L s)) (c.changing.ensures.answer T))))))
+    (then_says changed_of (outcome_of T) (named_anew T c.args.folder.bits c.args.name.now) (changing T (replied Done)) _ c.changing.result (c.in_ok-draft.ensures.answer T (shown_still T L s)) (c.changing.ensures.answer T (shown_still T (looks_then L c.in_ok-draft.ensures.looks) s)))))))

@@ -1,4 +1,4 @@
-use Rattle.std.proofs.Common.{false, sym, subst, ap, ◌∙◌}
+use Rattle.std.proofs.Common.{sym, subst, ap, ◌∙◌}
 use Rattle.mail_tree.specs.Changing.{as_message, now_at}
 use Rattle.mail_tree.specs.Folders.{nid}
 use Rattle.mail_tree.specs.Ids.{new_id}
@@ -21,6 +21,6 @@ returns c T folder class time w = if_weaker (MadeNew T folder.bits class time) _
       r.6.0,
       r.5.reply_is,
       ap (λ g. as_message (g m)) (sym (after_now T o)) ∙ ap (λ q. as_message (now_at T o.changed q)) (sym r.2) ∙ r.5.changes_it.here,
-      ap (λ g. g 0x21) (sym (now_nothing T false)) ∙ r.6.1,
+      ap (λ g. g 0x21) (sym (now_nothing T)) ∙ r.6.1,
       subst (IsNewMessage m folder.bits class time r.6.0.props) (sym r.6.2) (new_values m folder.bits class time r.6.0.props),
     ))

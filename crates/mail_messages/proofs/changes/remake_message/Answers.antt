@@ -7,6 +7,6 @@ use Rattle.mail_messages.proofs.changes.remake_message.Goals as goal
 
 pub returns-clause-answer : goal.returns-clause-answer
 unfolding remaking showing_message
-returns-clause-answer g c = λ T s p old len.
+returns-clause-answer g c = λ T s p.
     let end = c.args.end in
-    as_at (outcome_of T) (λ (m : Mes). showing_message T old m end.crowded end.reason end.last) _ c.in_ok-mail.ensures (c.showing_message.ensures.answer T s p old len)
+    as_at (outcome_of T) (λ (m : Mes). showing_message T m end.reason end.last) _ c.in_ok-mail.ensures (c.showing_message.ensures.answer T s p)

@@ -1,4 +1,4 @@
-use Rattle.std.proofs.Common.{ℕ, Bool, Ok, is_some}
+use Rattle.std.proofs.Common.{Bool, Ok, is_some}
 use Rattle.mapi_values.specs.Messages.{Mes}
 use Rattle.mapi_values.specs.Tables.{find_row}
 use Rattle.mail_objects.specs.Forms.{Tbl}

@@ -15,24 +15,24 @@ use Rattle.mail_names.proofs.Names.{adds_says, full_says}
 use Rattle.mail_names.proofs.adding.add_name.Goals as goal
 
 pub returns-in-Some-clause-answer : goal.returns-in-Some-clause-answer
-returns-in-Some-clause-answer c = λ T.
+returns-in-Some-clause-answer g c = λ T s.
     let x = c.args.context in let n = c.args.names in let guid = c.args.guid in let number = c.args.number in
     let draft = (rw c.in_ok-props.ensures.values at c.in_ok-draft.ensures) ∙ ap (with_context NAMES x (written c.in_ok-names.names)) c.new.ensures ∙ ap (λ m. with_context NAMES x (written m) nothing) c.in_ok-names.ensures.names in
     adds_says (outcome_of T) T x n guid number c.in-Some.property _ (sym c.in-Some.is ∙ c.in_ok-names.ensures.property)
-    (subst (λ (D : Changed). Says (outcome_of T) (replying T None (replied (Named c.in-Some.property)) D) c.replying.result) draft (c.replying.ensures.answer T))
+    (subst (λ (D : Changed). Says (outcome_of T) (replying T None (replied (Named c.in-Some.property)) D) c.replying.result) draft (c.replying.ensures.answer T s))
 
 pub returns-in_err-within_limits-in-None-clause-answer : goal.returns-in_err-within_limits-in-None-clause-answer
-returns-in_err-within_limits-in-None-clause-answer c = λ T.
+returns-in_err-within_limits-in-None-clause-answer g c = λ T s.
     let x = c.args.context in let n = c.args.names in let guid = c.args.guid in let number = c.args.number in
     let draft = (rw c.in_ok-props.ensures.values at c.in_ok-draft.ensures) ∙ ap (with_context NAMES x (written c.in_ok-names.names)) c.new.ensures ∙ ap (λ m. with_context NAMES x (written m) nothing) c.in_ok-names.ensures.names in
     full_says (outcome_of T) T x n guid number _ (sym c.in-None.is ∙ c.in_ok-names.ensures.property)
-    (exits (λ (u : Unit {0}). u) (outcome_of T) (within_limits (with_context NAMES x (written (with_another n guid number)) nothing)) (λ u. Err (Some (Limit limits.Names))) _ _
-    (as_at (λ (u : Unit {0}). u) within_limits _ draft c.in_err-within_limits-in-None.ensures.answer) c.from_residual-in_err-within_limits-in-None.ensures.1)
+    (exits (λ (u : Unit {0}). u) (outcome_of T) (within_limits T None (with_context NAMES x (written (with_another n guid number)) nothing)) (λ u. Err (Some (Limit limits.Names))) _ _
+    (as_at (λ (u : Unit {0}). u) (λ (D : Changed). within_limits T None D) _ draft (c.in_err-within_limits-in-None.ensures.answer T s)) c.from_residual-in_err-within_limits-in-None.ensures.1)
 
 pub returns-clause-answer : goal.returns-clause-answer
-returns-clause-answer c = λ T.
+returns-clause-answer g c = λ T s.
     let x = c.args.context in let n = c.args.names in let guid = c.args.guid in let number = c.args.number in
     let draft = (rw c.in_ok-props.ensures.values at c.in_ok-draft.ensures) ∙ ap (with_context NAMES x (written c.in_ok-names.names)) c.new.ensures ∙ ap (λ m. with_context NAMES x (written m) nothing) c.in_ok-names.ensures.names in
     full_says (outcome_of T) T x n guid number _ (sym c.in-None.is ∙ c.in_ok-names.ensures.property)
-    (then_says (λ (u : Unit {0}). u) (outcome_of T) (within_limits (with_context NAMES x (written (with_another n guid number)) nothing)) (λ u. Err (Some (Limit limits.Names))) _ _
-    (as_at (λ (u : Unit {0}). u) within_limits _ draft c.in_ok-within_limits-in-None.ensures.answer) refl)
+    (then_says (λ (u : Unit {0}). u) (outcome_of T) (within_limits T None (with_context NAMES x (written (with_another n guid number)) nothing)) (λ u. Err (Some (Limit limits.Names))) _ _
+    (as_at (λ (u : Unit {0}). u) (λ (D : Changed). within_limits T None D) _ draft (c.in_ok-within_limits-in-None.ensures.answer T s)) refl)

@@ -1,5 +1,6 @@
 use Rattle.std.proofs.Common.{rules}
 use Rattle.mail_objects.specs.Forms.{Ctx}
+use Rattle.mail_draft.proofs.Looking.{shown_still}
 use Rattle.mail_draft.proofs.Passes.{then_says}
 use Rattle.mail_draft.specs.Outcomes.{outcome_of}
 use Rattle.mail_tree.specs.Changing.{◌>>=◌, Changed, context_at, known, nothing}
@@ -32,4 +33,4 @@ returns-clause-answer g c = λ T s.
     name_says (outcome_of T) T guid number _ (search rules) (search rules)
     (then_says (λ (x : Ctx). x) (outcome_of T) (context_at T nothing NAMES) (λ x. known (names_of x.props) >>= λ n. found_or_added T x n guid number (name_at n.guids n.entries guid number)) _ _
     (as_at (λ (x : Ctx). x) (λ (D : Changed). context_at T D NAMES) _ c.new.ensures (c.in_ok-context.ensures.answer T s))
-    (then_says (λ (n : Names). n) (outcome_of T) (known (names_of x.props)) (λ n. found_or_added T x n guid number (name_at n.guids n.entries guid number)) _ _ c.in_ok-names.ensures.answer (c.found_or_added.ensures.answer T)))
+    (then_says (λ (n : Names). n) (outcome_of T) (known (names_of x.props)) (λ n. found_or_added T x n guid number (name_at n.guids n.entries guid number)) _ _ c.in_ok-names.ensures.answer (c.found_or_added.ensures.answer T (shown_still T c.in_ok-context.ensures.looks s))))

@@ -1,6 +1,6 @@
-use Rattle.std.proofs.Common.{◌≡◌, ◌∙◌, length, sym, ap}
+use Rattle.std.proofs.Common.{◌∙◌}
 use Rattle.command_text.specs.declared.reply.CommandRefusal.TheVariants.{Object}
-use Rattle.mapi_values.specs.Messages.{Mes, part_id}
+use Rattle.mapi_values.specs.Messages.{part_id}
 use Rattle.mail_draft.specs.Outcomes.{outcome_of}
 use Rattle.mail_tree.specs.Parts.{part_in}
 use Rattle.mail_tree.proofs.PartLaws.{found_key}
@@ -19,7 +19,6 @@ returns-in-None-clause-answer g c = λ T s p.
 pub returns-in-Some-clause-answer : goal.returns-in-Some-clause-answer
 returns-in-Some-clause-answer g c = λ T s p.
     let M = c.args.mail in let n = c.args.attachment.bits in
-    let len : length M.props ≡ c.len-old_len.result = sym (c.len-old_len.ensures ∙ ap (λ (m : Mes). length m.props) (c.behind-mail.view_is ∙ c.message.ensures.message)) in
     let id = found_key part_id n M.parts c.in-Some.taken.1 c.in-Some.ensures.taken.0 in
     found_says (outcome_of T) Object (part_in n M) c.in-Some.taken.1 (appending_to T c.args.more.now M) _ c.in-Some.ensures.taken.0
-    (c.append_to.ensures.answer T s p M len (λ q e. c.in-Some.ensures.back q (e ∙ id)))
+    (c.append_to.ensures.answer T s p M (λ q e. c.in-Some.ensures.back q (e ∙ id)))

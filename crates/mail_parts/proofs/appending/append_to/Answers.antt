@@ -8,24 +8,23 @@ use Rattle.mapi_values.specs.declared.part.Part.{Part}
 use Rattle.mail_draft.specs.Outcomes.{outcome_of}
 use Rattle.mail_tree.specs.Messages.{appending, remaking}
 use Rattle.mail_tree.specs.Parts.{is_too_long, lengthened, part_with, with_bytes, with_part}
-use Rattle.mail_tree.specs.Values.{bytes_of, crowds}
-use Rattle.mail_messages.proofs.Calls.{as_at4}
+use Rattle.mail_tree.specs.Values.{bytes_of}
+use Rattle.mail_messages.proofs.Calls.{as_at3}
 use Rattle.mail_parts.proofs.Tests.{found_says, missing_says}
 use Rattle.mail_parts.proofs.appending.append_to.Goals as goal
 
 pub returns-in_default-clause-answer : goal.returns-in_default-clause-answer
-returns-in_default-clause-answer g c = λ T s p M len back.
+returns-in_default-clause-answer g c = λ T s p M back.
     missing_says (outcome_of T) Property (bytes_of 0x3701 0x0102 c.args.part.props) (λ old. appending T M c.args.part old c.args.more.now) (sym c.in_default.ensures.bytes)
 
 pub returns-clause-answer : goal.returns-clause-answer
 unfolding appending
-returns-clause-answer g c = λ T s p M len back.
+returns-clause-answer g c = λ T s p M back.
     let part = c.args.part in let old = c.in-Some.old.now in let more = c.args.more.now in
     let part_is : c.in_ok-part.part ≡ part_with (with_bytes (lengthened old more) part.props) part = c.in_ok-part.ensures ∙ ap (λ (b : List ℕ). part_with (with_bytes b part.props) part) (c.in_ok-bytes.ensures ∙ ap (λ (ms : List ℕ). lengthened old ms) c.as_slice-2.ensures.value) in
     found_says (outcome_of T) Property (bytes_of 0x3701 0x0102 part.props) old (λ old. appending T M part old more) _ (sym c.in-Some.ensures.bytes)
-    (as_at4 (outcome_of T) (λ (m : Mes) (crowded : Bool) (reason : Option CommandRefusal) (last : LastLine). remaking T M m crowded reason last) _
+    (as_at3 (outcome_of T) (λ (m : Mes) (reason : Option CommandRefusal) (last : LastLine). remaking T m reason last) _
     (c.in_ok-mail.ensures ∙ ap (λ (q : Part). with_part q c.args.mail) part_is ∙ back (part_with (with_bytes (lengthened old more) part.props) part) refl)
-    (c.append_ending-end.ensures.crowded ∙ c.crowds.ensures part.props (sym c.len-values.ensures) ∙ ap (λ (q : Part). crowds part.props q.props) part_is)
     (c.append_ending-end.ensures.reason ∙ ap (λ (b : Bool). if b then Some (Limit LongValue) else None) (c.is_too_long-too_long.ensures ∙ ap (λ (ms : List ℕ). is_too_long old ms) c.as_slice.ensures.value))
     c.append_ending-end.ensures.last
-    (c.remake_message.ensures.answer T s p M len))
+    (c.remake_message.ensures.answer T s p))

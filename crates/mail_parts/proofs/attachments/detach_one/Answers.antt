@@ -1,4 +1,4 @@
-use Rattle.std.proofs.Common.{◌≡◌, ◌∙◌, Bool, Option, false, None, not, length, sym, ap}
+use Rattle.std.proofs.Common.{Option, None, not, ap}
 use Rattle.std.specs.Option.{is_some}
 use Rattle.command_text.specs.declared.reply.CommandRefusal.{CommandRefusal}
 use Rattle.command_text.specs.declared.reply.CommandRefusal.TheVariants.{Object}
@@ -9,19 +9,18 @@ use Rattle.mapi_values.specs.declared.part.Part.{Part}
 use Rattle.mail_draft.specs.Outcomes.{outcome_of}
 use Rattle.mail_tree.specs.Messages.{remaking}
 use Rattle.mail_tree.specs.Parts.{part_in, without_attachment}
-use Rattle.mail_messages.proofs.Calls.{as_at4}
+use Rattle.mail_messages.proofs.Calls.{as_at3}
 use Rattle.mail_parts.proofs.Tests.{passed_says, refused_says}
 use Rattle.mail_parts.proofs.attachments.detach_one.Goals as goal
 
 pub returns-in-None-clause-answer : goal.returns-in-None-clause-answer
 returns-in-None-clause-answer g c = λ T s p.
     let M = c.args.mail in let n = c.args.attachment.bits in
-    refused_says (outcome_of T) (not (is_some (part_in n M))) Object (λ u. remaking T M (without_attachment n M) false None Done) (ap (λ (o : Option Part). not (is_some o)) c.in-None.ensures.taken)
+    refused_says (outcome_of T) (not (is_some (part_in n M))) Object (λ u. remaking T (without_attachment n M) None Done) (ap (λ (o : Option Part). not (is_some o)) c.in-None.ensures.taken)
 
 pub returns-in-Some-clause-answer : goal.returns-in-Some-clause-answer
 returns-in-Some-clause-answer g c = λ T s p.
     let M = c.args.mail in let n = c.args.attachment.bits in
-    let len : length M.props ≡ c.len-old_len.result = sym (c.len-old_len.ensures ∙ ap (λ (m : Mes). length m.props) (c.behind-mail.view_is ∙ c.message.ensures.message)) in
-    passed_says (outcome_of T) (not (is_some (part_in n M))) Object (λ u. remaking T M (without_attachment n M) false None Done) _ (ap (λ (o : Option Part). not (is_some o)) c.in-Some.ensures.taken.0)
-    (as_at4 (outcome_of T) (λ (m : Mes) (crowded : Bool) (reason : Option CommandRefusal) (last : LastLine). remaking T M m crowded reason last) _
-    c.in-Some.ensures.taken.1 c.done.ensures.crowded c.done.ensures.reason c.done.ensures.last (c.remake_message.ensures.answer T s p M len))
+    passed_says (outcome_of T) (not (is_some (part_in n M))) Object (λ u. remaking T (without_attachment n M) None Done) _ (ap (λ (o : Option Part). not (is_some o)) c.in-Some.ensures.taken.0)
+    (as_at3 (outcome_of T) (λ (m : Mes) (reason : Option CommandRefusal) (last : LastLine). remaking T m reason last) _
+    c.in-Some.ensures.taken.1 c.done.ensures.reason c.done.ensures.last (c.remake_message.ensures.answer T s p))

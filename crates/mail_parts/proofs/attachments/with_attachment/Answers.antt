@@ -1,4 +1,4 @@
-use Rattle.std.proofs.Common.{◌≡◌, ◌∙◌, ℕ, Bool, Option, IsSome, true, false, None, Some, List, [], refl, sym, ap, subst, if◌then◌else◌}
+use Rattle.std.proofs.Common.{◌≡◌, ◌∙◌, ℕ, Bool, IsSome, true, false, None, Some, List, [], refl, sym, ap, subst, if◌then◌else◌}
 use Rattle.pst_base.specs.Flat.{Flat}
 use Rattle.pst_base.specs.declared.ids.Nid.{Nid}
 use Rattle.mapi_values.specs.declared.part.Part.{Part}

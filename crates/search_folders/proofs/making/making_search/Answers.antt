@@ -33,6 +33,6 @@ returns-clause-answer g c = λ T s k.
     let after = rw (c.new_id-search.ensures, ← k.places) at c.in_ok-after.ensures in
     let row = rw c.new_id-search.ensures at (c.in_ok-with_row.ensures.answer T s) in
     let L = looks_then c.in_ok-with_row.ensures.looks c.in_ok-draft.ensures.looks in
-    let counters = (shown_still T L s).counters ∙ sym c.counts.ensures in
+    let counters = (shown_still T L s).counters ∙ sym c.counts-counts.ensures in
     in_turn _ _ (settled T places c.args.parent.bits) (making T places 3 c.args.index) _ _ _ row
-    (rw after at (c.in_ok-draft.ensures.answer T (shown_still T c.in_ok-with_row.ensures.looks s) k.flags)) (rw after at (c.making.ensures.answer T counters))
+    (rw after at (c.in_ok-draft.ensures.answer T (shown_still T c.in_ok-with_row.ensures.looks s) k.flags)) (rw after at (c.making.ensures.answer T (shown_still T L s) counters))

@@ -15,7 +15,7 @@ invariant_of-result c = record {
 
 pub returns-clause-rest : goal.returns-clause-rest
 returns-clause-rest c = λ object.
-    let changed : map.FinMap nat_cmp (Option Object) → Changed = λ objects. record { objects = objects; crowded = c.args.self.crowded } in
+    let changed : map.FinMap nat_cmp (Option Object) → Changed = λ objects. record { objects = objects } in
     ap changed (put_again c.args.nid.bits object c.args.self.objects.entries c.remove-taken.new.self.entries c.remove-taken.ensures.updates.0)
 
 pub returns-clause-taken : goal.returns-clause-taken

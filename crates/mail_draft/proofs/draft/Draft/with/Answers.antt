@@ -15,5 +15,5 @@ invariant_of-result c = record {
 
 pub returns : goal.returns
 returns c =
-    let changed : map.FinMap nat_cmp (Option Object) → Changed = λ objects. record { objects = objects; crowded = c.args.self.crowded } in
+    let changed : map.FinMap nat_cmp (Option Object) → Changed = λ objects. record { objects = objects } in
     ap changed (entry_put c.args.nid.bits c.args.object c.args.self.objects.entries c.insert.new.self.entries c.in_ok-_replaced.ensures.updates.0)

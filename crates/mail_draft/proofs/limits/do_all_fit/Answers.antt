@@ -3,7 +3,7 @@ use Rattle.std.proofs.lemmas.Bool.{and_left}
 use Rattle.std.specs.List.{list_all}
 use Rattle.mail_tree.specs.Changing.{entry_fits}
 use Rattle.mail_draft.proofs.SortedLaws.{entries-kept, sorted-keys}
-use Rattle.mail_draft.proofs.ending.do_all_fit.Goals as goal
+use Rattle.mail_draft.proofs.limits.do_all_fit.Goals as goal
 
 pub loop-nid-init : goal.loop-nid-init
 loop-nid-init c = ap (list_all entry_fits) (sym c.into_iter-nid-iterator.ensures.into_iter_gives.0)
