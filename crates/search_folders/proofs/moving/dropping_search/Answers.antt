@@ -43,4 +43,4 @@ returns-clause-answer g c = λ T s k.
     let without = c.in_ok-without.ensures.answer T s in
     let unlisted = rw (c.hierarchy.ensures, without) at (c.in_ok-unlisted.ensures.answer T (shown_still T c.in_ok-without.ensures.looks s)) in
     in_turn _ _ (settled T places c.args.parent.bits) (moving T places (replied Done)) _ _ _ unlisted
-    (rw after at (c.in_ok-draft.ensures.answer T (shown_still T L s) k.flags)) (rw after at (c.moving.ensures.answer T))
+    (rw after at (c.in_ok-draft.ensures.answer T (shown_still T L s) k.flags)) (rw after at (c.moving.ensures.answer T (shown_still T (looks_then L c.in_ok-draft.ensures.looks) s)))
