@@ -1,5 +1,5 @@
 -- A command that writes no node leaves the tree.
-use Rattle.std.proofs.Common.{◌≡◌, ◌∙◌, ℕ, ◌==◌, ◌||◌, not, filter, Bool, true, false, List, Option, None, Some, is_some, IfOk, Ok, Err, refl, sym, ap, inl, inr}
+use Rattle.std.proofs.Common.{◌≡◌, ◌∙◌, ℕ, ◌==◌, ◌||◌, not, filter, true, false, List, Option, None, Some, is_some, IfOk, Ok, Err, refl, sym, ap, inl, inr}
 use Rattle.std.proofs.lemmas.Bool.{cases_Bool, eq-eqb}
 use Rattle.std.proofs.lemmas.Option.{none-some}
 use Rattle.std.specs.Cmp.{nat_cmp_total}
@@ -174,42 +174,41 @@ module _ (T : Tree) where
       then_any (unless_full T (contents folder)) _ (λ w.
       let index = next_index T 4 message_kinds in
       let copy = copy_of (new_id 4 index) folder M in
-      let D : Changed = nothing in
-      then_making T.places 4 index (touched T M.folder D >>= added_message T copy) (if_any WritesNodes (touched T M.folder D) _ (λ D'. adds copy D')))))))
+      then_making T.places 4 index (touched T M.folder nothing >>= added_message T copy) (if_any WritesNodes (touched T M.folder nothing) _ (λ D. adds copy D)))))))
 
-  remakes : (M new : Mes) (reason : Option CommandRefusal) (last : LastLine) → IfOk (remaking T new reason last) Right
+  remakes : (new : Mes) (reason : Option CommandRefusal) (last : LastLine) → IfOk (remaking T new reason last) Right
   unfolding remaking
-  remakes M new reason last = then_replying _ reason last
+  remakes new reason last = then_replying _ reason last
 
   changes : (M : Mes) (props : List Val) → IfOk (changed_message T M props) Right
   unfolding changed_message
-  changes M props = remakes M (with_props props M) None Done
+  changes M props = remakes (with_props props M) None Done
 
   adds_recipient : (m kind : ℕ) (address name : List ℕ) → IfOk (added_recipient T m kind address name) Right
   unfolding added_recipient adding_recipient
   adds_recipient m kind address name = then_any (message_in T m) _ (λ M. then_any (refused_if (is_full M.recipients) (Limit Rows)) _ (λ u. then_any (refused_if (is_wide recipient_tags M.recipients) (Limit Rows)) _ (λ v.
       let row = next_row (rows_of M.recipients) in
-      remakes M (with_recipient (new_row row) (recipient_props kind address name) M) (spent_row row) (Row (new_row row)))))
+      remakes (with_recipient (new_row row) (recipient_props kind address name) M) (spent_row row) (Row (new_row row)))))
 
   removes_recipient : (m row : ℕ) → IfOk (removed_recipient T m row) Right
   unfolding removed_recipient
-  removes_recipient m row = then_any (message_in T m) _ (λ M. then_any (refused_if (not (has_recipient row M)) Object) _ (λ u. remakes M (without_recipient row M) None Done))
+  removes_recipient m row = then_any (message_in T m) _ (λ M. then_any (refused_if (not (has_recipient row M)) Object) _ (λ u. remakes (without_recipient row M) None Done))
 
   adds_attachment : (m : ℕ) (name bytes : List ℕ) → IfOk (added_attachment T m name bytes) Right
   unfolding added_attachment adding_attachment
   adds_attachment m name bytes = then_any (message_in T m) _ (λ M. then_any (refused_if (is_full M.attachments) (Limit Rows)) _ (λ u. then_any (refused_if (is_wide attachment_tags M.attachments) (Limit Rows)) _ (λ v.
       let index = next_part M in
-      remakes M (with_attachment (plain_part (part_nid index) (attachment_props name bytes)) (room_for index M)) (spent_index index) (Attached (part_nid index)))))
+      remakes (with_attachment (plain_part (part_nid index) (attachment_props name bytes)) (room_for index M)) (spent_index index) (Attached (part_nid index)))))
 
   appends_data : (m n : ℕ) (more : List ℕ) → IfOk (appended_data T m n more) Right
   unfolding appended_data appending
   appends_data m n more = then_any (message_in T m) _ (λ M. then_any (found Object (part_in n M)) _ (λ part. then_any (found Property (bytes_of 0x3701 0x0102 part.props)) _ (λ old.
       let props = with_bytes (lengthened old more) part.props in
-      remakes M (with_part (part_with props part) M) (too_long old more) Done)))
+      remakes (with_part (part_with props part) M) (too_long old more) Done)))
 
   removes_attachment : (m n : ℕ) → IfOk (removed_attachment T m n) Right
   unfolding removed_attachment
-  removes_attachment m n = then_any (message_in T m) _ (λ M. then_any (refused_if (not (is_some (part_in n M))) Object) _ (λ u. remakes M (without_attachment n M) None Done))
+  removes_attachment m n = then_any (message_in T m) _ (λ M. then_any (refused_if (not (is_some (part_in n M))) Object) _ (λ u. remakes (without_attachment n M) None Done))
 
   fetches_data : (m n : ℕ) → IfOk (fetched_data T m n) Right
   unfolding fetched_data

@@ -2,6 +2,7 @@
 use Rattle.std.proofs.Common.{◌≡◌, ◌≤◌, ◌+◌, ℕ, ◌&&◌, length, Bool, true, false, List, [], ◌∷◌, ◌++◌, Option, None, Some, Result, Ok, Err, refl, sym, ap, ◌∙◌, subst, if◌then◌else◌}
 use Rattle.mail_tree.specs.declared.places.FolderPlace.{FolderPlace}
 use Rattle.command_text.specs.declared.command.Command.{Command}
+use Rattle.pst_base.specs.declared.ids.Nid.{Nid}
 use Rattle.mail_tree.specs.Changing.{Answer, Changed, ◌>>=◌, contents, known, message_at, nothing, table_at, within_limits}
 use Rattle.mail_tree.specs.Folders.{Outcome, made_id}
 use Rattle.mail_tree.specs.Places.{is_plain, is_within, place_id}
@@ -93,17 +94,19 @@ module _ (T : Tree) where
 pub same_around : (T : Tree) (old new : List FolderPlace) (o : Came) → T.places ≡ old → new ≡ places_after old o.places → places_around old new ≡ around T (outcome_of T o)
 same_around T old new o e same = ap (places_around old) same ∙ ap (λ p. places_around p (places_after p o.places)) (sym e)
 
--- what keeps to the limits
-pub if_fits : {E : Type 0} (T : Tree) (view : E → Outcome) (o : Outcome) (y : E) → Says (λ u. u) (within_limits T (made_id o.reply.last) o.changed) (Ok tt) → view y ≡ o → Says view (if_within T o) (Ok y)
-if_fits T view o y h e = pick (within_limits T (made_id o.reply.last) o.changed) h
+-- what keeps to the limits, where this is the id of the object that was made
+pub if_fits : {E : Type 0} (T : Tree) (view : E → Outcome) (o : Outcome) (new : Option Nid) (y : E) → new ≡ made_id o.reply.last → Says (λ u. u) (within_limits T new o.changed) (Ok tt) → view y ≡ o → Says view (if_within T o) (Ok y)
+if_fits {E} T view o new y made h e = pick (within_limits T (made_id o.reply.last) o.changed) (subst (λ (n : Option Nid). Says {B = Unit {0}} (λ (u : Unit {0}). u) (within_limits T n o.changed) (Ok tt)) made h)
   where
     pick : (a : Answer (Unit {0})) → Says (λ u. u) a (Ok tt) → Says view (a >>= λ u. Ok o) (Ok y)
     pick (Ok u) said = e
     pick (Err None) said = tt
     pick (Err (Some refusal)) said = absurd said
 
-pub if_passes : {E : Type 0} (T : Tree) (view : E → Outcome) (o : Outcome) (stop : Stop) → Says {A = Unit {0}} {B = Unit {0}} (λ u. u) (within_limits T (made_id o.reply.last) o.changed) (Err stop) → Says view (if_within T o) (Err stop)
-if_passes T view o stop h = stop_says {B = Unit {0}} (λ u. u) view (within_limits T (made_id o.reply.last) o.changed) (λ u. Ok o) stop h
+-- what passes one
+pub if_passes : {E : Type 0} (T : Tree) (view : E → Outcome) (o : Outcome) (new : Option Nid) (stop : Stop) → new ≡ made_id o.reply.last → Says {A = Unit {0}} {B = Unit {0}} (λ u. u) (within_limits T new o.changed) (Err stop) → Says view (if_within T o) (Err stop)
+if_passes T view o new stop made h = stop_says {B = Unit {0}} (λ u. u) view (within_limits T (made_id o.reply.last) o.changed) (λ u. Ok o) stop
+    (subst (λ (n : Option Nid). Says {A = Unit {0}} {B = Unit {0}} (λ u. u) (within_limits T n o.changed) (Err stop)) made h)
 
 module _ (T : Tree) (ss : List Search) (ts : List Touch) (o : Outcome) where
   -- a search can't be settled
@@ -126,9 +129,9 @@ module _ (T : Tree) (ss : List Search) (ts : List Touch) (o : Outcome) where
       pick (Err (Some refusal)) said = absurd said
 
   -- all are settled, and what is then written keeps to the limits
-  pub within_fits : {E : Type 0} (view : E → Outcome) (d : Around) (settled : Draft) (y : E) → d ≡ around T o → Says changed_of (settled_searches T d ts ss o.changed) (Ok settled)
-      → Says (λ u. u) (within_limits T (made_id o.reply.last) (changed_of settled)) (Ok tt) → view y ≡ record o { changed = changed_of settled } → Says view (settled_within T ss ts o) (Ok y)
-  within_fits view d settled y e h fits is = within_goes view d settled (Ok y) e h (if_fits T view (record o { changed = changed_of settled }) y fits is)
+  pub within_fits : {E : Type 0} (view : E → Outcome) (d : Around) (settled : Draft) (new : Option Nid) (y : E) → d ≡ around T o → Says changed_of (settled_searches T d ts ss o.changed) (Ok settled)
+      → new ≡ made_id o.reply.last → Says (λ u. u) (within_limits T new (changed_of settled)) (Ok tt) → view y ≡ record o { changed = changed_of settled } → Says view (settled_within T ss ts o) (Ok y)
+  within_fits view d settled new y e h made fits is = within_goes view d settled (Ok y) e h (if_fits T view (record o { changed = changed_of settled }) new y made fits is)
 
 -- the same places, the same work
 pub more_work : (ts : List Touch) (ss : List Search) (d e : Around) (old new : ℕ) → d ≡ e → new ≤ old + work_of d ts ss → new ≤ old + work_of e ts ss

@@ -1,5 +1,5 @@
 -- What `save` comes to where there are searches: nothing.
-use Rattle.std.proofs.Common.{◌≡◌, ◌∙◌, List, [], ◌∷◌, Ok, refl, ap, inl, inr}
+use Rattle.std.proofs.Common.{◌≡◌, ◌∙◌, List, [], ◌∷◌, None, Ok, refl, ap, inl, inr}
 use Rattle.std.proofs.lemmas.Bool.{cases_Bool}
 use Rattle.command_text.specs.declared.command.Command.TheVariants.{Save}
 use Rattle.command_text.specs.declared.reply.LastLine.TheVariants.{Done}

@@ -9,10 +9,7 @@ use Rattle.search_results.proofs.concluding.conclude.Goals as goal
 
 pub returns-then-count-eq0-clause-answer : goal.returns-then-count-eq0-clause-answer
 returns-then-count-eq0-clause-answer g c = λ T s known comes.
-    idle T (outcome_of T) c.args.searches.now c.args.command.now (outcome_of T c.args.outcome) _ (none_there _ (sym c.count.ensures ∙ c.if-count-eq0.true)) (c.if_within.ensures.answer T)
-
-pub returns-then-count-eq0-clause-cause : goal.returns-then-count-eq0-clause-cause
-returns-then-count-eq0-clause-cause g c = c.if_within.ensures.cause _ _ _
+    idle T (outcome_of T) c.args.searches.now c.args.command.now (outcome_of T c.args.outcome) _ (none_there _ (sym c.count.ensures ∙ c.if-count-eq0.true)) (c.if_within.ensures.answer T s)
 
 pub returns-in_err-touches-clause-answer : goal.returns-in_err-touches-clause-answer
 returns-in_err-touches-clause-answer g c = λ T s known comes.
