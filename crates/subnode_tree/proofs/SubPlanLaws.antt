@@ -1,5 +1,5 @@
 -- Subnodes that are planned read as they are.
-use Rattle.std.proofs.Common.{true, false, ◌≡◌, ℕ, zero, suc, ◌+◌, ◌-◌, ◌*◌, ◌/◌, ◌%◌, ◌^◌, ◌<◌, ◌≤◌, eqb, List, [], ◌∷◌, ◌++◌, drop, length, map, take, get_or, Option, Result, Ok, refl, sym, ap, subst, ◌∙◌, arith, append_assoc, length-append, append-nil}
+use Rattle.std.proofs.Common.{true, false, ◌≡◌, ℕ, zero, suc, ◌+◌, ◌-◌, ◌*◌, ◌/◌, ◌%◌, ◌^◌, ◌<◌, ◌≤◌, eqb, List, [], ◌∷◌, ◌++◌, drop, length, map, take, get_or, Option, Some, Result, Ok, refl, sym, ap, subst, ◌∙◌, arith, append_assoc, length-append, append-nil}
 use Rattle.std.specs.List.{All}
 use Rattle.std.proofs.lemmas.Bool.{ne_eqb}
 use Rattle.std.proofs.lemmas.List.{length-map, map-append, take_all, take_more}
@@ -11,19 +11,22 @@ use Rattle.pst_base.specs.Subs.{flattened, one_deeper}
 use Rattle.data_tree.specs.declared.source.TreeStop.{TreeStop}
 use Rattle.data_tree.specs.Keys.{count_of, data_keys, keys_of}
 use Rattle.data_tree.specs.Tree.{and_then, blocks_of}
-use Rattle.data_tree.specs.Plan.{AreFound, AreSmall, IsFound, Reaches, ReadsKept, Rise, above_kept, bids_in, bytes_in, contents, fresh, kept_bids, last_id, plain, unkept}
+use Rattle.data_tree.specs.Plan.{AreFound, AreSmall, IsFound, NamesKept, Reaches, ReadsKept, Rise, above_kept, bids_in, bytes_in, contents, fresh, kept_bids, last_id, placed, plain, unkept}
 use Rattle.data_tree.proofs.KeyLaws.{count-append, count-blocks, keys-append}
 use Rattle.data_tree.proofs.PieceLaws.{Each, all_from-each, each-append, each-from_all, each-left, each-right}
 use Rattle.data_tree.proofs.PlanLaws.{plain-append, rise-append}
 use Rattle.data_tree.proofs.SizeLaws.{Small}
 use Rattle.subnode_tree.specs.declared.blocks.SubEntry.{SubEntry}
 use Rattle.subnode_tree.specs.declared.tables.Row.{Row}
+use Rattle.subnode_tree.specs.Bids.{bids_each, sub_bids_of}
 use Rattle.subnode_tree.specs.Keys.{each_keys, listed_in, ok_entries, sub_keys, sub_keys_from}
-use Rattle.subnode_tree.specs.Plan.{IsAmong, IsForm, Plans, SubsReach, SubsReadAs, SubsReadKept, ascending, data_in, first_list, kept_in, nothing, paired, unkept_in}
-use Rattle.subnode_tree.specs.Subnodes.{level_of, rows, subs_from, subs_of}
+use Rattle.subnode_tree.specs.Plan.{AreAmong, ArePlaced, IsAmong, IsForm, Plans, SubsNameKept, SubsReach, SubsReadAs, SubsReadKept, ascending, data_in, first_list, kept_in, nothing, paired, unkept_in}
+use Rattle.subnode_tree.specs.Subnodes.{branch, level_of, rows, subs_from, subs_of, tree_from, tree_of}
 use Rattle.subnode_tree.specs.Tables.{Fits, tables}
 use Rattle.subnode_tree.proofs.FormLaws.{data-more, each-below, form-top, own, sub_nids}
+use Rattle.subnode_tree.proofs.IdLaws.{names-more}
 use Rattle.subnode_tree.proofs.PairLaws.{Keep, Pair, kept-more, nothing-paired, paired-more, rest-more, unkept-more}
+use Rattle.subnode_tree.proofs.RowSteps.{tree-none, tree-read}
 use Rattle.subnode_tree.proofs.SubSteps.{flattened-more, sub_row, subs-read}
 use Rattle.subnode_tree.proofs.TableLaws.{bytes-more, entry_as, few-tables, fewer-tables, last-high, plain-tables, rise-tables, room-tables, root-none, root-some, row_nids, small-tables, tables-keys, tables-read}
 
@@ -119,7 +122,10 @@ pub record Underway (keep : Keep) (xs : List Sub) (rs : List Row) (first next : 
   pub small : Each Small blocks
   pub most : 2 * length blocks + 2 * length xs ≤ 2 * length (unkept_in keep (flattened xs)) + length (data_in (flattened xs)) + 2 * length (flattened xs)
   pub room : 24 * length (flattened xs) ≤ bytes_in (contents blocks) + 24 * length xs
-  pub among : Each (PairAmong first blocks) (paired keep (flattened xs))
+  pub ids : Keep
+  pub placed : ArePlaced first blocks (paired keep (flattened xs)) ids
+  pub names : (find : ℕ → Option (List ℕ)) → Each (IsFound find) blocks → (deeper room level : ℕ) → deeper < 8 → Each (λ f. f.level < suc deeper) (flattened xs) → length (flattened xs) ≤ room
+      → and_then (rows (branch (tree_from find deeper)) room (map (entry_as level) rs)) (bids_each find) ≡ Ok ids
   pub reads : (find : ℕ → Option (List ℕ)) → Each (IsFound find) blocks → Each (PairFound find) (paired keep (flattened xs)) → RowsRead find xs rs
   pub keys : (find : ℕ → Option (List ℕ)) → Each (IsFound find) blocks → (deeper : ℕ) → deeper < 8 → Each (λ f. f.level < suc deeper) (flattened xs) → (level key : ℕ)
       → count_of key (each_keys (reach_of find deeper) (map (entry_as level) rs)) ≡ count_of key (keys_of (kept_in keep (flattened xs))) + count_of key (keys_of (bids_in blocks))
@@ -136,7 +142,9 @@ underway-start keep first high = record {
   small = tt;
   most = omega arith;
   room = omega arith;
-  among = tt;
+  ids = [];
+  placed = tt;
+  names = λ find found deeper room level low levels few. refl;
   reads = λ find found kept. tt;
   keys = λ find found deeper low levels level key. omega arith;
 }
@@ -150,6 +158,7 @@ pub record Planned (own_keep : List (Option Bid)) (keep : Keep) (x : Sub) (row :
   pub marks : plain content ≡ unkept own_keep x.blocks
   pub small : AreSmall content
   pub most : 2 * length content ≤ 2 * length (unkept own_keep x.blocks) + length x.blocks
+  pub names : NamesKept content next own_keep row.content x.blocks
   pub reads : ReadsKept content own_keep row.content x.blocks
   pub reaches : Reaches content (kept_bids own_keep x.blocks) row.content
   pub plans : Plans keep x.subs (next + 4 * length content) row.subnodes below
@@ -184,9 +193,36 @@ among-behind next at front blocks pair start is = record {
       ap (λ (l : List (Bid × List ℕ)). front ++ l) is.parts ∙ sym (append_assoc front is.before (here ++ is.after));
 }
 
-each-among : (P Q : Pair → Type 0) → ((pair : Pair) → P pair → Q pair) → (pairs : List Pair) → Each P pairs → Each Q pairs
-each-among P Q from [] all = tt
-each-among P Q from (pair ∷ pairs) all = (from pair all.0, each-among P Q from pairs all.1)
+placed-front : (next : ℕ) (blocks more : List (Bid × List ℕ)) (pairs : List Pair) (ids : Keep) → ArePlaced next blocks pairs ids → ArePlaced next (blocks ++ more) pairs ids
+unfolding among-front
+placed-front next blocks more [] [] all = tt
+placed-front next blocks more [] (own ∷ ids) all = absurd all
+placed-front next blocks more (pair ∷ pairs) [] all = absurd all
+placed-front next blocks more (pair ∷ pairs) (own ∷ ids) all = ((among-front next blocks more pair (all.0).0, (all.0).1), placed-front next blocks more pairs ids all.1)
+
+placed-behind : (next at : ℕ) (front blocks : List (Bid × List ℕ)) (pairs : List Pair) (ids : Keep) → at ≡ next + 4 * length front → ArePlaced at blocks pairs ids → ArePlaced next (front ++ blocks) pairs ids
+unfolding among-behind
+placed-behind next at front blocks [] [] start all = tt
+placed-behind next at front blocks [] (own ∷ ids) start all = absurd all
+placed-behind next at front blocks (pair ∷ pairs) [] start all = absurd all
+placed-behind next at front blocks (pair ∷ pairs) (own ∷ ids) start all = ((among-behind next at front blocks pair start (all.0).0, (all.0).1), placed-behind next at front blocks pairs ids start all.1)
+
+placed-append : (next : ℕ) (blocks : List (Bid × List ℕ)) (xs ys : List Pair) (ids more : Keep) → ArePlaced next blocks xs ids → ArePlaced next blocks ys more → ArePlaced next blocks (xs ++ ys) (ids ++ more)
+placed-append next blocks [] ys [] more all rest = rest
+placed-append next blocks [] ys (own ∷ ids) more all rest = absurd all
+placed-append next blocks (pair ∷ xs) ys [] more all rest = absurd all
+placed-append next blocks (pair ∷ xs) ys (own ∷ ids) more all rest = (all.0, placed-append next blocks xs ys ids more all.1 rest)
+
+placed-count : (next : ℕ) (blocks : List (Bid × List ℕ)) (keep : Keep) (flats : List Flat) (ids : Keep) → ArePlaced next blocks (paired keep flats) ids → length ids ≡ length flats
+placed-count next blocks keep [] [] all = refl
+placed-count next blocks keep [] (own ∷ ids) all = absurd all
+placed-count next blocks keep (f ∷ flats) [] all = absurd all
+placed-count next blocks keep (f ∷ flats) (own ∷ ids) all = ap suc (placed-count next blocks (drop 1 keep) flats ids all.1)
+
+placed-each : (next : ℕ) (blocks : List (Bid × List ℕ)) (pairs : List Pair) (ids : Keep) → ArePlaced next blocks pairs ids → Each (PairAmong next blocks) pairs
+placed-each next blocks [] ids all = tt
+placed-each next blocks (pair ∷ pairs) [] all = absurd all
+placed-each next blocks (pair ∷ pairs) (own ∷ ids) all = ((all.0).0, placed-each next blocks pairs ids all.1)
 
 count-each : (key : ℕ) (f : SubEntry → List ℕ) (es : List SubEntry) (e : SubEntry) → count_of key (each_keys f (es ++ e ∷ [])) ≡ count_of key (each_keys f es) + count_of key (f e)
 count-each key f [] e = let both = count-append key (f e) [] in omega (arith, both)
@@ -207,6 +243,7 @@ underway-more keep rest others left n xs rs first next end blocks content below 
     let nid_of = λ (r : Row). (r.nid).bits in
     let sub_of = λ (s : Sub). (s.nid).bits in
     let own_keep = first_list rest in
+    let own_ids : List (Option Bid) = map Some (bids_in (placed next own_keep x.blocks)) in
     let here : first + 4 * length blocks ≡ next = sym start in
     let after : next + 4 * length content ≡ first + 4 * length (blocks ++ content) = omega arith in
     let rise_content : Rise (first + 4 * length blocks) content = subst (λ (n : ℕ). Rise n content) start planned.rise in
@@ -248,20 +285,42 @@ underway-more keep rest others left n xs rs first next end blocks content below 
           let sum_one = bytes-more (blocks ++ content) below in
           let sum_two = bytes-more blocks content in
           omega (arith, so_far, room_below, size, deep, wide, sum_one, sum_two);
-      among = subst (λ (l : List Pair). Each (PairAmong first ((blocks ++ content) ++ below)) l) (sym pairs)
-          (each-append (PairAmong first ((blocks ++ content) ++ below)) (paired keep (flattened xs)) ((own_keep, x.blocks) ∷ paired others x.subs)
-          (each-among (PairAmong first blocks) (PairAmong first ((blocks ++ content) ++ below))
-          (λ pair is. among-front first (blocks ++ content) below pair (among-front first blocks content pair is)) (paired keep (flattened xs)) under.among) (
-            among-front first (blocks ++ content) below (own_keep, x.blocks) (record {
-              before = blocks;
-              after = [];
-              first = next;
-              at = start;
-              parts = ap (λ (l : List (Bid × List ℕ)). blocks ++ l) (planned.laid ∙ sym (append-nil (fresh next own_keep x.blocks ++ above_kept next own_keep x.blocks)));
-            }),
-            each-among (PairAmong (next + 4 * length content) below) (PairAmong first ((blocks ++ content) ++ below)) (λ pair is. among-behind first (next + 4 * length content) (blocks ++ content) below pair after is)
-                (paired others x.subs) (each-from_all (PairAmong (next + 4 * length content) below) (paired others x.subs) planned.plans.among),
+      ids = under.ids ++ (own_ids ∷ planned.plans.ids);
+      placed = subst (λ (l : List Pair). ArePlaced first ((blocks ++ content) ++ below) l (under.ids ++ (own_ids ∷ planned.plans.ids))) (sym pairs)
+          (placed-append first ((blocks ++ content) ++ below) (paired keep (flattened xs)) ((own_keep, x.blocks) ∷ paired others x.subs) under.ids (own_ids ∷ planned.plans.ids)
+          (placed-front first (blocks ++ content) below (paired keep (flattened xs)) under.ids (placed-front first blocks content (paired keep (flattened xs)) under.ids under.placed)) (
+            (placed-front first (blocks ++ content) below ((own_keep, x.blocks) ∷ []) (own_ids ∷ []) (
+              (
+                record {
+                  before = blocks;
+                  after = [];
+                  first = next;
+                  at = start;
+                  parts = ap (λ (l : List (Bid × List ℕ)). blocks ++ l) (planned.laid ∙ sym (append-nil (fresh next own_keep x.blocks ++ above_kept next own_keep x.blocks)));
+                },
+                refl,
+              ),
+              tt,
+            )).0,
+            placed-behind first (next + 4 * length content) (blocks ++ content) below (paired others x.subs) planned.plans.ids after planned.plans.placed,
           ));
+      names = λ find found deeper room level low levels few.
+          let front = each-left (IsFound find) (blocks ++ content) below found in
+          let old = each-left (IsFound find) blocks content front in
+          let data_found = all_from-each (IsFound find) content (each-right (IsFound find) blocks content front) in
+          let below_found = all_from-each (IsFound find) below (each-right (IsFound find) (blocks ++ content) below found) in
+          let both_levels = subst (λ (l : List Flat). Each (λ f. f.level < suc deeper) l) (flattened-more xs x) levels in
+          let old_levels = each-left (λ f. f.level < suc deeper) (flattened xs) (own x ∷ map one_deeper x.subs) both_levels in
+          let new_levels = each-right (λ f. f.level < suc deeper) (flattened xs) (own x ∷ map one_deeper x.subs) both_levels in
+          let inner_levels = all_from-each (λ f. f.level < deeper) x.subs (each-below (λ f. f.level < suc deeper) (λ f. f.level < deeper) (λ f low. omega arith) x.subs new_levels.1) in
+          let size = ap length (flattened-more xs x) ∙ length-append (flattened xs) (own x ∷ map one_deeper x.subs) in
+          let deep = length-map x.subs one_deeper in
+          let all : length (flattened xs) + (1 + length x.subs) ≤ room = omega (arith, few, size, deep) in
+          let count = placed-count first blocks keep (flattened xs) under.ids under.placed in
+          ap (λ (l : List SubEntry). and_then (rows (branch (tree_from find deeper)) room l) (bids_each find)) (map-append (entry_as level) rs (row ∷ []))
+          ∙ names-more find deeper room (length x.subs) (map (entry_as level) rs) (entry_as level row) (bids_in (placed next own_keep x.blocks)) under.ids planned.plans.ids
+          (under.names find old deeper room level low old_levels (omega (arith, all))) (omega (arith, all, count)) (planned.names find data_found)
+          (λ left more. planned.plans.names find below_found deeper left (omega (arith, low)) inner_levels more);
       reads = λ find found kept.
           let front = each-left (IsFound find) (blocks ++ content) below found in
           let old = each-left (IsFound find) blocks content front in
@@ -332,6 +391,22 @@ sub-keys-some : (find : ℕ → Option (List ℕ)) (deeper : ℕ) (bid : Bid) (e
 sub-keys-some find deeper bid es some read =
     rw (ne_eqb bid.bits 0 some) (ap (λ (r : Result (List SubEntry) TreeStop). key_of bid.bits ∷ (listed_in (find (key_of bid.bits)) ++ each_keys (reach_of find deeper) (ok_entries r))) read)
 
+-- the ids of the data under the root of a level
+level-names : (find : ℕ → Option (List ℕ)) (deeper room : ℕ) (bid : Bid) (ids : Keep) (xs : List Sub) (rs : List Row) → length rs ≡ length xs → deeper ≤ 8
+    → (length rs ≡ 0 → bid.bits ≡ 0) → (0 < length rs → bid.bits ≡ 0 → ⊥) → (0 < length rs → (level : ℕ) → level_of find level bid ≡ Ok (map (entry_as level) rs))
+    → Each (λ f. f.level < deeper) (flattened xs)
+    → ((deeper : ℕ) → deeper < 8 → Each (λ f. f.level < suc deeper) (flattened xs) → (level : ℕ) → and_then (rows (branch (tree_from find deeper)) room (map (entry_as level) rs)) (bids_each find) ≡ Ok ids)
+    → and_then (tree_from find deeper room bid) (bids_each find) ≡ Ok ids
+level-names find deeper room bid ids [] [] same shallow none some read levels names =
+    ap (λ (r : Result (List SubEntry) TreeStop). and_then r (bids_each find)) (tree-none find deeper room bid (none refl)) ∙ names 0 (omega arith) tt 0
+level-names find deeper room bid ids [] (row ∷ rs) same shallow none some read levels names = absurd (omega arith)
+level-names find deeper room bid ids (x ∷ xs) [] same shallow none some read levels names = absurd (omega arith)
+level-names find zero room bid ids (x ∷ xs) (row ∷ rs) same shallow none some read levels names = let low = levels.0 in absurd (omega arith)
+level-names find (suc deeper) room bid ids (x ∷ xs) (row ∷ rs) same shallow none some read levels names =
+    let es = map (entry_as (9 - suc deeper)) (row ∷ rs) in
+    ap (λ (r : Result (List SubEntry) TreeStop). and_then r (bids_each find)) (tree-read find (suc deeper) room bid es (some (omega arith)) shallow (read (omega arith) (9 - suc deeper)))
+    ∙ names deeper (omega arith) levels (9 - suc deeper)
+
 -- the keys under the root of a level
 level-keys : (find : ℕ → Option (List ℕ)) (key deeper kept new : ℕ) (bid : Bid) (xs : List Sub) (rs : List Row) (lists : List (Bid × List ℕ)) → length rs ≡ length xs → deeper ≤ 8
     → (length rs ≡ 0 → bid.bits ≡ 0) → (0 < length rs → bid.bits ≡ 0 → ⊥) → (0 < length rs → (level : ℕ) → level_of find level bid ≡ Ok (map (entry_as level) rs))
@@ -391,8 +466,15 @@ underway-end keep rest xs rs first next bid blocks lists low apart form under ma
           let lists_are = ap (λ (l : List (Bid × List ℕ)). bytes_in (contents l)) made in
           let sum = bytes-more blocks lists in
           omega (arith, so_far, lists_room, lists_are, sum, count);
-      among = all_from-each (PairAmong first (blocks ++ lists)) (paired keep (flattened xs))
-          (each-among (PairAmong first blocks) (PairAmong first (blocks ++ lists)) (among-front first blocks lists) (paired keep (flattened xs)) under.among);
+      ids = under.ids;
+      placed = placed-front first blocks lists (paired keep (flattened xs)) under.ids under.placed;
+      names = λ find found deeper room shallow levels fewer.
+          let all = each-from_all (IsFound find) (blocks ++ lists) found in
+          let own_blocks = each-left (IsFound find) blocks lists all in
+          let list_blocks = each-right (IsFound find) blocks lists all in
+          let inside = each-from_all (λ f. f.level < deeper) (flattened xs) levels in
+          level-names find deeper room bid under.ids xs rs count shallow (λ none. same ∙ root-none next rs none) (λ some none. root-some next rs (omega arith) some (sym same ∙ none)) (read_lists find list_blocks) inside
+          (λ deeper low levels level. under.names find own_blocks deeper room level low levels fewer);
       reads = λ find found kept eof deeper room shallow levels fewer small.
           let all = each-from_all (IsFound find) (blocks ++ lists) found in
           let own_blocks = each-left (IsFound find) blocks lists all in
@@ -423,6 +505,17 @@ pub plans-kept : (keep : Keep) (flats : List Flat) (next : ℕ) (bid : Bid) (blo
 unfolding subs_of
 plans-kept keep flats next bid blocks form plans = λ find found kept eof room small.
     plans.reads find found kept eof 8 (eof / 24) (omega arith) form.levels (omega arith) small
+
+pub plans-among : (keep : Keep) (flats : List Flat) (next : ℕ) (bid : Bid) (blocks : List (Bid × List ℕ)) → Plans keep flats next bid blocks → AreAmong next blocks keep flats
+plans-among keep flats next bid blocks plans = all_from-each (PairAmong next blocks) (paired keep flats) (placed-each next blocks (paired keep flats) plans.ids plans.placed)
+
+pub plans-name : (keep : Keep) (flats : List Flat) (next : ℕ) (bid : Bid) (blocks : List (Bid × List ℕ)) → IsForm flats → Plans keep flats next bid blocks → SubsNameKept next blocks keep bid flats
+unfolding sub_bids_of tree_of
+plans-name keep flats next bid blocks form plans = record {
+  ids = plans.ids;
+  placed = plans.placed;
+  named = λ find found eof room. plans.names find found 8 (eof / 24) (omega arith) form.levels (omega arith);
+}
 
 pub plans-reach : (keep : Keep) (flats : List Flat) (next : ℕ) (bid : Bid) (blocks : List (Bid × List ℕ)) → IsForm flats → Plans keep flats next bid blocks → SubsReach blocks (kept_in keep flats) bid
 unfolding sub_keys
