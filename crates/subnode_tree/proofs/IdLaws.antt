@@ -1,4 +1,4 @@
--- The ids of the data of one subnode more, and of those below it.
+-- What one entry more leads to, and the ids of its data and of all below it.
 use Rattle.std.proofs.Common.{◌≡◌, ℕ, suc, ◌+◌, ◌-◌, ◌≤◌, List, [], ◌∷◌, ◌++◌, length, map, Option, Some, Result, Ok, sym, ap, subst, ◌∙◌, arith, length-append, append_assoc, append-nil}
 use Rattle.std.proofs.lemmas.Bool.{ne_eqb}
 use Rattle.pst_base.specs.declared.ids.Bid.{Bid}
@@ -11,7 +11,7 @@ use Rattle.subnode_tree.specs.Subnodes.{branch, rows, tree_from}
 use Rattle.subnode_tree.proofs.PairLaws.{Keep}
 
 -- what one entry more leads to
-rows-last : {Y : Type 0} (row : ℕ → SubEntry → Result (List Y) TreeStop) (room : ℕ) (es : List SubEntry) (e : SubEntry) (here last : List Y) → rows row room es ≡ Ok here → row (room - length here) e ≡ Ok last
+pub rows-last : {Y : Type 0} (row : ℕ → SubEntry → Result (List Y) TreeStop) (room : ℕ) (es : List SubEntry) (e : SubEntry) (here last : List Y) → rows row room es ≡ Ok here → row (room - length here) e ≡ Ok last
     → rows row room (es ++ e ∷ []) ≡ Ok (here ++ last)
 rows-last {Y} row room [] e here last read more =
     let none : [] ≡ here = cc in

@@ -1,6 +1,5 @@
 -- Subnodes that are planned read as they are.
 use Rattle.std.proofs.Common.{true, false, ◌≡◌, ℕ, zero, suc, ◌+◌, ◌-◌, ◌*◌, ◌/◌, ◌%◌, ◌^◌, ◌<◌, ◌≤◌, eqb, List, [], ◌∷◌, ◌++◌, drop, length, map, take, get_or, Option, Some, Result, Ok, refl, sym, ap, subst, ◌∙◌, arith, append_assoc, length-append, append-nil}
-use Rattle.std.specs.List.{All}
 use Rattle.std.proofs.lemmas.Bool.{ne_eqb}
 use Rattle.std.proofs.lemmas.List.{length-map, map-append, take_all, take_more}
 use Rattle.pst_base.specs.declared.ids.Bid.{Bid}
@@ -21,82 +20,39 @@ use Rattle.subnode_tree.specs.declared.tables.Row.{Row}
 use Rattle.subnode_tree.specs.Bids.{bids_each, sub_bids_of}
 use Rattle.subnode_tree.specs.Keys.{each_keys, listed_in, ok_entries, sub_keys, sub_keys_from}
 use Rattle.subnode_tree.specs.Plan.{AreAmong, ArePlaced, IsAmong, IsForm, Plans, SubsNameKept, SubsReach, SubsReadAs, SubsReadKept, ascending, data_in, first_list, kept_in, nothing, paired, unkept_in}
-use Rattle.subnode_tree.specs.Subnodes.{branch, level_of, rows, subs_from, subs_of, tree_from, tree_of}
+use Rattle.subnode_tree.specs.Subnodes.{branch, branch_with, level_of, rows, subs_from, subs_of, tree_from, tree_of}
 use Rattle.subnode_tree.specs.Tables.{Fits, tables}
 use Rattle.subnode_tree.proofs.FormLaws.{data-more, each-below, form-top, own, sub_nids}
-use Rattle.subnode_tree.proofs.IdLaws.{names-more}
+use Rattle.subnode_tree.proofs.IdLaws.{names-more, rows-last}
 use Rattle.subnode_tree.proofs.PairLaws.{Keep, Pair, kept-more, nothing-paired, paired-more, rest-more, unkept-more}
 use Rattle.subnode_tree.proofs.RowSteps.{tree-none, tree-read}
-use Rattle.subnode_tree.proofs.SubSteps.{flattened-more, sub_row, subs-read}
+use Rattle.subnode_tree.proofs.SubSteps.{flattened-more, subs-read}
 use Rattle.subnode_tree.proofs.TableLaws.{bytes-more, entry_as, few-tables, fewer-tables, last-high, plain-tables, rise-tables, room-tables, root-none, root-some, row_nids, small-tables, tables-keys, tables-read}
-
--- what an entry leads to is the subnode's own
-pub record RowReads (find : ℕ → Option (List ℕ)) (x : Sub) (row : Row) : Type 0 where
-  pub content : (eof : ℕ) → bytes_in x.blocks ≤ eof → blocks_of find eof row.content ≡ Ok x.blocks
-  pub below : (eof deeper room : ℕ) → deeper ≤ 8 → All (λ f. f.level < deeper) x.subs → length x.subs ≤ room → All (λ f. bytes_in f.blocks ≤ eof) x.subs
-      → subs_from find eof deeper room row.subnodes ≡ Ok x.subs
-
-abbrev pub RowsRead : (ℕ → Option (List ℕ)) → List Sub → List Row → Type 0
-RowsRead find [] [] = Unit {0}
-RowsRead find [] (row ∷ rs) = ⊥
-RowsRead find (x ∷ xs) [] = ⊥
-RowsRead find (x ∷ xs) (row ∷ rs) = ((row.nid).bits ≡ (x.nid).bits) × RowReads find x row × RowsRead find xs rs
-
-rows_read-more : (find : ℕ → Option (List ℕ)) (xs : List Sub) (rs : List Row) (x : Sub) (row : Row) → RowsRead find xs rs → (row.nid).bits ≡ (x.nid).bits → RowReads find x row
-    → RowsRead find (xs ++ x ∷ []) (rs ++ row ∷ [])
-rows_read-more find [] [] x row all nid here = (nid, here, tt)
-rows_read-more find [] (other ∷ rs) x row all nid here = absurd all
-rows_read-more find (y ∷ xs) [] x row all nid here = absurd all
-rows_read-more find (y ∷ xs) (other ∷ rs) x row all nid here = (all.0, all.1, rows_read-more find xs rs x row all.2 nid here)
 
 -- ---- the entries of a level lead to its subnodes
 
-branch-read : (find : ℕ → Option (List ℕ)) (eof deeper room level : ℕ) (x : Sub) (row : Row) → (row.nid).bits ≡ (x.nid).bits → RowReads find x row → deeper ≤ 8 → 0 < room
-    → bytes_in x.blocks ≤ eof → All (λ f. f.level < deeper) x.subs → length x.subs ≤ room - 1 → All (λ f. bytes_in f.blocks ≤ eof) x.subs
-    → sub_row find eof (suc deeper) room (entry_as level row) ≡ Ok (own x ∷ map one_deeper x.subs)
-branch-read find eof deeper room level x row nid reads shallow some fit levels few small =
+branch-read : (find : ℕ → Option (List ℕ)) (eof deeper room level : ℕ) (x : Sub) (row : Row) → (row.nid).bits ≡ (x.nid).bits → 0 < room → blocks_of find eof row.content ≡ Ok x.blocks
+    → subs_from find eof deeper (room - 1) row.subnodes ≡ Ok x.subs → branch_with find eof (subs_from find eof deeper) room (entry_as level row) ≡ Ok (own x ∷ map one_deeper x.subs)
+branch-read find eof deeper room level x row nid some content below =
     let left : eqb room 0 ≡ false = ne_eqb room 0 (λ e. absurd (omega arith)) in
-    let content = reads.content eof fit in
-    let below = reads.below eof deeper (room - 1) shallow levels few small in
     rw (left, content, below) (ap (λ (n : ℕ). Ok (record { level = 0; nid = n; blocks = x.blocks } ∷ map one_deeper x.subs)) nid)
-
-rows-read : (find : ℕ → Option (List ℕ)) (eof deeper room level : ℕ) (xs : List Sub) (rs : List Row) → RowsRead find xs rs → deeper ≤ 8
-    → Each (λ f. f.level < suc deeper) (flattened xs) → length (flattened xs) ≤ room → Each (λ f. bytes_in f.blocks ≤ eof) (flattened xs)
-    → rows (sub_row find eof (suc deeper)) room (map (entry_as level) rs) ≡ Ok (flattened xs)
-rows-read find eof deeper room level [] [] all shallow levels few small = refl
-rows-read find eof deeper room level [] (row ∷ rs) all shallow levels few small = absurd all
-rows-read find eof deeper room level (x ∷ xs) [] all shallow levels few small = absurd all
-rows-read find eof deeper room level (x ∷ xs) (row ∷ rs) all shallow levels few small =
-    let below = map one_deeper x.subs in
-    let here : List Flat = own x ∷ below in
-    let count = length-map x.subs one_deeper in
-    let both = length-append below (flattened xs) in
-    let inner_levels = each-below (λ f. f.level < suc deeper) (λ f. f.level < deeper) (λ f low. omega arith) x.subs (each-left (λ f. f.level < suc deeper) below (flattened xs) levels.1) in
-    let inner_small = each-below (λ f. bytes_in f.blocks ≤ eof) (λ f. bytes_in f.blocks ≤ eof) (λ f fit. fit) x.subs (each-left (λ f. bytes_in f.blocks ≤ eof) below (flattened xs) small.1) in
-    let first : sub_row find eof (suc deeper) room (entry_as level row) ≡ Ok here =
-    branch-read find eof deeper room level x row all.0 all.1 shallow (omega arith) small.0 (all_from-each (λ f. f.level < deeper) x.subs inner_levels) (omega arith)
-    (all_from-each (λ f. bytes_in f.blocks ≤ eof) x.subs inner_small) in
-    let more = rows-read find eof deeper (room - length here) level xs rs all.2 shallow (each-right (λ f. f.level < suc deeper) below (flattened xs) levels.1) (omega arith)
-    (each-right (λ f. bytes_in f.blocks ≤ eof) below (flattened xs) small.1) in
-    ap (λ (r : Result (List Flat) TreeStop). and_then r (λ here. and_then (rows (sub_row find eof (suc deeper)) (room - length here) (map (entry_as level) rs)) (λ more. Ok (here ++ more)))) first
-    ∙ ap (λ (r : Result (List Flat) TreeStop). and_then r (λ more. Ok (here ++ more))) more
 
 none-below : (find : ℕ → Option (List ℕ)) (eof deeper room : ℕ) (bid : Bid) → bid.bits ≡ 0 → subs_from find eof deeper room bid ≡ Ok []
 none-below find eof zero room bid none = rw none refl
 none-below find eof (suc deeper) room bid none = rw none refl
 
 -- what stands under the root of a level
-level-reads : (find : ℕ → Option (List ℕ)) (eof deeper room : ℕ) (bid : Bid) (xs : List Sub) (rs : List Row) → RowsRead find xs rs → deeper ≤ 8
+level-reads : (find : ℕ → Option (List ℕ)) (eof deeper room : ℕ) (bid : Bid) (xs : List Sub) (rs : List Row) → length rs ≡ length xs → deeper ≤ 8
     → (length rs ≡ 0 → bid.bits ≡ 0) → (0 < length rs → bid.bits ≡ 0 → ⊥) → (0 < length rs → (level : ℕ) → level_of find level bid ≡ Ok (map (entry_as level) rs))
-    → Each (λ f. f.level < deeper) (flattened xs) → length (flattened xs) ≤ room → Each (λ f. bytes_in f.blocks ≤ eof) (flattened xs)
+    → Each (λ f. f.level < deeper) (flattened xs)
+    → ((deeper : ℕ) → deeper < 8 → Each (λ f. f.level < suc deeper) (flattened xs) → (level : ℕ) → rows (branch_with find eof (subs_from find eof deeper)) room (map (entry_as level) rs) ≡ Ok (flattened xs))
     → subs_from find eof deeper room bid ≡ Ok (flattened xs)
-level-reads find eof deeper room bid [] [] all shallow none some read levels few small = none-below find eof deeper room bid (none refl)
-level-reads find eof deeper room bid [] (row ∷ rs) all shallow none some read levels few small = absurd all
-level-reads find eof deeper room bid (x ∷ xs) [] all shallow none some read levels few small = absurd all
-level-reads find eof zero room bid (x ∷ xs) (row ∷ rs) all shallow none some read levels few small = let low = levels.0 in absurd (omega arith)
-level-reads find eof (suc deeper) room bid (x ∷ xs) (row ∷ rs) all shallow none some read levels few small =
-    subs-read find eof (suc deeper) room bid (map (entry_as (9 - suc deeper)) (row ∷ rs)) (some (omega arith)) shallow (read (omega arith) (9 - suc deeper))
-    ∙ rows-read find eof deeper room (9 - suc deeper) (x ∷ xs) (row ∷ rs) all (omega arith) levels few small
+level-reads find eof deeper room bid [] [] same shallow none some read levels reads = none-below find eof deeper room bid (none refl)
+level-reads find eof deeper room bid [] (row ∷ rs) same shallow none some read levels reads = absurd (omega arith)
+level-reads find eof deeper room bid (x ∷ xs) [] same shallow none some read levels reads = absurd (omega arith)
+level-reads find eof zero room bid (x ∷ xs) (row ∷ rs) same shallow none some read levels reads = let low = levels.0 in absurd (omega arith)
+level-reads find eof (suc deeper) room bid (x ∷ xs) (row ∷ rs) same shallow none some read levels reads =
+    subs-read find eof (suc deeper) room bid (map (entry_as (9 - suc deeper)) (row ∷ rs)) (some (omega arith)) shallow (read (omega arith) (9 - suc deeper)) ∙ reads deeper (omega arith) levels (9 - suc deeper)
 
 -- ---- subnode by subnode
 
@@ -126,7 +82,8 @@ pub record Underway (keep : Keep) (xs : List Sub) (rs : List Row) (first next : 
   pub placed : ArePlaced first blocks (paired keep (flattened xs)) ids
   pub names : (find : ℕ → Option (List ℕ)) → Each (IsFound find) blocks → (deeper room level : ℕ) → deeper < 8 → Each (λ f. f.level < suc deeper) (flattened xs) → length (flattened xs) ≤ room
       → and_then (rows (branch (tree_from find deeper)) room (map (entry_as level) rs)) (bids_each find) ≡ Ok ids
-  pub reads : (find : ℕ → Option (List ℕ)) → Each (IsFound find) blocks → Each (PairFound find) (paired keep (flattened xs)) → RowsRead find xs rs
+  pub reads : (find : ℕ → Option (List ℕ)) → Each (IsFound find) blocks → Each (PairFound find) (paired keep (flattened xs)) → (eof deeper room level : ℕ) → deeper < 8 → Each (λ f. f.level < suc deeper) (flattened xs)
+      → length (flattened xs) ≤ room → Each (λ f. bytes_in f.blocks ≤ eof) (flattened xs) → rows (branch_with find eof (subs_from find eof deeper)) room (map (entry_as level) rs) ≡ Ok (flattened xs)
   pub keys : (find : ℕ → Option (List ℕ)) → Each (IsFound find) blocks → (deeper : ℕ) → deeper < 8 → Each (λ f. f.level < suc deeper) (flattened xs) → (level key : ℕ)
       → count_of key (each_keys (reach_of find deeper) (map (entry_as level) rs)) ≡ count_of key (keys_of (kept_in keep (flattened xs))) + count_of key (keys_of (bids_in blocks))
 
@@ -145,7 +102,7 @@ underway-start keep first high = record {
   ids = [];
   placed = tt;
   names = λ find found deeper room level low levels few. refl;
-  reads = λ find found kept. tt;
+  reads = λ find found kept eof deeper room level low levels few small. refl;
   keys = λ find found deeper low levels level key. omega arith;
 }
 
@@ -321,7 +278,7 @@ underway-more keep rest others left n xs rs first next end blocks content below 
           ∙ names-more find deeper room (length x.subs) (map (entry_as level) rs) (entry_as level row) (bids_in (placed next own_keep x.blocks)) under.ids planned.plans.ids
           (under.names find old deeper room level low old_levels (omega (arith, all))) (omega (arith, all, count)) (planned.names find data_found)
           (λ left more. planned.plans.names find below_found deeper left (omega (arith, low)) inner_levels more);
-      reads = λ find found kept.
+      reads = λ find found kept eof deeper room level low levels few small.
           let front = each-left (IsFound find) (blocks ++ content) below found in
           let old = each-left (IsFound find) blocks content front in
           let data_found = all_from-each (IsFound find) content (each-right (IsFound find) blocks content front) in
@@ -329,10 +286,24 @@ underway-more keep rest others left n xs rs first next end blocks content below 
           let all_kept = subst (λ (l : List Pair). Each (PairFound find) l) pairs kept in
           let old_kept = each-left (PairFound find) (paired keep (flattened xs)) ((own_keep, x.blocks) ∷ paired others x.subs) all_kept in
           let new_kept = each-right (PairFound find) (paired keep (flattened xs)) ((own_keep, x.blocks) ∷ paired others x.subs) all_kept in
-          rows_read-more find xs rs x row (under.reads find old old_kept) planned.nid (record {
-            content = λ eof fit. planned.reads find data_found new_kept.0 eof fit;
-            below = planned.plans.reads find below_found (all_from-each (PairFound find) (paired others x.subs) new_kept.1);
-          });
+          let both_levels = subst (λ (l : List Flat). Each (λ f. f.level < suc deeper) l) (flattened-more xs x) levels in
+          let old_levels = each-left (λ f. f.level < suc deeper) (flattened xs) (own x ∷ map one_deeper x.subs) both_levels in
+          let new_levels = each-right (λ f. f.level < suc deeper) (flattened xs) (own x ∷ map one_deeper x.subs) both_levels in
+          let inner_levels = all_from-each (λ f. f.level < deeper) x.subs (each-below (λ f. f.level < suc deeper) (λ f. f.level < deeper) (λ f low. omega arith) x.subs new_levels.1) in
+          let both_small = subst (λ (l : List Flat). Each (λ f. bytes_in f.blocks ≤ eof) l) (flattened-more xs x) small in
+          let old_small = each-left (λ f. bytes_in f.blocks ≤ eof) (flattened xs) (own x ∷ map one_deeper x.subs) both_small in
+          let new_small = each-right (λ f. bytes_in f.blocks ≤ eof) (flattened xs) (own x ∷ map one_deeper x.subs) both_small in
+          let inner_small = all_from-each (λ f. bytes_in f.blocks ≤ eof) x.subs (each-below (λ f. bytes_in f.blocks ≤ eof) (λ f. bytes_in f.blocks ≤ eof) (λ f fit. fit) x.subs new_small.1) in
+          let size = ap length (flattened-more xs x) ∙ length-append (flattened xs) (own x ∷ map one_deeper x.subs) in
+          let deep = length-map x.subs one_deeper in
+          let all : length (flattened xs) + (1 + length x.subs) ≤ room = omega (arith, few, size, deep) in
+          let left = room - length (flattened xs) in
+          let here = branch-read find eof deeper left level x row planned.nid (omega (arith, all)) (planned.reads find data_found new_kept.0 eof new_small.0)
+          (planned.plans.reads find below_found (all_from-each (PairFound find) (paired others x.subs) new_kept.1) eof deeper (left - 1) (omega (arith, low)) inner_levels (omega (arith, all)) inner_small) in
+          ap (rows (branch_with find eof (subs_from find eof deeper)) room) (map-append (entry_as level) rs (row ∷ []))
+          ∙ rows-last (branch_with find eof (subs_from find eof deeper)) room (map (entry_as level) rs) (entry_as level row) (flattened xs) (own x ∷ map one_deeper x.subs)
+          (under.reads find old old_kept eof deeper room level low old_levels (omega (arith, all)) old_small) here
+          ∙ ap Ok (sym (flattened-more xs x));
       keys = λ find found deeper low levels level key.
           let front = each-left (IsFound find) (blocks ++ content) below found in
           let old = each-left (IsFound find) blocks content front in
@@ -480,9 +451,10 @@ underway-end keep rest xs rs first next bid blocks lists low apart form under ma
           let own_blocks = each-left (IsFound find) blocks lists all in
           let list_blocks = each-right (IsFound find) blocks lists all in
           let own_kept = each-from_all (PairFound find) (paired keep (flattened xs)) kept in
-          level-reads find eof deeper room bid xs rs (under.reads find own_blocks own_kept) shallow (λ none. same ∙ root-none next rs none)
-          (λ some none. root-some next rs (omega arith) some (sym same ∙ none)) (read_lists find list_blocks)
-          (each-from_all (λ f. f.level < deeper) (flattened xs) levels) fewer (each-from_all (λ f. bytes_in f.blocks ≤ eof) (flattened xs) small);
+          let inside = each-from_all (λ f. f.level < deeper) (flattened xs) levels in
+          let fit = each-from_all (λ f. bytes_in f.blocks ≤ eof) (flattened xs) small in
+          level-reads find eof deeper room bid xs rs count shallow (λ none. same ∙ root-none next rs none) (λ some none. root-some next rs (omega arith) some (sym same ∙ none)) (read_lists find list_blocks) inside
+          (λ deeper low levels level. under.reads find own_blocks own_kept eof deeper room level low levels fewer fit);
       keys = λ find found deeper shallow levels key.
           let all = each-from_all (IsFound find) (blocks ++ lists) found in
           let own_blocks = each-left (IsFound find) blocks lists all in
