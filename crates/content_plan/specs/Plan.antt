@@ -38,7 +38,7 @@ pub record HoldsSubs (next : ℕ) (keep : List (List (Option Bid))) (flats : Lis
   pub reads : SubsReadKept blocks keep bid flats
   pub reaches : (after : ℕ → Option (List ℕ)) → All (IsFound after) blocks → AreSame (sub_keys after bid) (all_kept_keys keep ++ keys_of (bids_in blocks))
 
--- The blocks of a node that is put over what was there: of its data, and of each subnode's over that of the subnode with the same path, those that stay have their ids. All others have new ones, from a number on.
+-- The blocks of a node that is put over what was there: of its data, and of each subnode's over that of the subnode with the same path, those that stay have their ids, each at its position. All others have new ones, from a number on.
 pub record NamesOver (after : ℕ → Option (List ℕ)) (limit : ℕ) (old : Content) (e : NodeEntry) (node : NodeRec) : Type 0 where
   pub next : ℕ
   pub behind : limit ≤ next
