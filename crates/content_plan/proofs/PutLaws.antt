@@ -18,7 +18,7 @@ use Rattle.node_port.specs.declared.node.NodeRec.{NodeRec}
 use Rattle.node_port.specs.Stops.{subs_size}
 use Rattle.node_reach.specs.Reach.{node_keys}
 use Rattle.subnode_tree.specs.Keys.{sub_keys}
-use Rattle.subnode_tree.specs.Plan.{AreAmong, SubsReach, SubsReadKept, data_in, first_list, kept_in, paired, unkept_in}
+use Rattle.subnode_tree.specs.Plan.{AreAmong, SubsNameKept, SubsReach, SubsReadKept, data_in, first_list, kept_in, paired, unkept_in}
 use Rattle.subnode_tree.proofs.PairLaws.{Keep, Pair, may-above}
 use Rattle.subnode_tree.proofs.SubPlanLaws.{PairAmong, PairFound}
 use Rattle.content_plan.specs.Keep.{Keeps, all_kept_keys, kept_list, kept_subs, subs_ascend}
@@ -47,6 +47,7 @@ pub record Parts (next after : ℕ) (node : NodeRec) (keep : List (Option Bid)) 
   pub sub_room : 24 * length node.subs ≤ bytes_in (contents back)
   pub sub_rise : Rise after back
   pub sub_among : AreAmong after back sub_keep node.subs
+  pub sub_ids : SubsNameKept after back sub_keep subs node.subs
   pub sub_reads : SubsReadKept back sub_keep subs node.subs
   pub sub_reaches : SubsReach back (kept_in sub_keep node.subs) subs
 
@@ -131,6 +132,7 @@ parts-put next after nid node keep sub_keep content subs front back blocks keys 
         holds = record {
           rise = subst (λ (n : ℕ). Rise n back) behind p.sub_rise;
           laid = subst (λ (n : ℕ). AreAmong n back sub_keep node.subs) behind p.sub_among;
+          ids = subst (λ (n : ℕ). SubsNameKept n back sub_keep subs node.subs) behind p.sub_ids;
           reads = p.sub_reads;
           reaches = λ find found key.
               let one = p.sub_reaches find found key in

@@ -16,7 +16,7 @@ use Rattle.node_port.specs.declared.node.NodeRec.{NodeRec}
 use Rattle.node_port.specs.Stops.{size}
 use Rattle.node_refs.specs.Counts as refs
 use Rattle.subnode_tree.specs.Keys.{sub_keys}
-use Rattle.subnode_tree.specs.Plan.{AreAmong, SubsReadKept}
+use Rattle.subnode_tree.specs.Plan.{AreAmong, SubsNameKept, SubsReadKept}
 use Rattle.tree_edit.specs.Edits.{AreEdits, entry_with}
 use Rattle.content_plan.specs.declared.plan.ContentPlan.{ContentPlan}
 use Rattle.content_plan.specs.Keep.{all_kept_keys, kept_list, kept_subs}
@@ -30,14 +30,15 @@ Bounds after eof = (blocks : List (Bid × List ℕ)) → All (IsFound after) blo
 abbrev pub StayFound : (ℕ → Option (List ℕ)) → (ℕ → Option (List ℕ)) → List ℕ → Type 0
 StayFound find after keys = (key : ℕ) (b : List ℕ) → 1 ≤ count_of key keys → find key ≡ Some b → after key ≡ Some b
 
--- New blocks with ids from a number on hold subnodes of which data blocks stay: all other data of each lies among them in order, they read as the subnodes where those that stay have the bytes at their positions, and the subnodes reach just them and those that stay.
+-- New blocks with ids from a number on hold subnodes of which data blocks stay: all other data of each lies among them in order, the data of each has just the ids of those that stay at their positions and of its new ones, they read as the subnodes where those that stay have the bytes there, and the subnodes reach just them and those that stay.
 pub record HoldsSubs (next : ℕ) (keep : List (List (Option Bid))) (flats : List Flat) (bid : Bid) (blocks : List (Bid × List ℕ)) : Type 0 where
   pub rise : Rise next blocks
   pub laid : AreAmong next blocks keep flats
+  pub ids : SubsNameKept next blocks keep bid flats
   pub reads : SubsReadKept blocks keep bid flats
   pub reaches : (after : ℕ → Option (List ℕ)) → All (IsFound after) blocks → AreSame (sub_keys after bid) (all_kept_keys keep ++ keys_of (bids_in blocks))
 
--- The blocks of a node that is put over what was there: of its data, and of each subnode's over that of the subnode with the same path, those that stay have their ids. All others have new ones, from a number on.
+-- The blocks of a node that is put over what was there: of its data, and of each subnode's over that of the subnode with the same path, those that stay have their ids, each at its position. All others have new ones, from a number on.
 pub record NamesOver (after : ℕ → Option (List ℕ)) (limit : ℕ) (old : Content) (e : NodeEntry) (node : NodeRec) : Type 0 where
   pub next : ℕ
   pub behind : limit ≤ next
@@ -71,7 +72,7 @@ pub record PlansContents (find : ℕ → Option (List ℕ)) (eof limit : ℕ) (e
   -- In each file that has the new blocks, and where those that stay have the bytes from before, the entries lead to the nodes put, and reach just these keys.
   pub shows : (after : ℕ → Option (List ℕ)) (more : ℕ) → All (IsFound after) blocks → StayFound find after put → Bounds after more
       → AreChanged after more es edits cs × ((key : ℕ) → count_of key put ≡ refs.put after edits key)
-  -- and just the data blocks that stay have their ids
+  -- and just the data blocks that stay have their ids, each at its position
   pub names : (after : ℕ → Option (List ℕ)) → All (IsFound after) blocks → AreNamed find after eof limit es edits cs
 
 -- what a plan says of a file that lays nodes

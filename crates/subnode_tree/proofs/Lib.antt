@@ -2,6 +2,7 @@ pub mod BidSteps
 pub mod CountLaws
 pub mod FormLaws
 pub mod GrownLaws
+pub mod IdLaws
 pub mod ListLaws
 pub mod MadeLaws
 pub mod NamedLaws

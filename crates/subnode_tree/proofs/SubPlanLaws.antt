@@ -1,6 +1,5 @@
 -- Subnodes that are planned read as they are.
-use Rattle.std.proofs.Common.{true, false, ◌≡◌, ℕ, zero, suc, ◌+◌, ◌-◌, ◌*◌, ◌/◌, ◌%◌, ◌^◌, ◌<◌, ◌≤◌, eqb, List, [], ◌∷◌, ◌++◌, drop, length, map, take, get_or, Option, Result, Ok, refl, sym, ap, subst, ◌∙◌, arith, append_assoc, length-append, append-nil}
-use Rattle.std.specs.List.{All}
+use Rattle.std.proofs.Common.{true, false, ◌≡◌, ℕ, zero, suc, ◌+◌, ◌-◌, ◌*◌, ◌/◌, ◌%◌, ◌^◌, ◌<◌, ◌≤◌, eqb, List, [], ◌∷◌, ◌++◌, drop, length, map, take, get_or, Option, Some, Result, Ok, refl, sym, ap, subst, ◌∙◌, arith, append_assoc, length-append, append-nil}
 use Rattle.std.proofs.lemmas.Bool.{ne_eqb}
 use Rattle.std.proofs.lemmas.List.{length-map, map-append, take_all, take_more}
 use Rattle.pst_base.specs.declared.ids.Bid.{Bid}
@@ -11,89 +10,49 @@ use Rattle.pst_base.specs.Subs.{flattened, one_deeper}
 use Rattle.data_tree.specs.declared.source.TreeStop.{TreeStop}
 use Rattle.data_tree.specs.Keys.{count_of, data_keys, keys_of}
 use Rattle.data_tree.specs.Tree.{and_then, blocks_of}
-use Rattle.data_tree.specs.Plan.{AreFound, AreSmall, IsFound, Reaches, ReadsKept, Rise, above_kept, bids_in, bytes_in, contents, fresh, kept_bids, last_id, plain, unkept}
+use Rattle.data_tree.specs.Plan.{AreFound, AreSmall, IsFound, NamesKept, Reaches, ReadsKept, Rise, above_kept, bids_in, bytes_in, contents, fresh, kept_bids, last_id, placed, plain, unkept}
 use Rattle.data_tree.proofs.KeyLaws.{count-append, count-blocks, keys-append}
 use Rattle.data_tree.proofs.PieceLaws.{Each, all_from-each, each-append, each-from_all, each-left, each-right}
 use Rattle.data_tree.proofs.PlanLaws.{plain-append, rise-append}
 use Rattle.data_tree.proofs.SizeLaws.{Small}
 use Rattle.subnode_tree.specs.declared.blocks.SubEntry.{SubEntry}
 use Rattle.subnode_tree.specs.declared.tables.Row.{Row}
+use Rattle.subnode_tree.specs.Bids.{bids_each, sub_bids_of}
 use Rattle.subnode_tree.specs.Keys.{each_keys, listed_in, ok_entries, sub_keys, sub_keys_from}
-use Rattle.subnode_tree.specs.Plan.{IsAmong, IsForm, Plans, SubsReach, SubsReadAs, SubsReadKept, ascending, data_in, first_list, kept_in, nothing, paired, unkept_in}
-use Rattle.subnode_tree.specs.Subnodes.{level_of, rows, subs_from, subs_of}
+use Rattle.subnode_tree.specs.Plan.{AreAmong, ArePlaced, IsAmong, IsForm, Plans, SubsNameKept, SubsReach, SubsReadAs, SubsReadKept, ascending, data_in, first_list, kept_in, nothing, paired, unkept_in}
+use Rattle.subnode_tree.specs.Subnodes.{branch, branch_with, level_of, rows, subs_from, subs_of, tree_from, tree_of}
 use Rattle.subnode_tree.specs.Tables.{Fits, tables}
 use Rattle.subnode_tree.proofs.FormLaws.{data-more, each-below, form-top, own, sub_nids}
+use Rattle.subnode_tree.proofs.IdLaws.{names-more, rows-last}
 use Rattle.subnode_tree.proofs.PairLaws.{Keep, Pair, kept-more, nothing-paired, paired-more, rest-more, unkept-more}
-use Rattle.subnode_tree.proofs.SubSteps.{flattened-more, sub_row, subs-read}
+use Rattle.subnode_tree.proofs.RowSteps.{tree-none, tree-read}
+use Rattle.subnode_tree.proofs.SubSteps.{flattened-more, subs-read}
 use Rattle.subnode_tree.proofs.TableLaws.{bytes-more, entry_as, few-tables, fewer-tables, last-high, plain-tables, rise-tables, room-tables, root-none, root-some, row_nids, small-tables, tables-keys, tables-read}
-
--- what an entry leads to is the subnode's own
-pub record RowReads (find : ℕ → Option (List ℕ)) (x : Sub) (row : Row) : Type 0 where
-  pub content : (eof : ℕ) → bytes_in x.blocks ≤ eof → blocks_of find eof row.content ≡ Ok x.blocks
-  pub below : (eof deeper room : ℕ) → deeper ≤ 8 → All (λ f. f.level < deeper) x.subs → length x.subs ≤ room → All (λ f. bytes_in f.blocks ≤ eof) x.subs
-      → subs_from find eof deeper room row.subnodes ≡ Ok x.subs
-
-abbrev pub RowsRead : (ℕ → Option (List ℕ)) → List Sub → List Row → Type 0
-RowsRead find [] [] = Unit {0}
-RowsRead find [] (row ∷ rs) = ⊥
-RowsRead find (x ∷ xs) [] = ⊥
-RowsRead find (x ∷ xs) (row ∷ rs) = ((row.nid).bits ≡ (x.nid).bits) × RowReads find x row × RowsRead find xs rs
-
-rows_read-more : (find : ℕ → Option (List ℕ)) (xs : List Sub) (rs : List Row) (x : Sub) (row : Row) → RowsRead find xs rs → (row.nid).bits ≡ (x.nid).bits → RowReads find x row
-    → RowsRead find (xs ++ x ∷ []) (rs ++ row ∷ [])
-rows_read-more find [] [] x row all nid here = (nid, here, tt)
-rows_read-more find [] (other ∷ rs) x row all nid here = absurd all
-rows_read-more find (y ∷ xs) [] x row all nid here = absurd all
-rows_read-more find (y ∷ xs) (other ∷ rs) x row all nid here = (all.0, all.1, rows_read-more find xs rs x row all.2 nid here)
 
 -- ---- the entries of a level lead to its subnodes
 
-branch-read : (find : ℕ → Option (List ℕ)) (eof deeper room level : ℕ) (x : Sub) (row : Row) → (row.nid).bits ≡ (x.nid).bits → RowReads find x row → deeper ≤ 8 → 0 < room
-    → bytes_in x.blocks ≤ eof → All (λ f. f.level < deeper) x.subs → length x.subs ≤ room - 1 → All (λ f. bytes_in f.blocks ≤ eof) x.subs
-    → sub_row find eof (suc deeper) room (entry_as level row) ≡ Ok (own x ∷ map one_deeper x.subs)
-branch-read find eof deeper room level x row nid reads shallow some fit levels few small =
+branch-read : (find : ℕ → Option (List ℕ)) (eof deeper room level : ℕ) (x : Sub) (row : Row) → (row.nid).bits ≡ (x.nid).bits → 0 < room → blocks_of find eof row.content ≡ Ok x.blocks
+    → subs_from find eof deeper (room - 1) row.subnodes ≡ Ok x.subs → branch_with find eof (subs_from find eof deeper) room (entry_as level row) ≡ Ok (own x ∷ map one_deeper x.subs)
+branch-read find eof deeper room level x row nid some content below =
     let left : eqb room 0 ≡ false = ne_eqb room 0 (λ e. absurd (omega arith)) in
-    let content = reads.content eof fit in
-    let below = reads.below eof deeper (room - 1) shallow levels few small in
     rw (left, content, below) (ap (λ (n : ℕ). Ok (record { level = 0; nid = n; blocks = x.blocks } ∷ map one_deeper x.subs)) nid)
-
-rows-read : (find : ℕ → Option (List ℕ)) (eof deeper room level : ℕ) (xs : List Sub) (rs : List Row) → RowsRead find xs rs → deeper ≤ 8
-    → Each (λ f. f.level < suc deeper) (flattened xs) → length (flattened xs) ≤ room → Each (λ f. bytes_in f.blocks ≤ eof) (flattened xs)
-    → rows (sub_row find eof (suc deeper)) room (map (entry_as level) rs) ≡ Ok (flattened xs)
-rows-read find eof deeper room level [] [] all shallow levels few small = refl
-rows-read find eof deeper room level [] (row ∷ rs) all shallow levels few small = absurd all
-rows-read find eof deeper room level (x ∷ xs) [] all shallow levels few small = absurd all
-rows-read find eof deeper room level (x ∷ xs) (row ∷ rs) all shallow levels few small =
-    let below = map one_deeper x.subs in
-    let here : List Flat = own x ∷ below in
-    let count = length-map x.subs one_deeper in
-    let both = length-append below (flattened xs) in
-    let inner_levels = each-below (λ f. f.level < suc deeper) (λ f. f.level < deeper) (λ f low. omega arith) x.subs (each-left (λ f. f.level < suc deeper) below (flattened xs) levels.1) in
-    let inner_small = each-below (λ f. bytes_in f.blocks ≤ eof) (λ f. bytes_in f.blocks ≤ eof) (λ f fit. fit) x.subs (each-left (λ f. bytes_in f.blocks ≤ eof) below (flattened xs) small.1) in
-    let first : sub_row find eof (suc deeper) room (entry_as level row) ≡ Ok here =
-    branch-read find eof deeper room level x row all.0 all.1 shallow (omega arith) small.0 (all_from-each (λ f. f.level < deeper) x.subs inner_levels) (omega arith)
-    (all_from-each (λ f. bytes_in f.blocks ≤ eof) x.subs inner_small) in
-    let more = rows-read find eof deeper (room - length here) level xs rs all.2 shallow (each-right (λ f. f.level < suc deeper) below (flattened xs) levels.1) (omega arith)
-    (each-right (λ f. bytes_in f.blocks ≤ eof) below (flattened xs) small.1) in
-    ap (λ (r : Result (List Flat) TreeStop). and_then r (λ here. and_then (rows (sub_row find eof (suc deeper)) (room - length here) (map (entry_as level) rs)) (λ more. Ok (here ++ more)))) first
-    ∙ ap (λ (r : Result (List Flat) TreeStop). and_then r (λ more. Ok (here ++ more))) more
 
 none-below : (find : ℕ → Option (List ℕ)) (eof deeper room : ℕ) (bid : Bid) → bid.bits ≡ 0 → subs_from find eof deeper room bid ≡ Ok []
 none-below find eof zero room bid none = rw none refl
 none-below find eof (suc deeper) room bid none = rw none refl
 
 -- what stands under the root of a level
-level-reads : (find : ℕ → Option (List ℕ)) (eof deeper room : ℕ) (bid : Bid) (xs : List Sub) (rs : List Row) → RowsRead find xs rs → deeper ≤ 8
+level-reads : (find : ℕ → Option (List ℕ)) (eof deeper room : ℕ) (bid : Bid) (xs : List Sub) (rs : List Row) → length rs ≡ length xs → deeper ≤ 8
     → (length rs ≡ 0 → bid.bits ≡ 0) → (0 < length rs → bid.bits ≡ 0 → ⊥) → (0 < length rs → (level : ℕ) → level_of find level bid ≡ Ok (map (entry_as level) rs))
-    → Each (λ f. f.level < deeper) (flattened xs) → length (flattened xs) ≤ room → Each (λ f. bytes_in f.blocks ≤ eof) (flattened xs)
+    → Each (λ f. f.level < deeper) (flattened xs)
+    → ((deeper : ℕ) → deeper < 8 → Each (λ f. f.level < suc deeper) (flattened xs) → (level : ℕ) → rows (branch_with find eof (subs_from find eof deeper)) room (map (entry_as level) rs) ≡ Ok (flattened xs))
     → subs_from find eof deeper room bid ≡ Ok (flattened xs)
-level-reads find eof deeper room bid [] [] all shallow none some read levels few small = none-below find eof deeper room bid (none refl)
-level-reads find eof deeper room bid [] (row ∷ rs) all shallow none some read levels few small = absurd all
-level-reads find eof deeper room bid (x ∷ xs) [] all shallow none some read levels few small = absurd all
-level-reads find eof zero room bid (x ∷ xs) (row ∷ rs) all shallow none some read levels few small = let low = levels.0 in absurd (omega arith)
-level-reads find eof (suc deeper) room bid (x ∷ xs) (row ∷ rs) all shallow none some read levels few small =
-    subs-read find eof (suc deeper) room bid (map (entry_as (9 - suc deeper)) (row ∷ rs)) (some (omega arith)) shallow (read (omega arith) (9 - suc deeper))
-    ∙ rows-read find eof deeper room (9 - suc deeper) (x ∷ xs) (row ∷ rs) all (omega arith) levels few small
+level-reads find eof deeper room bid [] [] same shallow none some read levels reads = none-below find eof deeper room bid (none refl)
+level-reads find eof deeper room bid [] (row ∷ rs) same shallow none some read levels reads = absurd (omega arith)
+level-reads find eof deeper room bid (x ∷ xs) [] same shallow none some read levels reads = absurd (omega arith)
+level-reads find eof zero room bid (x ∷ xs) (row ∷ rs) same shallow none some read levels reads = let low = levels.0 in absurd (omega arith)
+level-reads find eof (suc deeper) room bid (x ∷ xs) (row ∷ rs) same shallow none some read levels reads =
+    subs-read find eof (suc deeper) room bid (map (entry_as (9 - suc deeper)) (row ∷ rs)) (some (omega arith)) shallow (read (omega arith) (9 - suc deeper)) ∙ reads deeper (omega arith) levels (9 - suc deeper)
 
 -- ---- subnode by subnode
 
@@ -119,8 +78,12 @@ pub record Underway (keep : Keep) (xs : List Sub) (rs : List Row) (first next : 
   pub small : Each Small blocks
   pub most : 2 * length blocks + 2 * length xs ≤ 2 * length (unkept_in keep (flattened xs)) + length (data_in (flattened xs)) + 2 * length (flattened xs)
   pub room : 24 * length (flattened xs) ≤ bytes_in (contents blocks) + 24 * length xs
-  pub among : Each (PairAmong first blocks) (paired keep (flattened xs))
-  pub reads : (find : ℕ → Option (List ℕ)) → Each (IsFound find) blocks → Each (PairFound find) (paired keep (flattened xs)) → RowsRead find xs rs
+  pub ids : Keep
+  pub placed : ArePlaced first blocks (paired keep (flattened xs)) ids
+  pub names : (find : ℕ → Option (List ℕ)) → Each (IsFound find) blocks → (deeper room level : ℕ) → deeper < 8 → Each (λ f. f.level < suc deeper) (flattened xs) → length (flattened xs) ≤ room
+      → and_then (rows (branch (tree_from find deeper)) room (map (entry_as level) rs)) (bids_each find) ≡ Ok ids
+  pub reads : (find : ℕ → Option (List ℕ)) → Each (IsFound find) blocks → Each (PairFound find) (paired keep (flattened xs)) → (eof deeper room level : ℕ) → deeper < 8 → Each (λ f. f.level < suc deeper) (flattened xs)
+      → length (flattened xs) ≤ room → Each (λ f. bytes_in f.blocks ≤ eof) (flattened xs) → rows (branch_with find eof (subs_from find eof deeper)) room (map (entry_as level) rs) ≡ Ok (flattened xs)
   pub keys : (find : ℕ → Option (List ℕ)) → Each (IsFound find) blocks → (deeper : ℕ) → deeper < 8 → Each (λ f. f.level < suc deeper) (flattened xs) → (level key : ℕ)
       → count_of key (each_keys (reach_of find deeper) (map (entry_as level) rs)) ≡ count_of key (keys_of (kept_in keep (flattened xs))) + count_of key (keys_of (bids_in blocks))
 
@@ -136,8 +99,10 @@ underway-start keep first high = record {
   small = tt;
   most = omega arith;
   room = omega arith;
-  among = tt;
-  reads = λ find found kept. tt;
+  ids = [];
+  placed = tt;
+  names = λ find found deeper room level low levels few. refl;
+  reads = λ find found kept eof deeper room level low levels few small. refl;
   keys = λ find found deeper low levels level key. omega arith;
 }
 
@@ -150,6 +115,7 @@ pub record Planned (own_keep : List (Option Bid)) (keep : Keep) (x : Sub) (row :
   pub marks : plain content ≡ unkept own_keep x.blocks
   pub small : AreSmall content
   pub most : 2 * length content ≤ 2 * length (unkept own_keep x.blocks) + length x.blocks
+  pub names : NamesKept content next own_keep row.content x.blocks
   pub reads : ReadsKept content own_keep row.content x.blocks
   pub reaches : Reaches content (kept_bids own_keep x.blocks) row.content
   pub plans : Plans keep x.subs (next + 4 * length content) row.subnodes below
@@ -184,9 +150,36 @@ among-behind next at front blocks pair start is = record {
       ap (λ (l : List (Bid × List ℕ)). front ++ l) is.parts ∙ sym (append_assoc front is.before (here ++ is.after));
 }
 
-each-among : (P Q : Pair → Type 0) → ((pair : Pair) → P pair → Q pair) → (pairs : List Pair) → Each P pairs → Each Q pairs
-each-among P Q from [] all = tt
-each-among P Q from (pair ∷ pairs) all = (from pair all.0, each-among P Q from pairs all.1)
+placed-front : (next : ℕ) (blocks more : List (Bid × List ℕ)) (pairs : List Pair) (ids : Keep) → ArePlaced next blocks pairs ids → ArePlaced next (blocks ++ more) pairs ids
+unfolding among-front
+placed-front next blocks more [] [] all = tt
+placed-front next blocks more [] (own ∷ ids) all = absurd all
+placed-front next blocks more (pair ∷ pairs) [] all = absurd all
+placed-front next blocks more (pair ∷ pairs) (own ∷ ids) all = ((among-front next blocks more pair (all.0).0, (all.0).1), placed-front next blocks more pairs ids all.1)
+
+placed-behind : (next at : ℕ) (front blocks : List (Bid × List ℕ)) (pairs : List Pair) (ids : Keep) → at ≡ next + 4 * length front → ArePlaced at blocks pairs ids → ArePlaced next (front ++ blocks) pairs ids
+unfolding among-behind
+placed-behind next at front blocks [] [] start all = tt
+placed-behind next at front blocks [] (own ∷ ids) start all = absurd all
+placed-behind next at front blocks (pair ∷ pairs) [] start all = absurd all
+placed-behind next at front blocks (pair ∷ pairs) (own ∷ ids) start all = ((among-behind next at front blocks pair start (all.0).0, (all.0).1), placed-behind next at front blocks pairs ids start all.1)
+
+placed-append : (next : ℕ) (blocks : List (Bid × List ℕ)) (xs ys : List Pair) (ids more : Keep) → ArePlaced next blocks xs ids → ArePlaced next blocks ys more → ArePlaced next blocks (xs ++ ys) (ids ++ more)
+placed-append next blocks [] ys [] more all rest = rest
+placed-append next blocks [] ys (own ∷ ids) more all rest = absurd all
+placed-append next blocks (pair ∷ xs) ys [] more all rest = absurd all
+placed-append next blocks (pair ∷ xs) ys (own ∷ ids) more all rest = (all.0, placed-append next blocks xs ys ids more all.1 rest)
+
+placed-count : (next : ℕ) (blocks : List (Bid × List ℕ)) (keep : Keep) (flats : List Flat) (ids : Keep) → ArePlaced next blocks (paired keep flats) ids → length ids ≡ length flats
+placed-count next blocks keep [] [] all = refl
+placed-count next blocks keep [] (own ∷ ids) all = absurd all
+placed-count next blocks keep (f ∷ flats) [] all = absurd all
+placed-count next blocks keep (f ∷ flats) (own ∷ ids) all = ap suc (placed-count next blocks (drop 1 keep) flats ids all.1)
+
+placed-each : (next : ℕ) (blocks : List (Bid × List ℕ)) (pairs : List Pair) (ids : Keep) → ArePlaced next blocks pairs ids → Each (PairAmong next blocks) pairs
+placed-each next blocks [] ids all = tt
+placed-each next blocks (pair ∷ pairs) [] all = absurd all
+placed-each next blocks (pair ∷ pairs) (own ∷ ids) all = ((all.0).0, placed-each next blocks pairs ids all.1)
 
 count-each : (key : ℕ) (f : SubEntry → List ℕ) (es : List SubEntry) (e : SubEntry) → count_of key (each_keys f (es ++ e ∷ [])) ≡ count_of key (each_keys f es) + count_of key (f e)
 count-each key f [] e = let both = count-append key (f e) [] in omega (arith, both)
@@ -207,6 +200,7 @@ underway-more keep rest others left n xs rs first next end blocks content below 
     let nid_of = λ (r : Row). (r.nid).bits in
     let sub_of = λ (s : Sub). (s.nid).bits in
     let own_keep = first_list rest in
+    let own_ids : List (Option Bid) = map Some (bids_in (placed next own_keep x.blocks)) in
     let here : first + 4 * length blocks ≡ next = sym start in
     let after : next + 4 * length content ≡ first + 4 * length (blocks ++ content) = omega arith in
     let rise_content : Rise (first + 4 * length blocks) content = subst (λ (n : ℕ). Rise n content) start planned.rise in
@@ -248,21 +242,43 @@ underway-more keep rest others left n xs rs first next end blocks content below 
           let sum_one = bytes-more (blocks ++ content) below in
           let sum_two = bytes-more blocks content in
           omega (arith, so_far, room_below, size, deep, wide, sum_one, sum_two);
-      among = subst (λ (l : List Pair). Each (PairAmong first ((blocks ++ content) ++ below)) l) (sym pairs)
-          (each-append (PairAmong first ((blocks ++ content) ++ below)) (paired keep (flattened xs)) ((own_keep, x.blocks) ∷ paired others x.subs)
-          (each-among (PairAmong first blocks) (PairAmong first ((blocks ++ content) ++ below))
-          (λ pair is. among-front first (blocks ++ content) below pair (among-front first blocks content pair is)) (paired keep (flattened xs)) under.among) (
-            among-front first (blocks ++ content) below (own_keep, x.blocks) (record {
-              before = blocks;
-              after = [];
-              first = next;
-              at = start;
-              parts = ap (λ (l : List (Bid × List ℕ)). blocks ++ l) (planned.laid ∙ sym (append-nil (fresh next own_keep x.blocks ++ above_kept next own_keep x.blocks)));
-            }),
-            each-among (PairAmong (next + 4 * length content) below) (PairAmong first ((blocks ++ content) ++ below)) (λ pair is. among-behind first (next + 4 * length content) (blocks ++ content) below pair after is)
-                (paired others x.subs) (each-from_all (PairAmong (next + 4 * length content) below) (paired others x.subs) planned.plans.among),
+      ids = under.ids ++ (own_ids ∷ planned.plans.ids);
+      placed = subst (λ (l : List Pair). ArePlaced first ((blocks ++ content) ++ below) l (under.ids ++ (own_ids ∷ planned.plans.ids))) (sym pairs)
+          (placed-append first ((blocks ++ content) ++ below) (paired keep (flattened xs)) ((own_keep, x.blocks) ∷ paired others x.subs) under.ids (own_ids ∷ planned.plans.ids)
+          (placed-front first (blocks ++ content) below (paired keep (flattened xs)) under.ids (placed-front first blocks content (paired keep (flattened xs)) under.ids under.placed)) (
+            (placed-front first (blocks ++ content) below ((own_keep, x.blocks) ∷ []) (own_ids ∷ []) (
+              (
+                record {
+                  before = blocks;
+                  after = [];
+                  first = next;
+                  at = start;
+                  parts = ap (λ (l : List (Bid × List ℕ)). blocks ++ l) (planned.laid ∙ sym (append-nil (fresh next own_keep x.blocks ++ above_kept next own_keep x.blocks)));
+                },
+                refl,
+              ),
+              tt,
+            )).0,
+            placed-behind first (next + 4 * length content) (blocks ++ content) below (paired others x.subs) planned.plans.ids after planned.plans.placed,
           ));
-      reads = λ find found kept.
+      names = λ find found deeper room level low levels few.
+          let front = each-left (IsFound find) (blocks ++ content) below found in
+          let old = each-left (IsFound find) blocks content front in
+          let data_found = all_from-each (IsFound find) content (each-right (IsFound find) blocks content front) in
+          let below_found = all_from-each (IsFound find) below (each-right (IsFound find) (blocks ++ content) below found) in
+          let both_levels = subst (λ (l : List Flat). Each (λ f. f.level < suc deeper) l) (flattened-more xs x) levels in
+          let old_levels = each-left (λ f. f.level < suc deeper) (flattened xs) (own x ∷ map one_deeper x.subs) both_levels in
+          let new_levels = each-right (λ f. f.level < suc deeper) (flattened xs) (own x ∷ map one_deeper x.subs) both_levels in
+          let inner_levels = all_from-each (λ f. f.level < deeper) x.subs (each-below (λ f. f.level < suc deeper) (λ f. f.level < deeper) (λ f low. omega arith) x.subs new_levels.1) in
+          let size = ap length (flattened-more xs x) ∙ length-append (flattened xs) (own x ∷ map one_deeper x.subs) in
+          let deep = length-map x.subs one_deeper in
+          let all : length (flattened xs) + (1 + length x.subs) ≤ room = omega (arith, few, size, deep) in
+          let count = placed-count first blocks keep (flattened xs) under.ids under.placed in
+          ap (λ (l : List SubEntry). and_then (rows (branch (tree_from find deeper)) room l) (bids_each find)) (map-append (entry_as level) rs (row ∷ []))
+          ∙ names-more find deeper room (length x.subs) (map (entry_as level) rs) (entry_as level row) (bids_in (placed next own_keep x.blocks)) under.ids planned.plans.ids
+          (under.names find old deeper room level low old_levels (omega (arith, all))) (omega (arith, all, count)) (planned.names find data_found)
+          (λ left more. planned.plans.names find below_found deeper left (omega (arith, low)) inner_levels more);
+      reads = λ find found kept eof deeper room level low levels few small.
           let front = each-left (IsFound find) (blocks ++ content) below found in
           let old = each-left (IsFound find) blocks content front in
           let data_found = all_from-each (IsFound find) content (each-right (IsFound find) blocks content front) in
@@ -270,10 +286,24 @@ underway-more keep rest others left n xs rs first next end blocks content below 
           let all_kept = subst (λ (l : List Pair). Each (PairFound find) l) pairs kept in
           let old_kept = each-left (PairFound find) (paired keep (flattened xs)) ((own_keep, x.blocks) ∷ paired others x.subs) all_kept in
           let new_kept = each-right (PairFound find) (paired keep (flattened xs)) ((own_keep, x.blocks) ∷ paired others x.subs) all_kept in
-          rows_read-more find xs rs x row (under.reads find old old_kept) planned.nid (record {
-            content = λ eof fit. planned.reads find data_found new_kept.0 eof fit;
-            below = planned.plans.reads find below_found (all_from-each (PairFound find) (paired others x.subs) new_kept.1);
-          });
+          let both_levels = subst (λ (l : List Flat). Each (λ f. f.level < suc deeper) l) (flattened-more xs x) levels in
+          let old_levels = each-left (λ f. f.level < suc deeper) (flattened xs) (own x ∷ map one_deeper x.subs) both_levels in
+          let new_levels = each-right (λ f. f.level < suc deeper) (flattened xs) (own x ∷ map one_deeper x.subs) both_levels in
+          let inner_levels = all_from-each (λ f. f.level < deeper) x.subs (each-below (λ f. f.level < suc deeper) (λ f. f.level < deeper) (λ f low. omega arith) x.subs new_levels.1) in
+          let both_small = subst (λ (l : List Flat). Each (λ f. bytes_in f.blocks ≤ eof) l) (flattened-more xs x) small in
+          let old_small = each-left (λ f. bytes_in f.blocks ≤ eof) (flattened xs) (own x ∷ map one_deeper x.subs) both_small in
+          let new_small = each-right (λ f. bytes_in f.blocks ≤ eof) (flattened xs) (own x ∷ map one_deeper x.subs) both_small in
+          let inner_small = all_from-each (λ f. bytes_in f.blocks ≤ eof) x.subs (each-below (λ f. bytes_in f.blocks ≤ eof) (λ f. bytes_in f.blocks ≤ eof) (λ f fit. fit) x.subs new_small.1) in
+          let size = ap length (flattened-more xs x) ∙ length-append (flattened xs) (own x ∷ map one_deeper x.subs) in
+          let deep = length-map x.subs one_deeper in
+          let all : length (flattened xs) + (1 + length x.subs) ≤ room = omega (arith, few, size, deep) in
+          let left = room - length (flattened xs) in
+          let here = branch-read find eof deeper left level x row planned.nid (omega (arith, all)) (planned.reads find data_found new_kept.0 eof new_small.0)
+          (planned.plans.reads find below_found (all_from-each (PairFound find) (paired others x.subs) new_kept.1) eof deeper (left - 1) (omega (arith, low)) inner_levels (omega (arith, all)) inner_small) in
+          ap (rows (branch_with find eof (subs_from find eof deeper)) room) (map-append (entry_as level) rs (row ∷ []))
+          ∙ rows-last (branch_with find eof (subs_from find eof deeper)) room (map (entry_as level) rs) (entry_as level row) (flattened xs) (own x ∷ map one_deeper x.subs)
+          (under.reads find old old_kept eof deeper room level low old_levels (omega (arith, all)) old_small) here
+          ∙ ap Ok (sym (flattened-more xs x));
       keys = λ find found deeper low levels level key.
           let front = each-left (IsFound find) (blocks ++ content) below found in
           let old = each-left (IsFound find) blocks content front in
@@ -331,6 +361,22 @@ sub-keys-some : (find : ℕ → Option (List ℕ)) (deeper : ℕ) (bid : Bid) (e
     → sub_keys_from find (suc deeper) bid ≡ (key_of bid.bits ∷ listed_in (find (key_of bid.bits))) ++ each_keys (reach_of find deeper) es
 sub-keys-some find deeper bid es some read =
     rw (ne_eqb bid.bits 0 some) (ap (λ (r : Result (List SubEntry) TreeStop). key_of bid.bits ∷ (listed_in (find (key_of bid.bits)) ++ each_keys (reach_of find deeper) (ok_entries r))) read)
+
+-- the ids of the data under the root of a level
+level-names : (find : ℕ → Option (List ℕ)) (deeper room : ℕ) (bid : Bid) (ids : Keep) (xs : List Sub) (rs : List Row) → length rs ≡ length xs → deeper ≤ 8
+    → (length rs ≡ 0 → bid.bits ≡ 0) → (0 < length rs → bid.bits ≡ 0 → ⊥) → (0 < length rs → (level : ℕ) → level_of find level bid ≡ Ok (map (entry_as level) rs))
+    → Each (λ f. f.level < deeper) (flattened xs)
+    → ((deeper : ℕ) → deeper < 8 → Each (λ f. f.level < suc deeper) (flattened xs) → (level : ℕ) → and_then (rows (branch (tree_from find deeper)) room (map (entry_as level) rs)) (bids_each find) ≡ Ok ids)
+    → and_then (tree_from find deeper room bid) (bids_each find) ≡ Ok ids
+level-names find deeper room bid ids [] [] same shallow none some read levels names =
+    ap (λ (r : Result (List SubEntry) TreeStop). and_then r (bids_each find)) (tree-none find deeper room bid (none refl)) ∙ names 0 (omega arith) tt 0
+level-names find deeper room bid ids [] (row ∷ rs) same shallow none some read levels names = absurd (omega arith)
+level-names find deeper room bid ids (x ∷ xs) [] same shallow none some read levels names = absurd (omega arith)
+level-names find zero room bid ids (x ∷ xs) (row ∷ rs) same shallow none some read levels names = let low = levels.0 in absurd (omega arith)
+level-names find (suc deeper) room bid ids (x ∷ xs) (row ∷ rs) same shallow none some read levels names =
+    let es = map (entry_as (9 - suc deeper)) (row ∷ rs) in
+    ap (λ (r : Result (List SubEntry) TreeStop). and_then r (bids_each find)) (tree-read find (suc deeper) room bid es (some (omega arith)) shallow (read (omega arith) (9 - suc deeper)))
+    ∙ names deeper (omega arith) levels (9 - suc deeper)
 
 -- the keys under the root of a level
 level-keys : (find : ℕ → Option (List ℕ)) (key deeper kept new : ℕ) (bid : Bid) (xs : List Sub) (rs : List Row) (lists : List (Bid × List ℕ)) → length rs ≡ length xs → deeper ≤ 8
@@ -391,16 +437,24 @@ underway-end keep rest xs rs first next bid blocks lists low apart form under ma
           let lists_are = ap (λ (l : List (Bid × List ℕ)). bytes_in (contents l)) made in
           let sum = bytes-more blocks lists in
           omega (arith, so_far, lists_room, lists_are, sum, count);
-      among = all_from-each (PairAmong first (blocks ++ lists)) (paired keep (flattened xs))
-          (each-among (PairAmong first blocks) (PairAmong first (blocks ++ lists)) (among-front first blocks lists) (paired keep (flattened xs)) under.among);
+      ids = under.ids;
+      placed = placed-front first blocks lists (paired keep (flattened xs)) under.ids under.placed;
+      names = λ find found deeper room shallow levels fewer.
+          let all = each-from_all (IsFound find) (blocks ++ lists) found in
+          let own_blocks = each-left (IsFound find) blocks lists all in
+          let list_blocks = each-right (IsFound find) blocks lists all in
+          let inside = each-from_all (λ f. f.level < deeper) (flattened xs) levels in
+          level-names find deeper room bid under.ids xs rs count shallow (λ none. same ∙ root-none next rs none) (λ some none. root-some next rs (omega arith) some (sym same ∙ none)) (read_lists find list_blocks) inside
+          (λ deeper low levels level. under.names find own_blocks deeper room level low levels fewer);
       reads = λ find found kept eof deeper room shallow levels fewer small.
           let all = each-from_all (IsFound find) (blocks ++ lists) found in
           let own_blocks = each-left (IsFound find) blocks lists all in
           let list_blocks = each-right (IsFound find) blocks lists all in
           let own_kept = each-from_all (PairFound find) (paired keep (flattened xs)) kept in
-          level-reads find eof deeper room bid xs rs (under.reads find own_blocks own_kept) shallow (λ none. same ∙ root-none next rs none)
-          (λ some none. root-some next rs (omega arith) some (sym same ∙ none)) (read_lists find list_blocks)
-          (each-from_all (λ f. f.level < deeper) (flattened xs) levels) fewer (each-from_all (λ f. bytes_in f.blocks ≤ eof) (flattened xs) small);
+          let inside = each-from_all (λ f. f.level < deeper) (flattened xs) levels in
+          let fit = each-from_all (λ f. bytes_in f.blocks ≤ eof) (flattened xs) small in
+          level-reads find eof deeper room bid xs rs count shallow (λ none. same ∙ root-none next rs none) (λ some none. root-some next rs (omega arith) some (sym same ∙ none)) (read_lists find list_blocks) inside
+          (λ deeper low levels level. under.reads find own_blocks own_kept eof deeper room level low levels fewer fit);
       keys = λ find found deeper shallow levels key.
           let all = each-from_all (IsFound find) (blocks ++ lists) found in
           let own_blocks = each-left (IsFound find) blocks lists all in
@@ -423,6 +477,17 @@ pub plans-kept : (keep : Keep) (flats : List Flat) (next : ℕ) (bid : Bid) (blo
 unfolding subs_of
 plans-kept keep flats next bid blocks form plans = λ find found kept eof room small.
     plans.reads find found kept eof 8 (eof / 24) (omega arith) form.levels (omega arith) small
+
+pub plans-among : (keep : Keep) (flats : List Flat) (next : ℕ) (bid : Bid) (blocks : List (Bid × List ℕ)) → Plans keep flats next bid blocks → AreAmong next blocks keep flats
+plans-among keep flats next bid blocks plans = all_from-each (PairAmong next blocks) (paired keep flats) (placed-each next blocks (paired keep flats) plans.ids plans.placed)
+
+pub plans-name : (keep : Keep) (flats : List Flat) (next : ℕ) (bid : Bid) (blocks : List (Bid × List ℕ)) → IsForm flats → Plans keep flats next bid blocks → SubsNameKept next blocks keep bid flats
+unfolding sub_bids_of tree_of
+plans-name keep flats next bid blocks form plans = record {
+  ids = plans.ids;
+  placed = plans.placed;
+  named = λ find found eof room. plans.names find found 8 (eof / 24) (omega arith) form.levels (omega arith);
+}
 
 pub plans-reach : (keep : Keep) (flats : List Flat) (next : ℕ) (bid : Bid) (blocks : List (Bid × List ℕ)) → IsForm flats → Plans keep flats next bid blocks → SubsReach blocks (kept_in keep flats) bid
 unfolding sub_keys

@@ -1,12 +1,14 @@
 -- The blocks that are to hold a node's subnodes, at all levels.
-use Rattle.std.specs.Prelude.{◌≡◌, ℕ, zero, suc, ◌+◌, ◌*◌, ◌<◌, ◌≤◌, ◌^◌, ◌==◌, ◌&&◌, nat_lt, if◌then◌else◌, Bool, true, List, [], ◌∷◌, ◌++◌, drop, length, Option, Ok}
+use Rattle.std.specs.Prelude.{◌≡◌, ℕ, zero, suc, ◌+◌, ◌*◌, ◌<◌, ◌≤◌, ◌^◌, ◌==◌, ◌&&◌, nat_lt, if◌then◌else◌, Bool, true, List, [], ◌∷◌, ◌++◌, drop, length, map, Option, Some, Ok}
 use Rattle.std.specs.List.{All, flat_map}
 use Rattle.pst_base.specs.declared.ids.Bid.{Bid}
 use Rattle.pst_base.specs.Flat.{Flat}
 use Rattle.data_tree.specs.Keys.{AreSame, keys_of}
-use Rattle.data_tree.specs.Plan.{AreFound, AreSmall, IsContent, IsFound, Rise, above_kept, bids_in, bytes_in, contents, fresh, kept_bids, plain, unkept}
+use Rattle.data_tree.specs.Plan.{AreFound, AreSmall, IsContent, IsFound, Rise, above_kept, bids_in, bytes_in, contents, fresh, kept_bids, placed, plain, unkept}
+use Rattle.data_tree.specs.Tree.{and_then}
+use Rattle.subnode_tree.specs.Bids.{bids_each, sub_bids_of}
 use Rattle.subnode_tree.specs.Keys.{sub_keys, sub_keys_from}
-use Rattle.subnode_tree.specs.Subnodes.{subs_from, subs_of}
+use Rattle.subnode_tree.specs.Subnodes.{subs_from, subs_of, tree_from}
 
 -- ---- the subnodes
 
@@ -79,6 +81,23 @@ pub record IsAmong (next : ℕ) (blocks : List (Bid × List ℕ)) (keep : List (
 abbrev pub AreAmong : ℕ → List (Bid × List ℕ) → List (List (Option Bid)) → List Flat → Type 0
 AreAmong next blocks keep flats = All (λ pair. IsAmong next blocks pair.0 pair.1) (paired keep flats)
 
+-- the ids of some data, block by block: the blocks that are kept have their own, the others those of the new blocks that lie so among these
+abbrev pub IsPlaced : ℕ → List (Bid × List ℕ) → List (Option Bid) → List (List ℕ) → List (Option Bid) → Type 0
+IsPlaced next blocks keep bs ids = (among : IsAmong next blocks keep bs) × (ids ≡ map Some (bids_in (placed among.first keep bs)))
+
+-- the same of each subnode's data
+abbrev pub ArePlaced : ℕ → List (Bid × List ℕ) → List (List (Option Bid) × List (List ℕ)) → List (List (Option Bid)) → Type 0
+ArePlaced next blocks [] [] = Unit {0}
+ArePlaced next blocks [] (own ∷ ids) = ⊥
+ArePlaced next blocks (pair ∷ pairs) [] = ⊥
+ArePlaced next blocks (pair ∷ pairs) (own ∷ ids) = IsPlaced next blocks pair.0 pair.1 own × ArePlaced next blocks pairs ids
+
+-- wherever the blocks are found, and the file is long enough for each subnode's entry, the ids of the data of all subnodes under an id are just these: each block that is kept has its own at its position, and each other that of its new block
+pub record SubsNameKept (next : ℕ) (blocks : List (Bid × List ℕ)) (keep : List (List (Option Bid))) (bid : Bid) (flats : List Flat) : Type 0 where
+  pub ids : List (List (Option Bid))
+  pub placed : ArePlaced next blocks (paired keep flats) ids
+  pub named : (find : ℕ → Option (List ℕ)) → All (IsFound find) blocks → (eof : ℕ) → 24 * length flats ≤ eof → sub_bids_of find eof bid ≡ Ok ids
+
 -- wherever the blocks are found, and the file is long enough for each subnode's entry and data, the subnodes under an id are just these
 abbrev pub SubsReadAs : List (Bid × List ℕ) → Bid → List Flat → Type 0
 SubsReadAs blocks bid flats =
@@ -93,7 +112,7 @@ SubsReadKept blocks keep bid flats =
 abbrev pub SubsReach : List (Bid × List ℕ) → List Bid → Bid → Type 0
 SubsReach blocks kept bid = (find : ℕ → Option (List ℕ)) → All (IsFound find) blocks → AreSame (sub_keys find bid) (keys_of kept ++ keys_of (bids_in blocks))
 
--- blocks with the ids from a number on hold these subnodes: those that aren't marked have the data that isn't kept in order, and under the id they read as them, where so many levels and so many subnodes may follow
+-- blocks with the ids from a number on hold these subnodes: those that aren't marked have the data that isn't kept in order, and under the id they read as them, and have the ids of their data, where so many levels and so many subnodes may follow
 pub record Plans (keep : List (List (Option Bid))) (flats : List Flat) (next : ℕ) (bid : Bid) (blocks : List (Bid × List ℕ)) : Type 0 where
   pub rise : Rise next blocks
   pub marks : plain blocks ≡ unkept_in keep flats
@@ -101,7 +120,10 @@ pub record Plans (keep : List (List (Option Bid))) (flats : List Flat) (next : �
   pub small : AreSmall blocks
   pub most : 2 * length blocks ≤ 2 * length (unkept_in keep flats) + length (data_in flats) + 2 * length flats
   pub room : 24 * length flats ≤ bytes_in (contents blocks)
-  pub among : AreAmong next blocks keep flats
+  pub ids : List (List (Option Bid))
+  pub placed : ArePlaced next blocks (paired keep flats) ids
+  pub names : (find : ℕ → Option (List ℕ)) → All (IsFound find) blocks → (deeper room : ℕ) → deeper ≤ 8 → All (λ f. f.level < deeper) flats → length flats ≤ room
+      → and_then (tree_from find deeper room bid) (bids_each find) ≡ Ok ids
   pub reads : (find : ℕ → Option (List ℕ)) → All (IsFound find) blocks → SubsFound find keep flats → (eof deeper room : ℕ) → deeper ≤ 8 → All (λ f. f.level < deeper) flats → length flats ≤ room
       → All (λ f. bytes_in f.blocks ≤ eof) flats → subs_from find eof deeper room bid ≡ Ok flats
   pub keys : (find : ℕ → Option (List ℕ)) → All (IsFound find) blocks → (deeper : ℕ) → deeper ≤ 8 → All (λ f. f.level < deeper) flats

@@ -2,7 +2,7 @@
 ghost use Rattle.std.specs.Prelude.{◌≡◌, ◌≤◌, ◌+◌, ◌*◌, ◌%◌, ◌^◌, [], drop, length, IfOk};
 ghost use Rattle.std.specs.List.{All};
 ghost use Rattle.data_tree.specs.Plan.{AreSmall, MayKeep, Rise, bytes_in, contents, plain};
-ghost use Rattle.subnode_tree.specs.Plan.{AreAmong, IsForm, Plans, SubsReach, SubsReadAs, SubsReadKept, data_in, first_list, kept_in, nothing, unkept_in};
+ghost use Rattle.subnode_tree.specs.Plan.{AreAmong, IsForm, Plans, SubsNameKept, SubsReach, SubsReadAs, SubsReadKept, data_in, first_list, kept_in, nothing, unkept_in};
 
 use crate::kept::Kept;
 use crate::tables::{Row, tables};
@@ -123,6 +123,7 @@ pub fn plan_subs(alloc: Global, s: &Subs, next: u64) -> Result<SubPlan, AllocErr
     ensures numbered { IfOk result (λ plan. Rise next plan.blocks.items) }
     ensures marked { IfOk result (λ plan. plain plan.blocks.items ≡ data_in s.now) }
     ensures laid { IfOk result (λ plan. AreAmong next plan.blocks.items [] s.now) }
+    ensures ids { IfOk result (λ plan. SubsNameKept next plan.blocks.items [] plan.bid s.now) }
     ensures reads { IfOk result (λ plan. SubsReadAs plan.blocks.items plan.bid s.now) }
     ensures reaches { IfOk result (λ plan. SubsReach plan.blocks.items [] plan.bid) }
 {
@@ -153,6 +154,7 @@ pub fn plan_subs_keep(
     ensures numbered { IfOk result (λ plan. Rise next plan.blocks.items) }
     ensures marked { IfOk result (λ plan. plain plan.blocks.items ≡ unkept_in keep.now s.now) }
     ensures laid { IfOk result (λ plan. AreAmong next plan.blocks.items keep.now s.now) }
+    ensures ids { IfOk result (λ plan. SubsNameKept next plan.blocks.items keep.now plan.bid s.now) }
     ensures reads { IfOk result (λ plan. SubsReadKept plan.blocks.items keep.now plan.bid s.now) }
     ensures reaches { IfOk result (λ plan. SubsReach plan.blocks.items (kept_in keep.now s.now) plan.bid) }
 {

@@ -51,6 +51,7 @@ returns-clause-puts c =
       sub_room = subs.room;
       sub_rise = subs.numbered;
       sub_among = subs.laid;
+      sub_ids = subs.ids;
       sub_reads = subs.reads;
       sub_reaches = subs.reaches;
     } in

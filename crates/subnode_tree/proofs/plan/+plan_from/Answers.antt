@@ -3,7 +3,7 @@ use Rattle.pst_base.specs.declared.ids.Bid.{Bid}
 use Rattle.pst_base.specs.declared.subs.Sub.{Sub}
 use Rattle.pst_base.specs.Flat.{Flat}
 use Rattle.pst_base.specs.Subs.{flattened}
-use Rattle.data_tree.specs.Plan.{IsContent, MayKeep, Reaches, ReadsKept, above_kept, fresh, kept_bids, last_id, unkept}
+use Rattle.data_tree.specs.Plan.{IsContent, MayKeep, NamesKept, Reaches, ReadsKept, above_kept, fresh, kept_bids, last_id, unkept}
 use Rattle.data_tree.proofs.PieceLaws.{all_from-each, each-from_all}
 use Rattle.subnode_tree.specs.declared.tables.Row.{Row}
 use Rattle.subnode_tree.specs.Plan.{IsForm, Plans, first_list}
@@ -115,6 +115,9 @@ loop-sub-preserved t c =
       marks = given.marked ∙ ap (unkept own) value ∙ ap (λ (k : List (Option Bid)). unkept k bs) mine;
       small = given.small;
       most = let e = ap length value in let f = ap (λ (data_here : List (List ℕ)). length (unkept own data_here)) value ∙ ap (λ (k : List (Option Bid)). length (unkept k bs)) mine in let most = given.most in omega arith;
+      names = let Q : List (List ℕ) → Type 0 = λ data_here. NamesKept content next own c.in_ok-content.content.bid data_here in
+          let R : List (Option Bid) → Type 0 = λ k. NamesKept content next k c.in_ok-content.content.bid bs in
+          subst R mine (subst Q value given.names);
       reads = let Q : List (List ℕ) → Type 0 = λ data_here. ReadsKept content own c.in_ok-content.content.bid data_here in
           let R : List (Option Bid) → Type 0 = λ k. ReadsKept content k c.in_ok-content.content.bid bs in
           subst R mine (subst Q value given.reads);

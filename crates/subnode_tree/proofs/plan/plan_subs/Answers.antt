@@ -4,9 +4,9 @@ use Rattle.pst_base.specs.declared.ids.Bid.{Bid}
 use Rattle.pst_base.specs.Flat.{Flat}
 use Rattle.data_tree.specs.Plan.{MayKeep}
 use Rattle.data_tree.proofs.PieceLaws.{all_from-each}
-use Rattle.subnode_tree.specs.Plan.{Plans, SubsReach, nothing}
+use Rattle.subnode_tree.specs.Plan.{ArePlaced, Plans, SubsReach, nothing}
 use Rattle.subnode_tree.proofs.PairLaws.{Keep, Pair, kept-nothing, length-nothing, may-nothing, nothing-paired, unkept-nothing}
-use Rattle.subnode_tree.proofs.SubPlanLaws.{PairAmong, plans-reach, plans-read}
+use Rattle.subnode_tree.proofs.SubPlanLaws.{PairAmong, plans-among, plans-name, plans-reach, plans-read}
 use Rattle.subnode_tree.proofs.plan.plan_subs.Goals as goal
 
 pub plan_from-requires-clause-long : goal.plan_from-requires-clause-long
@@ -42,7 +42,19 @@ returns-clause-laid c =
     let n = length c.args.s.now in
     let plans = along c.as_slice.result.now (nothing n) c.args.s.now c.args.next c.in_ok-plan.plan.bid c.in_ok-plan.plan.blocks.items (c.as_slice.ensures.value ∙ c.in_ok-keep.ensures) c.in_ok-plan.ensures.plans in
     let P : List Pair → Type 0 = λ pairs. All (PairAmong c.args.next c.in_ok-plan.plan.blocks.items) pairs in
-    subst P (nothing-paired n c.args.s.now) plans.among
+    subst P (nothing-paired n c.args.s.now) (plans-among (nothing n) c.args.s.now c.args.next c.in_ok-plan.plan.bid c.in_ok-plan.plan.blocks.items plans)
+
+pub returns-clause-ids : goal.returns-clause-ids
+returns-clause-ids c =
+    let n = length c.args.s.now in
+    let blocks = c.in_ok-plan.plan.blocks.items in
+    let plans = along c.as_slice.result.now (nothing n) c.args.s.now c.args.next c.in_ok-plan.plan.bid blocks (c.as_slice.ensures.value ∙ c.in_ok-keep.ensures) c.in_ok-plan.ensures.plans in
+    let names = plans-name (nothing n) c.args.s.now c.args.next c.in_ok-plan.plan.bid blocks c.requires.form plans in
+    record {
+      ids = names.ids;
+      placed = let P : List Pair → Type 0 = λ pairs. ArePlaced c.args.next blocks pairs names.ids in subst P (nothing-paired n c.args.s.now) names.placed;
+      named = names.named;
+    }
 
 pub returns-clause-reads : goal.returns-clause-reads
 returns-clause-reads c =
