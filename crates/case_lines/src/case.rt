@@ -1,10 +1,9 @@
 //! One case: a call of the program, and what must come of it.
 use crate::outcome::{Change, Ending};
-use crate::trouble::Trouble;
-use crate::words::Words;
 use pst_outside::FailPlan;
 use std::alloc::Global;
 use std::num::NonZeroUsize;
+use test_lines::{Trouble, Words};
 
 /// One case: a call of the program, and what must come of it.
 #[derive(Drop)]

@@ -2,12 +2,11 @@
 ghost use Rattle.std.specs.Prelude.{◌≡◌, ◌≤◌, ◌+◌, length, OnOk, OnErr};
 ghost use Rattle.pst_base.specs.Fields.{replaced};
 
-use crate::trouble::Trouble;
-use crate::words::{Words, number};
 use block_frame::seal as seal_block;
 use page_frame::seal as seal_page;
 use pst_base::{Bid, Bref, crc, put_u32, u64_at};
 use std::alloc::Global;
+use test_lines::{Trouble, Words, number};
 
 /// The most bytes that a case file may give a file.
 const MOST: usize = 1 << 28;

@@ -10,8 +10,6 @@ mod outcome;
 mod report;
 mod script;
 mod texts;
-mod trouble;
-mod words;
 mod world;
 
 pub use case::Case;
@@ -19,5 +17,4 @@ pub use left::{BadStop, Left, begun, outcomes};
 pub use outcome::{Change, Ending, Outcome};
 pub use report::{Report, Tally};
 pub use script::Script;
-pub use trouble::Trouble;
 pub use world::{CaseWorld, Turn};

@@ -3,11 +3,10 @@ use crate::case::Case;
 use crate::edits::{edit, put};
 use crate::outcome::Outcome;
 use crate::texts::add_text;
-use crate::trouble::Trouble;
-use crate::words::Words;
 use std::alloc::Global;
 use std::fs;
 use std::rt::Files;
+use test_lines::{Trouble, Words};
 
 /// Bytes with a name, with which the files of later cases can begin.
 #[derive(Drop)]

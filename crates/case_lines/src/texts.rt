@@ -1,8 +1,7 @@
 //! Lines of input and of replies.
-use crate::trouble::Trouble;
-use crate::words::Words;
 use std::alloc::Global;
 use std::fmt::Write;
+use test_lines::{Trouble, Words, hex_number};
 
 /// Adds what a line gives to the input or to the replies: its first word without the `>` or `<`, and what follows.
 pub fn add_text(
@@ -67,10 +66,6 @@ impl<'a> Counted<'a> {
             step: hex_number(step)?,
         })
     }
-}
-
-fn hex_number(word: &str) -> Result<u64, Trouble> {
-    u64::from_str_radix(word, 16).ok().ok_or(Trouble::Spelling)
 }
 
 /// Adds so many lines.
