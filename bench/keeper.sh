@@ -1,0 +1,83 @@
+#!/bin/sh
+# Prints how many commits a second of one node and of ten nodes, of 1,000 bytes each, the keeper of a file makes, and how many bytes each writes; and beside them how many a second a bare loop of as many bytes and the same five syncs makes, and SQLite with a write-ahead log for the same values.
+# Files are made in the folder that is named (default: a temporary one of the system), so that its disk is measured.
+# Needs crates/rates/out/rates, which `rt run` in crates/rates builds.
+cd "$(dirname "$0")/.." || exit 1
+exec python3 - crates/rates/out/rates "${1:-}" <<'END'
+import os, sqlite3, sys, tempfile, time
+
+COMMITS = 1_000
+TRIES = 3
+program, folder = sys.argv[1], sys.argv[2] or tempfile.mkdtemp()
+path = os.path.join(folder, "keeper.pst")
+
+
+def remove(*ends):
+    for end in ends:
+        if os.path.exists(path + end):
+            os.remove(path + end)
+
+
+def run(nodes, count):
+    """The seconds that the program takes, and the bytes that it writes."""
+    remove("", ".gate")
+    start = time.perf_counter()
+    process = os.posix_spawn(program, [program, "commits", str(nodes), str(count), path], os.environ)
+    os.waitid(os.P_PID, process, os.WEXITED | os.WNOWAIT)
+    took = time.perf_counter() - start
+    with open(f"/proc/{process}/io") as it:
+        size = int(next(line for line in it if line.startswith("wchar")).split()[1])
+    assert os.waitpid(process, 0)[1] == 0
+    return took, size
+
+
+def keeper(nodes):
+    """Seconds and bytes of a commit: laying the file is taken off."""
+    laid, more = min(run(nodes, 0) for _ in range(TRIES)), min(run(nodes, COMMITS) for _ in range(TRIES))
+    return (more[0] - laid[0]) / COMMITS, (more[1] - laid[1]) // COMMITS
+
+
+def bare(size):
+    """As many bytes and syncs as a commit has, without a store; 1,145 of the bytes are the gate's and the header's."""
+    main = os.open(path + ".bare", os.O_RDWR | os.O_CREAT)
+    side = os.open(path + ".bare.gate", os.O_RDWR | os.O_CREAT)
+    os.pwrite(main, bytes(1_000_000), 0)
+    os.fsync(main)
+    start = time.perf_counter()
+    for i in range(COMMITS):
+        os.pwrite(main, bytes(size - 1_145), 20_000 + 4_096 * (i % 100))
+        os.fsync(main)
+        for part, data, at in (side, bytes(579), 1), (side, b"1", 0), (main, bytes(564), 0), (side, b"0", 0):
+            os.pwrite(part, data, at)
+            os.fsync(part)
+    took = time.perf_counter() - start
+    os.close(main)
+    os.close(side)
+    remove(".bare", ".bare.gate")
+    return took / COMMITS
+
+
+def write_ahead(nodes):
+    """SQLite's commits of as many rows of 1,000 bytes, each of which is stable before the next begins."""
+    base = sqlite3.connect(path + ".db", isolation_level=None)
+    for line in "pragma journal_mode = wal", "pragma synchronous = full", "create table nodes (id integer primary key, value blob)":
+        base.execute(line)
+    start = time.perf_counter()
+    for i in range(COMMITS):
+        base.execute("begin")
+        for node in range(nodes):
+            base.execute("insert or replace into nodes values (?, ?)", (node, bytes([i % 251]) * 1_000))
+        base.execute("commit")
+    took = time.perf_counter() - start
+    base.close()
+    remove(".db", ".db-wal", ".db-shm")
+    return took / COMMITS
+
+
+for nodes in 1, 10:
+    took, size = keeper(nodes)
+    loop = min(bare(size) for _ in range(TRIES))
+    log = min(write_ahead(nodes) for _ in range(TRIES))
+    print(f"{nodes:2} nodes: {1 / took:6.0f} commits/s, {size:6} bytes a commit; bare loop {1 / loop:6.0f} ({loop / took:.2f} of it), SQLite {1 / log:6.0f}")
+remove("", ".gate")
+END
