@@ -22,7 +22,8 @@ def run(nodes, count):
     """The seconds that the program takes, and the bytes that it writes."""
     remove("", ".gate")
     start = time.perf_counter()
-    process = os.posix_spawn(program, [program, "commits", str(nodes), str(count), path], os.environ)
+    quiet = [(os.POSIX_SPAWN_OPEN, 1, os.devnull, os.O_WRONLY, 0)]
+    process = os.posix_spawn(program, [program, "commits", str(nodes), str(count), path], os.environ, file_actions=quiet)
     os.waitid(os.P_PID, process, os.WEXITED | os.WNOWAIT)
     took = time.perf_counter() - start
     with open(f"/proc/{process}/io") as it:
