@@ -5,7 +5,10 @@
 # Needs crates/pstore/out/pstore, which ./pstore builds.
 cd "$(dirname "$0")/.." || exit 1
 exec python3 - crates/pstore/out/pstore "${1:-}" <<'END'
-import os, resource, sqlite3, subprocess, sys, tempfile, time, zlib
+import os, resource, subprocess, sys, tempfile, time, zlib
+
+sys.path.insert(0, "bench")
+from disk import bare, write_ahead
 
 COMMITS = 200
 FOLDER, MESSAGE = "0x8082", "0x200024"
@@ -47,41 +50,6 @@ def make():
     return session
 
 
-def bare(size):
-    """As many writes and syncs as a commit of so many bytes has, without a store."""
-    main = os.open(path + ".bare", os.O_RDWR | os.O_CREAT)
-    side = os.open(path + ".bare.gate", os.O_RDWR | os.O_CREAT)
-    os.pwrite(main, bytes(1_000_000), 0)
-    os.fsync(main)
-    start = time.perf_counter()
-    for i in range(COMMITS):
-        os.pwrite(main, bytes(size), 20_000 + 4_096 * (i % 100))
-        os.fsync(main)
-        for part, data, at in (side, bytes(579), 1), (side, b"1", 0), (main, bytes(564), 0), (side, b"0", 0):
-            os.pwrite(part, data, at)
-            os.fsync(part)
-    took = time.perf_counter() - start
-    os.remove(path + ".bare")
-    os.remove(path + ".bare.gate")
-    return COMMITS / took
-
-
-def write_ahead(size):
-    """SQLite's commits of one row with so many bytes, each of which is stable before the next begins."""
-    base = sqlite3.connect(path + ".db", isolation_level=None)
-    for line in "pragma journal_mode = wal", "pragma synchronous = full", "create table mail (id integer primary key, value blob)":
-        base.execute(line)
-    start = time.perf_counter()
-    for i in range(COMMITS):
-        base.execute("insert or replace into mail values (?, ?)", (i % 100, os.urandom(size)))
-    took = time.perf_counter() - start
-    base.close()
-    for end in "", "-wal", "-shm":
-        if os.path.exists(path + ".db" + end):
-            os.remove(path + ".db" + end)
-    return COMMITS / took
-
-
 VALUES = {"new": 100, "set": 10, "body": 2 * len(BODY)}  # how many bytes of values a commit puts
 for name, line in {"new": f"new {FOLDER} IPM.Note 0", "set": f"set {MESSAGE} 0x0037001f Hello", "body": f"set {MESSAGE} 0x1000001f {BODY}"}.items():
     session = make()
@@ -90,7 +58,7 @@ for name, line in {"new": f"new {FOLDER} IPM.Note 0", "set": f"set {MESSAGE} 0x0
         session.ask(line)
     took, size = time.perf_counter() - start, (session.written() - before) // COMMITS
     session.end()
-    print(f"{name:5} {COMMITS / took:8.0f} commits/s {size:8} bytes a commit, bare loop {bare(max(size - 1_145, 1)):8.0f} commits/s, SQLite {write_ahead(VALUES[name]):8.0f} commits/s")
+    print(f"{name:5} {COMMITS / took:8.0f} commits/s {size:8} bytes a commit, bare loop {1 / bare(path, size, COMMITS):8.0f} commits/s, SQLite {1 / write_ahead(path, VALUES[name], 1, COMMITS):8.0f} commits/s")
 
 for megabytes in 30, 500:
     session = make()

@@ -4,7 +4,10 @@
 # Needs crates/rates/out/rates, which `rt run` in crates/rates builds.
 cd "$(dirname "$0")/.." || exit 1
 exec python3 - crates/rates/out/rates "${1:-}" <<'END'
-import os, sqlite3, sys, tempfile, time
+import os, sys, tempfile, time
+
+sys.path.insert(0, "bench")
+from disk import bare, write_ahead
 
 COMMITS = 1_000
 TRIES = 3
@@ -38,47 +41,10 @@ def keeper(nodes):
     return (more[0] - laid[0]) / COMMITS, (more[1] - laid[1]) // COMMITS
 
 
-def bare(size):
-    """As many bytes and syncs as a commit has, without a store; 1,145 of the bytes are the gate's and the header's."""
-    main = os.open(path + ".bare", os.O_RDWR | os.O_CREAT)
-    side = os.open(path + ".bare.gate", os.O_RDWR | os.O_CREAT)
-    os.pwrite(main, bytes(1_000_000), 0)
-    os.fsync(main)
-    start = time.perf_counter()
-    for i in range(COMMITS):
-        os.pwrite(main, bytes(size - 1_145), 20_000 + 4_096 * (i % 100))
-        os.fsync(main)
-        for part, data, at in (side, bytes(579), 1), (side, b"1", 0), (main, bytes(564), 0), (side, b"0", 0):
-            os.pwrite(part, data, at)
-            os.fsync(part)
-    took = time.perf_counter() - start
-    os.close(main)
-    os.close(side)
-    remove(".bare", ".bare.gate")
-    return took / COMMITS
-
-
-def write_ahead(nodes):
-    """SQLite's commits of as many rows of 1,000 bytes, each of which is stable before the next begins."""
-    base = sqlite3.connect(path + ".db", isolation_level=None)
-    for line in "pragma journal_mode = wal", "pragma synchronous = full", "create table nodes (id integer primary key, value blob)":
-        base.execute(line)
-    start = time.perf_counter()
-    for i in range(COMMITS):
-        base.execute("begin")
-        for node in range(nodes):
-            base.execute("insert or replace into nodes values (?, ?)", (node, bytes([i % 251]) * 1_000))
-        base.execute("commit")
-    took = time.perf_counter() - start
-    base.close()
-    remove(".db", ".db-wal", ".db-shm")
-    return took / COMMITS
-
-
 for nodes in 1, 10:
     took, size = keeper(nodes)
-    loop = min(bare(size) for _ in range(TRIES))
-    log = min(write_ahead(nodes) for _ in range(TRIES))
+    loop = min(bare(path, size, COMMITS) for _ in range(TRIES))
+    log = min(write_ahead(path, 1_000, nodes, COMMITS) for _ in range(TRIES))
     print(f"{nodes:2} nodes: {1 / took:6.0f} commits/s, {size:6} bytes a commit; bare loop {1 / loop:6.0f} ({loop / took:.2f} of it), SQLite {1 / log:6.0f}")
 remove("", ".gate")
 END
