@@ -13,7 +13,8 @@ use page_cache::PageCache;
 use pst_base::{Bref, MemOr, SourceStop};
 use pst_outside::Outside;
 use std::alloc::Global;
-use tree_edit::{Plan, change};
+use tree_change::change;
+use tree_edit::Plan;
 
 /// The tree of a root after edits.
 fn change_in<E: Entry, W: Outside>(

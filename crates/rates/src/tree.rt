@@ -10,7 +10,8 @@ use edits::{first_edits, random_edits};
 use page_shelf::Shelf;
 use pst_base::{MemOr, SourceStop};
 use std::alloc::{AllocError, Global};
-use tree_edit::{are_edits, change, look_up};
+use tree_change::change;
+use tree_edit::{are_edits, look_up};
 
 /// How many keys and changes there are.
 #[derive(Clone, Copy)]

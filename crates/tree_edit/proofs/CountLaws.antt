@@ -1,5 +1,5 @@
 -- How many pages and pieces there are.
-use Rattle.std.proofs.Common.{Bool, true, false, not, ◌≡◌, ◌⊎◌, inl, inr, ⊎_elim, ℕ, zero, suc, ◌+◌, ◌*◌, ◌-◌, ◌<◌, ◌≤◌, eqb, leb, ltb, ◌&&◌, if◌then◌else◌, List, [], ◌∷◌, ◌++◌, length, Option, Some, None, Ok, Err, refl, sym, ap, subst, ◌∙◌, arith, length-append}
+use Rattle.std.proofs.Common.{Bool, true, false, not, ◌≡◌, inl, inr, ℕ, zero, suc, ◌+◌, ◌*◌, ◌-◌, ◌<◌, ◌≤◌, eqb, leb, ltb, ◌&&◌, if◌then◌else◌, List, [], ◌∷◌, ◌++◌, length, Option, Some, None, Ok, Err, refl, sym, ap, subst, ◌∙◌, arith, length-append}
 use Rattle.std.proofs.lemmas.Bool.{and_parts, ne_eqb, leb-true, lt-ltb, le-ltb, cases_lt}
 use Rattle.std.proofs.lemmas.Nat.{mul-le}
 use Rattle.pst_base.specs.declared.stops.PageFault.TheVariants.{Count, Level, Key}
@@ -7,7 +7,6 @@ use Rattle.pst_base.specs.Fields.{number_at}
 use Rattle.btree_pages.specs.Pages.{Page, pieces, size_at, is_counted, ascend, keys, page_of, page_with}
 use Rattle.btree_pages.proofs.PageLaws.{length-pieces, size_at-inner}
 use Rattle.tree_edit.specs.Edits.{under, over, given, edited}
-use Rattle.tree_edit.specs.Steps.{AreFew}
 use Rattle.tree_edit.specs.declared.plan.Child.{Child}
 use Rattle.tree_edit.specs.Joins.{size_of}
 
@@ -133,59 +132,7 @@ some-more most n k e all some le few =
     let c : (k + e) * most ≡ k * most + e * most = plus-times k e most in
     omega (arith, a, b, c, few)
 
-pub loop-grows : (level here e r m q old pages new : ℕ) → 1 ≤ level → here ≡ level → r ≡ m + q → r ≤ e → pages ≤ old + (2 * level) * (e - r) → new ≤ pages + (2 * (here - 1) + 2) * m → new ≤ old + (2 * level) * (e - q)
-loop-grows level here e r m q old pages new some is cut within so_far more =
-    let w : 2 * (here - 1) + 2 ≡ 2 * level = omega arith in
-    let f : (2 * (here - 1) + 2) * m ≡ (2 * level) * m = ap (λ (n : ℕ). n * m) w in
-    let d : e - q ≡ (e - r) + m = omega arith in
-    let g : (2 * level) * (e - q) ≡ (2 * level) * (e - r) + (2 * level) * m = ap (λ (n : ℕ). (2 * level) * n) d ∙ times-plus (2 * level) (e - r) m in
-    omega (arith, f, g, so_far, more)
-
-pub grows-end : (level e r old new : ℕ) → new ≤ old + (2 * level) * (e - r) → new ≤ old + (2 * level) * e
-grows-end level e r old new so_far =
-    let f : (2 * level) * (e - r) ≤ (2 * level) * e = mul-le (2 * level) (e - r) (2 * level) e (omega arith) (omega arith) in omega (arith, f, so_far)
-
-pub leaf-grows : (level e cs old new : ℕ) → 1 ≤ e → cs ≤ 1 + e → new ≡ old + cs → new ≤ old + (2 * level + 2) * e
-leaf-grows level e cs old new some few is =
-    let f : 2 * e ≤ (2 * level + 2) * e = mul-le 2 e (2 * level + 2) e (omega arith) (omega arith) in omega (arith, f, some, few, is)
-
-pub inner-grows : (level here e cs old mid new : ℕ) → here ≡ level → 1 ≤ e → cs ≤ 1 + e → mid ≤ old + (2 * here) * e → new ≡ mid + cs → new ≤ old + (2 * level + 2) * e
-inner-grows level here e cs old mid new same some few below is =
-    let f : (2 * here) * e ≡ (2 * level) * e = ap (λ (n : ℕ). (2 * n) * e) same in
-    let g : (2 * level + 2) * e ≡ (2 * level) * e + 2 * e = plus-times (2 * level) 2 e in
-    omega (arith, f, g, some, few, below, is)
-
 pub inner-fits : (leaf level n : ℕ) → 1 ≤ level → n * size_at leaf level ≤ 488 → n ≤ 20
 inner-fits leaf level n some fits =
     let e = size_at-inner leaf level some in
     let f : n * 24 ≤ 488 = subst (λ (s : ℕ). n * s ≤ 488) e fits in omega (arith, f)
-
--- ---- the whole
-
-pub lift-step : (fn_pages fn_cs pages cs e r : ℕ) → 2 ≤ cs → 2 * r ≤ cs → (cs ≤ 20 + e → r ≤ 1 + e) → fn_cs ≤ 20 + e → ((pages ≡ fn_pages) × (cs ≡ fn_cs)) ⊎ (pages + cs ≤ fn_pages + 2 + 2 * e)
-    → (((pages + r) ≡ fn_pages) × (r ≡ fn_cs)) ⊎ ((pages + r) + r ≤ fn_pages + 2 + 2 * e)
-lift-step fn_pages fn_cs pages cs e r two half few le so_far =
-    ⊎_elim (λ (a : (pages ≡ fn_pages) × (cs ≡ fn_cs)). let x = a.0 in let y = a.1 in let z : r ≤ 1 + e = few (omega arith) in inr (omega arith)) (λ (a : pages + cs ≤ fn_pages + 2 + 2 * e). inr (omega arith)) so_far
-
-pub lift-end : (fn_pages fn_cs pages cs e : ℕ) → (1 ≤ fn_cs → 1 ≤ cs) → (fn_cs ≤ 1 → pages ≤ fn_pages) → ((pages ≡ fn_pages) × (cs ≡ fn_cs)) ⊎ (pages + cs ≤ fn_pages + 2 + 2 * e) → pages ≤ fn_pages + 1 + 2 * e
-lift-end fn_pages fn_cs pages cs e some alone so_far =
-    ⊎_elim (λ (a : (pages ≡ fn_pages) × (cs ≡ fn_cs)). let x = a.0 in let r : pages ≤ fn_pages + 1 + 2 * e = omega arith in r)
-    (λ (a : pages + cs ≤ fn_pages + 2 + 2 * e).
-    let r : pages ≤ fn_pages + 1 + 2 * e = elim (cases_lt 0 fn_cs) [ inl h ↦ let s = some h in omega (arith, a, s) | inr h ↦ let s = alone (omega (arith, h)) in omega (arith, s) ] in r) so_far
-
-pub whole-count : (level e one two three cs ds : ℕ) → 1 ≤ e → AreFew level e 0 one cs → two + ds ≤ one + cs → (1 ≤ cs → 1 ≤ ds) → ((k : ℕ) → cs ≤ 20 + k → two ≤ one + 1 + 2 * k) → three + ds ≤ two + 1 → three ≤ (2 * (level + 2)) * e
-whole-count level e one two three cs ds some few plain left grown top =
-    let w : 2 * (level + 2) ≡ 2 * level + 4 = omega arith in
-    let f : (2 * (level + 2)) * e ≡ (2 * level) * e + 4 * e = ap (λ (n : ℕ). n * e) w ∙ plus-times (2 * level) 4 e in
-    let g : three ≤ (2 * level) * e + 4 * e =
-    ⊎_elim (λ (a : (cs ≤ 1 + e) × (one ≡ 0 + cs)).
-    let x = a.0 in
-    let y = a.1 in
-    let r : three ≤ (2 * level) * e + 4 * e = elim (cases_lt 0 cs) [ inl h ↦ let z = left h in omega (arith, x, y, z, plain, top, some) | inr h ↦ omega (arith, x, y, h, plain, top, some) ] in r)
-    (λ (a : (1 ≤ level) × (cs ≤ 20 + e) × (one ≤ 0 + (2 * level) * e)).
-    let x = a.1 in
-    let y = a.2 in
-    let v = grown e x in
-    let r : three ≤ (2 * level) * e + 4 * e = elim (cases_lt 0 cs) [ inl h ↦ let z = left h in omega (arith, y, z, v, top, some) | inr h ↦ omega (arith, y, h, plain, top, some) ] in r)
-    few in
-    omega (arith, f, g)

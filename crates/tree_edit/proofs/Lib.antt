@@ -18,4 +18,3 @@ pub mod StopLaws
 pub mod WriteLaws
 pub mod LookLaws
 pub mod GatherLaws
-pub mod AnewLaws

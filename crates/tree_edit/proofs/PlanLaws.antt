@@ -1,11 +1,11 @@
 -- New pages, one by one, and parts of a tree one behind the other.
-use Rattle.std.proofs.Common.{◌≡◌, ℕ, zero, suc, ◌+◌, ◌^◌, ◌≤◌, ◌<◌, ◌==◌, if◌then◌else◌, List, [], ◌∷◌, ◌++◌, map, length, refl, sym, ap, subst, ◌∙◌, arith, append_assoc, length-append, Option, Some}
+use Rattle.std.proofs.Common.{◌≡◌, ℕ, zero, suc, ◌+◌, ◌≤◌, ◌<◌, ◌==◌, if◌then◌else◌, List, [], ◌∷◌, ◌++◌, map, length, refl, sym, ap, subst, ◌∙◌, arith, append_assoc, length-append, Option, Some}
 use Rattle.std.proofs.lemmas.List.{append-nil}
 use Rattle.pst_base.specs.declared.ids.Bref.{Bref}
 use Rattle.tree_edit.specs.declared.plan.Child.{Child}
 use Rattle.tree_edit.specs.declared.plan.Child.TheVariants.{New}
 use Rattle.tree_edit.specs.declared.plan.PlanPage.{PlanPage}
-use Rattle.tree_edit.specs.Shapes.{Shape, leaf, inner, RiseIn, heads, up_to, AreBelow, HasLeaf, HasInner, IsTree, IsRootOf}
+use Rattle.tree_edit.specs.Shapes.{Shape, leaf, inner, RiseIn, heads, up_to, AreBelow, HasLeaf, HasInner, IsTree}
 use Rattle.tree_edit.specs.Plans.{resolve, resolved, keys_of, shape_in, AreShown, names, AreKept, tally}
 use Rattle.tree_edit.specs.Steps.{Lays, Packs}
 use Rattle.tree_edit.proofs.ShapeLaws.{Raises, map-join, rise-join, rise-part, below-append, below-part, Parted, tree-widen}
@@ -44,7 +44,7 @@ up_to-low name low high (c ∷ cs) r le = r.0
 
 -- ---- a tree whose pages are kept
 
-below-kept : {E : Type 0} (old new : Bref → Option (Shape E)) (P Q : ℕ → ℕ → Bref → List E → List Bref → Type 0)
+pub below-kept : {E : Type 0} (old new : Bref → Option (Shape E)) (P Q : ℕ → ℕ → Bref → List E → List Bref → Type 0)
     → ((low high : ℕ) (at : Bref) (es : List E) (ps : List Bref) → AreKept old new ps → P low high at es ps → Q low high at es ps)
     → (high : ℕ) (cs : List (ℕ × Bref)) (es : List E) (ps : List Bref) → AreKept old new ps → AreBelow P high cs es ps → AreBelow Q high cs es ps
 below-kept old new P Q each high [] es ps k a = a
@@ -74,20 +74,6 @@ tree-kept old new key (suc n) low high at es ps k t =
       rises = t.rises;
       some = t.some;
       are = below-kept old new (IsTree old key n) (IsTree new key n) (λ low high at es ps k t. tree-kept old new key n low high at es ps k t) high t.children es t.below both.1 t.are;
-      first = t.first;
-    }
-
-pub root-kept : {E : Type 0} (old new : Bref → Option (Shape E)) (key : E → ℕ) (n : ℕ) (at : Bref) (es : List E) (ps : List Bref) → AreKept old new ps → IsRootOf old key n 0 (2 ^ 64) at es ps → IsRootOf new key n 0 (2 ^ 64) at es ps
-root-kept old new key zero at es ps k t = record { shown = (subst (AreKept old new) t.alone k).0 ∙ t.shown; rises = t.rises; some = t.some; alone = t.alone }
-root-kept old new key (suc n) at es ps k t =
-    let both = subst (AreKept old new) t.first k in
-    record {
-      children = t.children;
-      below = t.below;
-      shown = both.0 ∙ t.shown;
-      rises = t.rises;
-      some = t.some;
-      are = below-kept old new (IsTree old key n) (IsTree new key n) (λ low high at es ps k t. tree-kept old new key n low high at es ps k t) (2 ^ 64) t.children es t.below both.1 t.are;
       first = t.first;
     }
 

@@ -1,14 +1,13 @@
 -- The steps of a plan: what becomes of the children of one page, and of a root.
-use Rattle.std.specs.Prelude.{◌≡◌, ◌⊎◌, ℕ, zero, suc, ◌+◌, ◌-◌, ◌^◌, ◌*◌, ◌≤◌, ◌<◌, List, [], ◌∷◌, ◌++◌, map, length, Option}
+use Rattle.std.specs.Prelude.{◌≡◌, ◌⊎◌, ℕ, zero, suc, ◌+◌, ◌-◌, ◌^◌, ◌*◌, ◌≤◌, ◌<◌, List, [], ◌++◌, map, length, Option}
 use Rattle.pst_base.specs.declared.ids.Bref.{Bref}
 use Rattle.btree_pages.specs.Pages.{Page}
 use Rattle.tree_edit.specs.declared.plan.Child.{Child}
-use Rattle.tree_edit.specs.declared.plan.Child.TheVariants.{New}
 use Rattle.tree_edit.specs.declared.plan.PlanPage.{PlanPage}
-use Rattle.tree_edit.specs.Shapes.{Shape, leaf, RiseIn, AreBelow, IsTree}
+use Rattle.tree_edit.specs.Shapes.{Shape, RiseIn, AreBelow, IsTree}
 use Rattle.tree_edit.specs.Joins.{IsMost}
 use Rattle.tree_edit.specs.Pages.{child_in, shapes}
-use Rattle.tree_edit.specs.Plans.{resolved, keys_of, shape_in, AreShown, names, AreKept, tally}
+use Rattle.tree_edit.specs.Plans.{resolved, keys_of, AreShown, names, AreKept, tally}
 
 -- What became of pages with these entries: more new pages, old pages that are gone and others that are kept, such that what stands for the entries now is there, with just these pages.
 pub record Becomes {E : Type 0} (find : Bref → Option (Shape E)) (Now : (Bref → Option (Shape E)) → (ℕ → Bref) → List E → List Bref → Type 0) (old_pages new_pages : List (PlanPage E)) (old_freed new_freed : List Bref)
@@ -51,18 +50,6 @@ Packs key n old_pages new_pages ds cs = Lifts key n (suc n) old_pages new_pages 
 pub record IsUnder {E : Type 0} (find : Bref → Option (Shape E)) (key : E → ℕ) (rule : ℕ → ℕ) (entry_of : List ℕ → E) (page : Page) (es : List E) (ps : List Bref) : Type 0 where
   pub of_leaf : page.level ≡ 0 → (es ≡ map entry_of page.entries) × (ps ≡ [])
   pub of_inner : (n : ℕ) → page.level ≡ suc n → AreBelow (IsTree find key n) (2 ^ 64) (map (child_in rule) page.entries) es ps
-
--- a new leaf without entries, as the root
-pub record IsAdded {E : Type 0} (old new : List (PlanPage E)) (root : Child) : Type 0 where
-  pub page : PlanPage E
-  pub grown : new ≡ old ++ (page ∷ [])
-  pub is : root ≡ New (length old)
-  pub shows : (name : ℕ → Bref) → shape_in name page ≡ leaf []
-
--- the root of at most one page: that page, or a new leaf without entries
-pub record IsTop {E : Type 0} (old new : List (PlanPage E)) (cs : List (ℕ × Child)) (root : Child) : Type 0 where
-  pub of_one : (c : ℕ × Child) → cs ≡ c ∷ [] → (root ≡ c.1) × (new ≡ old)
-  pub of_none : cs ≡ [] → IsAdded old new root
 
 -- ---- what a source tells below a root
 
@@ -111,13 +98,3 @@ AreSpare n u old_pages new_pages old_freed new_freed pieces =
 pub record IsAnew (level edits : ℕ) (freed ps : List Bref) : Type 0 where
   pub many : 20 ^ (7 - (level - 1)) < 20 + edits
   pub all : (ib : ℕ) → tally ib freed ≡ tally ib ps
-
--- so many pages, and these numbers of pages above them, level by level, of which none names more than twenty, up to a single one
-abbrev pub Narrows : ℕ → List ℕ → Type 0
-Narrows n [] = n ≤ 1
-Narrows n (m ∷ ms) = (n ≤ m * 20) × Narrows m ms
-
--- how many pages stand above a level at most, where up to u more than these stand in each level, and no more than u above the last
-abbrev pub room : ℕ → List ℕ → ℕ
-room u [] = u
-room u (m ∷ ms) = m + u + room u ms

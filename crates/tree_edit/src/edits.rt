@@ -14,7 +14,7 @@ fn has_key<E: Entry>(entry: Option<E>, key: u64) -> bool
     }
 }
 
-/// Whether edits are what `change` wants: their keys ascend strictly, and an entry that is put has its edit's key.
+/// Whether edits are in order, as a change of a tree wants them: their keys ascend strictly, and an entry that is put has its edit's key.
 pub fn are_edits<E: Entry>(edits: &[(u64, Option<E>)]) -> bool
     ensures { IsTrue result ↔ AreEdits E.key 0 (2 ^ 64) edits.now }
 {

@@ -88,7 +88,7 @@ pub(crate) fn pack_leaves<E: Entry>(
 }
 
 /// The pages of a level that name some children, each but the last two full, and none less than a quarter full beside others.
-pub(crate) fn pack_inners<E: Entry>(
+pub fn pack_inners<E: Entry>(
     alloc: Global,
     level: u8,
     children: &[(u64, Child)],

@@ -6,7 +6,8 @@ use pst_base::{Bid, Bref, MemOr, Nid, SourceStop};
 use std::alloc::{AllocError, Global};
 use std::fmt::Write;
 use test_lines::{Trouble, Words, hex_number};
-use tree_edit::{Child, PageSource, Plan, PlanPage, are_edits, change, look_up};
+use tree_change::change;
+use tree_edit::{Child, PageSource, Plan, PlanPage, are_edits, look_up};
 
 pub fn answer(alloc: Global, kind: &str, words: &mut Words) -> Result<String, Trouble> {
     match kind {

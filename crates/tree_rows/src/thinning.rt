@@ -5,7 +5,8 @@ use page_shelf::Shelf;
 use pst_base::MemOr;
 use std::alloc::Global;
 use test_lines::{Trouble, Words, number};
-use tree_edit::{are_edits, change, look_up};
+use tree_change::change;
+use tree_edit::{are_edits, look_up};
 
 pub fn answer(alloc: Global, kind: &str, words: &mut Words) -> Result<String, Trouble> {
     match kind {

@@ -5,70 +5,17 @@ ghost use Rattle.btree_pages.specs.Pages.{keys, size_at};
 ghost use Rattle.tree_edit.specs.Shapes.{RiseIn, IsWhole};
 ghost use Rattle.tree_edit.specs.Edits.{AreEdits, edited, puts};
 ghost use Rattle.tree_edit.specs.Plans.{AreKeys, AreWritable, IsPlan, keys_of};
-ghost use Rattle.tree_edit.specs.Steps.{AreFew, AreSpare, IsAnew, Lifts, IsTop, IsUnder, Narrows, Replaces, TellsUnder, room};
+ghost use Rattle.tree_edit.specs.Steps.{IsAnew, IsUnder, Lifts, TellsUnder};
 ghost use Rattle.tree_edit.specs.Pages.{shapes};
 ghost use Rattle.tree_edit.specs.Source.{Later, StopsOn, TellsWhole};
+ghost use Rattle.tree_change.specs.Tops.{IsTop, Narrows, room};
 
-use crate::anew::gathered;
-use crate::descent::{changed, edit_children, edit_leaf};
-use crate::merge::{given_entries, merged};
-use crate::pack::{pack_inners, pack_leaves};
-use crate::page::page_within;
-use crate::plan::{Child, Plan, PlanPage};
-use crate::source::PageSource;
 use btree_pages::{Entry, TreePage};
 use pst_base::{Bref, MemOr, SourceStop};
 use std::alloc::{AllocError, Global};
-
-/// Pages of one level.
-#[derive(Drop)]
-struct Level {
-    level: u8,
-    children: Vec<(u64, Child)>,
-}
-
-/// What stands below a root after edits.
-fn edit_root<E: Entry, S: PageSource>(
-    alloc: Global,
-    page: &TreePage<E>,
-    edits: &[(u64, Option<E>)],
-    s: &mut S,
-    pages: &mut Vec<PlanPage<E>>,
-    freed: &mut Vec<Bref>,
-) -> Result<Level, MemOr<SourceStop>>
-    requires edits { AreEdits E.key 0 (2 ^ 64) edits.now }
-    requires rises { RiseIn 0 (2 ^ 64) (keys E.rule page.now.entries) }
-    requires fits { length page.now.entries * size_at E.size page.now.level ≤ 488 }
-    ensures writable { IfOk result (λ _. AreWritable E.key E.rule E.size pages.old.items → AreWritable E.key E.rule E.size pages.new.items) }
-    ensures later { Later (S.view s.old) (S.view s.new) }
-    ensures stopped { IfErr result (StopsOn (TellsUnder E.rule E.size E.entry_of E.key page.now) (S.view s.old) (S.view s.new)) }
-    ensures level { IfOk result (λ top. top.level ≤ 7) }
-    ensures lower { IfOk result (λ top. top.level ≤ page.now.level - 1) }
-    ensures keys { IfOk result (λ top. AreKeys E.rule (keys_of top.children.items)) }
-    ensures rises { IfOk result (λ top. RiseIn 0 (2 ^ 64) (keys_of top.children.items)) }
-    ensures few { IfOk result (λ top. AreFew page.now.level (length edits.now) (length pages.old.items) (length pages.new.items) (length top.children.items)) }
-    ensures replaces { IfOk result (λ top. (find : Brefs → Option (List ℕ)) → (S.view s.old).holds find → (es : List E) (ps : List Brefs)
-        → IsUnder (shapes E.rule E.size E.entry_of find) E.key E.rule E.entry_of page.now es ps
-        → Replaces (shapes E.rule E.size E.entry_of find) E.key top.level (2 ^ 64) pages.old.items pages.new.items freed.old.items freed.new.items top.children.items (edited E.key es edits.now) ps) }
-    ensures spare { IfOk result (λ top. (find : Brefs → Option (List ℕ)) → (S.view s.old).holds find → (es : List E) (ps : List Brefs)
-        → IsUnder (shapes E.rule E.size E.entry_of find) E.key E.rule E.entry_of page.now es ps
-        → AreSpare (page.now.level - 1) (puts E.key es edits.now) (length pages.old.items) (length pages.new.items) (length freed.old.items) (length freed.new.items) (length top.children.items)) }
-{
-    if page.level() == 0 {
-        let children = edit_leaf(alloc, page, edits, pages)?;
-        return Ok(Level { level: 0, children });
-    }
-    if page.count() == 0 {
-        let entries = given_entries(alloc, edits)?;
-        let children = pack_leaves(alloc, entries.as_slice(), pages)?;
-        return Ok(Level { level: 0, children });
-    }
-    let children = edit_children(alloc, page, 0, u64::MAX, edits, s, pages, freed)?;
-    Ok(Level {
-        level: page.level() - 1,
-        children,
-    })
-}
+use tree_edit::{
+    Child, Level, PageSource, Plan, PlanPage, edit_root, pack_inners, repacked, root_page,
+};
 
 /// Pages above some, of as many levels as it takes that at most one is left; `None` where that would pass level 7.
 fn lifted<E: Entry>(
@@ -145,12 +92,10 @@ fn rewritten<E: Entry, S: PageSource>(
         → IsUnder (shapes E.rule E.size E.entry_of find) E.key E.rule E.entry_of page.now es ps
         → length plan.pages.items ≤ length plan.freed.items + (page.now.level - 1 + 3) * puts E.key es edits.now) }
 {
+    let mut pages = Vec::new(alloc);
     let mut freed = Vec::new(alloc);
     freed.push(root)?;
-    let before = gathered(alloc, page, s, &mut freed)?;
-    let entries = merged(alloc, before.as_slice(), edits)?;
-    let mut pages = Vec::new(alloc);
-    let leaves = pack_leaves(alloc, entries.as_slice(), &mut pages)?;
+    let leaves = repacked(alloc, page, edits, s, &mut pages, &mut freed)?;
     let Some(top) = lifted(alloc, 0, leaves, &mut pages)? else {
         return Err(MemOr::Memory);
     };
@@ -194,9 +139,7 @@ pub fn change<E: Entry, S: PageSource>(
         });
     }
     let body = s.page(root)?;
-    let Some(page) = page_within::<E>(&body, 0, u64::MAX) else {
-        return Err(changed(root));
-    };
+    let page = root_page::<E>(&body, root)?;
     freed.push(root)?;
     let below = edit_root(alloc, &page, edits, s, &mut pages, &mut freed)?;
     let Some(top) = lifted(alloc, below.level, below.children, &mut pages)? else {

@@ -4,7 +4,7 @@ use Rattle.tree_edit.specs.declared.plan.Child.TheVariants.{New}
 use Rattle.tree_edit.specs.Shapes.{leaf, RiseIn}
 use Rattle.tree_edit.specs.Plans.{AreWritable}
 use Rattle.tree_edit.proofs.WriteLaws.{writable-push}
-use Rattle.tree_edit.proofs.root.root_of.Goals as goal
+use Rattle.tree_change.proofs.root.root_of.Goals as goal
 
 pub returns-clause-top : goal.returns-clause-top
 returns-clause-top g c =

@@ -3,11 +3,12 @@ use Rattle.std.proofs.lemmas.Bool.{cases_lt}
 use Rattle.tree_edit.specs.declared.plan.Child.{Child}
 use Rattle.tree_edit.specs.Shapes.{RiseIn}
 use Rattle.tree_edit.specs.Plans.{AreKeys, keys_of}
-use Rattle.tree_edit.specs.Steps.{Lifts, Packs, room}
-use Rattle.tree_edit.proofs.AnewLaws.{within-start, within-step, within-end, many-step, many-end}
-use Rattle.tree_edit.proofs.CountLaws.{lift-step, lift-end}
-use Rattle.tree_edit.proofs.RootLaws.{lifts-same, lifts-then}
-use Rattle.tree_edit.proofs.root.lifted.Goals as goal
+use Rattle.tree_edit.specs.Steps.{Lifts, Packs}
+use Rattle.tree_change.specs.Tops.{room}
+use Rattle.tree_change.proofs.AnewLaws.{within-start, within-step, within-end, many-step, many-end}
+use Rattle.tree_change.proofs.CountLaws.{lift-step, lift-end}
+use Rattle.tree_change.proofs.RootLaws.{lifts-same, lifts-then}
+use Rattle.tree_change.proofs.root.lifted.Goals as goal
 
 pub up-init : goal.up-init
 up-init g c = record { lifts = lifts-same g.E.Entry.key c.args.level c.args.pages.now.items c.args.children.items; low = c.requires.level; rises = c.requires.rises; keys = c.requires.keys; writable = λ h. h; some = λ h. h; plain = omega arith; grown = λ e le. inl (refl, refl); narrow = λ n u ms narrows few. within-start n u (length c.args.children.items) (length c.args.pages.now.items) ms narrows few; many = λ h. h }

@@ -14,7 +14,7 @@ use Rattle.tree_edit.proofs.SpareLaws.{spare-more}
 use Rattle.tree_edit.proofs.LoopLaws.{later-same}
 use Rattle.tree_edit.proofs.StopLaws.{stops-then, stops-handed}
 use Rattle.tree_edit.proofs.RootLaws.{replaces-root, no-items}
-use Rattle.tree_edit.proofs.root.edit_root.Goals as goal
+use Rattle.tree_edit.proofs.below.edit_root.Goals as goal
 
 pub edit_leaf-requires-clause-rises : goal.edit_leaf-requires-clause-rises
 edit_leaf-requires-clause-rises g c = subst (RiseIn 0 (2 ^ 64)) (sym (same-keys g.E.Entry.rule g.E.Entry.entry_of g.E.Entry.key g.met.E.Entry.key_read c.args.page.now.entries)) c.requires.rises

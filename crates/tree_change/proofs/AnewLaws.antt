@@ -8,12 +8,13 @@ use Rattle.pst_base.specs.declared.ids.Bref.{Bref}
 use Rattle.btree_pages.specs.Pages.{Page, page_of, size_at}
 use Rattle.tree_edit.specs.Shapes.{Shape, leaf, inner, AreBelow, IsTree}
 use Rattle.tree_edit.specs.Joins.{IsMost}
-use Rattle.tree_edit.specs.Steps.{AreFew, IsUnder, Narrows, room, weigh}
+use Rattle.tree_edit.specs.Steps.{AreFew, IsUnder, weigh}
+use Rattle.tree_change.specs.Tops.{Narrows, room}
 use Rattle.tree_edit.specs.Pages.{child_in, shape_of, shown, shapes}
 use Rattle.tree_edit.proofs.StepLaws.{leaf-shape, inner-shape}
 use Rattle.tree_edit.proofs.RootLaws.{shape-level}
 use Rattle.tree_edit.proofs.CountLaws.{page-fits, inner-fits, plus-times}
-use Rattle.tree_edit.proofs.SpareLaws.{weigh-is}
+use Rattle.tree_change.proofs.CountLaws.{weigh-is}
 use Rattle.tree_edit.proofs.StopLaws.{seen-page}
 
 pub of-some : {A : Type 0} (P : A → Type 0) (o : Option A) (x : A) → o ≡ Some x → IfSome o P → P x
@@ -159,13 +160,12 @@ weigh-within (suc m) u =
     omega (arith, w, e)
 
 -- New pages of a whole tree that is packed, beside those that are freed: its leaves, what was lifted from them, and a root.
-pub spare-anew : (most size level entries made u one two three freed cs ds : ℕ) → Widths most level 1 entries freed → 1 ≤ freed → most * size ≤ 488 → made ≤ entries + u → ((n k e : ℕ) → n * size ≤ 488 → made ≤ k * n + e → cs ≤ k + e) → one ≡ cs
+pub spare-anew : (most level entries u one two three freed cs ds : ℕ) → Widths most level 1 entries freed → 1 ≤ freed → ((k : ℕ) → entries ≤ k * most → cs ≤ k + u) → one ≡ cs
     → two + ds ≤ one + cs → (1 ≤ cs → 1 ≤ ds) → ((n v : ℕ) (ms : List ℕ) → Narrows n ms → cs ≤ n + v → two ≤ one + room v ms) → three + ds ≤ two + 1 → three ≤ freed + (level - 1 + 3) * u
-spare-anew most size level entries made u one two three freed cs ds widths some holds short few is plain left narrow top =
+spare-anew most level entries u one two three freed cs ds widths some few is plain left narrow top =
     let f = from-leaves most level 1 entries freed u [] widths (omega arith) in
-    let fits = f.fits in
     let total : f.leaves + u + room u f.above ≡ freed + weigh level u + u = f.total in
-    let pieces : cs ≤ f.leaves + u = few most f.leaves u holds (omega (arith, short, fits)) in
+    let pieces : cs ≤ f.leaves + u = few f.leaves f.fits in
     let w = weigh-within level u in
     let r = narrow f.leaves u f.above f.narrows pieces in
     elim (cases_lt 0 cs) [ inl h ↦ let s = left h in omega (arith, is, pieces, total, w, r, top, s) | inr h ↦ omega (arith, is, h, plain, top, some) ]

@@ -1,9 +1,10 @@
 use Rattle.std.proofs.Common.{◌-◌, ◌≡◌, ◌⊎◌, ◌≤◌, ◌+◌, ◌*◌, ◌^◌, ℕ, List, length}
 use Rattle.tree_edit.specs.Shapes.{RiseIn}
 use Rattle.tree_edit.specs.Plans.{AreKeys, AreWritable, keys_of}
-use Rattle.tree_edit.specs.Steps.{Lifts, Narrows, room}
-use Rattle.tree_edit.proofs.AnewLaws.{Within}
-use Rattle.tree_edit.proofs.root.lifted.Given as goal
+use Rattle.tree_edit.specs.Steps.{Lifts}
+use Rattle.tree_change.specs.Tops.{Narrows, room}
+use Rattle.tree_change.proofs.AnewLaws.{Within}
+use Rattle.tree_change.proofs.root.lifted.Given as goal
 
 abbrev pub invariant-up : goal.invariant-up
 invariant-up g l = record {
