@@ -1,6 +1,9 @@
 //! A file of one node with two blocks of data and the block that names them, laid by [MS-PST] 2.2.2.6, 2.2.2.7 and 2.2.2.8.
+ghost use Rattle.std.specs.Prelude.{◌≡◌, true};
+ghost use Rattle.node_port.specs.Nodes.{ascend};
+
 use btree_pages::NodeEntry;
-use content_plan::plan_contents;
+use content_plan::{ContentPlan, plan_contents};
 use node_port::NodeRec;
 use node_store::PageCaches;
 use page_cache::PageCache;
@@ -10,6 +13,9 @@ use pst_header::Header;
 use pst_outside::{FailPlan, MemWorld};
 use std::alloc::{AllocError, Global};
 use std::test::Fail;
+
+/// The node.
+const NODE: Nid = Nid { bits: 0x21 };
 
 /// The root of the block tree.
 const BLOCKS: Bref = Bref {
@@ -139,47 +145,53 @@ fn are(blocks: &[(Bid, Bytes)], ids: [u64; 2], first: &[u8], second: &[u8]) -> b
         && two.1.as_slice() == second
 }
 
+/// The plan of these changes over the file.
+fn plan_of(alloc: Global, changes: &[(Nid, Option<NodeRec>)]) -> Result<ContentPlan, Fail>
+    requires { ascend 0 changes.now ≡ true }
+{
+    let mut w = world(alloc)?;
+    let mut caches = PageCaches {
+        blocks: PageCache::new(alloc, 1)?,
+        nodes: PageCache::new(alloc, 1)?,
+    };
+    match plan_contents(alloc, &mut w, &header(), &mut caches, changes, 16) {
+        Ok(plan) => Ok(plan),
+        Err(_) => Err(Fail::from("no plan")),
+    }
+}
+
+/// The plan of the node 21h with two blocks of a byte each.
+fn planned(alloc: Global, first: u8, second: u8) -> Result<ContentPlan, Fail> {
+    let node = node(alloc, first, second)?;
+    let mut changes = Vec::new(alloc);
+    changes.push((NODE, Some(node)))?;
+    plan_of(alloc, changes.as_slice())
+}
+
+/// Whether the plan leads the node to the block that names its data, and has one new block of data, of this byte.
+fn changes_one(plan: &ContentPlan, new: u8, names: [u8; 2]) -> bool {
+    let entry = NodeEntry {
+        nid: NODE,
+        content: Bid { bits: 22 },
+        subnodes: Bid { bits: 0 },
+        parent: Nid { bits: 0 },
+    };
+    let [one, two] = names;
+    plan.edits.as_slice() == [(0x21, Some(entry))].as_slice()
+        && are(plan.blocks.as_slice(), [16, 22], &[new], &naming(one, two))
+}
+
 #[test]
 fn a_changed_block_is_written_and_the_other_stays(rt: HostRuntime) -> Result<(), Fail> {
-    let alloc = rt.alloc();
-    let nid = Nid { bits: 0x21 };
     for (first, second, new, names, put) in [
-        (b'a', b'c', b'c', (4, 16), [4, 16, 22]),
-        (b'c', b'b', b'c', (16, 8), [8, 16, 22]),
+        (b'a', b'c', b'c', [4, 16], [4, 16, 22]),
+        (b'c', b'b', b'c', [16, 8], [8, 16, 22]),
     ] {
-        let mut w = world(alloc)?;
-        let mut caches = PageCaches {
-            blocks: PageCache::new(alloc, 1)?,
-            nodes: PageCache::new(alloc, 1)?,
-        };
-        let mut changes = Vec::new(alloc);
-        changes.push((nid, Some(node(alloc, first, second)?)))?;
-        let plan = plan_contents(
-            alloc,
-            &mut w,
-            &header(),
-            &mut caches,
-            changes.as_slice(),
-            16,
-        );
-        let plan = plan.ok().ok_or("no plan")?;
-        let entry = NodeEntry {
-            nid,
-            content: Bid { bits: 22 },
-            subnodes: Bid { bits: 0 },
-            parent: Nid { bits: 0 },
-        };
-        assert_eq!(rt; plan.edits.as_slice(), [(0x21, Some(entry))].as_slice());
-        assert!(rt;
-            are(
-                plan.blocks.as_slice(),
-                [16, 22],
-                &[new],
-                &naming(names.0, names.1)
-            )
-        );
-        assert_eq!(rt; plan.taken.as_slice(), [14, 4, 8].as_slice());
-        assert_eq!(rt; plan.put.as_slice(), put.as_slice());
+        let plan = planned(rt.alloc(), first, second)?;
+        let is_changed = changes_one(&plan, new, names);
+        let are_counted = plan.taken.as_slice() == [14, 4, 8].as_slice()
+            && plan.put.as_slice() == put.as_slice();
+        assert!(rt; is_changed && are_counted, "{first} and {second}");
     }
     Ok(())
 }

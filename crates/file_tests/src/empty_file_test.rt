@@ -32,12 +32,8 @@ fn world(alloc: Global, dead_from: Option<u64>) -> Result<MemWorld, AllocError> 
     MemWorld::new(alloc, none(), none(), none(), none(), fails)
 }
 
-#[test]
-fn a_file_without_nodes_is_laid_once(rt: HostRuntime) -> Result<(), Fail> {
-    let mut w = world(rt.alloc(), None)?;
-    assert!(rt; lay_empty(rt.alloc(), &mut w).is_ok());
-    let file = w.content(Part::Main);
-    assert_eq!(rt; file.len(), 271_360);
+/// Whether the file has its fixed pages and the roots of both trees.
+fn has_pages(file: &[u8]) -> bool {
     let rows: [(usize, Row); 5] = [
         (0x4200, (0, 0x86, 0x86, 0x4201, 1)),
         (0x4400, (0xff, 0x84, 0x84, 0, 0x4400)),
@@ -45,15 +41,36 @@ fn a_file_without_nodes_is_laid_once(rt: HostRuntime) -> Result<(), Fail> {
         (0x4c00, (0, 0x80, 0x80, 0x4c02, 2)),
         (0x4e00, (0, 0x81, 0x81, 0x4e03, 3)),
     ];
-    for (at, wanted) in rows {
-        assert_eq!(rt; row(file, at), wanted, "at {at}");
-    }
-    let lines = scan_nodes(rt.alloc(), &mut w).map(|lines| lines.len());
-    assert_eq!(rt; lines, Ok(0));
-    let again = lay_empty(rt.alloc(), &mut w).map(|_| ());
-    assert_eq!(rt; again, Err(LayStop::NotEmpty));
-    let mut dead = world(rt.alloc(), Some(3))?;
-    let stopped = lay_empty(rt.alloc(), &mut dead).map(|_| ());
-    assert_eq!(rt; stopped, Err(LayStop::Fault));
+    rows.into_iter().all(|(at, wanted)| row(file, at) == wanted)
+}
+
+/// Why no file is laid there.
+fn stop_at(alloc: Global, w: &mut MemWorld) -> Option<LayStop> {
+    lay_empty(alloc, w).err()
+}
+
+/// The number of nodes that a scan finds.
+fn nodes_at(alloc: Global, w: &mut MemWorld) -> Option<usize> {
+    scan_nodes(alloc, w).ok().map(|lines| lines.len())
+}
+
+#[test]
+fn a_file_without_nodes_is_laid_once(rt: HostRuntime) -> Result<(), Fail> {
+    let mut w = world(rt.alloc(), None)?;
+    let stop = stop_at(rt.alloc(), &mut w);
+    let file = w.content(Part::Main);
+    let is_whole = file.len() == 271_360 && has_pages(file);
+    let nodes = nodes_at(rt.alloc(), &mut w);
+    let again = stop_at(rt.alloc(), &mut w);
+    assert!(rt; stop.is_none() && is_whole);
+    assert!(rt; nodes == Some(0) && again == Some(LayStop::NotEmpty));
+    Ok(())
+}
+
+#[test]
+fn a_dead_disk_gets_no_file(rt: HostRuntime) -> Result<(), Fail> {
+    let mut w = world(rt.alloc(), Some(3))?;
+    let stop = stop_at(rt.alloc(), &mut w);
+    assert!(rt; stop == Some(LayStop::Fault));
     Ok(())
 }
