@@ -1,4 +1,4 @@
-//! Tests of the files' crates.
+//! Tests of the crates for files, and of the world over a real file.
 //!
 //! They stand apart from what they test, so that each crate is proved once.
 #![tactic(auto)]
@@ -9,3 +9,5 @@ mod content_plan_test;
 mod empty_file_test;
 #[cfg(test)]
 mod plan_pieces_test;
+#[cfg(test)]
+mod pst_outside_test;
