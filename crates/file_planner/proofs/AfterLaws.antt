@@ -13,7 +13,7 @@ use Rattle.alloc_map.proofs.CoverLaws.{covers_either, covers_first, covers_last,
 use Rattle.alloc_map.proofs.FreeLaws.{others-left}
 use Rattle.alloc_map.proofs.TakenLaws.{covered-beside}
 use Rattle.alloc_map.proofs.TallyLaws.{once_reordered, some_tally, tally_append, tally_some}
-use Rattle.file_planner.specs.Freed.{all_behind, behind_fixed}
+use Rattle.plan_drawing.specs.Freed.{all_behind, behind_fixed}
 use Rattle.file_planner.proofs.SlotLaws.{AllTame, IsFixed, IsTame, all-fixed, all-free, amap-fixed, covers-fixed, covers-none, covers-one, fixed-cases, fixed-covers, fixed-once, once-of, one-covers, tally-none, tally-of}
 
 -- ---- AMap pages

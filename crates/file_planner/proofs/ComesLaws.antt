@@ -34,20 +34,22 @@ use Rattle.pst_commit.specs.Keeping.{Comes, Holds, LooksOn, PlansFor, ReadsAs}
 use Rattle.pst_commit.proofs.HeldLaws.{trees_kept}
 use Rattle.ref_counts.specs.Tables.{refs_in}
 use Rattle.ref_counts.specs.Changes.{HasRoomFor}
+use Rattle.plan_drawing.specs.declared.effects.PlanEffects.{PlanEffects}
+use Rattle.plan_drawing.specs.Drawn.{IsDrawn, blocks_drawn, nodes_drawn}
+use Rattle.plan_drawing.proofs.NewLaws.{sealed-count}
+use Rattle.plan_drawing.proofs.FileLaws.{laid-high}
+use Rattle.plan_placing.specs.Places.{placing_over}
+use Rattle.plan_placing.specs.Known.{IsKnown}
 use Rattle.file_planner.specs.declared.planner.FilePlanner.{FilePlanner}
-use Rattle.file_planner.specs.declared.planner.PlanEffects.{PlanEffects}
 use Rattle.file_planner.specs.Becomes.{IsMade}
 use Rattle.file_planner.specs.Cost.{IsWithin}
-use Rattle.file_planner.specs.Drawn.{IsDrawn, blocks_drawn, nodes_drawn}
-use Rattle.file_planner.specs.Holding.{IsHolding, IsOver, placing_over}
-use Rattle.file_planner.specs.Knowing.{AreCached, IsKnown, Knows, KnowsAfter, cells_of, placing, spent}
+use Rattle.file_planner.specs.Holding.{IsHolding, IsOver}
+use Rattle.file_planner.specs.Knowing.{AreCached, Knows, KnowsAfter, cells_of, placing, spent}
 use Rattle.file_planner.proofs.CostLaws.{drawn-within}
 use Rattle.file_planner.proofs.DrawnLaws
 use Rattle.file_planner.proofs.FollowLaws
 use Rattle.file_planner.proofs.KnownLaws
-use Rattle.file_planner.proofs.NewLaws.{sealed-count}
 use Rattle.file_planner.proofs.OverLaws.{keep-each, over-own, over-pin}
-use Rattle.file_planner.proofs.PlacedLaws.{laid-high}
 
 -- a file that was renewed lays nodes
 lays-renewed : {next : Header} {bytes : List ℕ} {N : port.Nodes} → Renews next bytes N → (n : NodeMap) × Lays next bytes n

@@ -23,11 +23,11 @@ use Rattle.node_port.specs.declared.node.NodeRec.{NodeRec}
 use Rattle.pst_commit.specs.Commit.{bytes_in}
 use Rattle.tree_edit.specs.declared.plan.PlanPage.{PlanPage}
 use Rattle.tree_edit.specs.Steps.{IsAnew}
-use Rattle.file_planner.specs.declared.planner.PlanEffects.{PlanEffects}
+use Rattle.plan_drawing.specs.declared.effects.PlanEffects.{PlanEffects}
+use Rattle.plan_drawing.specs.Drawn.{IsDrawn}
+use Rattle.plan_drawing.specs.Recounts.{puts_of, recounts}
+use Rattle.plan_drawing.proofs.NewLaws.{sealed-count}
 use Rattle.file_planner.specs.Cost.{IsWithin}
-use Rattle.file_planner.specs.Drawn.{IsDrawn}
-use Rattle.file_planner.specs.Recounts.{puts_of, recounts}
-use Rattle.file_planner.proofs.NewLaws.{sealed-count}
 
 bytes-append : (ps qs : List Piece) → bytes_in (ps ++ qs) ≡ bytes_in ps + bytes_in qs
 bytes-append [] qs = omega arith

@@ -50,16 +50,17 @@ use Rattle.ref_counts.specs.Changes.{AreRefChanges, IsRefChange, change_of, numb
 use Rattle.content_plan.specs.Plan.{Bounds, StayFound}
 use Rattle.plan_pieces.specs.Names.{named}
 use Rattle.plan_pieces.proofs.JoinLaws.{names-placed}
-use Rattle.file_planner.specs.declared.planner.PlanEffects.{PlanEffects}
-use Rattle.file_planner.specs.Drawn.{IsDrawn, blocks_drawn, nodes_drawn}
+use Rattle.plan_drawing.specs.declared.effects.PlanEffects.{PlanEffects}
+use Rattle.plan_drawing.specs.Drawn.{IsDrawn, blocks_drawn, nodes_drawn}
+use Rattle.plan_drawing.specs.Recounts.{puts_of, recounts}
+use Rattle.plan_drawing.proofs.NewLaws.{all-blocks, news-here, next-known, puts-edits}
+use Rattle.plan_drawing.proofs.FileLaws.{laid-high}
+use Rattle.plan_drawing.proofs.RecountLaws.{blocks-left, each-put, each-with, edits-append, entry-has, extra-append, puts-append, puts-extra, recounts-edits, recounts-extra, recounts-stand, steady-slot, sum-places}
+use Rattle.plan_placing.specs.Known.{IsKnown}
 use Rattle.file_planner.specs.Holding.{IsOver}
-use Rattle.file_planner.specs.Knowing.{IsKnown}
-use Rattle.file_planner.specs.Recounts.{puts_of, recounts}
 use Rattle.file_planner.proofs.AfterLaws.{AllLaid, once-beside, standing-fewer}
 use Rattle.file_planner.proofs.OverLaws.{taken-over}
-use Rattle.file_planner.proofs.NewLaws.{all-blocks, news-here, next-known, puts-edits}
-use Rattle.file_planner.proofs.PlacedLaws.{all-each, each-all, laid-high, laid-taken, laid-wholes, laid-within, sealed-long, stands-back, stands-front, standing-once, written-long}
-use Rattle.file_planner.proofs.RecountLaws.{blocks-left, each-put, each-with, edits-append, entry-has, extra-append, puts-append, puts-extra, recounts-edits, recounts-extra, recounts-stand, steady-slot, sum-places}
+use Rattle.file_planner.proofs.PlacedLaws.{all-each, each-all, laid-taken, laid-wholes, laid-within, sealed-long, stands-back, stands-front, standing-once, written-long}
 
 -- ---- numbers of references
 

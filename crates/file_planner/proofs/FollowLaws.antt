@@ -1,5 +1,5 @@
 -- What stays of a file's nodes and blocks, and what goes.
-use Rattle.std.proofs.Common.{Bool, true, false, ◌≡◌, ◌∙◌, ◌⊎◌, inl, inr, ℕ, ◌+◌, ◌^◌, ◌<◌, ◌≤◌, eqb, leb, List, [], ◌∷◌, ◌++◌, length, map, drop, Option, Some, None, refl, sym, ap, subst, arith, if◌then◌else◌}
+use Rattle.std.proofs.Common.{Bool, true, false, ◌≡◌, ◌∙◌, ◌⊎◌, inl, inr, ℕ, ◌+◌, ◌^◌, ◌<◌, ◌≤◌, eqb, leb, List, [], ◌∷◌, ◌++◌, length, drop, Option, Some, None, refl, sym, ap, subst, arith, if◌then◌else◌}
 use Rattle.std.proofs.lemmas.Bool.{and_parts, cases_eq, cases_lt, eq-eqb, leb-true, ne_eqb}
 use Rattle.pst_base.specs.declared.ids.Bid.{Bid}
 use Rattle.pst_base.specs.declared.ids.Nid.{Nid}
@@ -10,7 +10,7 @@ use Rattle.btree_pages.specs.declared.entry.NodeEntry.{NodeEntry}
 use Rattle.data_tree.specs.Keys.{count_of, keys_of}
 use Rattle.data_tree.specs.Plan.{bids_in}
 use Rattle.file_blocks.specs.Blocks.{entry_key, found_in}
-use Rattle.file_layout.specs.Nodes.{Lays, Node, NodeMap, blocks_in, nodes_in}
+use Rattle.file_layout.specs.Nodes.{Lays, NodeMap, blocks_in, nodes_in}
 use Rattle.file_layout.specs.Numbers.{next_block}
 use Rattle.file_layout.specs.Trees.{Found}
 use Rattle.lays_kept.specs.declared.Piece.{Piece}
@@ -26,17 +26,17 @@ use Rattle.node_layout.proofs.NodeLaws.{found-edited}
 use Rattle.node_refs.specs.Counts.{AreRefs, NoneUnused}
 use Rattle.tree_edit.specs.Edits.{AreEdits, edited, entry_with}
 use Rattle.ref_counts.specs.declared.table.RefChange.{RefChange}
-use Rattle.ref_counts.specs.Changes.{change_of, number_after, number_by}
+use Rattle.ref_counts.specs.Changes.{change_of, number_by}
 use Rattle.content_plan.specs.Plan.{AreNamed, IsNamed}
-use Rattle.file_planner.specs.declared.planner.PlanEffects.{PlanEffects}
-use Rattle.file_planner.specs.Drawn.{IsDrawn}
+use Rattle.plan_drawing.specs.declared.effects.PlanEffects.{PlanEffects}
+use Rattle.plan_drawing.specs.Drawn.{IsDrawn}
+use Rattle.plan_drawing.specs.Recounts.{puts_of, recounts, with_refs}
+use Rattle.plan_drawing.proofs.RecountLaws.{edit-back, edit-front, recount-at, recount_by}
+use Rattle.plan_placing.specs.Known.{IsKnown}
 use Rattle.file_planner.specs.Follows.{Follows, IsPutOver, references}
 use Rattle.file_planner.specs.Holding.{IsOver}
-use Rattle.file_planner.specs.Knowing.{IsKnown}
-use Rattle.file_planner.specs.Recounts.{puts_of, recounts, with_refs}
 use Rattle.file_planner.proofs.DrawnLaws
 use Rattle.file_planner.proofs.KnownLaws
-use Rattle.file_planner.proofs.RecountLaws.{edit-back, edit-front, recount-at, recount_by}
 
 -- ---- lists and options
 

@@ -16,8 +16,9 @@ use Rattle.node_layout.specs.Lookups.{sum_of}
 use Rattle.node_reach.specs.Reach.{node_keys, uses_of}
 use Rattle.node_refs.specs.Counts.{uses}
 use Rattle.ref_counts.specs.Tables.{refs_in}
+use Rattle.plan_placing.specs.Known.{IsKnownBy}
 use Rattle.file_planner.specs.declared.planner.FilePlanner.{FilePlanner}
-use Rattle.file_planner.specs.Knowing.{IsKnownBy, Knows}
+use Rattle.file_planner.specs.Knowing.{Knows}
 use Rattle.file_planner.proofs.ComesLaws.{holding-on, none-wrong}
 use Rattle.file_planner.proofs.HoldingLaws.{none-holding}
 

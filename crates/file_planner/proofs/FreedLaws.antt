@@ -14,9 +14,9 @@ use Rattle.tree_edit.proofs.ShapeLaws.{below-rise, tree-rise}
 use Rattle.node_layout.specs.Lookups.{sum_of}
 use Rattle.node_refs.specs.Counts.{sum_put}
 use Rattle.ref_counts.specs.declared.table.RefChange.{RefChange}
-use Rattle.file_planner.specs.Recounts.{edit_of, left_places, place_left, puts_of, recounted, recounts, with_refs}
-use Rattle.file_planner.proofs.NewLaws.{sum_olds}
-use Rattle.file_planner.proofs.RecountLaws.{put-sum-append}
+use Rattle.plan_drawing.specs.Recounts.{edit_of, left_places, place_left, puts_of, recounted, recounts, with_refs}
+use Rattle.plan_drawing.proofs.NewLaws.{sum_olds}
+use Rattle.plan_drawing.proofs.RecountLaws.{put-sum-append}
 use Rattle.file_planner.proofs.SlotLaws.{AllTame, IsTame}
 
 -- ---- keys of a whole tree ascend

@@ -9,7 +9,8 @@ use Rattle.std.proofs.lemmas.List.Folds.{list_any-append}
 use Rattle.alloc_map.specs.Slots.{is_used}
 use Rattle.pst_commit.specs.declared.store.Pin.{Pin}
 use Rattle.pst_commit.specs.Held.{IsWithHeld, held_at, held_without, is_held, opened_of}
-use Rattle.file_planner.specs.Holding.{AreLong, AreSized, IsHolding, placing_over}
+use Rattle.plan_placing.specs.Places.{placing_over}
+use Rattle.file_planner.specs.Holding.{AreLong, AreSized, IsHolding}
 
 -- ---- what is held
 

@@ -49,19 +49,19 @@ use Rattle.tree_edit.proofs.PlanLaws.{tally-join}
 use Rattle.ref_counts.specs.Changes.{change_of, number_after, number_by}
 use Rattle.plan_pieces.specs.Names.{named}
 use Rattle.plan_pieces.proofs.PageLaws.{named-within}
-use Rattle.file_planner.specs.declared.planner.PlanEffects.{PlanEffects}
-use Rattle.file_planner.specs.Drawn.{IsDrawn, blocks_drawn, nodes_drawn}
+use Rattle.plan_drawing.specs.declared.effects.PlanEffects.{PlanEffects}
+use Rattle.plan_drawing.specs.Drawn.{IsDrawn, blocks_drawn, nodes_drawn}
+use Rattle.plan_drawing.specs.Recounts.{edit_of, left_places, puts_of, recounts, with_refs}
+use Rattle.plan_placing.specs.Known.{IsKnown, IsKnownBy}
 use Rattle.file_planner.specs.Holding.{IsOver}
-use Rattle.file_planner.specs.Knowing.{IsKnown, IsKnownBy}
-use Rattle.file_planner.specs.Recounts.{edit_of, left_places, puts_of, recounts, with_refs}
 use Rattle.ref_counts.specs.declared.table.RefChange.{RefChange}
+use Rattle.plan_drawing.proofs.NewLaws.{next-is, next-known, sum-exact}
+use Rattle.plan_drawing.proofs.RecountLaws.{each-with, put-sum-append, puts-append, sum-places}
 use Rattle.file_planner.proofs.AfterLaws.{slots-after, tame-standing}
 use Rattle.file_planner.proofs.DrawnLaws
 use Rattle.file_planner.proofs.FreedLaws.{left-tame, olds-append, puts-olds, puts-sum, recounts-sum, tame-back, tame-both, tame-front, whole-rise}
-use Rattle.file_planner.proofs.NewLaws.{next-is, next-known, sum-exact}
 use Rattle.file_planner.proofs.PageLaws.{RefBelow, changed-below, page-is, page-known, pages-count}
 use Rattle.file_planner.proofs.PlacedLaws.{laid-places, standing-once}
-use Rattle.file_planner.proofs.RecountLaws.{each-with, put-sum-append, puts-append, sum-places}
 use Rattle.file_planner.proofs.SlotLaws.{AllTame, IsTame}
 
 -- ---- lists

@@ -2,8 +2,6 @@ pub mod SlotLaws
 pub mod HoldingLaws
 pub mod OverLaws
 pub mod AfterLaws
-pub mod RecountLaws
-pub mod NewLaws
 pub mod PageLaws
 pub mod PlacedLaws
 pub mod DrawnLaws
@@ -14,8 +12,6 @@ pub mod FollowLaws
 pub mod ComesLaws
 pub mod RoomLaws
 pub mod OldLaws
-pub mod TreeSteps
-pub mod DrawSteps
 pub mod KeepLaws
 pub mod PlanSteps
 pub mod StayLaws

@@ -1,48 +1,23 @@
--- The edits of old blocks, one by one, and why calls in turn stop.
+-- The edits of old blocks, one by one.
 use Rattle.std.proofs.Common.{◌≡◌, ◌∙◌, inl, inr, ℕ, suc, ◌+◌, ◌<◌, ◌≤◌, get_or, List, [], ◌∷◌, ◌++◌, length, take, Option, refl, sym, ap, subst, arith, append_assoc, append-nil}
 use Rattle.std.proofs.Math.Seq.{take-suc}
 use Rattle.std.proofs.lemmas.Bool.{cases_lt, le-ltb, lt-ltb}
 use Rattle.std.proofs.lemmas.List.{take_all}
 use Rattle.pst_base.specs.declared.places.Place.{Place}
-use Rattle.pst_base.specs.declared.stops.MemOr.{MemOr}
-use Rattle.pst_base.specs.declared.stops.MemOr.TheVariants.{Memory, Refused}
-use Rattle.pst_base.specs.declared.stops.SourceStop.{SourceStop}
-use Rattle.pst_base.specs.declared.stops.SourceStop.TheVariants.{Changed, Failed}
 use Rattle.pst_base.specs.Ids.{key_of}
 use Rattle.pst_outside.specs.World.{Image, World}
-use Rattle.pst_outside.specs.Calls.{Rose, Untouched}
+use Rattle.pst_outside.specs.Calls.{Untouched}
 use Rattle.btree_pages.specs.declared.entry.BlockEntry.{BlockEntry}
 use Rattle.btree_pages.specs.Entries.{block_of}
 use Rattle.file_blocks.specs.Blocks.{entry_key, file_of}
 use Rattle.file_layout.proofs.Underway.{untouched_then}
 use Rattle.file_pages.proofs.SourceLaws.{untouched-same}
 use Rattle.file_pages.specs.declared.search.FileTree.{FileTree}
-use Rattle.file_pages.specs.Told.{Caches, HasTree, StopsUnless}
-use Rattle.node_port.specs.declared.keeper.KeepStop.{KeepStop}
-use Rattle.node_port.specs.declared.keeper.KeepStop.TheVariants as keep
-use Rattle.node_store.specs.Told.{StopsKeeping}
+use Rattle.file_pages.specs.Told.{Caches, HasTree}
 use Rattle.page_cache.specs.declared.cache.Cached.{Cached}
 use Rattle.tree_edit.specs.Edits.{entry_with}
 use Rattle.ref_counts.specs.declared.table.RefChange.{RefChange}
-use Rattle.file_planner.specs.Recounts.{edit_of, left_places, place_left, recounts}
-
--- ---- stops
-
-rose-later : (a b c : ℕ) → a ≤ b → Rose b c → Rose a c
-rose-later a b c le rose = omega (arith, le, rose)
-
--- a stop of a later call
-pub unless-later : (first mid new : World) (Whole Then : Type 0) → Untouched first mid → (Whole → Then) → (stop : MemOr SourceStop) → StopsUnless mid new Then stop → StopsUnless first new Whole stop
-unless-later first mid new Whole Then same on Memory stops = tt
-unless-later first mid new Whole Then same on (Refused Failed) stops = rose-later first.disk_faults mid.disk_faults new.disk_faults same.counts.disk_faults stops
-unless-later first mid new Whole Then same on (Refused (Changed ib stored computed)) stops = λ whole. stops (on whole)
-
-pub keeping-later : (first mid new : World) (Whole Then : Type 0) → Untouched first mid → (Whole → Then) → (stop : KeepStop) → StopsKeeping mid new Then stop → StopsKeeping first new Whole stop
-keeping-later first mid new Whole Then same on keep.Fault stops = rose-later first.disk_faults mid.disk_faults new.disk_faults same.counts.disk_faults stops
-keeping-later first mid new Whole Then same on (keep.Changed ib stored computed) stops = λ whole. stops (on whole)
-keeping-later first mid new Whole Then same on keep.Memory stops = tt
-
--- ---- edits
+use Rattle.plan_drawing.specs.Recounts.{edit_of, left_places, place_left, recounts}
 
 -- the entries of the block tree under a root
 abbrev pub HasEntries : World → FileTree → List BlockEntry → Type 0

@@ -1,5 +1,5 @@
 -- The pages of a tree after edits: how many there are, and their ids.
-use Rattle.std.proofs.Common.{Bool, true, false, ◌≡◌, ◌∙◌, inl, inr, ℕ, zero, suc, ◌+◌, ◌^◌, ◌<◌, ◌≤◌, eqb, List, [], ◌∷◌, ◌++◌, length, map, take, drop, Option, Some, None, Result, Ok, Err, refl, sym, ap, subst, arith, if◌then◌else◌, length-append}
+use Rattle.std.proofs.Common.{Bool, true, false, ◌≡◌, inl, inr, ℕ, zero, suc, ◌+◌, ◌^◌, ◌<◌, ◌≤◌, eqb, List, [], ◌∷◌, ◌++◌, length, map, take, drop, Option, Some, None, Result, Ok, Err, refl, sym, ap, subst, arith, if◌then◌else◌, length-append}
 use Rattle.std.proofs.lemmas.Bool.{cases_eq, eq-eqb, ne_eqb}
 use Rattle.pst_base.specs.declared.ids.Bref.{Bref}
 use Rattle.pst_base.specs.declared.places.Place.{Place}
@@ -22,21 +22,13 @@ use Rattle.tree_edit.proofs.PlanLaws.{tally-join}
 use Rattle.file_pages.specs.InFile.{body_at, ok_of, shapes_in}
 use Rattle.node_layout.specs.Changed.{IsChangedTree}
 use Rattle.node_layout.specs.Lookups.{Each}
-use Rattle.node_layout.proofs.TreeLaws.{same-sums, sum_at}
+use Rattle.plan_drawing.proofs.FileLaws.{same-length}
 
 -- ---- how many pages
-
-sum-ones : (ps : List Bref) → sum_at (λ ib. 1) ps ≡ length ps
-sum-ones [] = refl
-sum-ones (p ∷ ps) = let h = sum-ones ps in omega (arith, h)
 
 pub names-count : {E : Type 0} (name : ℕ → Bref) (from : ℕ) (pages : List (PlanPage E)) → length (names name from pages) ≡ length pages
 names-count name from [] = refl
 names-count name from (p ∷ pages) = let h = names-count name (from + 1) pages in omega (arith, h)
-
--- lists that name each place equally often are equally long
-pub same-length : (xs ys : List Bref) → ((k : ℕ) → tally k xs ≡ tally k ys) → length xs ≡ length ys
-same-length xs ys same = sym (sum-ones xs) ∙ same-sums (λ ib. 1) xs ys same ∙ sum-ones ys
 
 pub pages-count : {E : Type 0} {entry_of : List ℕ → E} {key : E → ℕ} {t : FileTree} {new : List ℕ} {more : ℕ} {old : Found} {pages : List (PlanPage E)} {freed : List Bref} {top : Child} {name : ℕ → Bref} {ds : List (ℕ × Option E)}
     → (is : IsChangedTree entry_of key t new more old pages freed top name ds) → length (is.found).pages + length freed ≡ length old.pages + length pages

@@ -1,5 +1,5 @@
 -- Where a plan's pages and blocks stand.
-use Rattle.std.proofs.Common.{Bool, ◌≡◌, ℕ, zero, suc, ◌+◌, ◌-◌, ◌*◌, ◌<◌, ◌≤◌, List, [], ◌∷◌, ◌++◌, length, map, sym, subst, arith}
+use Rattle.std.proofs.Common.{Bool, ◌≡◌, ℕ, ◌+◌, ◌-◌, ◌*◌, ◌≤◌, List, [], ◌∷◌, ◌++◌, length, map, sym, subst, arith}
 use Rattle.std.specs.List.{All}
 use Rattle.std.proofs.lemmas.List.Elements.{All-cons, All-head, All-nil, All-tail}
 use Rattle.pst_base.specs.declared.ids.Bid.{Bid}
@@ -12,9 +12,8 @@ use Rattle.alloc_map.specs.Covered.{Once}
 use Rattle.alloc_map.specs.Taken.{Taken}
 use Rattle.block_frame.specs.Size.{disk_size_of}
 use Rattle.btree_pages.specs.declared.entry.BlockEntry.{BlockEntry}
-use Rattle.file_layout.specs.declared.tree_pages.Seat.{Seat}
-use Rattle.file_layout.specs.Nodes.{Lays, NodeMap, block_tree, places_of, regions_to}
-use Rattle.file_layout.specs.Trees.{FileTree, Found, IsPlace, IsTree, root_seat}
+use Rattle.file_layout.specs.Nodes.{Lays, NodeMap, places_of, regions_to}
+use Rattle.file_layout.specs.Trees.{IsPlace}
 use Rattle.lays_kept.specs.declared.Piece.{Piece}
 use Rattle.lays_kept.specs.Kept.{Each}
 use Rattle.lays_kept.proofs.Beside.{IsWhole}
@@ -72,14 +71,6 @@ standing-once {header} {file} {m} is =
     subst (λ (k : ℕ). Once (standing ps k)) sum (standing-more ps n (8192 - n)
     (laid-of header.eof n ps (regions-reach header.eof) (lays_places header file m is) (lays_wholes header file m is))
     (apart_once (standing ps n) is.apart))
-
--- a file with a tree has bytes for its root
-root-high : (t : FileTree) (n : ℕ) (seat : Seat) (found : Found) → IsTree t n seat found → 17408 < t.eof
-root-high t zero seat found is = let above = ((is.1).stands).above in let before = ((is.1).stands).before in omega (arith, above, before)
-root-high t (suc n) seat found is = let above = ((is.2).stands).above in let before = ((is.2).stands).before in omega (arith, above, before)
-
-pub laid-high : {header : Header} {file : List ℕ} {m : NodeMap} (is : Lays header file m) → 17408 < header.eof
-laid-high {header} {file} {m} is = root-high (block_tree file header.eof) (is.block_pages).level (root_seat header.bbt) is.blocks (is.block_pages).tree
 
 -- ---- pieces
 

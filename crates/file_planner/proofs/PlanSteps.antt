@@ -16,13 +16,12 @@ use Rattle.lays_kept.specs.declared.Piece.{Piece}
 use Rattle.node_port.specs.declared.node.NodeRec.{NodeRec}
 use Rattle.node_store.specs.declared.node.PageCaches.{PageCaches}
 use Rattle.node_store.specs.Told.{TellsNodes}
-use Rattle.file_planner.specs.declared.draw.Numbers.{Numbers}
-use Rattle.file_planner.specs.declared.draw.Sketch.{Sketch}
-use Rattle.file_planner.specs.declared.planner.PlanEffects.{PlanEffects}
-use Rattle.file_planner.specs.Drawn.{IsDrawn}
-use Rattle.file_planner.specs.Draws.{CanDraw}
-use Rattle.file_planner.specs.Gathered.{IsSketched}
-use Rattle.file_planner.specs.Knowing.{IsKnown}
+use Rattle.plan_drawing.specs.declared.draw.Numbers.{Numbers}
+use Rattle.plan_drawing.specs.declared.draw.Sketch.{Sketch}
+use Rattle.plan_drawing.specs.declared.effects.PlanEffects.{PlanEffects}
+use Rattle.plan_drawing.specs.Drawn.{IsDrawn}
+use Rattle.plan_placing.specs.Draws.{CanDraw, IsSketched}
+use Rattle.plan_placing.specs.Known.{IsKnown}
 
 -- what is drawn of any reading of a file
 abbrev pub DrawsAll : Header → List Bool → (ℕ → ℕ) → Numbers → List (Nid × Option NodeRec) → Sketch → List (ℕ × Option BlockEntry) → List Piece → List ℕ → Header → PlanEffects → List ℕ → Type 0

@@ -8,7 +8,7 @@ use Rattle.alloc_map.specs.Covered.{IsTwice, Once}
 use Rattle.alloc_map.specs.Tally.{one_at, tally}
 use Rattle.alloc_map.proofs.CoverLaws.{fixed_slots_small, fixed_slots_some}
 use Rattle.alloc_map.proofs.TallyLaws.{some_tally, tally_some, tally_twice}
-use Rattle.file_planner.specs.Freed.{all_behind, behind_fixed}
+use Rattle.plan_drawing.specs.Freed.{all_behind, behind_fixed}
 
 -- ---- one place
 

@@ -15,9 +15,10 @@ use Rattle.lays_kept.proofs.Kept.{each_back, found_kept}
 use Rattle.node_refs.specs.Counts.{AreRefs}
 use Rattle.ref_counts.specs.Tables.{refs_in}
 use Rattle.ref_counts.specs.Changes.{HasRoomFor}
+use Rattle.plan_drawing.specs.declared.effects.PlanEffects.{PlanEffects}
+use Rattle.plan_placing.specs.Known.{IsKnownBy}
 use Rattle.file_planner.specs.declared.planner.FilePlanner.{FilePlanner}
-use Rattle.file_planner.specs.declared.planner.PlanEffects.{PlanEffects}
-use Rattle.file_planner.specs.Knowing.{IsKnownBy, Knows, KnowsAfter, number_now}
+use Rattle.file_planner.specs.Knowing.{Knows, KnowsAfter, number_now}
 use Rattle.file_planner.specs.Holding.{AreSized, IsHolding}
 use Rattle.file_planner.proofs.ComesLaws.{SameNumbers, holding-on, none-wrong}
 

@@ -13,8 +13,8 @@ use Rattle.node_layout.specs.Joined.{node_id}
 use Rattle.node_port.specs.declared.node.NodeRec.{NodeRec}
 use Rattle.plan_pieces.specs.Growth.{regions_in}
 use Rattle.ref_counts.specs.declared.table.RefChange.{RefChange}
-use Rattle.file_planner.specs.Drawn.{IsSketch}
-use Rattle.file_planner.specs.Recounts.{recounts}
+use Rattle.plan_drawing.specs.Drawn.{IsSketch}
+use Rattle.plan_drawing.specs.Recounts.{recounts}
 
 -- so many keys of a tree whose root has this level change that it may pass level 7, and then is written anew
 abbrev pub MayPass : ℕ → ℕ → Type 0

@@ -1,17 +1,13 @@
--- The slots that pins hold beside a file's own, and those over which a plan places.
-use Rattle.std.specs.Prelude.{◌≡◌, ℕ, Bool, true, List, [], length, Option, None, Some, All}
+-- The slots that pins hold beside a file's own.
+use Rattle.std.specs.Prelude.{◌≡◌, ℕ, Bool, true, List, [], length, Option, None, All}
 use Rattle.alloc_map.specs.Slots.{is_used}
 use Rattle.pst_commit.specs.declared.store.Pin.{Pin}
 use Rattle.pst_commit.specs.Held.{IsWithHeld, opened_of}
+use Rattle.plan_placing.specs.Places.{placing_over}
 
 -- each pin has as many slots
 abbrev pub AreLong : ℕ → List (Pin × List Bool) → Type 0
 AreLong n pins = All (λ (pin : Pin × List Bool). length pin.1 ≡ n) pins
-
--- the slots over which a plan places: the file's own, or where there is a union with those of pins, that
-abbrev pub placing_over : List Bool → Option (List Bool) → List Bool
-placing_over own None = own
-placing_over own (Some all) = all
 
 -- The slots of each pin are as many as the file's own, and so are those of the union, which is there where a pin is kept.
 pub record AreSized (own : List Bool) (pins : List (Pin × List Bool)) (all : Option (List Bool)) : Type 0 where

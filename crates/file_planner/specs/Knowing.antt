@@ -1,37 +1,21 @@
 -- What a planner knows of a file.
-use Rattle.std.specs.Prelude.{◌≡◌, ◌+◌, ◌*◌, ◌^◌, ◌||◌, nat_le, ℕ, Bool, List, ◌++◌, length}
+use Rattle.std.specs.Prelude.{◌^◌, ◌||◌, nat_le, ℕ, Bool, List}
 use Rattle.pst_header.specs.declared.header.Header.{Header}
 use Rattle.alloc_map.specs.Cells.{free_cells_of}
-use Rattle.alloc_map.specs.Standing.{occupied, IsCovered}
 use Rattle.alloc_map.specs.Taken.{Taken}
-use Rattle.file_blocks.specs.Blocks.{found_in}
-use Rattle.file_layout.specs.Nodes.{NodeMap, Lays, blocks_in, nodes_in, places_of}
-use Rattle.file_layout.specs.Numbers.{next_block, next_page}
-use Rattle.file_layout.specs.Trees.{Found}
+use Rattle.file_layout.specs.Nodes.{NodeMap, Lays}
 use Rattle.file_pages.specs.InFile.{bodies}
 use Rattle.page_cache.specs.Cache.{Holds}
-use Rattle.node_refs.specs.Counts.{AreRefs}
 use Rattle.node_store.specs.declared.node.PageCaches.{PageCaches}
 use Rattle.ref_counts.specs.Tables.{refs_in}
 use Rattle.ref_counts.specs.Changes.{HasRoomFor, change_of, number_by}
+use Rattle.plan_drawing.specs.declared.effects.PlanEffects.{PlanEffects}
+use Rattle.plan_placing.specs.Known.{IsKnown}
+use Rattle.plan_placing.specs.Places.{placing_over}
 use Rattle.file_planner.specs.declared.planner.FilePlanner.{FilePlanner}
-use Rattle.file_planner.specs.declared.planner.PlanEffects.{PlanEffects}
-use Rattle.file_planner.specs.Holding.{AreSized, IsHolding, placing_over}
+use Rattle.file_planner.specs.Holding.{AreSized, IsHolding}
 
 -- ---- a file
-
--- The used slots, the numbers of references, the number of pages and the next numbers are those of a file with these trees.
-pub record IsKnownBy (header : Header) (file : List ℕ) (blocks nodes : Found) (slots : List Bool) (counts : ℕ → ℕ) (many block page : ℕ) : Type 0 where
-  pub size : length slots ≡ 3968 * 8192
-  pub used : IsCovered (occupied (places_of blocks nodes) 8192) slots
-  pub refs : AreRefs (found_in file (blocks_in blocks)) (nodes_in nodes) counts
-  pub pages : many ≡ length blocks.pages + length nodes.pages
-  pub next_block : block ≡ next_block header (blocks_in blocks)
-  pub next_page : page ≡ next_page header (blocks.pages ++ nodes.pages)
-
--- the same of a file that lays nodes
-abbrev pub IsKnown : {header : Header} {file : List ℕ} {m : NodeMap} → Lays header file m → List Bool → (ℕ → ℕ) → ℕ → ℕ → ℕ → Type 0
-IsKnown {header} {file} {m} is slots counts pages block page = IsKnownBy header file is.blocks is.nodes slots counts pages block page
 
 -- the caches have no other pages than those of a file
 pub record AreCached (header : Header) (file : List ℕ) (caches : PageCaches) : Type 0 where

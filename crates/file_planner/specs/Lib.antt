@@ -1,13 +1,7 @@
-pub mod Freed
-pub mod Recounts
 pub mod Holding
 pub mod Knowing
-pub mod Drawn
 pub mod Follows
 pub mod Becomes
 pub mod Cost
-pub mod Trees
-pub mod Gathered
-pub mod Draws
 pub mod Laws
 pub mod Stopping

@@ -2,7 +2,8 @@
 ghost use Rattle.std.specs.Prelude.{◌≡◌, ◌==◌, ◌++◌, ◌∷◌, [], length, position, None, OnErr, OnOk};
 ghost use Rattle.alloc_map.specs.Slots.{Unites};
 ghost use Rattle.pst_commit.specs.Held.{IsWithHeld, held_without, opened_of, pin_at};
-ghost use Rattle.file_planner.specs.Holding.{AreLong, AreSized, IsHolding, placing_over};
+ghost use Rattle.plan_placing.specs.Places.{placing_over};
+ghost use Rattle.file_planner.specs.Holding.{AreLong, AreSized, IsHolding};
 
 use alloc_map::Slots;
 use pst_commit::Pin;

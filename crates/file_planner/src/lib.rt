@@ -7,15 +7,12 @@
 //! It is made of what a scan of a file found. It leaves the scan to others.
 #![tactic(auto)]
 
-mod draw;
 mod found;
-mod freed;
 mod held;
 mod old;
-mod place;
 mod planner;
 mod planning;
 mod room;
-mod trees;
 
-pub use planner::{FilePlanner, PlanEffects};
+pub use plan_drawing::PlanEffects;
+pub use planner::FilePlanner;

@@ -7,10 +7,10 @@ ghost use Rattle.file_layout.specs.Nodes.{place_of};
 ghost use Rattle.file_pages.specs.Told.{Caches, HasTree, StopsUnless};
 ghost use Rattle.pst_base.specs.Ids.{key_of};
 ghost use Rattle.pst_outside.specs.Calls.{Untouched};
-ghost use Rattle.file_planner.specs.Recounts.{edit_of, left_places, place_left, puts_of, recounted, recounts};
+ghost use Rattle.plan_drawing.specs.Recounts.{edit_of, left_places, place_left, recounted, recounts};
 
 use block_frame::disk_size;
-use btree_pages::{BlockEntry, Entry};
+use btree_pages::BlockEntry;
 use file_pages::{FileTree, entry_at};
 use page_cache::PageCache;
 use pst_base::{MemOr, Place, SourceStop};
@@ -69,19 +69,6 @@ fn add_edit(
     if change.after == 0 {
         let place = place_of(entry)?;
         old.left.push(place)?;
-    }
-    Ok(())
-}
-
-/// Adds the edits that put new entries.
-pub(crate) fn put_entries(
-    edits: &mut Vec<(u64, Option<BlockEntry>)>,
-    entries: &[BlockEntry],
-) -> Result<(), AllocError>
-    ensures { OnOk result (edits.new.items ≡ edits.old.items ++ puts_of entries.now) }
-{
-    for entry in entries {
-        edits.push((entry.key(), Some(*entry)))?;
     }
     Ok(())
 }

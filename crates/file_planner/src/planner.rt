@@ -1,4 +1,4 @@
-//! What is known of a file, and of a file after a commit.
+//! What is known of a file.
 ghost use Rattle.std.specs.Prelude.{◌≡◌};
 ghost use Rattle.file_planner.specs.Stopping.{prepare_stop};
 
@@ -7,11 +7,12 @@ use crate::room::decide;
 use alloc_map::Slots;
 use node_port::{Changes, KeepStop, NodeRec, PrepareStop};
 use node_store::{PageCaches, next_node, read_node, read_node_data};
-use pst_base::{Nid, Place};
+use plan_drawing::PlanEffects;
+use pst_base::Nid;
 use pst_commit::{CommitPlan, NodeStore, Pin};
 use pst_header::Header;
 use pst_outside::Outside;
-use ref_counts::{RefChange, RefCounts};
+use ref_counts::RefCounts;
 use std::alloc::{AllocError, Global};
 
 /// Reads a file's nodes and plans changes of them. It knows the file's used slots and the pins, how often each block is referred to, the pages of both trees by number, and the numbers of the next block and page; and it has caches of pages.
@@ -26,19 +27,6 @@ pub struct FilePlanner {
     /// The number of the next block.
     pub(crate) next_block: u64,
     /// The number of the next page.
-    pub(crate) next_page: u64,
-}
-
-/// What a planner knows after a commit.
-#[derive(Drop)]
-pub struct PlanEffects {
-    /// The places of new pages and blocks.
-    pub(crate) taken: Vec<Place>,
-    /// The places that are free then, but for fixed pages.
-    pub(crate) freed: Vec<Place>,
-    pub(crate) refs: Vec<RefChange>,
-    pub(crate) pages: u64,
-    pub(crate) next_block: u64,
     pub(crate) next_page: u64,
 }
 

@@ -13,20 +13,20 @@ ghost use Rattle.pst_outside.specs.Calls.{Untouched};
 ghost use Rattle.ref_counts.specs.Changes.{HasRoomFor};
 ghost use Rattle.ref_counts.specs.Tables.{refs_in};
 ghost use Rattle.tree_edit.specs.Edits.{AreEdits};
-ghost use Rattle.file_planner.specs.Drawn.{IsDrawn};
-ghost use Rattle.file_planner.specs.Gathered.{IsSketched};
-ghost use Rattle.file_planner.specs.Holding.{placing_over};
-ghost use Rattle.file_planner.specs.Knowing.{IsKnown, spent};
+ghost use Rattle.plan_drawing.specs.Drawn.{IsDrawn};
+ghost use Rattle.plan_placing.specs.Draws.{IsSketched};
+ghost use Rattle.plan_placing.specs.Places.{placing_over};
+ghost use Rattle.plan_placing.specs.Known.{IsKnown};
+ghost use Rattle.file_planner.specs.Knowing.{spent};
 
-use crate::draw::{Numbers, Sketch};
 use crate::old::old_edits;
-use crate::place::draw_beside;
-use crate::planner::{FilePlanner, PlanEffects};
-use crate::trees::{block_tree, changed};
+use crate::planner::FilePlanner;
 use btree_pages::BlockEntry;
 use content_plan::plan_contents;
 use node_port::{Counts, KeepStop, NodeRec};
 use node_store::keep_stop;
+use plan_drawing::{Numbers, PlanEffects, Sketch, block_tree, changed_at};
+use plan_placing::draw_beside;
 use pst_base::Nid;
 use pst_commit::CommitPlan;
 use pst_header::Header;
@@ -150,7 +150,7 @@ impl FilePlanner {
         ensures page { self.new.next_page ≡ self.old.next_page }
     {
         if self.next_block < 4 || self.next_block % 4 != 0 {
-            return Err(changed(header.bbt));
+            return Err(changed_at(header.bbt));
         }
         let made = match self.sketch_nodes(alloc, w, header, nodes) {
             Ok(made) => made,

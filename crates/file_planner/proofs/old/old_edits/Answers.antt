@@ -1,7 +1,8 @@
 use Rattle.std.proofs.Common.{List, refl}
 use Rattle.btree_pages.specs.declared.entry.BlockEntry.{BlockEntry}
 use Rattle.file_pages.specs.Told.{Caches}
-use Rattle.file_planner.proofs.OldLaws.{HasEntries, editing-more, entries-still, unless-later}
+use Rattle.plan_drawing.proofs.StopLaws.{unless-later}
+use Rattle.file_planner.proofs.OldLaws.{HasEntries, editing-more, entries-still}
 use Rattle.file_planner.proofs.old.old_edits.Goals as goal
 
 pub loop-change-preserved : goal.loop-change-preserved

@@ -4,14 +4,13 @@ use Rattle.file_layout.specs.Nodes.{NodeMap, blocks_in}
 use Rattle.node_port.specs.Stops.{size}
 use Rattle.node_store.specs.Told.{StopsKeeping, TellsNodes}
 use Rattle.ref_counts.specs.Tables.{refs_in}
-use Rattle.file_planner.specs.declared.draw.Numbers.{Numbers}
-use Rattle.file_planner.specs.Draws.{CanDraw}
-use Rattle.file_planner.specs.Drawn.{IsDrawn}
-use Rattle.file_planner.specs.Gathered.{IsSketched}
-use Rattle.file_planner.specs.Holding.{placing_over}
-use Rattle.file_planner.specs.Knowing.{IsKnown}
-use Rattle.file_planner.proofs.NewLaws.{next-known}
-use Rattle.file_planner.proofs.OldLaws.{keeping-later}
+use Rattle.plan_drawing.specs.declared.draw.Numbers.{Numbers}
+use Rattle.plan_drawing.specs.Drawn.{IsDrawn}
+use Rattle.plan_drawing.proofs.NewLaws.{next-known}
+use Rattle.plan_drawing.proofs.StopLaws.{keeping-later}
+use Rattle.plan_placing.specs.Draws.{CanDraw, IsSketched}
+use Rattle.plan_placing.specs.Places.{placing_over}
+use Rattle.plan_placing.specs.Known.{IsKnown}
 use Rattle.file_planner.proofs.PlanSteps.{can-after, draw-before}
 use Rattle.file_planner.proofs.planner.FilePlanner.plan_nodes.Goals as goal
 use Rattle.file_planner.proofs.planner.FilePlanner.plan_nodes.Goals.{then-self-lt4-via-then-self-lt4, then-self-lt4-via-else-self-lt4+then-self-ne0}
@@ -22,7 +21,7 @@ returns-then-self-lt4-clause-stops g c =
     let p = c.args.self.now in
     let header = c.args.header.now in
     let Whole : Type 0 = (m : NodeMap) × (tells : TellsNodes old header p.caches m) × (length (placing_over p.slots p.held.all) ≡ length p.slots) × IsKnown tells.lays p.slots (refs_in p.refs) p.pages p.next_block p.next_page in
-    subst (StopsKeeping old old Whole) (sym c.changed.ensures) (λ is.
+    subst (StopsKeeping old old Whole) (sym c.changed_at.ensures) (λ is.
     let k = next-known header (blocks_in is.1.lays.blocks) p.next_block is.3.next_block c.requires.low in
     let apart = k.0 in
     let some = k.1 in

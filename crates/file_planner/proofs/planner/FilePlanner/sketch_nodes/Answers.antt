@@ -9,9 +9,9 @@ use Rattle.file_pages.specs.declared.search.FileTree.{FileTree}
 use Rattle.file_pages.specs.Told.{Caches, HasTree}
 use Rattle.node_store.specs.Told.{StopsKeeping, TellsNodes}
 use Rattle.node_store.proofs.NodeLaws.{has-blocks}
-use Rattle.file_planner.specs.Recounts.{left_places, recounts}
-use Rattle.file_planner.proofs.OldLaws.{keeping-later}
-use Rattle.file_planner.proofs.TreeSteps.{block-stops, block_tree_of, keeps-blocks, tree-is}
+use Rattle.plan_drawing.specs.Recounts.{left_places, recounts}
+use Rattle.plan_drawing.proofs.StopLaws.{keeping-later}
+use Rattle.plan_drawing.proofs.TreeSteps.{block-stops, block_tree_of, keeps-blocks, tree-is}
 use Rattle.file_planner.proofs.planner.FilePlanner.sketch_nodes.Goals as goal
 
 pub returns-in-Err-old_edits-clause-stops : goal.returns-in-Err-old_edits-clause-stops

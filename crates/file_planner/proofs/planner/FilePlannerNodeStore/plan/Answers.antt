@@ -10,10 +10,11 @@ use Rattle.node_store.specs.Told.{TellsNodes}
 use Rattle.pst_commit.specs.Held.{opened_of}
 use Rattle.pst_commit.specs.Keeping.{Holds, PlansFor}
 use Rattle.ref_counts.specs.Tables.{refs_in}
+use Rattle.plan_placing.specs.Places.{placing_over}
+use Rattle.plan_placing.specs.Known.{IsKnown}
 use Rattle.file_planner.specs.Becomes.{IsMade}
 use Rattle.file_planner.specs.Cost.{IsWithin}
-use Rattle.file_planner.specs.Holding.{placing_over}
-use Rattle.file_planner.specs.Knowing.{IsKnown, Knows, KnowsAfter, placing}
+use Rattle.file_planner.specs.Knowing.{Knows, KnowsAfter, placing}
 use Rattle.file_planner.proofs.ComesLaws.{both-same, cached-after, drawn-on, empty-reads, empty-tells, held-emptied, looks-on, plans-when}
 use Rattle.file_planner.proofs.KeepLaws.{decides-on, decides-same, prepare-to, room-enough}
 use Rattle.file_planner.proofs.StayLaws.{emptied, planned}

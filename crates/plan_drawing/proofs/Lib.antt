@@ -1,0 +1,6 @@
+pub mod RecountLaws
+pub mod NewLaws
+pub mod FileLaws
+pub mod StopLaws
+pub mod TreeSteps
+pub mod DrawSteps

@@ -1,0 +1,5 @@
+pub mod Freed
+pub mod Recounts
+pub mod Drawn
+pub mod Trees
+pub mod Gathered
