@@ -13,7 +13,7 @@ use Rattle.node_port.specs.Pins.{no_pins}
 use Rattle.node_port.specs.Stops.{KeepStops, PrepareStops, Room, RoomDecides, need, size}
 use Rattle.node_store.specs.Told.{StopsKeeping}
 use Rattle.file_planner.specs.Knowing.{spent}
-use Rattle.file_planner.specs.Stopping.{IsRoomStop, prepare_stop}
+use Rattle.file_planner.specs.Stopping.{prepare_stop}
 
 -- ---- stops
 
@@ -31,20 +31,6 @@ pub prepare-to : (old new : World) (Whole : Type 0) (held : port.Nodes → Type 
 prepare-to old new Whole held whole keep.Fault stops = (stops, refl)
 prepare-to old new Whole held whole (keep.Changed ib stored computed) stops = λ N is. stops (whole N is)
 prepare-to old new Whole held whole keep.Memory stops = tt
-
--- a stop for want of room is no other
-pub room-to : (before after : ℕ) (held : port.Nodes → Type 0) (stop : PrepareStop) → IsRoomStop stop → PrepareStops true before after held stop
-room-to before after held prepare.Fault is = absurd is
-room-to before after held (prepare.Changed ib stored computed) is = absurd is
-room-to before after held prepare.Memory is = absurd is
-room-to before after held (prepare.Full free needed) is = tt
-room-to before after held prepare.IdsSpent is = tt
-
--- a reading's stop decides nothing
-pub stop-decides : (R : Type 0) (has : Room) (room : ℕ) (cs : List (Nid × Option NodeRec)) (stop : KeepStop) → RoomDecides {R = R} has room cs (Err (prepare_stop stop))
-stop-decides R has room cs keep.Fault = tt
-stop-decides R has room cs (keep.Changed ib stored computed) = tt
-stop-decides R has room cs keep.Memory = tt
 
 -- what was decided is decided of any answer
 pub decides-on : (R S : Type 0) (has : Room) (room : ℕ) (cs : List (Nid × Option NodeRec)) (stop : PrepareStop) → RoomDecides {R = R} has room cs (Err stop) → RoomDecides {R = S} has room cs (Err stop)

@@ -2,7 +2,6 @@
 use Rattle.std.proofs.Common.{◌≡◌, ◌∙◌, inl, inr, ℕ, suc, ◌+◌, ◌<◌, ◌≤◌, get_or, List, [], ◌∷◌, ◌++◌, length, take, Option, refl, sym, ap, subst, arith, append_assoc, append-nil}
 use Rattle.std.proofs.Math.Seq.{take-suc}
 use Rattle.std.proofs.lemmas.Bool.{cases_lt, le-ltb, lt-ltb}
-use Rattle.std.proofs.lemmas.List.{take_all}
 use Rattle.pst_base.specs.declared.places.Place.{Place}
 use Rattle.pst_base.specs.Ids.{key_of}
 use Rattle.pst_outside.specs.World.{Image, World}
@@ -11,7 +10,6 @@ use Rattle.btree_pages.specs.declared.entry.BlockEntry.{BlockEntry}
 use Rattle.btree_pages.specs.Entries.{block_of}
 use Rattle.file_blocks.specs.Blocks.{entry_key, file_of}
 use Rattle.file_layout.proofs.Underway.{untouched_then}
-use Rattle.file_pages.proofs.SourceLaws.{untouched-same}
 use Rattle.file_pages.specs.declared.search.FileTree.{FileTree}
 use Rattle.file_pages.specs.Told.{Caches, HasTree}
 use Rattle.page_cache.specs.declared.cache.Cached.{Cached}
@@ -28,9 +26,6 @@ pub record Editing (first now : World) (tree : FileTree) (cached here : List (�
   pub same : Untouched first now
   pub caches : Caches first tree.eof tree.kind cached → Caches now tree.eof tree.kind here
   pub made : Caches first tree.eof tree.kind cached → (es : List BlockEntry) → HasEntries first tree es → (edits ≡ recounts es next cs) × (left ≡ left_places es next cs)
-
-pub editing-none : (first : World) (tree : FileTree) (cached : List (ℕ × Cached)) (next : ℕ) → Editing first first tree cached cached next [] [] []
-editing-none first tree cached next = record { same = untouched-same first; caches = λ c. c; made = λ c es has. (refl, refl) }
 
 recounts-more : (es : List BlockEntry) (next : ℕ) (cs : List RefChange) (c : RefChange)
     → (recounts es next (cs ++ c ∷ []) ≡ recounts es next cs ++ recounts es next (c ∷ [])) × (left_places es next (cs ++ c ∷ []) ≡ left_places es next cs ++ left_places es next (c ∷ []))
@@ -83,8 +78,3 @@ editing-more first mid now tree cached old here next i cs c d edits new left mor
         one.1 ∙ ap (λ (l : List Place). l ++ left_places es next (c ∷ [])) made.1 ∙ sym step.1 ∙ ap (left_places es next) (sym grown),
       );
 }
-
--- all of them
-pub editing-done : (first now : World) (tree : FileTree) (cached here : List (ℕ × Cached)) (next i : ℕ) (cs : List RefChange) (edits : List (ℕ × Option BlockEntry)) (left : List Place) → length cs ≤ i → Editing first now tree cached here next (take i cs) edits left
-    → Editing first now tree cached here next cs edits left
-editing-done first now tree cached here next i cs edits left past so_far = subst (λ (l : List RefChange). Editing first now tree cached here next l edits left) (take_all i cs past) so_far

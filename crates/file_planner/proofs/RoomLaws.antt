@@ -1,7 +1,7 @@
 -- How much is new, counted one by one.
-use Rattle.std.proofs.Common.{◌≡◌, ◌∙◌, ℕ, zero, suc, ◌+◌, ◌^◌, ◌<◌, ◌≤◌, min, get_or, List, [], ◌∷◌, ◌++◌, length, map, take, Option, None, Some, sym, ap, arith, length-append}
+use Rattle.std.proofs.Common.{◌≡◌, ◌∙◌, ℕ, zero, suc, ◌+◌, ◌^◌, ◌<◌, min, get_or, List, [], ◌∷◌, ◌++◌, length, map, take, Option, None, Some, sym, ap, arith, length-append}
 use Rattle.std.proofs.Math.Seq.{take-suc}
-use Rattle.std.proofs.lemmas.List.{length-map, take_all}
+use Rattle.std.proofs.lemmas.List.{length-map}
 use Rattle.pst_base.specs.declared.ids.Nid.{Nid}
 use Rattle.pst_base.specs.declared.subs.Sub.{Sub}
 use Rattle.pst_base.specs.Flat.{Flat}
@@ -40,9 +40,6 @@ subs-next subs i n b below s lt is so_far blocks under =
     let here : take (i + 1) subs ≡ take i subs ++ s ∷ [] = ap (λ (k : ℕ). take k subs) e ∙ take-suc subs i s lt ∙ ap (λ (x : Sub). take i subs ++ x ∷ []) (sym is) in
     let all = ap (λ (l : List Sub). subs_size (flattened l)) here ∙ subs-more (take i subs) s in
     omega (arith, so_far, blocks, under, all)
-
-pub subs-done : (subs : List Sub) (i n : ℕ) → length subs ≤ i → n ≡ min (subs_size (flattened (take i subs))) (2 ^ 60) → n ≡ min (subs_size (flattened subs)) (2 ^ 60)
-subs-done subs i n past so_far = so_far ∙ ap (λ (l : List Sub). min (subs_size (flattened l)) (2 ^ 60)) (take_all i subs past)
 
 -- ---- nodes
 

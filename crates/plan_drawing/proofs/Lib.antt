@@ -3,4 +3,3 @@ pub mod NewLaws
 pub mod FileLaws
 pub mod StopLaws
 pub mod TreeSteps
-pub mod DrawSteps

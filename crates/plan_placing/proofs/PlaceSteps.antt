@@ -1,13 +1,11 @@
 -- How what is built is put together, and why the steps of a plan stop.
 use Rattle.std.proofs.Common.{Bool, ◌≡◌, ◌∙◌, ℕ, ◌+◌, ◌*◌, ◌/◌, ◌^◌, ◌<◌, ◌≤◌, List, [], ◌∷◌, ◌++◌, length, Option, refl, sym, ap, subst, arith, length-append}
-use Rattle.std.specs.List.{All}
 use Rattle.pst_base.specs.declared.ids.Bref.{Bref}
 use Rattle.pst_base.specs.declared.ids.Nid.{Nid}
 use Rattle.pst_base.specs.declared.places.Place.{Place}
 use Rattle.pst_outside.specs.World.{World}
 use Rattle.pst_header.specs.declared.header.Header.{Header}
 use Rattle.alloc_map.specs.Ends.{region_end}
-use Rattle.alloc_map.specs.Slots.{IsLaid, regions_of}
 use Rattle.alloc_map.specs.Taken.{IsBlockPlace, IsPagePlace, Taken, Takes}
 use Rattle.btree_pages.specs.declared.entry.BlockEntry.{BlockEntry}
 use Rattle.btree_pages.specs.declared.entry.NodeEntry.{NodeEntry}
@@ -38,14 +36,6 @@ use Rattle.plan_drawing.proofs.NewLaws.{next-known, puts-edits, sealed-count}
 use Rattle.plan_drawing.proofs.FileLaws.{laid-high, same-length}
 use Rattle.plan_drawing.proofs.RecountLaws.{edits-append, extra-append, puts-extra, recounts-edits, recounts-extra, sum-ones}
 use Rattle.plan_placing.specs.Draws.{CanDraw, IsBuilt, IsSketched}
-
--- ---- places in all regions
-
-pub laid-8192 : (used : List Bool) (regions : ℕ) (ps : List Place) → length used ≡ 3968 * regions → regions ≤ 8192 → All (IsLaid (regions_of used)) ps → All (IsLaid 8192) ps
-laid-8192 used regions ps size few all = λ k d lt.
-    let is = all k d lt in
-    let within = is.within in
-    record { above = is.above; start = is.start; whole = is.whole; within = omega (arith, within, size, few) }
 
 -- built parts of what was sketched are gathered
 pub gather : {header : Header} {file : List ℕ} {m : NodeMap} (is : Lays header file m) (used mid now : List Bool) (counts : ℕ → ℕ) (block : ℕ) (cs : List (Nid × Option NodeRec)) (sketch : Sketch) (edits : List (ℕ × Option BlockEntry)) (pieces : List Piece) (blocks pages : List Place) (trees : Trees)
@@ -78,9 +68,6 @@ module _ {world : World} {header : Header} {caches : PageCaches} {numbers : Numb
 
   pub can-reach : (17408 < header.eof) × (header.eof ≤ region_end 8192)
   can-reach = (laid-high can.tells.lays, can.tells.lays.small_enough)
-
-  pub can-place : length sketch.blocks.items ≤ free
-  can-place = let few = can.few in let enough = can.enough in omega (arith, few, enough)
 
   -- no more pages than there is room for
   pub can-pages : (left many : ℕ) (trees : Trees) (entries : List BlockEntry) (pieces : List Piece) → AreSealed sketch.blocks.items entries pieces → ArePlanned header (file_of world.here) (edits ++ puts_of entries) sketch.nodes.items trees
