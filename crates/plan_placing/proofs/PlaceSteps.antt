@@ -37,6 +37,10 @@ use Rattle.plan_drawing.proofs.FileLaws.{laid-high, same-length}
 use Rattle.plan_drawing.proofs.RecountLaws.{edits-append, extra-append, puts-extra, recounts-edits, recounts-extra, sum-ones}
 use Rattle.plan_placing.specs.Draws.{CanDraw, IsBuilt, IsSketched}
 
+-- edits to which those of new entries were added, as the calls say it
+pub all-put : (before edits added : List (ℕ × Option BlockEntry)) (put entries : List BlockEntry) → edits ≡ added → added ≡ before ++ puts_of put → put ≡ entries → edits ≡ before ++ puts_of entries
+all-put before edits added put entries one two three = one ∙ two ∙ ap (λ (es : List BlockEntry). before ++ puts_of es) three
+
 -- built parts of what was sketched are gathered
 pub gather : {header : Header} {file : List ℕ} {m : NodeMap} (is : Lays header file m) (used mid now : List Bool) (counts : ℕ → ℕ) (block : ℕ) (cs : List (Nid × Option NodeRec)) (sketch : Sketch) (edits : List (ℕ × Option BlockEntry)) (pieces : List Piece) (blocks pages : List Place) (trees : Trees)
     → IsSketched is counts block cs sketch edits → IsBuilt header file sketch edits blocks trees pieces → Taken used mid blocks → Takes IsBlockPlace used blocks mid → Taken mid now pages → Takes IsPagePlace mid pages now
