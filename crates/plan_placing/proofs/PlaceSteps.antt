@@ -1,11 +1,13 @@
 -- How what is built is put together, and why the steps of a plan stop.
 use Rattle.std.proofs.Common.{Bool, ◌≡◌, ◌∙◌, ℕ, ◌+◌, ◌*◌, ◌/◌, ◌^◌, ◌<◌, ◌≤◌, List, [], ◌∷◌, ◌++◌, length, Option, refl, sym, ap, subst, arith, length-append}
+use Rattle.std.specs.List.{All}
 use Rattle.pst_base.specs.declared.ids.Bref.{Bref}
 use Rattle.pst_base.specs.declared.ids.Nid.{Nid}
 use Rattle.pst_base.specs.declared.places.Place.{Place}
 use Rattle.pst_outside.specs.World.{World}
 use Rattle.pst_header.specs.declared.header.Header.{Header}
 use Rattle.alloc_map.specs.Ends.{region_end}
+use Rattle.alloc_map.specs.Slots.{IsLaid, regions_of}
 use Rattle.alloc_map.specs.Taken.{IsBlockPlace, IsPagePlace, Taken, Takes}
 use Rattle.btree_pages.specs.declared.entry.BlockEntry.{BlockEntry}
 use Rattle.btree_pages.specs.declared.entry.NodeEntry.{NodeEntry}
@@ -36,6 +38,17 @@ use Rattle.plan_drawing.proofs.NewLaws.{next-known, puts-edits, sealed-count}
 use Rattle.plan_drawing.proofs.FileLaws.{laid-high, same-length}
 use Rattle.plan_drawing.proofs.RecountLaws.{edits-append, extra-append, puts-extra, recounts-edits, recounts-extra, sum-ones}
 use Rattle.plan_placing.specs.Draws.{CanDraw, IsBuilt, IsSketched}
+
+-- places in at most all regions
+pub laid-8192 : (used : List Bool) (regions : ℕ) (ps : List Place) → length used ≡ 3968 * regions → regions ≤ 8192 → All (IsLaid (regions_of used)) ps → All (IsLaid 8192) ps
+laid-8192 used regions ps size few all = λ k d lt.
+    let is = all k d lt in
+    let within = is.within in
+    record { above = is.above; start = is.start; whole = is.whole; within = omega (arith, within, size, few) }
+
+-- places that were taken are so still
+pub taken-back : (before now after : List Bool) (ps qs : List Place) → after ≡ now → qs ≡ ps → Taken before now ps → Taken before after qs
+taken-back before now after ps qs back same taken = subst (λ (used : List Bool). Taken before used qs) (sym back) (subst (Taken before now) (sym same) taken)
 
 -- edits to which those of new entries were added, as the calls say it
 pub all-put : (before edits added : List (ℕ × Option BlockEntry)) (put entries : List BlockEntry) → edits ≡ added → added ≡ before ++ puts_of put → put ≡ entries → edits ≡ before ++ puts_of entries
