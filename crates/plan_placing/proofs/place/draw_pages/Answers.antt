@@ -1,11 +1,13 @@
-use Rattle.std.proofs.Common.{◌+◌, List, length, sym, subst, arith}
+use Rattle.std.proofs.Common.{◌∙◌, ◌+◌, List, length, sym, ap, subst, arith}
+use Rattle.std.specs.List.{All}
 use Rattle.pst_base.specs.declared.places.Place.{Place}
 use Rattle.alloc_map.specs.Cells.{free_cells_of}
+use Rattle.alloc_map.specs.Slots.{IsLaid}
 use Rattle.alloc_map.specs.Taken.{IsPagePlace, Taken, Takes}
 use Rattle.file_blocks.specs.Blocks.{file_of}
 use Rattle.node_store.specs.Told.{StopsKeeping}
 use Rattle.plan_placing.specs.Draws.{CanDraw}
-use Rattle.plan_placing.proofs.PlaceSteps.{can-pages, gather}
+use Rattle.plan_placing.proofs.PlaceSteps.{can-pages, gather, laid-8192}
 use Rattle.plan_placing.proofs.place.draw_pages.Goals as goal
 
 pub returns-in-Err-clause-stops : goal.returns-in-Err-clause-stops
@@ -37,3 +39,28 @@ returns-in-Ok-plan-clause-drawn g c = λ m tells used counts cs sketched taken t
     let next : Takes IsPagePlace c.args.slots.now pages now = subst (λ (ps : List Place). Takes IsPagePlace c.args.slots.now ps now) same c.in_ok-pages.ensures.placed in
     c.in-Ok-plan.ensures.drawn file m tells.lays used counts cs
     (gather tells.lays used c.args.slots.now now counts c.args.numbers.block cs c.args.sketch c.args.edits.items c.in-Ok.built.pieces.items c.args.places.now pages c.in-Ok.built.trees sketched (c.in-Ok.ensures.built tells.cached) taken takes second next)
+
+pub place_pages-requires : goal.place_pages-requires
+place_pages-requires g c =
+    let few = c.if-many-saturating_mul.false in
+    let most = c.saturating_mul.ensures in
+    let pages = c.free_cells.ensures.pages in
+    let low = c.in_ok-many.ensures.low in
+    record { room = omega (arith, few, most, pages, low) }
+
+pub finish_plan-plan-requires-clause-laid : goal.finish_plan-plan-requires-clause-laid
+finish_plan-plan-requires-clause-laid g c =
+    let regions = c.regions-regions.ensures in
+    subst (All (IsLaid 8192)) (sym c.as_slice.ensures.value) (laid-8192 c.args.slots.now c.regions-regions.result c.in_ok-pages.pages.items regions.size regions.few c.in_ok-pages.ensures.taken.laid)
+
+pub finish_plan-plan-requires-clause-count : goal.finish_plan-plan-requires-clause-count
+finish_plan-plan-requires-clause-count g c = ap length c.as_slice.ensures.value ∙ c.in_ok-pages.ensures.count ∙ c.in_ok-many.ensures.count
+
+pub give_back_all-requires : goal.give_back_all-requires
+give_back_all-requires g c = record { taken = (c.args.slots.now, subst (Taken c.args.slots.now c.place_pages.new.self) (sym c.as_slice-2.ensures.value) c.in_ok-pages.ensures.taken) }
+
+pub returns-in-Ok-plan-clause-back : goal.returns-in-Ok-plan-clause-back
+returns-in-Ok-plan-clause-back g c = c.give_back_all.ensures.back c.args.slots.now (subst (Taken c.args.slots.now c.place_pages.new.self) (sym c.as_slice-2.ensures.value) c.in_ok-pages.ensures.taken)
+
+pub returns-clause-back : goal.returns-clause-back
+returns-clause-back g c = c.give_back_all.ensures.back c.args.slots.now (subst (Taken c.args.slots.now c.place_pages.new.self) (sym c.as_slice-2.ensures.value) c.in_ok-pages.ensures.taken)
