@@ -1,5 +1,6 @@
 use Rattle.std.proofs.Common.{List, refl}
 use Rattle.btree_pages.specs.declared.entry.BlockEntry.{BlockEntry}
+use Rattle.file_layout.proofs.Underway.{untouched_then}
 use Rattle.file_pages.specs.Told.{Caches}
 use Rattle.plan_drawing.proofs.StopLaws.{unless-later}
 use Rattle.file_planner.proofs.OldLaws.{HasEntries, editing-more, entries-still}
@@ -22,3 +23,6 @@ returns-in-Err-clause-stops g c =
     unless-later old mid new Whole Then c.loop-change.invariant.same
     (λ is. let there = c.loop-change.invariant.caches is.0 in (there, (is.1.0, entries-still tree is.1.0 c.loop-change.invariant.same there.told.tells is.1.1)))
     c.in-Err.stop c.in-Err.ensures.stops
+
+pub returns-in-Err-clause-same : goal.returns-in-Err-clause-same
+returns-in-Err-clause-same g c = untouched_then c.loop-change.invariant.same c.edit_change.ensures.same

@@ -1,5 +1,6 @@
 use Rattle.std.proofs.Common.{◌^◌, sym, subst}
 use Rattle.file_blocks.specs.Blocks.{entry_key}
+use Rattle.file_layout.proofs.Underway.{untouched_then}
 use Rattle.file_layout.specs.Nodes.{NodeMap}
 use Rattle.node_store.specs.Told.{StopsKeeping, TellsNodes}
 use Rattle.tree_edit.specs.Edits.{AreEdits}
@@ -53,3 +54,9 @@ returns-in-Err-change_at-clause-stops g c =
     let u = c.node_tree-tree.result in
     subst (StopsKeeping old new Whole) (sym c.keep_stop-in-Err-change_at.ensures)
     (node-stops old mid new header c.args.caches.now u (tree-is u 0x81 header.nbt header.eof c.node_tree-tree.ensures.kind c.node_tree-tree.ensures.root c.node_tree-tree.ensures.eof) c.change_at.ensures.same Whole (λ whole. whole.1) c.in-Err-change_at.stop c.in-Err-change_at.ensures.stops)
+
+pub returns-in-Ok-change_at-clause-untouched : goal.returns-in-Ok-change_at-clause-untouched
+returns-in-Ok-change_at-clause-untouched g c = untouched_then c.change_at.ensures.same c.change_at-2.ensures.same
+
+pub returns-in-Err-change_at-clause-untouched : goal.returns-in-Err-change_at-clause-untouched
+returns-in-Err-change_at-clause-untouched g c = untouched_then c.change_at.ensures.same c.change_at-2.ensures.same

@@ -1,5 +1,6 @@
 use Rattle.std.proofs.Common.{◌≡◌, ◌∙◌, ℕ, Bool, List, length, sym, ap, subst, arith}
 use Rattle.alloc_map.specs.Cells.{free_cells_of}
+use Rattle.file_layout.proofs.Underway.{untouched_then}
 use Rattle.file_layout.specs.Nodes.{NodeMap, blocks_in}
 use Rattle.node_port.specs.Stops.{size}
 use Rattle.node_store.specs.Told.{StopsKeeping, TellsNodes}
@@ -88,3 +89,9 @@ returns-in-Err-plan-clause-stops g c =
     let sketched : IsSketched is.1.lays (refs_in p.refs) q.next_block c.args.nodes.now sketch edits = subst (λ (n : ℕ). IsSketched is.1.lays (refs_in p.refs) n c.args.nodes.now sketch edits) (sym e.block) (c.in-Ok.ensures.sketched is.0 is.1) in
     can-after q.slots (placing_over q.slots q.held.all) (refs_in p.refs) numbers c.args.nodes.now sketch edits (size c.args.nodes.now) e.untouched is.1 (e.keeps is.0 is.1) whole known sketched (omega (arith, low, block)) c.in-Ok.ensures.few (omega (arith, enough, pages, cells)))
     c.in-Err-plan.stop c.in-Err-plan.ensures.stops
+
+pub returns-in-Ok-plan-clause-untouched : goal.returns-in-Ok-plan-clause-untouched
+returns-in-Ok-plan-clause-untouched g c = untouched_then c.sketch_nodes.ensures.untouched c.draw_beside-plan.ensures.untouched
+
+pub returns-in-Err-plan-clause-untouched : goal.returns-in-Err-plan-clause-untouched
+returns-in-Err-plan-clause-untouched g c = untouched_then c.sketch_nodes.ensures.untouched c.draw_beside-plan.ensures.untouched

@@ -4,6 +4,7 @@ use Rattle.pst_outside.specs.World.{Image}
 use Rattle.btree_pages.specs.declared.entry.BlockEntry.{BlockEntry}
 use Rattle.btree_pages.specs.Entries.{block_of}
 use Rattle.file_blocks.specs.Blocks.{entry_key, file_of}
+use Rattle.file_layout.proofs.Underway.{untouched_then}
 use Rattle.file_layout.specs.Nodes.{NodeMap, blocks_in}
 use Rattle.file_pages.specs.declared.search.FileTree.{FileTree}
 use Rattle.file_pages.specs.Told.{Caches, HasTree}
@@ -67,3 +68,9 @@ returns-clause-sketched g c = λ m tells.
       recounted = both.0 ∙ ap (recounts es next) same;
       left = both.1 ∙ ap (left_places es next) same;
     }
+
+pub returns-in-Err-old_edits-clause-untouched : goal.returns-in-Err-old_edits-clause-untouched
+returns-in-Err-old_edits-clause-untouched g c = untouched_then c.plan_contents.ensures.untouched c.old_edits.ensures.same
+
+pub returns-clause-untouched : goal.returns-clause-untouched
+returns-clause-untouched g c = untouched_then c.plan_contents.ensures.untouched c.old_edits.ensures.same
