@@ -20,40 +20,38 @@ use Rattle.mail_searches.specs.Relisting.{with_results}
 use Rattle.mail_searches.specs.Searches.{Search, in_scope, results}
 use Rattle.search_folders.specs.Pieces.{found_at, found_in}
 
-abbrev Rows : Type 0
+abbrev pub Rows : Type 0
 Rows = List (ℕ × List Val)
 
 -- ---- a message after another
 
-pub message_on : {D : Type 0} (view : D → Rows) (T : Tree) (s : Search) (columns : List Column) (ms : List ℕ) (i d : ℕ) (rows : Rows) (t : D) (result : Result D Stop) → i < length ms
-    → Says view (found_at T s columns (get_or ms i d) rows) (Ok t) → Says view (found_among T s columns (drop (i + 1) ms) (view t)) result → Says view (found_among T s columns (drop i ms) rows) result
+pub message_on : {D E : Type 0} (one : E → Rows) (view : D → Rows) (T : Tree) (s : Search) (columns : List Column) (ms : List ℕ) (i d : ℕ) (rows : Rows) (e : E) (result : Result D Stop) → i < length ms
+    → Says one (found_at T s columns (get_or ms i d) rows) (Ok e) → Says view (found_among T s columns (drop (i + 1) ms) (one e)) result → Says view (found_among T s columns (drop i ms) rows) result
 unfolding found_at
-message_on view T s columns ms i d rows t result h first then =
+message_on one view T s columns ms i d rows e result h first then =
     rw (drop-cons ms i d) (regroup view (message_at T nothing (get_or ms i d)) (λ M. Ok (with_found s columns (get_or ms i d) M rows)) (found_among T s columns (drop (suc i) ms)) result
-    (then_says view view (found_at T s columns (get_or ms i d) rows) (found_among T s columns (drop (suc i) ms)) t result first (rw add-one at then)))
+    (then_says one view (found_at T s columns (get_or ms i d) rows) (found_among T s columns (drop (suc i) ms)) e result first (rw add-one at then)))
 
-pub message_stops : {D : Type 0} (view : D → Rows) (T : Tree) (s : Search) (columns : List Column) (ms : List ℕ) (i d : ℕ) (rows : Rows) (stop : Stop) → i < length ms
-    → Says {B = D} view (found_at T s columns (get_or ms i d) rows) (Err stop) → Says view (found_among T s columns (drop i ms) rows) (Err stop)
+pub message_stops : {D E : Type 0} (one : E → Rows) (view : D → Rows) (T : Tree) (s : Search) (columns : List Column) (ms : List ℕ) (i d : ℕ) (rows : Rows) (stop : Stop) → i < length ms
+    → Says one (found_at T s columns (get_or ms i d) rows) (Err stop) → Says view (found_among T s columns (drop i ms) rows) (Err stop)
 unfolding found_at
-message_stops view T s columns ms i d rows stop h first =
+message_stops one view T s columns ms i d rows stop h first =
     rw (drop-cons ms i d) (regroup view (message_at T nothing (get_or ms i d)) (λ M. Ok (with_found s columns (get_or ms i d) M rows)) (found_among T s columns (drop (suc i) ms)) (Err stop)
-    (stop_says view view (found_at T s columns (get_or ms i d) rows) (found_among T s columns (drop (suc i) ms)) stop first))
+    (stop_says one view (found_at T s columns (get_or ms i d) rows) (found_among T s columns (drop (suc i) ms)) stop first))
 
 -- the message at an id
-pub found_on : (T : Tree) (s : Search) (m : ℕ) (M N : Mes) (t u : Tab) → Says {B = Mes} (λ x. x) (message_at T nothing m) (Ok M) → N ≡ M → u ≡ record t { rows = with_found s t.columns m N t.rows }
-    → Says {B = Tab} (λ x. x.rows) (found_at T s t.columns m t.rows) (Ok u)
+pub found_on : {D : Type 0} (view : D → Rows) (T : Tree) (s : Search) (m : ℕ) (columns : List Column) (M N : Mes) (rows : Rows) (result : Result D Stop) → Says {B = Mes} (λ x. x) (message_at T nothing m) (Ok M) → N ≡ M
+    → Says view (Ok (with_found s columns m N rows)) result → Says view (found_at T s columns m rows) result
 unfolding found_at
-found_on T s m M N t u first same is =
-    then_says (λ x. x) (λ (x : Tab). x.rows) (message_at T nothing m) (λ x. Ok (with_found s t.columns m x t.rows)) M (Ok u) first
-    (ap (λ (x : Tab). x.rows) is ∙ ap (λ (x : Mes). with_found s t.columns m x t.rows) same)
+found_on view T s m columns M N rows result first same then = then_says (λ x. x) view (message_at T nothing m) (λ x. Ok (with_found s columns m x rows)) M result first (rw same at then)
 
 -- ---- a folder
 
 -- the search doesn't look there
-pub not_looked : (T : Tree) (s : Search) (columns : List Column) (f : ℕ) (places : List FolderPlace) (looks : Bool) (t : Tab) → T.places ≡ places → looks ≡ in_scope places s f → looks ≡ false
-    → Says {B = Tab} (λ t. t.rows) (found_in T s columns f t.rows) (Ok t)
+pub not_looked : (T : Tree) (s : Search) (columns : List Column) (f : ℕ) (places : List FolderPlace) (looks : Bool) (rows : Rows) → T.places ≡ places → looks ≡ in_scope places s f → looks ≡ false
+    → Says {B = Unit {0}} (λ u. rows) (found_in T s columns f rows) (Ok tt)
 unfolding found_in
-not_looked T s columns f places looks t p is not = rw (p, ← is, not) refl
+not_looked T s columns f places looks rows p is not = rw (p, ← is, not) refl
 
 -- it looks there
 pub looked : {D : Type 0} (view : D → Rows) (T : Tree) (s : Search) (columns : List Column) (f : ℕ) (places : List FolderPlace) (looks : Bool) (rows : Rows) (result : Result D Stop) → T.places ≡ places → looks ≡ in_scope places s f → looks ≡ true
@@ -81,17 +79,22 @@ folder_first T s columns p ps rows = elim (cases_Bool (in_scope T.places s (plac
     two (Ok x) f g = refl
     two (Err e) f g = refl
 
-pub folder_on : {D : Type 0} (view : D → Rows) (T : Tree) (s : Search) (columns : List Column) (ps : List FolderPlace) (i : ℕ) (d : FolderPlace) (rows : Rows) (t : D) (result : Result D Stop) → i < length ps
-    → Says view (found_in T s columns (place_id (get_or ps i d)) rows) (Ok t) → Says view (found_below T s columns (drop (i + 1) ps) (view t)) result → Says view (found_below T s columns (drop i ps) rows) result
-folder_on view T s columns ps i d rows t result h first then =
+pub folder_on : {D E : Type 0} (one : E → Rows) (view : D → Rows) (T : Tree) (s : Search) (columns : List Column) (ps : List FolderPlace) (i : ℕ) (d : FolderPlace) (rows : Rows) (e : E) (result : Result D Stop) → i < length ps
+    → Says one (found_in T s columns (place_id (get_or ps i d)) rows) (Ok e) → Says view (found_below T s columns (drop (i + 1) ps) (one e)) result → Says view (found_below T s columns (drop i ps) rows) result
+folder_on one view T s columns ps i d rows e result h first then =
     rw (drop-cons ps i d, folder_first T s columns (get_or ps i d) (drop (suc i) ps) rows)
-    (then_says view view (found_in T s columns (place_id (get_or ps i d)) rows) (found_below T s columns (drop (suc i) ps)) t result first (rw add-one at then))
+    (then_says one view (found_in T s columns (place_id (get_or ps i d)) rows) (found_below T s columns (drop (suc i) ps)) e result first (rw add-one at then))
 
-pub folder_stops : {D : Type 0} (view : D → Rows) (T : Tree) (s : Search) (columns : List Column) (ps : List FolderPlace) (i : ℕ) (d : FolderPlace) (rows : Rows) (stop : Stop) → i < length ps
-    → Says {B = D} view (found_in T s columns (place_id (get_or ps i d)) rows) (Err stop) → Says view (found_below T s columns (drop i ps) rows) (Err stop)
-folder_stops view T s columns ps i d rows stop h first =
+pub folder_stops : {D E : Type 0} (one : E → Rows) (view : D → Rows) (T : Tree) (s : Search) (columns : List Column) (ps : List FolderPlace) (i : ℕ) (d : FolderPlace) (rows : Rows) (stop : Stop) → i < length ps
+    → Says one (found_in T s columns (place_id (get_or ps i d)) rows) (Err stop) → Says view (found_below T s columns (drop i ps) rows) (Err stop)
+folder_stops one view T s columns ps i d rows stop h first =
     rw (drop-cons ps i d, folder_first T s columns (get_or ps i d) (drop (suc i) ps) rows)
-    (stop_says view view (found_in T s columns (place_id (get_or ps i d)) rows) (found_below T s columns (drop (suc i) ps)) stop first)
+    (stop_says one view (found_in T s columns (place_id (get_or ps i d)) rows) (found_below T s columns (drop (suc i) ps)) stop first)
+
+-- the same folders
+pub same_folders : {D : Type 0} (view : D → Rows) (T : Tree) (s : Search) (columns : List Column) (rows : Rows) (ps qs : List FolderPlace) (result : Result D Stop) → ps ≡ qs
+    → Says view (found_below T s columns ps rows) result → Says view (found_below T s columns qs rows) result
+same_folders view T s columns rows ps qs result e said = rw e at said
 
 -- ---- the whole
 
@@ -110,25 +113,25 @@ results_on view T s rows t u E result above same said = rw (rows_on rows t u abo
 
 -- the list, of the rows that were found
 pub built_on : {D : Type 0} (view : D → Changed) (T : Tree) (s : Search) (f : ℕ) (places : List FolderPlace) (n : ℕ) (E : Changed) (t node : Tbl) (empty table : Tab) (result : Result D Stop) → f ≡ s.nid → T.places ≡ places → n ≡ results f
-    → Says {B = Tbl} (λ t. t) (table_at T E n) (Ok t) → empty ≡ record t.table { rows = [] } → Says {B = Tab} (λ t. t.rows) (found_below T s empty.columns places empty.rows) (Ok table) → same_but_rows table empty
+    → Says {B = Tbl} (λ t. t) (table_at T E n) (Ok t) → empty ≡ record t.table { rows = [] } → Says {B = Unit {0}} (λ u. table.rows) (found_below T s empty.columns places empty.rows) (Ok tt) → same_but_rows table empty
     → node.parent ≡ t.parent → node.table ≡ table → Says view (with_results T f node.table.rows node E) result → Says view (built T s E) result
 unfolding built
 built_on view T s f places n E t node empty table result its p there first none rows same above here then =
-    let found : Says {B = Tab} (λ t. t.rows) (built_rows T s t.table.columns) (Ok table) = rw (none, ← p) at rows in
+    let found : Says {B = Unit {0}} (λ u. table.rows) (built_rows T s t.table.columns) (Ok tt) = rw (none, ← p) at rows in
     let alike : same_but_rows node.table t.table = ap (λ (x : Tab). record x { rows = [] }) here ∙ same ∙ ap (λ (x : Tab). record x { rows = [] }) none in
     then_says (λ t. t) view (table_at T E (results s.nid)) (λ t. built_rows T s t.table.columns >>= λ rows. with_results T s.nid rows t E) t result (subst (λ q. Says {B = Tbl} (λ t. t) (table_at T E q) (Ok t)) (there ∙ ap results its) first)
-    (then_says (λ t. t.rows) view (built_rows T s t.table.columns) (λ rows. with_results T s.nid rows t E) table result found
+    (then_says (λ (u : Unit {0}). table.rows) view (built_rows T s t.table.columns) (λ rows. with_results T s.nid rows t E) tt result found
     (results_on view T s.nid table.rows t node E result above alike (subst (λ (x : Tab). Says view (with_results T s.nid x.rows node E) result) here (subst (λ i. Says view (with_results T i node.table.rows node E) result) its then))))
 
 -- no rows can be found
-pub rows_stop : {D : Type 0} (view : D → Changed) (T : Tree) (s : Search) (f : ℕ) (places : List FolderPlace) (n : ℕ) (E : Changed) (t : Tbl) (empty : Tab) (stop : Stop) → f ≡ s.nid → T.places ≡ places → n ≡ results f
-    → Says {B = Tbl} (λ t. t) (table_at T E n) (Ok t) → empty ≡ record t.table { rows = [] } → Says {B = Tab} (λ t. t.rows) (found_below T s empty.columns places empty.rows) (Err stop)
+pub rows_stop : {D : Type 0} (view : D → Changed) (T : Tree) (s : Search) (f : ℕ) (places : List FolderPlace) (n : ℕ) (E : Changed) (t : Tbl) (empty : Tab) (rows : Rows) (stop : Stop) → f ≡ s.nid → T.places ≡ places → n ≡ results f
+    → Says {B = Tbl} (λ t. t) (table_at T E n) (Ok t) → empty ≡ record t.table { rows = [] } → Says {B = Unit {0}} (λ u. rows) (found_below T s empty.columns places empty.rows) (Err stop)
     → Says view (built T s E) (Err stop)
 unfolding built
-rows_stop view T s f places n E t empty stop its p there first none rows =
-    let found : Says {B = Tab} (λ t. t.rows) (built_rows T s t.table.columns) (Err stop) = rw (none, ← p) at rows in
+rows_stop view T s f places n E t empty rows stop its p there first none said =
+    let found : Says {B = Unit {0}} (λ u. rows) (built_rows T s t.table.columns) (Err stop) = rw (none, ← p) at said in
     then_says (λ t. t) view (table_at T E (results s.nid)) (λ t. built_rows T s t.table.columns >>= λ rows. with_results T s.nid rows t E) t (Err stop) (subst (λ q. Says {B = Tbl} (λ t. t) (table_at T E q) (Ok t)) (there ∙ ap results its) first)
-    (stop_says (λ t. t.rows) view (built_rows T s t.table.columns) (λ rows. with_results T s.nid rows t E) stop found)
+    (stop_says (λ (u : Unit {0}). rows) view (built_rows T s t.table.columns) (λ rows. with_results T s.nid rows t E) stop found)
 
 -- there is no list
 pub table_stops : {D : Type 0} (view : D → Changed) (T : Tree) (s : Search) (f n : ℕ) (E : Changed) (stop : Stop) → f ≡ s.nid → n ≡ results f → Says {B = Tbl} (λ t. t) (table_at T E n) (Err stop) → Says view (built T s E) (Err stop)

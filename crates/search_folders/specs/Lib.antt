@@ -1,3 +1,4 @@
 pub mod Comings
 pub mod Pieces
+pub mod Givens
 pub mod Moves

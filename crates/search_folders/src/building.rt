@@ -1,8 +1,8 @@
 //! How the list of a search is built.
-ghost use Rattle.std.specs.Prelude.{◌≡◌, true, [], IfErr, IfOk};
+ghost use Rattle.std.specs.Prelude.{◌≡◌, true, [], IfErr, Ok};
 ghost use Rattle.node_values.specs.Subnodes.{ids_ascend};
 ghost use Rattle.mail_tree.specs.Tree.{Shown, Tree};
-ghost use Rattle.mail_draft.specs.Answers.{IsCaused, Looks, Says};
+ghost use Rattle.mail_draft.specs.Answers.{IsCalm, IsCaused, Looks, Says};
 ghost use Rattle.mail_draft.specs.Drafts.{changed_of};
 ghost use Rattle.mail_searches.specs.Building.{built, found_among, found_below, with_found};
 ghost use Rattle.search_folders.specs.Pieces.{found_at, found_in};
@@ -19,7 +19,7 @@ use pst_base::{Ledger, Nid, Steps};
 use pst_outside::Outside;
 use restr_eval::eval;
 use search_results::with_results;
-use std::alloc::{AllocError, Global};
+use std::alloc::Global;
 
 /// Builds the list of a search anew, and counts it.
 #[tactic(auto, unfolding(mail_searches::specs::Building::built))]
@@ -38,8 +38,8 @@ pub(crate) fn built<W: Outside, K: NodeReader<W>, L: Ledger>(
 {
     let node = table_at(alloc, keeper, w, &draft, results(search.nid))?;
     let parent = node.parent();
-    let empty = without_rows(alloc, node.into_table());
-    let table = found_below(alloc, keeper, w, places, search, empty, steps)?;
+    let mut table = without_rows(alloc, node.into_table());
+    find_below(alloc, keeper, w, places, search, &mut table, steps)?;
     with_results(
         alloc,
         keeper,
@@ -63,111 +63,109 @@ fn without_rows(alloc: Global, table: Table) -> Table
     Table::from_parts(columns, ends, Vec::new(alloc), kept)
 }
 
-/// The table with a row of a message, if what the search asks holds of it. The table is lost with an `Err`.
-fn with_found<L: Ledger>(
+/// Gives the table a row of a message, if what the search asks holds of it.
+fn put_found<L: Ledger>(
     alloc: Global,
     search: &OwnSearch,
-    table: Table,
+    table: &mut Table,
     id: Nid,
     message: &Message,
     steps: &mut Steps<L>,
-) -> Result<Table, AllocError>
-    ensures { IfOk result (λ t. t ≡ record table { rows = with_found search.now table.columns id.bits message.now table.rows }) }
+) -> Result<(), Stop>
+    ensures answer { Says (λ u. table.new.rows) (Ok (with_found search.now table.old.columns id.bits message.now table.old.rows)) result }
+    ensures same { record table.new { rows = [] } ≡ record table.old { rows = [] } }
+    ensures calm { IfErr result IsCalm }
 {
     if !eval(&search.restriction, message, steps) {
-        return Ok(table);
+        return Ok(());
     }
-    let mut table = table;
-    put_row(alloc, &mut table, id.bits, &message.props)?;
-    Ok(table)
+    Ok(put_row(alloc, table, id.bits, &message.props)?)
 }
 
-/// The table with a row of the message with this id, if the search finds it. The table is lost with an `Err`.
+/// Gives the table a row of the message with this id, if the search finds it.
 #[tactic(auto, unfolding(crate::specs::Pieces::found_at))]
-fn found_at<W: Outside, K: NodeReader<W>, L: Ledger>(
+fn find_at<W: Outside, K: NodeReader<W>, L: Ledger>(
     alloc: Global,
     keeper: &mut K,
     w: &mut W,
     search: &OwnSearch,
-    table: Table,
+    table: &mut Table,
     id: Nid,
     steps: &mut Steps<L>,
-) -> Result<Table, Stop>
-    ensures answer { (T : Tree) → Shown (K.holds keeper.old (W.view w.old)) (K.last keeper.old) T → Says (λ t. t.rows) (found_at T search.now table.columns id.bits table.rows) result }
-    ensures same { IfOk result (λ t. record t { rows = [] } ≡ record table { rows = [] }) }
+) -> Result<(), Stop>
+    ensures answer { (T : Tree) → Shown (K.holds keeper.old (W.view w.old)) (K.last keeper.old) T → Says (λ u. table.new.rows) (found_at T search.now table.old.columns id.bits table.old.rows) result }
+    ensures same { record table.new { rows = [] } ≡ record table.old { rows = [] } }
     ensures looks { Looks (K.holds keeper.old (W.view w.old)) (K.holds keeper.new (W.view w.new)) (K.last keeper.old) (K.last keeper.new) (K.room keeper.old) (K.room keeper.new) (W.view w.old) (W.view w.new) }
     ensures cause { IfErr result (IsCaused K.has_disk (W.view w.old).disk_faults (W.view w.new).disk_faults) }
 {
     let mail = message_in(alloc, keeper, w, id)?;
-    Ok(with_found(alloc, search, table, id, mail.message(), steps)?)
+    put_found(alloc, search, table, id, mail.message(), steps)
 }
 
-/// The table with the rows of the messages among these that the search finds. The table is lost with an `Err`.
-fn found_among<W: Outside, K: NodeReader<W>, L: Ledger>(
+/// Gives the table rows of the messages among these that the search finds. With an `Err` some may have come.
+fn find_among<W: Outside, K: NodeReader<W>, L: Ledger>(
     alloc: Global,
     keeper: &mut K,
     w: &mut W,
     search: &OwnSearch,
-    table: Table,
+    table: &mut Table,
     messages: &[u32],
     steps: &mut Steps<L>,
-) -> Result<Table, Stop>
-    ensures answer { (T : Tree) → Shown (K.holds keeper.old (W.view w.old)) (K.last keeper.old) T → Says (λ t. t.rows) (found_among T search.now table.columns messages.now table.rows) result }
-    ensures same { IfOk result (λ t. record t { rows = [] } ≡ record table { rows = [] }) }
+) -> Result<(), Stop>
+    ensures answer { (T : Tree) → Shown (K.holds keeper.old (W.view w.old)) (K.last keeper.old) T → Says (λ u. table.new.rows) (found_among T search.now table.old.columns messages.now table.old.rows) result }
+    ensures same { record table.new { rows = [] } ≡ record table.old { rows = [] } }
     ensures looks { Looks (K.holds keeper.old (W.view w.old)) (K.holds keeper.new (W.view w.new)) (K.last keeper.old) (K.last keeper.new) (K.room keeper.old) (K.room keeper.new) (W.view w.old) (W.view w.new) }
     ensures cause { IfErr result (IsCaused K.has_disk (W.view w.old).disk_faults (W.view w.new).disk_faults) }
 {
-    let mut table = table;
     for message in messages {
         let id = Nid { bits: *message };
-        table = found_at(alloc, keeper, w, search, table, id, steps)?;
+        find_at(alloc, keeper, w, search, table, id, steps)?;
     }
-    Ok(table)
+    Ok(())
 }
 
-/// The table with the rows of the messages that the search finds in this folder, in which it may not look. The table is lost with an `Err`.
+/// Gives the table rows of the messages that the search finds in this folder, in which it may not look. With an `Err` some may have come.
 #[tactic(auto, unfolding(crate::specs::Pieces::found_in))]
-fn found_in<W: Outside, K: NodeReader<W>, L: Ledger>(
+fn find_in<W: Outside, K: NodeReader<W>, L: Ledger>(
     alloc: Global,
     keeper: &mut K,
     w: &mut W,
     places: &Places,
     search: &OwnSearch,
-    table: Table,
+    table: &mut Table,
     folder: Nid,
     steps: &mut Steps<L>,
-) -> Result<Table, Stop>
-    ensures answer { (T : Tree) → Shown (K.holds keeper.old (W.view w.old)) (K.last keeper.old) T → T.places ≡ places.now → Says (λ t. t.rows) (found_in T search.now table.columns folder.bits table.rows) result }
-    ensures same { IfOk result (λ t. record t { rows = [] } ≡ record table { rows = [] }) }
+) -> Result<(), Stop>
+    ensures answer { (T : Tree) → Shown (K.holds keeper.old (W.view w.old)) (K.last keeper.old) T → T.places ≡ places.now → Says (λ u. table.new.rows) (found_in T search.now table.old.columns folder.bits table.old.rows) result }
+    ensures same { record table.new { rows = [] } ≡ record table.old { rows = [] } }
     ensures looks { Looks (K.holds keeper.old (W.view w.old)) (K.holds keeper.new (W.view w.new)) (K.last keeper.old) (K.last keeper.new) (K.room keeper.old) (K.room keeper.new) (W.view w.old) (W.view w.new) }
     ensures cause { IfErr result (IsCaused K.has_disk (W.view w.old).disk_faults (W.view w.new).disk_faults) }
 {
     if !search.looks_in(places, folder) {
-        return Ok(table);
+        return Ok(());
     }
     let node = table_in(alloc, keeper, w, contents(folder))?;
     let messages = message_ids(alloc, node.table())?;
-    found_among(alloc, keeper, w, search, table, messages.as_slice(), steps)
+    find_among(alloc, keeper, w, search, table, messages.as_slice(), steps)
 }
 
-/// The table with the rows of the messages that the search finds in all folders in which it looks. The table is lost with an `Err`.
-fn found_below<W: Outside, K: NodeReader<W>, L: Ledger>(
+/// Gives the table rows of the messages that the search finds in all folders in which it looks. With an `Err` some may have come.
+fn find_below<W: Outside, K: NodeReader<W>, L: Ledger>(
     alloc: Global,
     keeper: &mut K,
     w: &mut W,
     places: &Places,
     search: &OwnSearch,
-    table: Table,
+    table: &mut Table,
     steps: &mut Steps<L>,
-) -> Result<Table, Stop>
-    ensures answer { (T : Tree) → Shown (K.holds keeper.old (W.view w.old)) (K.last keeper.old) T → T.places ≡ places.now → Says (λ t. t.rows) (found_below T search.now table.columns places.now table.rows) result }
-    ensures same { IfOk result (λ t. record t { rows = [] } ≡ record table { rows = [] }) }
+) -> Result<(), Stop>
+    ensures answer { (T : Tree) → Shown (K.holds keeper.old (W.view w.old)) (K.last keeper.old) T → T.places ≡ places.now → Says (λ u. table.new.rows) (found_below T search.now table.old.columns places.now table.old.rows) result }
+    ensures same { record table.new { rows = [] } ≡ record table.old { rows = [] } }
     ensures looks { Looks (K.holds keeper.old (W.view w.old)) (K.holds keeper.new (W.view w.new)) (K.last keeper.old) (K.last keeper.new) (K.room keeper.old) (K.room keeper.new) (W.view w.old) (W.view w.new) }
     ensures cause { IfErr result (IsCaused K.has_disk (W.view w.old).disk_faults (W.view w.new).disk_faults) }
 {
-    let mut table = table;
     for place in places.as_slice() {
-        table = found_in(alloc, keeper, w, places, search, table, place.nid, steps)?;
+        find_in(alloc, keeper, w, places, search, table, place.nid, steps)?;
     }
-    Ok(table)
+    Ok(())
 }

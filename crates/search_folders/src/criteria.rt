@@ -1,21 +1,27 @@
 //! `criteria`
-ghost use Rattle.std.specs.Prelude.{◌≡◌, Some, IfErr, IfOk};
+ghost use Rattle.std.specs.Prelude.{◌≡◌, ◌*◌, ◌<◌, ◌^◌, length, Some, IfErr, IfOk, IsTrue};
+ghost use Rattle.std.specs.Option.{ForSome};
+ghost use Rattle.restr_codec.specs.Spelling.{has_spelling, spelling};
+ghost use Rattle.search_obj.specs.Flags.{are_allowed};
 ghost use Rattle.search_obj.specs.Objects.{Says as SaysCriteria};
 ghost use Rattle.search_obj.specs.Writing.{written};
-ghost use Rattle.mail_tree.specs.Changing.{known};
+ghost use Rattle.mail_tree.specs.Changing.{known, nothing};
 ghost use Rattle.mail_tree.specs.Folders.{replied, replying};
 ghost use Rattle.mail_tree.specs.Knowing.{Knows};
+ghost use Rattle.mail_tree.specs.Settling.{with_context};
 ghost use Rattle.mail_tree.specs.Tree.{Shown, Tree};
 ghost use Rattle.mail_draft.specs.Answers.{IsCalm, IsCaused, Looks, Says};
 ghost use Rattle.mail_draft.specs.Drafts.{changed_of};
 ghost use Rattle.mail_searches.specs.Searching.{Searching};
 ghost use Rattle.search_folders.specs.Comings.{KnowsSearches, coming_of};
+ghost use Rattle.mail_searches.specs.Searches.{criteria_node};
+ghost use Rattle.search_folders.specs.Givens.{criteria_after, given_of};
 ghost use Rattle.search_folders.specs.Pieces.{setting};
 ghost use Rattle.mail_searches.specs.Criteria.{built_unless, given_criteria, overfills, with_criteria};
 
 use crate::building::built;
 use crate::coming::Coming;
-use crate::given::{changed, given_flags, given_restriction, given_scope};
+use crate::given::{Given, changed, given_all};
 use crate::nodes::criteria_node;
 use crate::telling::{criteria_at, unless_other};
 use command_text::{CommandRefusal, LastLine, Limit, Scope};
@@ -49,14 +55,33 @@ pub fn set_criteria<W: Outside, K: NodeReader<W>, L: Ledger>(
     ensures cause { IfErr result (IsCaused K.has_disk (W.view w.old).disk_faults (W.view w.new).disk_faults) }
 {
     unless_other(&known.places, &searches.own, search)?;
-    let flags = given_flags(flags)?;
-    let restriction = given_restriction(alloc, restriction)?;
-    let folders = given_scope(alloc, &known.places, scope)?;
-    let (context, old) = criteria_at(alloc, keeper, w, search)?;
-    let criteria = changed(alloc, &old, flags, folders, restriction)?;
+    let given = given_all(alloc, &known.places, flags, scope, restriction)?;
+    let (context, criteria) = criteria_after(alloc, keeper, w, search, given)?;
     with_criteria(
         alloc, keeper, w, known, searches, search, context, criteria, steps,
     )
+}
+
+/// The criteria object of a search, and the criteria that it is to say after a line. Refused where a scope or a restriction is to be kept of a search that has none.
+#[tactic(auto, unfolding(crate::specs::Givens::criteria_after))]
+fn criteria_after<W: Outside, K: NodeReader<W>>(
+    alloc: Global,
+    keeper: &mut K,
+    w: &mut W,
+    search: Nid,
+    given: Given,
+) -> Result<(Context, Criteria), Stop>
+    requires allowed { IsTrue (are_allowed given.flags) }
+    requires scope_fits { ForSome given.scope (λ ids. 4 * length ids.items < 2 ^ 32) }
+    requires spelled { ForSome given.restriction (λ r. IsTrue (has_spelling r)) }
+    requires restriction_fits { ForSome given.restriction (λ r. length (spelling r) < 2 ^ 32) }
+    ensures answer { (T : Tree) → Shown (K.holds keeper.old (W.view w.old)) (K.last keeper.old) T → Says (λ p. (p.0, p.1)) (criteria_after T search.bits (given_of given)) result }
+    ensures looks { Looks (K.holds keeper.old (W.view w.old)) (K.holds keeper.new (W.view w.new)) (K.last keeper.old) (K.last keeper.new) (K.room keeper.old) (K.room keeper.new) (W.view w.old) (W.view w.new) }
+    ensures cause { IfErr result (IsCaused K.has_disk (W.view w.old).disk_faults (W.view w.new).disk_faults) }
+{
+    let (context, old) = criteria_at(alloc, keeper, w, search)?;
+    let criteria = changed(alloc, old, given)?;
+    Ok((context, criteria))
 }
 
 /// The values of a criteria object that says other criteria.
@@ -65,6 +90,20 @@ fn with_said(alloc: Global, props: &Props, criteria: &Criteria) -> Result<Props,
     ensures says { IfOk result (λ p. SaysCriteria p criteria.now) }
 {
     write_search(alloc, props.copy(alloc)?, criteria)
+}
+
+/// A draft in which the criteria object of a search says these criteria.
+fn saying(
+    alloc: Global,
+    search: Nid,
+    context: Context,
+    criteria: &Criteria,
+) -> Result<Draft, AllocError>
+    ensures changed { IfOk result (λ d. changed_of d ≡ with_context (criteria_node search.bits) context (written criteria.now context.props) nothing) }
+    ensures says { IfOk result (λ d. SaysCriteria (written criteria.now context.props) criteria.now) }
+{
+    let props = with_said(alloc, context.props(), criteria)?;
+    with_context(Draft::new(alloc), criteria_node(search), context, props)
 }
 
 /// What was set, which stands in these criteria.
@@ -77,6 +116,24 @@ fn set_of(criteria: Criteria) -> Result<CriteriaSet, Stop>
         Some(set) => Ok(set),
         None => Err(Stop::formless()),
     }
+}
+
+/// A draft in which the criteria object of a search says these criteria, and what was set, which stands in them.
+fn said(
+    alloc: Global,
+    search: Nid,
+    context: Context,
+    criteria: Criteria,
+) -> Result<(Draft, CriteriaSet), Stop>
+    ensures answer { Says (λ p. p.1) (known criteria.set) result }
+    ensures set { IfOk result (λ p. criteria.set ≡ Some p.1) }
+    ensures changed { IfOk result (λ p. changed_of p.0 ≡ with_context (criteria_node search.bits) context (written criteria context.props) nothing) }
+    ensures says { IfOk result (λ p. SaysCriteria (written criteria context.props) criteria) }
+    ensures calm { IfErr result IsCalm }
+{
+    let draft = saying(alloc, search, context, &criteria)?;
+    let set = set_of(criteria)?;
+    Ok((draft, set))
 }
 
 /// Whether a search of which this was set is stopped.
@@ -103,9 +160,7 @@ fn with_criteria<W: Outside, K: NodeReader<W>, L: Ledger>(
     ensures looks { Looks (K.holds keeper.old (W.view w.old)) (K.holds keeper.new (W.view w.new)) (K.last keeper.old) (K.last keeper.new) (K.room keeper.old) (K.room keeper.new) (W.view w.old) (W.view w.new) }
     ensures cause { IfErr result (IsCaused K.has_disk (W.view w.old).disk_faults (W.view w.new).disk_faults) }
 {
-    let props = with_said(alloc, context.props(), &criteria)?;
-    let draft = with_context(Draft::new(alloc), criteria_node(search), context, props)?;
-    let set = set_of(criteria)?;
+    let (draft, set) = said(alloc, search, context, criteria)?;
     let stopped = is_stopped(&set);
     let own = OwnSearch::new(search, set);
     setting(

@@ -13,6 +13,7 @@ ghost use Rattle.mail_tree.specs.Tree.{Tree};
 ghost use Rattle.mail_draft.specs.Answers.{IsCalm, Says};
 ghost use Rattle.mail_searches.specs.Criteria.{given_restriction, given_scope, if_readable, repeats};
 ghost use Rattle.mail_searches.specs.Searches.{is_plain_at};
+ghost use Rattle.search_folders.specs.Givens.{given_all, given_of};
 
 use command_text::{CommandRefusal, Scope};
 use mail_draft::Stop;
@@ -28,7 +29,7 @@ const SCOPE_END: usize = 1 << 30;
 const RESTRICTION_END: usize = 1 << 32;
 
 /// The flags with this number. Refused where a search may not have them.
-pub(crate) fn given_flags(number: u32) -> Result<SearchFlags, Stop>
+fn given_flags(number: u32) -> Result<SearchFlags, Stop>
     ensures answer { Says (λ flags. flags) (found Flags (flags_of number)) result }
     ensures allowed { IfOk result (λ flags. IsTrue (are_allowed flags)) }
     ensures calm { IfErr result IsCalm }
@@ -60,10 +61,7 @@ fn read_restriction(alloc: Global, bytes: &[u8]) -> Result<Restriction, Stop>
 }
 
 /// The restriction that a line spells, if it gives one. Refused where its bytes spell none.
-pub(crate) fn given_restriction(
-    alloc: Global,
-    bytes: &Option<Bytes>,
-) -> Result<Option<Restriction>, Stop>
+fn given_restriction(alloc: Global, bytes: &Option<Bytes>) -> Result<Option<Restriction>, Stop>
     ensures answer { Says (λ r. r) (given_restriction bytes.now) result }
     ensures spelled { IfOk result (λ r. ForSome r (λ given. IsTrue (has_spelling given))) }
     ensures fits { IfOk result (λ r. ForSome r (λ given. length (spelling given) < 2 ^ 32)) }
@@ -128,7 +126,7 @@ fn repeats(folders: &[Nid]) -> bool
 }
 
 /// The folders that a line gives, if it gives any. Refused where one isn't a plain folder, or stands there twice.
-pub(crate) fn given_scope(
+fn given_scope(
     alloc: Global,
     places: &Places,
     scope: &Option<Scope>,
@@ -163,21 +161,53 @@ fn plain_folders(alloc: Global, places: &Places, folders: &[Nid]) -> Result<Vec<
     Ok(Vec::from_slice(alloc, folders)?)
 }
 
-/// The criteria after a line. Refused where a scope or a restriction is to be kept of a search that has none.
-pub(crate) fn changed(
+/// What a line of criteria gives: flags, and a restriction and folders, if it gives any. Contracts see `given_of` it.
+#[derive(Drop)]
+pub(crate) struct Given {
+    pub(crate) flags: SearchFlags,
+    pub(crate) restriction: Option<Restriction>,
+    pub(crate) scope: Option<Vec<Nid>>,
+}
+
+/// What a line of criteria gives. Refused where a search may not have the flags, the bytes spell no restriction, or a folder isn't a plain one or stands there twice.
+pub(crate) fn given_all(
     alloc: Global,
-    old: &Criteria,
-    flags: SearchFlags,
-    scope: Option<Vec<Nid>>,
-    restriction: Option<Restriction>,
-) -> Result<Criteria, Stop>
-    requires allowed { IsTrue (are_allowed flags) }
-    requires scope_fits { ForSome scope (λ ids. 4 * length ids.items < 2 ^ 32) }
-    requires spelled { ForSome restriction (λ r. IsTrue (has_spelling r)) }
-    requires restriction_fits { ForSome restriction (λ r. length (spelling r) < 2 ^ 32) }
-    ensures answer { Says (λ c. c) (found NoCriteria (changed old.now flags (option_map (λ ids. map (λ n. n.bits) ids.items) scope) restriction)) result }
+    places: &Places,
+    flags: u32,
+    scope: &Option<Scope>,
+    restriction: &Option<Bytes>,
+) -> Result<Given, Stop>
+    ensures answer { (T : Tree) → T.places ≡ places.now → Says given_of (given_all T flags scope.now restriction.now) result }
+    ensures allowed { IfOk result (λ g. IsTrue (are_allowed g.flags)) }
+    ensures scope_fits { IfOk result (λ g. ForSome g.scope (λ ids. 4 * length ids.items < 2 ^ 32)) }
+    ensures spelled { IfOk result (λ g. ForSome g.restriction (λ r. IsTrue (has_spelling r))) }
+    ensures restriction_fits { IfOk result (λ g. ForSome g.restriction (λ r. length (spelling r) < 2 ^ 32)) }
     ensures calm { IfErr result IsCalm }
 {
+    let flags = given_flags(flags)?;
+    let restriction = given_restriction(alloc, restriction)?;
+    let scope = given_scope(alloc, places, scope)?;
+    Ok(Given {
+        flags,
+        restriction,
+        scope,
+    })
+}
+
+/// The criteria that come in place of these after a line. Refused where a scope or a restriction is to be kept of a search that has none.
+pub(crate) fn changed(alloc: Global, old: Criteria, given: Given) -> Result<Criteria, Stop>
+    requires allowed { IsTrue (are_allowed given.flags) }
+    requires scope_fits { ForSome given.scope (λ ids. 4 * length ids.items < 2 ^ 32) }
+    requires spelled { ForSome given.restriction (λ r. IsTrue (has_spelling r)) }
+    requires restriction_fits { ForSome given.restriction (λ r. length (spelling r) < 2 ^ 32) }
+    ensures answer { Says (λ c. c) (found NoCriteria (changed old given.flags (option_map (λ ids. map (λ n. n.bits) ids.items) given.scope) given.restriction)) result }
+    ensures calm { IfErr result IsCalm }
+{
+    let Given {
+        flags,
+        restriction,
+        scope,
+    } = given;
     match old.changed(alloc, flags, scope, restriction) {
         Ok(criteria) => Ok(criteria),
         Err(MemOr::Memory) => Err(Stop::Memory),

@@ -51,8 +51,8 @@ pub fn make_search<W: Outside, K: Keeper<W>>(
 {
     unless_refused(alloc, keeper, w, known, parent, name)?;
     let index = next_search_index(alloc, keeper, w, &known.places)?;
-    let outcome = making_search(alloc, keeper, w, known, parent, name, index)?;
     let own = searches.own.with(alloc, new_id(3, index))?;
+    let outcome = making_search(alloc, keeper, w, known, parent, name, index)?;
     Ok(Coming {
         outcome,
         own: Some(own),
@@ -92,10 +92,10 @@ fn with_nodes(alloc: Global, draft: Draft, search: Nid) -> Result<Draft, AllocEr
     ensures { IfOk result (λ d. changed_of d ≡ with_object (results search.bits) (Some (Table contents_table)) (with_object (criteria_node search.bits) (Some no_criteria) (with_object (updates search.bits) (Some (Bare (nid 0))) (changed_of draft)))) }
 {
     let nowhere = Nid { bits: 0 };
-    let criteria = Context::new(nowhere, unset_props(alloc)?, Subs::new(alloc));
-    let list = contents_table(alloc)?;
     let first = draft.with(updates(search), Some(Object::Bare(nowhere)))?;
+    let criteria = Context::new(nowhere, unset_props(alloc)?, Subs::new(alloc));
     let second = first.with(criteria_node(search), Some(Object::Context(criteria)))?;
+    let list = contents_table(alloc)?;
     second.with(results(search), Some(Object::Table(list)))
 }
 

@@ -164,9 +164,9 @@ pub fn remove_search<W: Outside, K: NodeReader<W>>(
     ensures looks { Looks (K.holds keeper.old (W.view w.old)) (K.holds keeper.new (W.view w.new)) (K.last keeper.old) (K.last keeper.new) (K.room keeper.old) (K.room keeper.new) (W.view w.old) (W.view w.new) }
     ensures cause { IfErr result (IsCaused K.has_disk (W.view w.old).disk_faults (W.view w.new).disk_faults) }
 {
-    let outcome = removing_search(alloc, keeper, w, known, search)?;
     let own = searches.own.without(alloc, search)?;
     let left = searches.searches.without(alloc, search)?;
+    let outcome = removing_search(alloc, keeper, w, known, search)?;
     Ok(Coming {
         outcome,
         own: Some(own),

@@ -63,7 +63,7 @@ fn told_criteria<W: Outside, K: NodeReader<W>>(
     ensures cause { IfErr result (IsCaused K.has_disk (W.view w.old).disk_faults (W.view w.new).disk_faults) }
 {
     unless_other(places, own, search)?;
-    let (_context, criteria) = criteria_at(alloc, keeper, w, search)?;
+    let (_, criteria) = criteria_at(alloc, keeper, w, search)?;
     let last = criteria_line(alloc, criteria.set)?;
     Ok(Outcome::unchanged(alloc, Reply::without_data(alloc, last)))
 }

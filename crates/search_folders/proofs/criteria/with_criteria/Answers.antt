@@ -4,11 +4,11 @@ use Rattle.mail_searches.specs.Criteria.{with_criteria}
 use Rattle.search_folders.proofs.Set.{set_on}
 use Rattle.search_folders.proofs.criteria.with_criteria.Goals as goal
 
-pub returns-in_err-set-clause-answer : goal.returns-in_err-set-clause-answer
+pub returns-in_err-draft-clause-answer : goal.returns-in_err-draft-clause-answer
 unfolding with_criteria
-returns-in_err-set-clause-answer g c = λ X s k m. stopped _ _ _ _ c.from_residual-in_err-set.ensures.1 (stop_says _ _ _ _ _ c.in_err-set.ensures.answer)
+returns-in_err-draft-clause-answer g c = λ X s k m. stopped _ _ _ _ c.from_residual.ensures.1 (stop_says _ _ _ _ _ c.in_err-draft.ensures.answer)
 
 pub returns-clause-answer : goal.returns-clause-answer
 returns-clause-answer g c = λ X s k m.
-    set_on _ X _ _ _ c.args.criteria c.in_ok-set.set _ _ _ _ _ _ _ c.in_ok-set.ensures.set c.props.ensures c.in_ok-props.ensures.values c.in_ok-props.ensures.says c.criteria_node.ensures c.new.ensures c.in_ok-draft.ensures
+    set_on _ X _ _ c.args.criteria _ _ _ _ _ c.in_ok-draft.ensures.set c.in_ok-draft.ensures.says c.in_ok-draft.ensures.changed
     c.new-own.ensures c.is_stopped-stopped.ensures (c.setting.ensures.answer X s k.places m.searches)

@@ -9,18 +9,18 @@ use Rattle.mail_searches.specs.Criteria.{criteria_line, told_criteria}
 use Rattle.search_folders.proofs.Set.{from_criteria}
 use Rattle.search_folders.proofs.telling.told_criteria.Goals as goal
 
-pub returns-in_err-_context-clause-answer : goal.returns-in_err-_context-clause-answer
+pub returns-in_err-criteria-clause-answer : goal.returns-in_err-criteria-clause-answer
 unfolding told_criteria
-returns-in_err-_context-clause-answer g c = λ X s places own.
-    stopped _ _ _ _ c.from_residual-in_err-_context.ensures.1
+returns-in_err-criteria-clause-answer g c = λ X s places own.
+    stopped _ _ _ _ c.from_residual-in_err-criteria.ensures.1
     (then_says _ _ _ _ _ _ (c.in_ok-unless_other.ensures.answer X places own)
-    (from_criteria _ X.tree _ _ _ (stop_says _ _ _ _ _ (c.in_err-_context.ensures.answer X.tree s))))
+    (from_criteria _ X.tree _ _ _ (stop_says _ _ _ _ _ (c.in_err-criteria.ensures.answer X.tree s))))
 
 pub returns-clause-answer : goal.returns-clause-answer
 unfolding told_criteria
 returns-clause-answer g c = λ X s places own.
-    let line : c.without_data.result ≡ replied (criteria_line c.in_ok-_context.criteria.set) =
+    let line : c.without_data.result ≡ replied (criteria_line c.in_ok-criteria.criteria.set) =
     ap (λ lines. record { lines = lines; last = c.without_data.result.last }) c.without_data.ensures.lines ∙ ap replied (c.without_data.ensures.last ∙ c.in_ok-last.ensures ∙ ap (λ (k : Crit). criteria_line k.set) c.criteria.view_is) in
     then_says _ _ _ _ _ _ (c.in_ok-unless_other.ensures.answer X places own)
     (from_criteria (outcome_of X.tree) X.tree c.args.search.bits (λ (o : Ctx) (k : Crit). Ok (unchanged X.tree (replied (criteria_line k.set)))) _
-    (then_says _ _ _ _ _ _ (c.in_ok-_context.ensures.answer X.tree s) (c.unchanged.ensures X.tree ∙ ap (unchanged X.tree) line)))
+    (then_says _ _ _ _ _ _ (c.in_ok-criteria.ensures.answer X.tree s) (c.unchanged.ensures X.tree ∙ ap (unchanged X.tree) line)))

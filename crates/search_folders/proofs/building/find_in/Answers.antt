@@ -1,10 +1,9 @@
 use Rattle.std.proofs.Common.{◌∙◌}
-use Rattle.mapi_values.specs.Tables.{Tab}
 use Rattle.mail_draft.proofs.Looking.{shown_still}
 use Rattle.mail_draft.proofs.Passes.{stop_says, then_says}
 use Rattle.mail_folders.proofs.Steps.{stopped}
 use Rattle.search_folders.proofs.Built.{among_on, looked, not_looked}
-use Rattle.search_folders.proofs.building.found_in.Goals as goal
+use Rattle.search_folders.proofs.building.find_in.Goals as goal
 
 pub returns-then-not-looks_in-clause-answer : goal.returns-then-not-looks_in-clause-answer
 returns-then-not-looks_in-clause-answer g c = λ T s e. not_looked T _ _ _ _ _ _ e c.looks_in.ensures c.if-not-looks_in.true
@@ -18,4 +17,4 @@ pub returns-clause-answer : goal.returns-clause-answer
 returns-clause-answer g c = λ T s e.
     looked _ T _ _ _ _ _ _ _ e c.looks_in.ensures c.if-not-looks_in.false
     (then_says _ _ _ _ _ _ (rw c.contents.ensures at (c.in_ok-node.ensures.answer T s))
-    (among_on {D = Tab} (λ (t : Tab). t.rows) T c.args.search.now c.args.table.columns _ _ _ c.args.table.rows c.found_among.result c.table-2.ensures.table (c.as_slice.ensures.value ∙ c.in_ok-messages.ensures) (c.found_among.ensures.answer T (shown_still T c.in_ok-node.ensures.looks s))))
+    (among_on _ T c.args.search.now _ _ _ _ _ c.find_among.result c.table.ensures.table (c.as_slice.ensures.value ∙ c.in_ok-messages.ensures) (c.find_among.ensures.answer T (shown_still T c.in_ok-node.ensures.looks s))))
