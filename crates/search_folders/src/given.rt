@@ -1,10 +1,12 @@
 //! What a line of criteria gives.
-ghost use Rattle.std.specs.Prelude.{◌≡◌, ◌*◌, ◌<◌, ◌^◌, ◌||◌, not, map, length, Some, IfErr, IfOk, IsTrue};
+ghost use Rattle.std.specs.Prelude.{Option, ◌≡◌, ◌*◌, ◌<◌, ◌^◌, ◌||◌, not, map, length, Some, IfErr, IfOk, IsTrue};
 ghost use Rattle.std.specs.List.{list_all};
 ghost use Rattle.std.specs.Option.{ForSome, option_map};
+ghost use Rattle.pst_base.specs.Stops.{Finds};
 ghost use Rattle.restr_codec.specs.Reading.{reading};
 ghost use Rattle.restr_codec.specs.Spelling.{has_spelling, spelling};
 ghost use Rattle.search_obj.specs.Changing.{changed};
+ghost use Rattle.search_obj.specs.Crits.{Crit};
 ghost use Rattle.search_obj.specs.Flags.{are_allowed, flags_of};
 ghost use Rattle.search_obj.specs.Scope.{is_among};
 ghost use Rattle.command_text.specs.declared.reply.CommandRefusal.TheVariants.{Criteria as NoCriteria, Flags};
@@ -194,6 +196,20 @@ pub(crate) fn given_all(
     })
 }
 
+/// Criteria that were changed, or the stop where they weren't. Refused where a scope or a restriction is to be kept of a search that has none.
+fn changed_or_stop(
+    changed: Result<Criteria, MemOr<search_obj::NoCriteria>>,
+) -> Result<Criteria, Stop>
+    ensures answer { (after : Option Crit) → Finds (λ c. c) changed after → Says (λ c. c) (found NoCriteria after) result }
+    ensures calm { IfErr result IsCalm }
+{
+    match changed {
+        Ok(criteria) => Ok(criteria),
+        Err(MemOr::Memory) => Err(Stop::Memory),
+        Err(MemOr::Refused(_)) => Err(Stop::Refused(CommandRefusal::Criteria)),
+    }
+}
+
 /// The criteria that come in place of these after a line. Refused where a scope or a restriction is to be kept of a search that has none.
 pub(crate) fn changed(alloc: Global, old: Criteria, given: Given) -> Result<Criteria, Stop>
     requires allowed { IsTrue (are_allowed given.flags) }
@@ -203,14 +219,5 @@ pub(crate) fn changed(alloc: Global, old: Criteria, given: Given) -> Result<Crit
     ensures answer { Says (λ c. c) (found NoCriteria (changed old given.flags (option_map (λ ids. map (λ n. n.bits) ids.items) given.scope) given.restriction)) result }
     ensures calm { IfErr result IsCalm }
 {
-    let Given {
-        flags,
-        restriction,
-        scope,
-    } = given;
-    match old.changed(alloc, flags, scope, restriction) {
-        Ok(criteria) => Ok(criteria),
-        Err(MemOr::Memory) => Err(Stop::Memory),
-        Err(MemOr::Refused(_)) => Err(Stop::Refused(CommandRefusal::Criteria)),
-    }
+    changed_or_stop(old.changed(alloc, given.flags, given.scope, given.restriction))
 }
