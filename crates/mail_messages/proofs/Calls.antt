@@ -1,5 +1,5 @@
 -- Calls one after another: what the later ones say goes on from what the earlier ones said.
-use Rattle.std.proofs.Common.{◌≡◌, None, Some, Result, Ok, Err, sym, ap, subst}
+use Rattle.std.proofs.Common.{◌≡◌, ℕ, None, Some, Result, Ok, Err, sym, ap, subst}
 use Rattle.std.specs.Result.{IsErrAnd}
 use Rattle.mail_tree.specs.Changing.{Answer, ◌>>=◌}
 use Rattle.mail_draft.specs.declared.stop.Stop.{Stop}
@@ -49,6 +49,16 @@ pub ungroup3 : {A B C D E : Type 0} (view : E → D) (answer : Answer A) (f : A 
     → Says view (answer >>= λ x. f x >>= λ y. g y >>= h) result → Says view (((answer >>= f) >>= g) >>= h) result
 ungroup3 view (Ok x) f g h result said = ungroup view (f x) g h result said
 ungroup3 view (Err e) f g h result said = said
+
+-- two tests, then a third one before a number, and a step whose result goes on with that number
+pub steps : {A B C D : Type 0} (view : D → C) (p q r : Answer (Unit {0})) (n : ℕ) (h : Answer A) (f : ℕ → A → Answer B) (g : ℕ → B → Answer C) (result : Result D Stop)
+    → Says view (((p >>= λ u. q) >>= λ u. (r >>= λ v. Ok n) >>= λ i. h >>= λ x. let both : A × ℕ = (x, i) in Ok both) >>= λ (y : A × ℕ). f y.1 y.0 >>= g y.1) result
+    → Says view (p >>= λ u. q >>= λ v. r >>= λ w. (h >>= f n) >>= g n) result
+steps view (Ok u) (Ok v) (Ok w) n (Ok x) f g result said = said
+steps view (Ok u) (Ok v) (Ok w) n (Err e) f g result said = said
+steps view (Ok u) (Ok v) (Err e) n h f g result said = said
+steps view (Ok u) (Err e) r n h f g result said = said
+steps view (Err e) q r n h f g result said = said
 
 -- what a call gives goes into the next step, which may use that it is the answer
 pub then_is : {A B C D : Type 0} (view : B → A) (view' : D → C) (answer : Answer A) (f : A → Answer C) (y : B) (result : Result D Stop)

@@ -1,15 +1,14 @@
 -- Commands on messages, part by part.
-use Rattle.std.specs.Prelude.{ℕ, ◌==◌, ◌||◌, ◌++◌, List, length, map, nat_le, not, is_some, Option, Ok, if◌then◌else◌}
-use Rattle.command_text.specs.declared.reply.CommandRefusal.{CommandRefusal}
+use Rattle.std.specs.Prelude.{ℕ, ◌==◌, ◌||◌, ◌++◌, List, length, map, nat_le, not, is_some, Ok, if◌then◌else◌}
 use Rattle.command_text.specs.declared.reply.CommandRefusal.TheVariants.{Limit, Property, Protected, Reserved}
 use Rattle.command_text.specs.declared.reply.Limit.TheVariants.{Rows}
 use Rattle.command_text.specs.declared.reply.DataLine.{DataLine}
-use Rattle.command_text.specs.declared.reply.LastLine.{LastLine}
 use Rattle.command_text.specs.declared.reply.LastLine.TheVariants.{Done, Value}
 use Rattle.mapi_values.specs.Messages.{Mes}
 use Rattle.mapi_values.specs.Properties.{put, remove_id}
 use Rattle.mapi_values.specs.Values.{Val}
 use Rattle.mail_objects.specs.Forms.{Tbl}
+use Rattle.mail_tree.specs.declared.places.FolderPlace.{FolderPlace}
 use Rattle.mapi_values.specs.declared.value.Tag.{Tag}
 use Rattle.mail_tree.specs.Tree.{Tree}
 use Rattle.mail_tree.specs.Values.{bytes_of, is_set_protected, is_unset_protected}
@@ -17,7 +16,7 @@ use Rattle.mail_tree.specs.Changing.{Answer, Changed, ◌>>=◌, add_shown, cont
 use Rattle.mail_tree.specs.Settling.{settled, touched}
 use Rattle.mail_tree.specs.Ids.{message_kinds, next_index}
 use Rattle.mail_tree.specs.Names.{unless_nameless}
-use Rattle.mail_tree.specs.Folders.{Outcome, changing, making, replied, replying, unchanged, unless_full}
+use Rattle.mail_tree.specs.Folders.{Outcome, changing, listed, making, replied, unchanged, unless_full}
 use Rattle.mail_messages.specs.Finding.{plain_at}
 use Rattle.mail_tree.specs.Messages.{added_message, attachment_line, changed_message, copying, is_overfull, making_message, property_line, recipient_line, value_of}
 use Rattle.mail_tree.specs.Parts.{rows_of}
@@ -27,17 +26,17 @@ use Rattle.mail_messages.specs.Pieces.{moving_message}
 abbrev pub settling : Tree → ℕ → Changed → Answer Outcome
 settling T f D = settled T T.places f D >>= changing T (replied Done)
 
--- a folder is counted anew, and that is all: refused where there is a reason beside the limits
-abbrev pub ending : Tree → ℕ → Option CommandRefusal → LastLine → Changed → Answer Outcome
-ending T f reason last D = settled T T.places f D >>= replying T reason (replied last)
-
 -- the row of a message in this folder shows these values of it, and the folder is counted anew
-abbrev pub showing_row : Tree → ℕ → ℕ → List Val → Option CommandRefusal → LastLine → Changed → Answer Outcome
-showing_row T f m props reason last D = put_shown T (contents f) m props D >>= ending T f reason last
+abbrev pub showing_row : Tree → ℕ → ℕ → List Val → Changed → Answer Changed
+showing_row T f m props D = put_shown T (contents f) m props D >>= settled T T.places f
 
 -- the value of this id isn't the store's own
 abbrev pub may_set : ℕ → List Val → Answer (Unit {0})
 may_set id props = refused_if (is_set_protected id props) Protected
+
+-- the value of this id may be put: it isn't the store's own, and has a name where it needs one
+abbrev pub may_put : Tree → ℕ → List Val → Answer (Unit {0})
+may_put T id props = may_set id props >>= λ u. unless_nameless T id
 
 -- a message gets a value
 abbrev pub putting_value : Tree → Val → Mes → Answer Outcome
@@ -67,6 +66,10 @@ adding_row T f m props D = add_shown T (contents f) m props D >>= settled T T.pl
 abbrev pub adding : Tree → Mes → Changed → ℕ → Answer Outcome
 adding T m D index = added_message T m D >>= making T T.places 4 index
 
+-- the index of a message that comes into a folder which has room for it
+abbrev pub index_in : Tree → ℕ → Answer ℕ
+index_in T folder = unless_full T (contents folder) >>= λ u. Ok (next_index T 4 message_kinds)
+
 -- a folder that has room for it gets a new message of this class and time, in a store of these values
 abbrev pub making_in : Tree → ℕ → List ℕ → ℕ → List Val → Answer Outcome
 making_in T folder class time store = unless_full T (contents folder) >>= λ u. making_message T folder class time store (next_index T 4 message_kinds)
@@ -95,6 +98,14 @@ moving_into T m folder M = plain_at folder Reserved T.places >>= λ u. if M.fold
 abbrev pub may_copy : Mes → Answer (Unit {0})
 may_copy M = refused_if (is_overfull M.recipients || is_overfull M.attachments) (Limit Rows)
 
+-- a message may be copied into a folder
+abbrev pub may_copy_into : ℕ → Mes → List FolderPlace → Answer (Unit {0})
+may_copy_into folder M places = plain_at folder Reserved places >>= λ u. may_copy M
+
+-- what a copy of a message begins with: its folder is put as it is, and the copy has an index
+abbrev pub copy_start : Tree → ℕ → Mes → Answer (Changed × ℕ)
+copy_start T folder M = may_copy_into folder M T.places >>= λ u. index_in T folder >>= λ index. home_touched T M >>= λ D. Ok (D, index)
+
 -- a message is copied into a folder that is plain
 abbrev pub copying_into : Tree → ℕ → Mes → Answer Outcome
 copying_into T folder M = plain_at folder Reserved T.places >>= λ u. may_copy M >>= λ v. copying_in T folder M
@@ -102,3 +113,7 @@ copying_into T folder M = plain_at folder Reserved T.places >>= λ u. may_copy M
 -- the lines that tell of a message
 abbrev pub detail_lines : Mes → List DataLine
 detail_lines M = map property_line M.props ++ (map recipient_line (rows_of M.recipients) ++ map attachment_line M.parts)
+
+-- the lines that tell of a message are the reply
+abbrev pub telling_details : Tree → Mes → Answer Outcome
+telling_details T M = Ok (unchanged T (listed (detail_lines M)))

@@ -1,18 +1,16 @@
 -- The ends of the commands on messages, on a message that was found.
-use Rattle.std.specs.Prelude.{ℕ, not, Option, None, Some}
+use Rattle.std.specs.Prelude.{ℕ, not, None, Some}
 use Rattle.std.specs.Option.{is_some}
-use Rattle.command_text.specs.declared.reply.CommandRefusal.{CommandRefusal}
 use Rattle.command_text.specs.declared.reply.CommandRefusal.TheVariants.{Object}
-use Rattle.command_text.specs.declared.reply.LastLine.{LastLine}
 use Rattle.command_text.specs.declared.reply.LastLine.TheVariants.{Done}
 use Rattle.mapi_values.specs.Messages.{Mes}
 use Rattle.mapi_values.specs.Tables.{find_row}
 use Rattle.mail_objects.specs.declared.object.Object.TheVariants as objects
 use Rattle.mail_tree.specs.Places.{find_place, is_plain}
 use Rattle.mail_tree.specs.Tree.{Tree}
-use Rattle.mail_tree.specs.Changing.{Answer, ◌>>=◌, add_shown, contents, drop_shown, found, message_at, nothing, put_shown, refused_if, table_at, with_object}
+use Rattle.mail_tree.specs.Changing.{Answer, Changed, ◌>>=◌, add_shown, contents, drop_shown, found, message_at, nothing, put_shown, refused_if, table_at, with_object}
 use Rattle.mail_tree.specs.Settling.{settled}
-use Rattle.mail_tree.specs.Folders.{Outcome, changing, replied, replying}
+use Rattle.mail_tree.specs.Folders.{Outcome, changing, replied}
 use Rattle.mail_tree.specs.Messages.{in_folder}
 
 -- the message with this id, if the folder lists it
@@ -24,9 +22,8 @@ unfoldable pub message_below : Tree → ℕ → ℕ → Answer Mes
 message_below T m f = found Object (find_place f T.places) >>= λ p. refused_if (not (is_plain p)) Object >>= λ u. listed_message T m f
 
 -- the row of a message shows it as it is now, and its folder is counted anew
-unfoldable pub showing_message : Tree → Mes → Option CommandRefusal → LastLine → Answer Outcome
-showing_message T m reason last =
-    put_shown T (contents m.folder) m.nid m.props (with_object m.nid (Some (objects.Message m)) nothing) >>= settled T T.places m.folder >>= replying T reason (replied last)
+unfoldable pub showing_message : Tree → Mes → Answer Changed
+showing_message T m = put_shown T (contents m.folder) m.nid m.props (with_object m.nid (Some (objects.Message m)) nothing) >>= settled T T.places m.folder
 
 -- the message goes from its folder into another, and both are counted anew
 unfoldable pub moving_message : Tree → ℕ → ℕ → Mes → Answer Outcome

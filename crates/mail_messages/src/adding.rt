@@ -9,12 +9,13 @@ ghost use Rattle.mail_tree.specs.Changing.{contents};
 ghost use Rattle.mail_tree.specs.Folders.{unless_full};
 ghost use Rattle.mail_tree.specs.Ids.{message_kinds, next_index};
 ghost use Rattle.mail_draft.specs.Answers.{IsCalm, IsCaused, Looks, Says};
-ghost use Rattle.mail_messages.specs.Parts.{adding, adding_row, may_grow};
+ghost use Rattle.mail_messages.specs.Parts.{adding, adding_row, index_in, may_grow};
 
 use crate::find::contents;
+use crate::mails::with_message;
 use command_text::{CommandRefusal, Limit};
 use mail_draft::{Draft, Outcome, Stop, add_shown, making, next_index, settled, table_at};
-use mail_objects::{Mail, Object, TableNode};
+use mail_objects::{Mail, TableNode};
 use mail_tree::Known;
 use mapi_values::Props;
 use node_port::{Keeper, NodeReader};
@@ -37,7 +38,7 @@ fn check_growth(table: &TableNode) -> Result<(), Stop>
 }
 
 /// Checks that a folder's table of messages may get another row.
-pub(crate) fn unless_full<W: Outside, K: NodeReader<W>>(
+fn unless_full<W: Outside, K: NodeReader<W>>(
     alloc: Global,
     keeper: &mut K,
     w: &mut W,
@@ -52,7 +53,7 @@ pub(crate) fn unless_full<W: Outside, K: NodeReader<W>>(
 }
 
 /// The index of the next message, which may be past the last one.
-pub(crate) fn next_message<W: Outside, K: Keeper<W>>(
+fn next_message<W: Outside, K: Keeper<W>>(
     alloc: Global,
     keeper: &mut K,
     w: &mut W,
@@ -62,6 +63,21 @@ pub(crate) fn next_message<W: Outside, K: Keeper<W>>(
     ensures cause { IfErr result (IsCaused K.has_disk (W.view w.old).disk_faults (W.view w.new).disk_faults) }
 {
     next_index(alloc, keeper, w, 4, &[4])
+}
+
+/// The index of a message that is to come into a folder, which may be past the last one. Refused where the folder has no room for it.
+pub(crate) fn index_in<W: Outside, K: Keeper<W>>(
+    alloc: Global,
+    keeper: &mut K,
+    w: &mut W,
+    folder: Nid,
+) -> Result<u64, Stop>
+    ensures answer { (T : Tree) → Shown (K.holds keeper.old (W.view w.old)) (K.last keeper.old) T → Says (λ n. n) (index_in T folder.bits) result }
+    ensures looks { Looks (K.holds keeper.old (W.view w.old)) (K.holds keeper.new (W.view w.new)) (K.last keeper.old) (K.last keeper.new) (K.room keeper.old) (K.room keeper.new) (W.view w.old) (W.view w.new) }
+    ensures cause { IfErr result (IsCaused K.has_disk (W.view w.old).disk_faults (W.view w.new).disk_faults) }
+{
+    unless_full(alloc, keeper, w, folder)?;
+    next_message(alloc, keeper, w)
 }
 
 /// Adds a row that shows these values of a message to its folder's table, and counts the folder anew.
@@ -98,8 +114,7 @@ fn add_message<W: Outside, K: NodeReader<W>>(
 {
     let folder = mail.message().folder;
     let nid = mail.message().nid;
-    let props = mail.message().props.copy(alloc)?;
-    let draft = draft.with(nid, Some(Object::Message(mail)))?;
+    let (draft, props) = with_message(alloc, draft, mail)?;
     add_row(alloc, keeper, w, known, draft, folder, nid, &props)
 }
 

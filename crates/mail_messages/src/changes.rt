@@ -1,17 +1,19 @@
 //! What changes of messages come to.
-ghost use Rattle.std.specs.Prelude.{IfErr};
+ghost use Rattle.std.specs.Prelude.{IfErr, None};
+ghost use Rattle.command_text.specs.declared.reply.LastLine.TheVariants.{Done};
 ghost use Rattle.mail_tree.specs.Knowing.{Knows};
 ghost use Rattle.mail_tree.specs.Tree.{Shown, Tree};
-ghost use Rattle.mail_tree.specs.Messages.{changed_message, remaking};
+ghost use Rattle.mail_tree.specs.Messages.{remaking};
+ghost use Rattle.mail_tree.specs.Values.{finished};
 ghost use Rattle.mail_draft.specs.Answers.{IsCaused, Looks, Says};
 ghost use Rattle.mail_draft.specs.Drafts.{changed_of};
 ghost use Rattle.mail_draft.specs.Outcomes.{outcome_of};
-ghost use Rattle.mail_messages.specs.Parts.{ending, settling, showing_row};
+ghost use Rattle.mail_messages.specs.Parts.{settling, showing_row};
 ghost use Rattle.mail_messages.specs.Pieces.{showing_message};
 
 use crate::ending::Ending;
 use crate::find::contents;
-use crate::mails::{finished, message_draft, with_props};
+use crate::mails::{finished, with_message};
 use mail_draft::{Draft, Outcome, Stop, changing, put_shown, replying, settled};
 use mail_objects::Mail;
 use mail_tree::Known;
@@ -38,25 +40,7 @@ pub(crate) fn settling<W: Outside, K: NodeReader<W>>(
     changing(alloc, keeper, w, draft)
 }
 
-/// Counts a folder anew, and makes the changes.
-fn ending<W: Outside, K: NodeReader<W>>(
-    alloc: Global,
-    keeper: &mut K,
-    w: &mut W,
-    known: &Known,
-    draft: Draft,
-    folder: Nid,
-    end: Ending,
-) -> Result<Outcome, Stop>
-    ensures answer { (T : Tree) → Shown (K.holds keeper.old (W.view w.old)) (K.last keeper.old) T → Knows T known.now → Says (outcome_of T) (ending T folder.bits end.reason end.last (changed_of draft)) result }
-    ensures looks { Looks (K.holds keeper.old (W.view w.old)) (K.holds keeper.new (W.view w.new)) (K.last keeper.old) (K.last keeper.new) (K.room keeper.old) (K.room keeper.new) (W.view w.old) (W.view w.new) }
-    ensures cause { IfErr result (IsCaused K.has_disk (W.view w.old).disk_faults (W.view w.new).disk_faults) }
-{
-    let draft = settled(alloc, keeper, w, draft, &known.flags, &known.places, folder)?;
-    replying(alloc, keeper, w, draft, end.reason, end.last)
-}
-
-/// Makes the row of a message in its folder's table show these values of it, counts the folder anew, and makes the changes.
+/// Makes the row of a message in its folder's table show these values of it, and counts the folder anew.
 fn showing_row<W: Outside, K: NodeReader<W>>(
     alloc: Global,
     keeper: &mut K,
@@ -66,34 +50,32 @@ fn showing_row<W: Outside, K: NodeReader<W>>(
     folder: Nid,
     message: Nid,
     props: &Props,
-    end: Ending,
-) -> Result<Outcome, Stop>
-    ensures answer { (T : Tree) → Shown (K.holds keeper.old (W.view w.old)) (K.last keeper.old) T → Knows T known.now → Says (outcome_of T) (showing_row T folder.bits message.bits props.now end.reason end.last (changed_of draft)) result }
+) -> Result<Draft, Stop>
+    ensures answer { (T : Tree) → Shown (K.holds keeper.old (W.view w.old)) (K.last keeper.old) T → Knows T known.now → Says changed_of (showing_row T folder.bits message.bits props.now (changed_of draft)) result }
     ensures looks { Looks (K.holds keeper.old (W.view w.old)) (K.holds keeper.new (W.view w.new)) (K.last keeper.old) (K.last keeper.new) (K.room keeper.old) (K.room keeper.new) (W.view w.old) (W.view w.new) }
     ensures cause { IfErr result (IsCaused K.has_disk (W.view w.old).disk_faults (W.view w.new).disk_faults) }
 {
     let draft = put_shown(alloc, keeper, w, draft, contents(folder), message, props)?;
-    ending(alloc, keeper, w, known, draft, folder, end)
+    settled(alloc, keeper, w, draft, &known.flags, &known.places, folder)
 }
 
-/// Puts a message in place of the one with its id, and shows it as it is now.
-fn showing_message<W: Outside, K: NodeReader<W>>(
+/// Puts a message in place of the one with its id, once its flags and its size are made right, and shows it.
+fn remade<W: Outside, K: NodeReader<W>>(
     alloc: Global,
     keeper: &mut K,
     w: &mut W,
     known: &Known,
     mail: Mail,
-    end: Ending,
-) -> Result<Outcome, Stop>
-    ensures answer { (T : Tree) → Shown (K.holds keeper.old (W.view w.old)) (K.last keeper.old) T → Knows T known.now → Says (outcome_of T) (showing_message T mail end.reason end.last) result }
+) -> Result<Draft, Stop>
+    ensures answer { (T : Tree) → Shown (K.holds keeper.old (W.view w.old)) (K.last keeper.old) T → Knows T known.now → Says changed_of (showing_message T (finished mail)) result }
     ensures looks { Looks (K.holds keeper.old (W.view w.old)) (K.holds keeper.new (W.view w.new)) (K.last keeper.old) (K.last keeper.new) (K.room keeper.old) (K.room keeper.new) (W.view w.old) (W.view w.new) }
     ensures cause { IfErr result (IsCaused K.has_disk (W.view w.old).disk_faults (W.view w.new).disk_faults) }
 {
+    let mail = finished(alloc, mail)?;
     let folder = mail.message().folder;
     let nid = mail.message().nid;
-    let props = mail.message().props.copy(alloc)?;
-    let draft = message_draft(alloc, mail)?;
-    showing_row(alloc, keeper, w, known, draft, folder, nid, &props, end)
+    let (draft, props) = with_message(alloc, Draft::new(alloc), mail)?;
+    showing_row(alloc, keeper, w, known, draft, folder, nid, &props)
 }
 
 /// Puts another message in place of the one with its id: its flags and its size are made right, and it is shown.
@@ -109,23 +91,21 @@ pub fn remake_message<W: Outside, K: NodeReader<W>>(
     ensures looks { Looks (K.holds keeper.old (W.view w.old)) (K.holds keeper.new (W.view w.new)) (K.last keeper.old) (K.last keeper.new) (K.room keeper.old) (K.room keeper.new) (W.view w.old) (W.view w.new) }
     ensures cause { IfErr result (IsCaused K.has_disk (W.view w.old).disk_faults (W.view w.new).disk_faults) }
 {
-    let mail = finished(alloc, mail)?;
-    showing_message(alloc, keeper, w, known, mail, end)
+    let draft = remade(alloc, keeper, w, known, mail)?;
+    replying(alloc, keeper, w, draft, end.reason, end.last)
 }
 
-/// Gives a message other values.
+/// Puts a message that got other values in place of the one with its id.
 pub(crate) fn change_message<W: Outside, K: NodeReader<W>>(
     alloc: Global,
     keeper: &mut K,
     w: &mut W,
     known: &Known,
-    old: Mail,
-    props: Props,
+    mail: Mail,
 ) -> Result<Outcome, Stop>
-    ensures answer { (T : Tree) → Shown (K.holds keeper.old (W.view w.old)) (K.last keeper.old) T → Knows T known.now → Says (outcome_of T) (changed_message T old props) result }
+    ensures answer { (T : Tree) → Shown (K.holds keeper.old (W.view w.old)) (K.last keeper.old) T → Knows T known.now → Says (outcome_of T) (remaking T mail None Done) result }
     ensures looks { Looks (K.holds keeper.old (W.view w.old)) (K.holds keeper.new (W.view w.new)) (K.last keeper.old) (K.last keeper.new) (K.room keeper.old) (K.room keeper.new) (W.view w.old) (W.view w.new) }
     ensures cause { IfErr result (IsCaused K.has_disk (W.view w.old).disk_faults (W.view w.new).disk_faults) }
 {
-    let mail = with_props(old, props);
     remake_message(alloc, keeper, w, known, mail, Ending::done())
 }

@@ -6,15 +6,15 @@ ghost use Rattle.mail_tree.specs.Messages.{copied_message, is_overfull};
 ghost use Rattle.mail_draft.specs.Drafts.{changed_of};
 ghost use Rattle.mail_draft.specs.Outcomes.{outcome_of};
 ghost use Rattle.mail_draft.specs.Answers.{IsCalm, IsCaused, Looks, Says};
-ghost use Rattle.mail_messages.specs.Parts.{copying_in, copying_into, home_touched, may_copy};
+ghost use Rattle.mail_messages.specs.Parts.{copy_start, copying_into, home_touched, may_copy, may_copy_into};
 
-use crate::adding::{adding, next_message, unless_full};
+use crate::adding::{adding, index_in};
 use crate::find::{check_plain, message_in};
 use crate::mails::copy_of;
 use command_text::{CommandRefusal, Limit};
 use mail_draft::{Draft, Outcome, Stop, new_id, touched};
 use mail_objects::Mail;
-use mail_tree::Known;
+use mail_tree::{Known, Places};
 use mapi_values::Table;
 use node_port::{Keeper, NodeReader};
 use pst_base::Nid;
@@ -61,24 +61,32 @@ fn home_touched<W: Outside, K: NodeReader<W>>(
     touched(alloc, keeper, w, Draft::new(alloc), from)
 }
 
-/// Puts a copy of a message into a folder that has room for it.
-fn copy_mail<W: Outside, K: Keeper<W>>(
+/// Checks that a message may be copied into a folder: that one is plain, and the tables of this one aren't too long.
+fn check_copy(places: &Places, folder: Nid, mail: &Mail) -> Result<(), Stop>
+    ensures answer { Says (λ u. u) (may_copy_into folder.bits mail.now places.now) result }
+    ensures cause { IfErr result IsCalm }
+{
+    check_plain(places, folder, CommandRefusal::Reserved)?;
+    check_rows(mail)
+}
+
+/// What a copy of a message in a folder begins with: the changes in which the home of the message is put as it is, and the copy's index. Refused where the folder isn't plain or has no room, or the message has tables that are too long.
+fn copy_start<W: Outside, K: Keeper<W>>(
     alloc: Global,
     keeper: &mut K,
     w: &mut W,
-    known: &Known,
+    places: &Places,
     folder: Nid,
-    mail: Mail,
-) -> Result<Outcome, Stop>
-    ensures answer { (T : Tree) → Shown (K.holds keeper.old (W.view w.old)) (K.last keeper.old) T → Knows T known.now → Says (outcome_of T) (copying_in T folder.bits mail) result }
+    mail: &Mail,
+) -> Result<(Draft, u64), Stop>
+    ensures answer { (T : Tree) → Shown (K.holds keeper.old (W.view w.old)) (K.last keeper.old) T → T.places ≡ places.now → Says (λ start. (changed_of start.0, start.1)) (copy_start T folder.bits mail.now) result }
     ensures looks { Looks (K.holds keeper.old (W.view w.old)) (K.holds keeper.new (W.view w.new)) (K.last keeper.old) (K.last keeper.new) (K.room keeper.old) (K.room keeper.new) (W.view w.old) (W.view w.new) }
     ensures cause { IfErr result (IsCaused K.has_disk (W.view w.old).disk_faults (W.view w.new).disk_faults) }
 {
-    unless_full(alloc, keeper, w, folder)?;
-    let index = next_message(alloc, keeper, w)?;
-    let draft = home_touched(alloc, keeper, w, &mail)?;
-    let copy = copy_of(new_id(4, index), folder, mail);
-    adding(alloc, keeper, w, known, draft, copy, index)
+    check_copy(places, folder, mail)?;
+    let index = index_in(alloc, keeper, w, folder)?;
+    let draft = home_touched(alloc, keeper, w, mail)?;
+    Ok((draft, index))
 }
 
 /// Copies a message into a folder that is plain.
@@ -94,9 +102,9 @@ fn copy_into<W: Outside, K: Keeper<W>>(
     ensures looks { Looks (K.holds keeper.old (W.view w.old)) (K.holds keeper.new (W.view w.new)) (K.last keeper.old) (K.last keeper.new) (K.room keeper.old) (K.room keeper.new) (W.view w.old) (W.view w.new) }
     ensures cause { IfErr result (IsCaused K.has_disk (W.view w.old).disk_faults (W.view w.new).disk_faults) }
 {
-    check_plain(&known.places, folder, CommandRefusal::Reserved)?;
-    check_rows(&mail)?;
-    copy_mail(alloc, keeper, w, known, folder, mail)
+    let (draft, index) = copy_start(alloc, keeper, w, &known.places, folder, &mail)?;
+    let copy = copy_of(new_id(4, index), folder, mail);
+    adding(alloc, keeper, w, known, draft, copy, index)
 }
 
 /// Copies a message with its recipients, attachments and all subnodes into a folder. Refused, in this order: the message isn't there, or the folder (`Object`), the folder isn't plain (`Reserved`), the copy or the folder's table would have too many rows (`Limit(Rows)`), an object would have too many values (`Limit(Properties)`), no index is left (`Ids`).

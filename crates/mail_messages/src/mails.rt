@@ -2,7 +2,7 @@
 ghost use Rattle.std.specs.Prelude.{◌≡◌, ◌+◌, ◌++◌, IfOk, OnOk, Some, length};
 ghost use Rattle.mapi_values.specs.Messages.{size};
 ghost use Rattle.mapi_values.specs.Properties.{put, remove_id};
-ghost use Rattle.mail_tree.specs.Changing.{nothing, with_object};
+ghost use Rattle.mail_tree.specs.Changing.{with_object};
 ghost use Rattle.mail_tree.specs.Values.{bytes_of, finished, has_parts, key_front, message_props, number, search_key, with_attachment_flag, with_flag, with_props};
 ghost use Rattle.mail_tree.specs.Messages.{copy_of, plain_message};
 ghost use Rattle.mail_draft.specs.Drafts.{changed_of};
@@ -17,23 +17,6 @@ use mapi_values::tags::{
 use mapi_values::{Message, Props, Tag, Units, Value, size};
 use pst_base::{Bytes, Nid, Subs};
 use std::alloc::{AllocError, Global};
-
-/// The same message with other properties.
-#[tactic(auto, unfolding(message_obj::specs::Message::is_formed))]
-pub(crate) fn with_props(mail: Mail, props: Props) -> Mail
-    ensures { result ≡ with_props props mail }
-{
-    let message = mail.into_message();
-    Mail::new(Message {
-        nid: message.nid,
-        folder: message.folder,
-        props,
-        recipients: message.recipients,
-        attachments: message.attachments,
-        parts: message.parts,
-        kept: message.kept,
-    })
-}
 
 /// The same message with another id, in another folder.
 #[tactic(auto, unfolding(message_obj::specs::Message::is_formed))]
@@ -76,66 +59,42 @@ fn with_flag(on: bool, flags: u32) -> u32
     if on { cleared + 16 } else { cleared }
 }
 
-/// The properties with a number in place of the value of its id. They are lost with an `Err`.
-fn with_number(alloc: Global, props: Props, id: u16, n: u32) -> Result<Props, AllocError>
-    ensures { IfOk result (λ p. p ≡ put (number id n) props) }
-{
-    let mut numbered = props;
-    put_number(alloc, &mut numbered, id, u64::from(n))?;
-    Ok(numbered)
-}
-
-/// The properties with bit 10h of the flags right. Flags that aren't there come only with an attachment.
+/// Makes bit 10h of the flags right. Flags that aren't there come only with an attachment.
 #[tactic(auto, unfolding(mail_tree::specs::Values::with_attachment_flag))]
-fn with_attachment_flag(alloc: Global, on: bool, props: Props) -> Result<Props, AllocError>
-    ensures { IfOk result (λ p. p ≡ with_attachment_flag on props) }
+fn put_attachment_flag(alloc: Global, props: &mut Props, on: bool) -> Result<(), AllocError>
+    ensures { OnOk result (props.new ≡ with_attachment_flag on props.old) }
 {
-    if bytes_of(&props, ID_MESSAGE_FLAGS, PTYP_INTEGER_32).is_some() {
-        let flags = with_flag(on, number_of(&props, ID_MESSAGE_FLAGS));
-        return with_number(alloc, props, ID_MESSAGE_FLAGS, flags);
+    if bytes_of(props, ID_MESSAGE_FLAGS, PTYP_INTEGER_32).is_some() {
+        let flags = with_flag(on, number_of(props, ID_MESSAGE_FLAGS));
+        return put_number(alloc, props, ID_MESSAGE_FLAGS, u64::from(flags));
     }
     if on {
-        with_number(alloc, props, ID_MESSAGE_FLAGS, 16)
+        put_number(alloc, props, ID_MESSAGE_FLAGS, 16)
     } else {
-        Ok(props)
+        Ok(())
     }
 }
 
-/// The message with its flags right.
+/// The message with its flags right. It is lost with an `Err`.
 #[tactic(auto, unfolding(message_obj::specs::Message::is_formed))]
 fn flagged(alloc: Global, mail: Mail) -> Result<Mail, AllocError>
     ensures { IfOk result (λ m. m ≡ with_props (with_attachment_flag (has_parts mail.parts) mail.props) mail) }
 {
-    let message = mail.into_message();
-    let props = with_attachment_flag(alloc, message.parts.len() > 0, message.props)?;
-    Ok(Mail::new(Message {
-        nid: message.nid,
-        folder: message.folder,
-        props,
-        recipients: message.recipients,
-        attachments: message.attachments,
-        parts: message.parts,
-        kept: message.kept,
-    }))
+    let mut message = mail.into_message();
+    let on = message.parts.len() > 0;
+    put_attachment_flag(alloc, &mut message.props, on)?;
+    Ok(Mail::new(message))
 }
 
-/// The message with its size right.
+/// The message with its size right. It is lost with an `Err`.
 #[tactic(auto, unfolding(message_obj::specs::Message::is_formed))]
 fn sized(alloc: Global, mail: Mail) -> Result<Mail, AllocError>
     ensures { IfOk result (λ m. m ≡ with_props (put (number 0x0E08 (size mail)) mail.props) mail) }
 {
-    let size = size(mail.message());
-    let message = mail.into_message();
-    let props = with_number(alloc, message.props, ID_MESSAGE_SIZE, size)?;
-    Ok(Mail::new(Message {
-        nid: message.nid,
-        folder: message.folder,
-        props,
-        recipients: message.recipients,
-        attachments: message.attachments,
-        parts: message.parts,
-        kept: message.kept,
-    }))
+    let mut message = mail.into_message();
+    let size = u64::from(size(&message));
+    put_number(alloc, &mut message.props, ID_MESSAGE_SIZE, size)?;
+    Ok(Mail::new(message))
 }
 
 /// The message with its flags and its size right. It is lost with an `Err`.
@@ -146,22 +105,31 @@ pub(crate) fn finished(alloc: Global, mail: Mail) -> Result<Mail, AllocError>
     sized(alloc, flagged(alloc, mail)?)
 }
 
-/// The properties of a message with a value in place of the one of its id.
-pub(crate) fn with_value(alloc: Global, mail: &Mail, value: &Value) -> Result<Props, AllocError>
-    ensures { IfOk result (λ p. p ≡ put value.now mail.now.props) }
+/// Puts a copy of a value, in place of the one of its id.
+fn put_copy(alloc: Global, props: &mut Props, value: &Value) -> Result<(), AllocError>
+    ensures { OnOk result (props.new ≡ put value.now props.old) }
 {
-    let mut props = mail.message().props.copy(alloc)?;
-    props.put(value.copy(alloc)?)?;
-    Ok(props)
+    props.put(value.copy(alloc)?)
 }
 
-/// The properties of a message without the value of this id.
-pub(crate) fn without_value(alloc: Global, mail: &Mail, id: u16) -> Result<Props, AllocError>
-    ensures { IfOk result (λ p. p ≡ remove_id id mail.now.props) }
+/// The same message with a value in place of the one of its id. It is lost with an `Err`.
+#[tactic(auto, unfolding(message_obj::specs::Message::is_formed))]
+pub(crate) fn with_value(alloc: Global, mail: Mail, value: &Value) -> Result<Mail, AllocError>
+    ensures { IfOk result (λ m. m ≡ with_props (put value.now mail.props) mail) }
 {
-    let mut props = mail.message().props.copy(alloc)?;
-    let _was_there = props.remove(id);
-    Ok(props)
+    let mut message = mail.into_message();
+    put_copy(alloc, &mut message.props, value)?;
+    Ok(Mail::new(message))
+}
+
+/// The same message without the value of this id.
+#[tactic(auto, unfolding(message_obj::specs::Message::is_formed))]
+pub(crate) fn without_value(mail: Mail, id: u16) -> Mail
+    ensures { result ≡ with_props (remove_id id mail.props) mail }
+{
+    let mut message = mail.into_message();
+    let _was_there = message.props.remove(id);
+    Mail::new(message)
 }
 
 /// Pushes the first 12 bytes of the store's record key, or zeros where it is shorter or isn't there.
@@ -216,10 +184,17 @@ pub(crate) fn message_props(
     Ok(props)
 }
 
-/// The draft of a message.
-pub(crate) fn message_draft(alloc: Global, mail: Mail) -> Result<Draft, AllocError>
-    ensures { IfOk result (λ d. changed_of d ≡ with_object mail.nid (Some (objects.Message mail)) nothing) }
+/// The draft with a message put, and a copy of the message's values, which its row is to show.
+pub(crate) fn with_message(
+    alloc: Global,
+    draft: Draft,
+    mail: Mail,
+) -> Result<(Draft, Props), AllocError>
+    ensures put { IfOk result (λ given. changed_of given.0 ≡ with_object mail.nid (Some (objects.Message mail)) (changed_of draft)) }
+    ensures props { IfOk result (λ given. given.1 ≡ mail.props) }
 {
     let nid = mail.message().nid;
-    Draft::new(alloc).with(nid, Some(Object::Message(mail)))
+    let props = mail.message().props.copy(alloc)?;
+    let draft = draft.with(nid, Some(Object::Message(mail)))?;
+    Ok((draft, props))
 }

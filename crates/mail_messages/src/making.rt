@@ -9,7 +9,7 @@ ghost use Rattle.mail_draft.specs.Answers.{IsCaused, Looks, Says};
 ghost use Rattle.mail_draft.specs.Outcomes.{outcome_of};
 ghost use Rattle.mail_messages.specs.Parts.{making_in};
 
-use crate::adding::{adding, next_message, unless_full};
+use crate::adding::{adding, index_in};
 use crate::find::check_plain;
 use crate::mails::{finished, message_props, plain_message};
 use command_text::CommandRefusal;
@@ -41,7 +41,7 @@ fn new_mail(
     finished(alloc, plain_message(alloc, nid, folder, props))
 }
 
-/// Makes a message of a class and a time in a folder that has room for it, in a store of these values.
+/// Makes a message of a class and a time in a folder, if it has room for it, in a store of these values.
 fn make_message<W: Outside, K: Keeper<W>>(
     alloc: Global,
     keeper: &mut K,
@@ -56,8 +56,7 @@ fn make_message<W: Outside, K: Keeper<W>>(
     ensures looks { Looks (K.holds keeper.old (W.view w.old)) (K.holds keeper.new (W.view w.new)) (K.last keeper.old) (K.last keeper.new) (K.room keeper.old) (K.room keeper.new) (W.view w.old) (W.view w.new) }
     ensures cause { IfErr result (IsCaused K.has_disk (W.view w.old).disk_faults (W.view w.new).disk_faults) }
 {
-    unless_full(alloc, keeper, w, folder)?;
-    let index = next_message(alloc, keeper, w)?;
+    let index = index_in(alloc, keeper, w, folder)?;
     let mail = new_mail(alloc, folder, class, time, store, index)?;
     adding(alloc, keeper, w, known, Draft::new(alloc), mail, index)
 }

@@ -11,10 +11,10 @@ ghost use Rattle.mail_messages.specs.Pieces.{moving_message};
 
 use crate::changes::settling;
 use crate::find::{check_plain, contents, message_in};
-use crate::mails::copy_of;
+use crate::mails::{copy_of, with_message};
 use command_text::{CommandRefusal, LastLine, Reply};
 use mail_draft::{Draft, Outcome, Stop, add_shown, drop_shown, settled};
-use mail_objects::{Mail, Object};
+use mail_objects::Mail;
 use mail_tree::Known;
 use mapi_values::Props;
 use node_port::NodeReader;
@@ -76,9 +76,8 @@ fn move_between<W: Outside, K: NodeReader<W>>(
     ensures cause { IfErr result (IsCaused K.has_disk (W.view w.old).disk_faults (W.view w.new).disk_faults) }
 {
     let from = mail.message().folder;
-    let props = mail.message().props.copy(alloc)?;
-    let moved = Object::Message(copy_of(message, folder, mail));
-    let draft = Draft::new(alloc).with(message, Some(moved))?;
+    let moved = copy_of(message, folder, mail);
+    let (draft, props) = with_message(alloc, Draft::new(alloc), moved)?;
     let draft = drop_shown(alloc, keeper, w, draft, contents(from), message)?;
     arriving(
         alloc, keeper, w, known, draft, from, folder, message, &props,

@@ -1,11 +1,10 @@
 //! `get` and `props`
-ghost use Rattle.std.specs.Prelude.{◌≡◌, IfErr, IfOk, option_copied};
+ghost use Rattle.std.specs.Prelude.{◌≡◌, IfErr, option_copied};
 ghost use Rattle.mail_tree.specs.Tree.{Shown, Tree};
-ghost use Rattle.mail_tree.specs.Folders.{listed, unchanged};
 ghost use Rattle.mail_tree.specs.Messages.{details, value_in, value_of};
 ghost use Rattle.mail_draft.specs.Outcomes.{outcome_of};
 ghost use Rattle.mail_draft.specs.Answers.{IsCalm, IsCaused, Looks, Says};
-ghost use Rattle.mail_messages.specs.Parts.{detail_lines, telling_value};
+ghost use Rattle.mail_messages.specs.Parts.{telling_details, telling_value};
 
 use crate::details::{detail_lines, listed};
 use crate::find::message_in;
@@ -17,7 +16,7 @@ use mapi_values::{Props, Tag, Value};
 use node_port::NodeReader;
 use pst_base::Nid;
 use pst_outside::Outside;
-use std::alloc::{AllocError, Global};
+use std::alloc::Global;
 
 /// The value of this id, if it is of this kind.
 fn find_value(props: &Props, tag: Tag) -> Option<&Value>
@@ -71,8 +70,9 @@ pub fn get_value<W: Outside, K: NodeReader<W>>(
 }
 
 /// The lines that tell of a message as the reply.
-fn tell_details(alloc: Global, mail: &Mail) -> Result<Outcome, AllocError>
-    ensures { IfOk result (λ o. (T : Tree) → outcome_of T o ≡ unchanged T (listed (detail_lines mail.now))) }
+fn tell_details(alloc: Global, mail: &Mail) -> Result<Outcome, Stop>
+    ensures answer { (T : Tree) → Says (outcome_of T) (telling_details T mail.now) result }
+    ensures cause { IfErr result IsCalm }
 {
     let lines = detail_lines(alloc, mail)?;
     Ok(Outcome::unchanged(alloc, listed(lines)))
@@ -91,5 +91,5 @@ pub fn list_details<W: Outside, K: NodeReader<W>>(
     ensures cause { IfErr result (IsCaused K.has_disk (W.view w.old).disk_faults (W.view w.new).disk_faults) }
 {
     let mail = message_in(alloc, keeper, w, places, message)?;
-    Ok(tell_details(alloc, &mail)?)
+    tell_details(alloc, &mail)
 }

@@ -6,7 +6,7 @@ ghost use Rattle.mail_tree.specs.Messages.{set_value, unset_value};
 ghost use Rattle.mail_draft.specs.Outcomes.{outcome_of};
 ghost use Rattle.mail_tree.specs.Values.{is_own_id, is_set_protected, is_unset_protected};
 ghost use Rattle.mail_draft.specs.Answers.{IsCalm, IsCaused, Looks, Says};
-ghost use Rattle.mail_messages.specs.Parts.{may_set, may_unset, putting_value, removing_value};
+ghost use Rattle.mail_messages.specs.Parts.{may_put, may_set, may_unset, putting_value, removing_value};
 
 use crate::changes::change_message;
 use crate::find::message_in;
@@ -83,6 +83,22 @@ fn check_unset(tag: Tag, mail: &Mail) -> Result<(), Stop>
     Ok(())
 }
 
+/// Checks that a value of this id may be put into a message: it isn't the store's own, and where it needs a name it has one.
+fn check_put<W: Outside, K: NodeReader<W>>(
+    alloc: Global,
+    keeper: &mut K,
+    w: &mut W,
+    mail: &Mail,
+    id: u16,
+) -> Result<(), Stop>
+    ensures answer { (T : Tree) → Shown (K.holds keeper.old (W.view w.old)) (K.last keeper.old) T → Says (λ u. u) (may_put T id mail.now.props) result }
+    ensures looks { Looks (K.holds keeper.old (W.view w.old)) (K.holds keeper.new (W.view w.new)) (K.last keeper.old) (K.last keeper.new) (K.room keeper.old) (K.room keeper.new) (W.view w.old) (W.view w.new) }
+    ensures cause { IfErr result (IsCaused K.has_disk (W.view w.old).disk_faults (W.view w.new).disk_faults) }
+{
+    check_set(id, mail)?;
+    check_named(alloc, keeper, w, id)
+}
+
 /// Puts a value into this message.
 fn put_value<W: Outside, K: NodeReader<W>>(
     alloc: Global,
@@ -96,11 +112,9 @@ fn put_value<W: Outside, K: NodeReader<W>>(
     ensures looks { Looks (K.holds keeper.old (W.view w.old)) (K.holds keeper.new (W.view w.new)) (K.last keeper.old) (K.last keeper.new) (K.room keeper.old) (K.room keeper.new) (W.view w.old) (W.view w.new) }
     ensures cause { IfErr result (IsCaused K.has_disk (W.view w.old).disk_faults (W.view w.new).disk_faults) }
 {
-    let id = value.id();
-    check_set(id, &mail)?;
-    check_named(alloc, keeper, w, id)?;
-    let props = with_value(alloc, &mail, value)?;
-    change_message(alloc, keeper, w, known, mail, props)
+    check_put(alloc, keeper, w, &mail, value.id())?;
+    let changed = with_value(alloc, mail, value)?;
+    change_message(alloc, keeper, w, known, changed)
 }
 
 /// Removes a value from this message.
@@ -117,8 +131,8 @@ fn remove_value<W: Outside, K: NodeReader<W>>(
     ensures cause { IfErr result (IsCaused K.has_disk (W.view w.old).disk_faults (W.view w.new).disk_faults) }
 {
     check_unset(tag, &mail)?;
-    let props = without_value(alloc, &mail, tag.id)?;
-    change_message(alloc, keeper, w, known, mail, props)
+    let changed = without_value(mail, tag.id);
+    change_message(alloc, keeper, w, known, changed)
 }
 
 /// Puts a value into a message. Refused where the message isn't there, the id is the store's own or that of an object (`Protected`), or it is 8000h or more and no name has it (`Property`).

@@ -21,9 +21,10 @@ unfolding moving_message
 returns-clause-answer g c = λ T s p same.
     let mail = c.args.mail in let m = c.args.message.bits in let to = c.args.folder.bits in
     let from = ap (λ (m : Mes). m.folder) (c.behind-mail.view_is ∙ c.message.ensures.message) in
-    let props = c.in_ok-props.ensures ∙ ap (λ (m : Mes). m.props) (c.behind-mail-2.view_is ∙ c.message-2.ensures.message) in
-    let placed : c.copy_of.result ≡ in_folder to mail = c.copy_of.ensures ∙ ap (λ (id : ℕ). in_folder to (record mail { nid = id })) (sym same) in
-    let draft = c.in_ok-draft.ensures ∙ ap (λ (M : Mes). with_object m (Some (Message M)) (changed_of c.new.result)) placed ∙ ap (with_object m (Some (Message (in_folder to mail)))) c.new.ensures in
+    let placed : c.copy_of-moved.result ≡ in_folder to mail = c.copy_of-moved.ensures ∙ ap (λ (id : ℕ). in_folder to (record mail { nid = id })) (sym same) in
+    let props = c.in_ok-draft.ensures.props ∙ ap (λ (M : Mes). M.props) placed in
+    let draft = c.in_ok-draft.ensures.put ∙ ap (λ (M : Mes). with_object M.nid (Some (Message M)) (changed_of c.new.result)) placed
+    ∙ ap (λ (id : ℕ). with_object id (Some (Message (in_folder to mail))) (changed_of c.new.result)) same ∙ ap (with_object m (Some (Message (in_folder to mail)))) c.new.ensures in
     let first = as_at2 changed_of (λ (q : ℕ) (E : Changed). drop_shown T q m E) _ (c.contents.ensures ∙ ap contents from) draft (c.in_ok-draft-2.ensures.answer T s) in
     let next = as_at2 (outcome_of T) (λ (f : ℕ) (ps : List Val). arriving T f to m ps (changed_of c.in_ok-draft-2.draft)) _ from props
     (c.arriving.ensures.answer T (shown_still T c.in_ok-draft-2.ensures.looks s) p) in

@@ -17,4 +17,4 @@ pub returns-clause-answer : goal.returns-clause-answer
 unfolding details
 returns-clause-answer g c = λ T s p.
     then_says (λ (m : Mes). m) (outcome_of T) (message_in T c.args.message.bits) (λ M. Ok (unchanged T (listed (detail_lines M)))) _ _ (c.in_ok-mail.ensures.answer T s p)
-    (c.in_ok-tell_details.ensures T)
+    (c.tell_details.ensures.answer T)
