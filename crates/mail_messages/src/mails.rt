@@ -1,9 +1,8 @@
 //! Messages with other values, in other places, and new ones.
 ghost use Rattle.std.specs.Prelude.{◌≡◌, ◌+◌, ◌++◌, IfOk, OnOk, Some, length};
-ghost use Rattle.mapi_values.specs.Messages.{size};
 ghost use Rattle.mapi_values.specs.Properties.{put, remove_id};
 ghost use Rattle.mail_tree.specs.Changing.{with_object};
-ghost use Rattle.mail_tree.specs.Values.{bytes_of, finished, has_parts, key_front, message_props, number, search_key, with_attachment_flag, with_flag, with_props};
+ghost use Rattle.mail_tree.specs.Values.{bytes_of, finished, key_front, message_props, number, search_key, with_attachment_flag, with_flag, with_props};
 ghost use Rattle.mail_tree.specs.Messages.{copy_of, plain_message};
 ghost use Rattle.mail_draft.specs.Drafts.{changed_of};
 ghost use Rattle.mail_objects.specs.declared.object.Object.TheVariants as objects;
@@ -75,34 +74,25 @@ fn put_attachment_flag(alloc: Global, props: &mut Props, on: bool) -> Result<(),
     }
 }
 
-/// The message with its flags right. It is lost with an `Err`.
-#[tactic(auto, unfolding(message_obj::specs::Message::is_formed))]
-fn flagged(alloc: Global, mail: Mail) -> Result<Mail, AllocError>
-    ensures { IfOk result (λ m. m ≡ with_props (with_attachment_flag (has_parts mail.parts) mail.props) mail) }
+/// Makes the flags of a message right, and then its size.
+#[tactic(auto, unfolding(mail_tree::specs::Values::finished))]
+fn finish(alloc: Global, message: &mut Message) -> Result<(), AllocError>
+    ensures { OnOk result (message.new ≡ finished message.old) }
 {
-    let mut message = mail.into_message();
     let on = message.parts.len() > 0;
     put_attachment_flag(alloc, &mut message.props, on)?;
-    Ok(Mail::new(message))
-}
-
-/// The message with its size right. It is lost with an `Err`.
-#[tactic(auto, unfolding(message_obj::specs::Message::is_formed))]
-fn sized(alloc: Global, mail: Mail) -> Result<Mail, AllocError>
-    ensures { IfOk result (λ m. m ≡ with_props (put (number 0x0E08 (size mail)) mail.props) mail) }
-{
-    let mut message = mail.into_message();
-    let size = u64::from(size(&message));
-    put_number(alloc, &mut message.props, ID_MESSAGE_SIZE, size)?;
-    Ok(Mail::new(message))
+    let size = u64::from(size(message));
+    put_number(alloc, &mut message.props, ID_MESSAGE_SIZE, size)
 }
 
 /// The message with its flags and its size right. It is lost with an `Err`.
-#[tactic(auto, unfolding(mail_tree::specs::Values::finished))]
+#[tactic(auto, unfolding(mail_tree::specs::Values::finished, message_obj::specs::Message::is_formed))]
 pub(crate) fn finished(alloc: Global, mail: Mail) -> Result<Mail, AllocError>
     ensures { IfOk result (λ m. m ≡ finished mail) }
 {
-    sized(alloc, flagged(alloc, mail)?)
+    let mut message = mail.into_message();
+    finish(alloc, &mut message)?;
+    Ok(Mail::new(message))
 }
 
 /// Puts a copy of a value, in place of the one of its id.
