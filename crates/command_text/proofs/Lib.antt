@@ -1,2 +1,3 @@
 pub mod DigitLaws
 pub mod Ids
+pub mod LastLaws

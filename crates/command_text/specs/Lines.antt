@@ -188,6 +188,39 @@ one_word word =
     else (if bytes_eq word (codes "quit") then Ok Quit
     else Err Line)
 
+-- a line that tells of a search folder or of a property's name
+unfoldable pub on_search : List ℕ → List ℕ → Result Command LineRefusal
+on_search word rest =
+    if bytes_eq word (codes "name") then name_property rest
+    else (if bytes_eq word (codes "mksearch") then make_search rest
+    else (if bytes_eq word (codes "criteria") then set_criteria rest
+    else (if bytes_eq word (codes "getcriteria") then get_criteria rest
+    else Err Line)))
+
+-- a line that tells of a recipient or an attachment, or of what comes after these
+unfoldable pub on_part : List ℕ → List ℕ → Result Command LineRefusal
+on_part word rest =
+    if bytes_eq word (codes "rcpt") then add_recipient rest
+    else (if bytes_eq word (codes "unrcpt") then remove_recipient rest
+    else (if bytes_eq word (codes "attach") then add_attachment rest
+    else (if bytes_eq word (codes "append") then append_data rest
+    else (if bytes_eq word (codes "detach") then remove_attachment rest
+    else (if bytes_eq word (codes "fetch") then fetch_data rest
+    else on_search word rest)))))
+
+-- a line that tells of a message, or of what comes after these
+unfoldable pub on_message : List ℕ → List ℕ → Result Command LineRefusal
+on_message word rest =
+    if bytes_eq word (codes "new") then new_message rest
+    else (if bytes_eq word (codes "set") then set_property rest
+    else (if bytes_eq word (codes "unset") then unset_property rest
+    else (if bytes_eq word (codes "get") then get_property rest
+    else (if bytes_eq word (codes "props") then list_properties rest
+    else (if bytes_eq word (codes "mv") then move_message rest
+    else (if bytes_eq word (codes "cp") then copy_message rest
+    else (if bytes_eq word (codes "rm") then remove_message rest
+    else on_part word rest)))))))
+
 -- a line with a space: its first word, and what stands behind the space
 unfoldable pub with_arguments : List ℕ → List ℕ → Result Command LineRefusal
 with_arguments word rest =
@@ -196,25 +229,7 @@ with_arguments word rest =
     else (if bytes_eq word (codes "mvdir") then move_folder rest
     else (if bytes_eq word (codes "rmdir") then remove_folder rest
     else (if bytes_eq word (codes "ls") then list_folder rest
-    else (if bytes_eq word (codes "new") then new_message rest
-    else (if bytes_eq word (codes "set") then set_property rest
-    else (if bytes_eq word (codes "unset") then unset_property rest
-    else (if bytes_eq word (codes "get") then get_property rest
-    else (if bytes_eq word (codes "props") then list_properties rest
-    else (if bytes_eq word (codes "mv") then move_message rest
-    else (if bytes_eq word (codes "cp") then copy_message rest
-    else (if bytes_eq word (codes "rm") then remove_message rest
-    else (if bytes_eq word (codes "rcpt") then add_recipient rest
-    else (if bytes_eq word (codes "unrcpt") then remove_recipient rest
-    else (if bytes_eq word (codes "attach") then add_attachment rest
-    else (if bytes_eq word (codes "append") then append_data rest
-    else (if bytes_eq word (codes "detach") then remove_attachment rest
-    else (if bytes_eq word (codes "fetch") then fetch_data rest
-    else (if bytes_eq word (codes "name") then name_property rest
-    else (if bytes_eq word (codes "mksearch") then make_search rest
-    else (if bytes_eq word (codes "criteria") then set_criteria rest
-    else (if bytes_eq word (codes "getcriteria") then get_criteria rest
-    else Err Line))))))))))))))))))))))
+    else on_message word rest))))
 
 -- the line is cut at its first space, if it has one
 abbrev pub cut_line : List ℕ → Option (List ℕ × List ℕ) → Result Command LineRefusal

@@ -88,6 +88,24 @@ unfoldable pub criteria_text : ℕ → List ℕ → List ℕ → SearchState →
 criteria_text flags scope restriction state builds =
     id_text flags ++ codes " " ++ scope_text scope ++ codes " " ++ hex_text restriction ++ codes " " ++ state_word state ++ codes " " ++ decimal builds
 
+-- `ok` and an id
+abbrev pub ok_id_text : ℕ → List ℕ
+ok_id_text id = codes "ok " ++ id_text id
+
+-- the last line, but for its end
+unfoldable pub last_words : LastLine → List ℕ
+last_words Done = codes "ok"
+last_words (Made id) = ok_id_text id.bits
+last_words (Count count) = codes "ok " ++ decimal count
+last_words (Row row) = codes "ok " ++ decimal row
+last_words (Attached id) = ok_id_text id.bits
+last_words (Named property) = ok_id_text property
+last_words (Value value) = codes "ok " ++ value_text value
+last_words (Criteria flags scope restriction state builds) = codes "ok " ++ criteria_text flags scope restriction state builds
+last_words NoCriteria = codes "ok none"
+last_words (Refused refusal) = codes "no " ++ refusal_words refusal
+last_words NoMemory = codes "no memory"
+
 -- the last line
 unfoldable pub last_text : LastLine → List ℕ
 last_text Done = codes "ok" ++ 10 ∷ []

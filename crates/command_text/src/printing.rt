@@ -2,7 +2,7 @@
 ghost use Rattle.std.specs.Prelude.{◌≡◌, ◌++◌, IfOk, OnOk, map, string_bytes};
 ghost use Rattle.command_text.specs.Limits.{limit_word};
 ghost use Rattle.command_text.specs.Refusals.{refusal_words};
-ghost use Rattle.command_text.specs.Replies.{criteria_text, more_ids_text, scope_text, state_word, id_text, name_end, listed, message_text, property_text, recipient_text, attachment_text, data_text, last_text, text};
+ghost use Rattle.command_text.specs.Replies.{criteria_text, more_ids_text, scope_text, state_word, id_text, name_end, listed, message_text, property_text, recipient_text, attachment_text, data_text, ok_id_text, last_words, last_text, text};
 
 use crate::reply::{CommandRefusal, DataLine, LastLine, Limit, Reply};
 use crate::scope::Scope;
@@ -210,31 +210,31 @@ fn push_criteria(
     write!(text, " {} {builds}", state_word(state))
 }
 
-/// Puts the last line of a reply at the end of a text.
-#[tactic(auto, unfolding(crate::specs::Replies::last_text))]
-fn push_last(alloc: Global, text: &mut String, last: &LastLine) -> Result<(), AllocError>
-    ensures { OnOk result (string_bytes text.new ≡ string_bytes text.old ++ last_text last.now) }
+/// Puts `ok` and an id at the end of a text.
+fn push_ok_id(text: &mut String, id: Nid) -> Result<(), AllocError>
+    ensures { OnOk result (string_bytes text.new ≡ string_bytes text.old ++ ok_id_text id.bits) }
+{
+    text.push_str("ok ")?;
+    push_id(text, id)
+}
+
+/// Puts the words of a last line at the end of a text.
+#[tactic(auto, unfolding(crate::specs::Replies::last_words))]
+fn push_last_words(alloc: Global, text: &mut String, last: &LastLine) -> Result<(), AllocError>
+    ensures { OnOk result (string_bytes text.new ≡ string_bytes text.old ++ last_words last.now) }
 {
     match last {
-        LastLine::Done => text.push_str("ok")?,
-        LastLine::Made(id) => {
-            text.push_str("ok ")?;
-            push_id(text, *id)?;
-        }
-        LastLine::Count(count) => write!(text, "ok {count}")?,
-        LastLine::Row(row) => write!(text, "ok {row}")?,
-        LastLine::Attached(id) => {
-            text.push_str("ok ")?;
-            push_id(text, *id)?;
-        }
+        LastLine::Done => text.push_str("ok"),
+        LastLine::Made(id) | LastLine::Attached(id) => push_ok_id(text, *id),
+        LastLine::Count(count) => write!(text, "ok {count}"),
+        LastLine::Row(row) => write!(text, "ok {row}"),
         LastLine::Named(property) => {
-            text.push_str("ok ")?;
             let bits = u32::from(*property);
-            push_id(text, Nid { bits })?;
+            push_ok_id(text, Nid { bits })
         }
         LastLine::Value(value) => {
             text.push_str("ok ")?;
-            text.push_str(value_text(alloc, value)?.as_str())?;
+            text.push_str(value_text(alloc, value)?.as_str())
         }
         LastLine::Criteria {
             flags,
@@ -244,17 +244,23 @@ fn push_last(alloc: Global, text: &mut String, last: &LastLine) -> Result<(), Al
             builds,
         } => {
             text.push_str("ok ")?;
-            push_criteria(text, *flags, scope, restriction, *state, *builds)?;
+            push_criteria(text, *flags, scope, restriction, *state, *builds)
         }
-        LastLine::NoCriteria => text.push_str("ok none")?,
+        LastLine::NoCriteria => text.push_str("ok none"),
         LastLine::Refused(refusal) => {
             text.push_str("no ")?;
-            push_refusal(text, *refusal)?;
+            push_refusal(text, *refusal)
         }
-        LastLine::NoMemory => text.push_str("no memory")?,
+        LastLine::NoMemory => text.push_str("no memory"),
     }
-    text.push('\n')?;
-    Ok(())
+}
+
+/// Puts the last line of a reply at the end of a text.
+fn push_last(alloc: Global, text: &mut String, last: &LastLine) -> Result<(), AllocError>
+    ensures { OnOk result (string_bytes text.new ≡ string_bytes text.old ++ last_text last.now) }
+{
+    push_last_words(alloc, text, last)?;
+    text.push('\n')
 }
 
 /// The bytes of a reply: its lines of data, each behind `- `, and its last line, which begins with `ok` or `no`. Every line ends with LF, and every id is in lower-case hex.

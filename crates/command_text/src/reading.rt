@@ -1,6 +1,6 @@
 //! A line read as a command.
 ghost use Rattle.pst_base.specs.Stops.{Gives};
-ghost use Rattle.command_text.specs.Lines.{make_folder, rename_folder, move_folder, remove_folder, list_folder, new_message, set_property, unset_property, get_property, list_properties, move_message, copy_message, remove_message, add_recipient, remove_recipient, add_attachment, append_data, remove_attachment, fetch_data, one_word, with_arguments, command, name_property, make_search, set_criteria, get_criteria};
+ghost use Rattle.command_text.specs.Lines.{make_folder, rename_folder, move_folder, remove_folder, list_folder, new_message, set_property, unset_property, get_property, list_properties, move_message, copy_message, remove_message, add_recipient, remove_recipient, add_attachment, append_data, remove_attachment, fetch_data, one_word, on_message, on_part, on_search, with_arguments, command, name_property, make_search, set_criteria, get_criteria};
 
 use crate::arguments::{id_and_name, id_and_tag, one_id, two_ids};
 use crate::command::{Command, LineRefusal};
@@ -334,7 +334,55 @@ fn one_word(word: &str) -> Result<Command, MemOr<LineRefusal>>
     }
 }
 
-/// A line with a space: its first word, and what stands behind the space.
+/// A line whose first word tells of a search folder or of a property's name.
+#[tactic(auto, unfolding(crate::specs::Lines::on_search))]
+fn on_search(alloc: Global, word: &str, rest: &str) -> Result<Command, MemOr<LineRefusal>>
+    ensures { Gives (λ c. c) result (on_search word.now rest.now) }
+{
+    match word {
+        "name" => name_property(alloc, rest),
+        "mksearch" => make_search(alloc, rest),
+        "criteria" => set_criteria(alloc, rest),
+        "getcriteria" => get_criteria(rest),
+        _ => Err(MemOr::Refused(LineRefusal::Line)),
+    }
+}
+
+/// A line whose first word tells of a recipient or an attachment, or of what comes after these.
+#[tactic(auto, unfolding(crate::specs::Lines::on_part))]
+fn on_part(alloc: Global, word: &str, rest: &str) -> Result<Command, MemOr<LineRefusal>>
+    ensures { Gives (λ c. c) result (on_part word.now rest.now) }
+{
+    match word {
+        "rcpt" => add_recipient(alloc, rest),
+        "unrcpt" => remove_recipient(rest),
+        "attach" => add_attachment(alloc, rest),
+        "append" => append_data(alloc, rest),
+        "detach" => remove_attachment(rest),
+        "fetch" => fetch_data(rest),
+        _ => on_search(alloc, word, rest),
+    }
+}
+
+/// A line whose first word tells of a message, or of what comes after these.
+#[tactic(auto, unfolding(crate::specs::Lines::on_message))]
+fn on_message(alloc: Global, word: &str, rest: &str) -> Result<Command, MemOr<LineRefusal>>
+    ensures { Gives (λ c. c) result (on_message word.now rest.now) }
+{
+    match word {
+        "new" => new_message(alloc, rest),
+        "set" => set_property(alloc, rest),
+        "unset" => unset_property(rest),
+        "get" => get_property(rest),
+        "props" => list_properties(rest),
+        "mv" => move_message(rest),
+        "cp" => copy_message(rest),
+        "rm" => remove_message(rest),
+        _ => on_part(alloc, word, rest),
+    }
+}
+
+/// A line with a space: its first word, and what stands behind the space. Those of folders are looked for first, and then those of messages, of their parts and of searches.
 #[tactic(auto, unfolding(crate::specs::Lines::with_arguments))]
 fn with_arguments(alloc: Global, word: &str, rest: &str) -> Result<Command, MemOr<LineRefusal>>
     ensures { Gives (λ c. c) result (with_arguments word.now rest.now) }
@@ -345,25 +393,7 @@ fn with_arguments(alloc: Global, word: &str, rest: &str) -> Result<Command, MemO
         "mvdir" => move_folder(rest),
         "rmdir" => remove_folder(rest),
         "ls" => list_folder(rest),
-        "new" => new_message(alloc, rest),
-        "set" => set_property(alloc, rest),
-        "unset" => unset_property(rest),
-        "get" => get_property(rest),
-        "props" => list_properties(rest),
-        "mv" => move_message(rest),
-        "cp" => copy_message(rest),
-        "rm" => remove_message(rest),
-        "rcpt" => add_recipient(alloc, rest),
-        "unrcpt" => remove_recipient(rest),
-        "attach" => add_attachment(alloc, rest),
-        "append" => append_data(alloc, rest),
-        "detach" => remove_attachment(rest),
-        "fetch" => fetch_data(rest),
-        "name" => name_property(alloc, rest),
-        "mksearch" => make_search(alloc, rest),
-        "criteria" => set_criteria(alloc, rest),
-        "getcriteria" => get_criteria(rest),
-        _ => Err(MemOr::Refused(LineRefusal::Line)),
+        _ => on_message(alloc, word, rest),
     }
 }
 
