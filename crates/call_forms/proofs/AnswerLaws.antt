@@ -3,7 +3,7 @@ use Rattle.std.proofs.Common.{◌≡◌, ℕ, List, [], Result, Ok, Err, inl, re
 use Rattle.std.specs.Prelude.{IfOk}
 use Rattle.command_text.specs.declared.command.Command.{Command}
 use Rattle.command_text.specs.declared.command.LineRefusal.{LineRefusal}
-use Rattle.command_text.specs.Replies.{text, last_text}
+use Rattle.command_text.specs.Replies.{text, last_text, last_words}
 use Rattle.command_text.specs.Refusals.{refusal_words}
 use Rattle.command_text.specs.Limits.{limit_word}
 use Rattle.node_port.specs.declared.map_keeper.MapKeeper.{MapKeeper}
@@ -21,7 +21,7 @@ further_answers : (store : SearchStore MapKeeper) (spoken : List ℕ) → spoken
 further_answers store spoken is X holds = (X, inl (is, refl), holds)
 
 too_long_answers : (store : SearchStore MapKeeper) → Answering store too_long too_long_text store
-unfolding text last_text refusal_words limit_word
+unfolding text last_text last_words refusal_words limit_word
 too_long_answers store X holds = (X, inl (refl, refl), holds)
 
 -- a piece was answered over the mailbox's store

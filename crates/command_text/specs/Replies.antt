@@ -108,17 +108,7 @@ last_words NoMemory = codes "no memory"
 
 -- the last line
 unfoldable pub last_text : LastLine → List ℕ
-last_text Done = codes "ok" ++ 10 ∷ []
-last_text (Made id) = codes "ok " ++ id_text id.bits ++ 10 ∷ []
-last_text (Count count) = codes "ok " ++ decimal count ++ 10 ∷ []
-last_text (Row row) = codes "ok " ++ decimal row ++ 10 ∷ []
-last_text (Attached id) = codes "ok " ++ id_text id.bits ++ 10 ∷ []
-last_text (Named property) = codes "ok " ++ id_text property ++ 10 ∷ []
-last_text (Value value) = codes "ok " ++ value_text value ++ 10 ∷ []
-last_text (Criteria flags scope restriction state builds) = codes "ok " ++ criteria_text flags scope restriction state builds ++ 10 ∷ []
-last_text NoCriteria = codes "ok none" ++ 10 ∷ []
-last_text (Refused refusal) = codes "no " ++ refusal_words refusal ++ 10 ∷ []
-last_text NoMemory = codes "no memory" ++ 10 ∷ []
+last_text last = last_words last ++ 10 ∷ []
 
 -- the lines of data, and the last line
 unfoldable pub text : Reply → List ℕ

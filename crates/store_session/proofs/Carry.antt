@@ -9,7 +9,7 @@ use Rattle.command_text.specs.declared.command.Command.TheVariants.{Save}
 use Rattle.command_text.specs.declared.reply.CommandRefusal.{CommandRefusal}
 use Rattle.command_text.specs.declared.reply.LastLine.TheVariants as last
 use Rattle.command_text.specs.declared.reply.Reply.{Reply}
-use Rattle.command_text.specs.Replies.{last_text, text}
+use Rattle.command_text.specs.Replies.{last_text, last_words, text}
 use Rattle.line_server.specs.declared.spoken.Spoken.{Spoken}
 use Rattle.line_server.specs.Spoken.{no_memory_text, spoken_text}
 use Rattle.line_server.specs.Worlds.{Quiet}
@@ -46,7 +46,7 @@ same_as e = record { main = ap (λ (i : Image). i.main) e; side = ap (λ (i : Im
 
 -- the text of want of memory
 pub memory_text : no_memory_text ≡ text (replied last.NoMemory)
-unfolding text last_text
+unfolding text last_text last_words
 memory_text = refl
 
 -- a call that only looks leaves what a store has

@@ -4,7 +4,7 @@ use Rattle.std.proofs.lemmas.List.{append-nil}
 use Rattle.pst_outside.specs.World.{Image, SameDisk, World}
 use Rattle.pst_outside.specs.Calls.{LeavesOnly, NeverFall, Settled}
 use Rattle.pst_outside.proofs.Moments.{at_end, continues, goes_on, tells_now, weaker}
-use Rattle.command_text.specs.Replies.{last_text, text}
+use Rattle.command_text.specs.Replies.{last_text, last_words, text}
 use Rattle.command_text.specs.Refusals.{refusal_words}
 use Rattle.command_text.specs.Limits.{limit_word}
 use Rattle.command_text.specs.declared.reply.CommandRefusal.TheVariants.{Limit}
@@ -27,7 +27,7 @@ use Rattle.store_session.proofs.LineLaws.{answers_on}
 use Rattle.store_session.proofs.Reached.{reached_behind, reached_more, take_over, turn_leaves}
 
 limit_text : too_long_text ≡ refused (Limit limits.Line)
-unfolding text last_text refusal_words limit_word
+unfolding text last_text last_words refusal_words limit_word
 limit_text = refl
 
 -- more input was taken
