@@ -31,7 +31,7 @@ use Rattle.mail_tree.specs.declared.note.Note.TheVariants.{Named}
 use Rattle.mail_tree.proofs.NoteLaws.{note_of_name}
 use Rattle.mail_tree.specs.Ids.{is_taken}
 use Rattle.mail_tree.specs.Folders.{Outcome, associated_in, folder_in, folder_line, folder_lines, listed, message_lines, nid, replied, unchanged, unless_named, unless_plain}
-use Rattle.mail_folders.specs.Pieces.{both_plain_in, each, line_of_folder, line_of_message, has_name, lines_in, plain_in, plain_listing, unless_has_name}
+use Rattle.mail_folders.specs.Pieces.{both_plain_in, each, line_of_folder, line_of_message, has_name, ids_in, lines_in, lines_of_messages, plain_in, plain_listing, unless_has_name, with_messages}
 use Rattle.mail_draft.proofs.Passes.{stop_says, then_says}
 
 -- a stop that is passed on
@@ -209,14 +209,15 @@ each_message T (m ∷ ms) = line (each (line_of_message T) ms) (message_lines T 
 -- what is listed of a plain folder, line by line
 pub lists_plain : (T : Tree) (f : ℕ) → plain_listing T f ≡ (folder_lines T (filter (is_child f) T.places) >>= λ folders. table_at T nothing (contents f) >>= λ t. message_lines T (message_ids t.table) >>= λ messages.
     Ok (unchanged T (listed (folders ++ messages))))
-unfolding plain_listing lines_in
+unfolding plain_listing lines_in with_messages lines_of_messages ids_in
 lists_plain T f = rw (each_folder T (filter (is_child f) T.places)) (folders_first (folder_lines T (filter (is_child f) T.places)) (table_at T nothing (contents f)))
   where
     messages_last : (folders : List DataLine) (a : Answer (List DataLine)) → ((a >>= λ messages. Ok (folders ++ messages)) >>= λ all. Ok (unchanged T (listed all))) ≡ (a >>= λ messages. Ok (unchanged T (listed (folders ++ messages))))
     messages_last folders (Ok messages) = refl
     messages_last folders (Err e) = refl
 
-    folders_first : (a : Answer (List DataLine)) (b : Answer Tbl) → ((a >>= λ folders. b >>= λ t. each (line_of_message T) (message_ids t.table) >>= λ messages. Ok (folders ++ messages)) >>= λ all. Ok (unchanged T (listed all)))
+    folders_first : (a : Answer (List DataLine)) (b : Answer Tbl)
+        → ((a >>= λ folders. ((b >>= λ t. Ok (message_ids t.table)) >>= each (line_of_message T)) >>= λ messages. Ok (folders ++ messages)) >>= λ all. Ok (unchanged T (listed all)))
         ≡ (a >>= λ folders. b >>= λ t. message_lines T (message_ids t.table) >>= λ messages. Ok (unchanged T (listed (folders ++ messages))))
     folders_first (Ok folders) (Ok t) = rw (each_message T (message_ids t.table)) (messages_last folders (message_lines T (message_ids t.table)))
     folders_first (Ok folders) (Err e) = refl

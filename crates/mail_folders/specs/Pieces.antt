@@ -78,10 +78,21 @@ abbrev pub each : {A B : Type 0} → (A → Answer B) → List A → Answer (Lis
 each f [] = Ok []
 each f (x ∷ xs) = f x >>= λ y. each f xs >>= λ ys. Ok (y ∷ ys)
 
+-- the ids of the messages in a folder
+unfoldable pub ids_in : Tree → ℕ → Answer (List ℕ)
+ids_in T f = table_at T nothing (contents f) >>= λ t. Ok (message_ids t.table)
+
+-- the lines of the messages in a folder
+unfoldable pub lines_of_messages : Tree → ℕ → Answer (List DataLine)
+lines_of_messages T f = ids_in T f >>= each (line_of_message T)
+
+-- these lines, and behind them those of the messages in a folder
+unfoldable pub with_messages : Tree → ℕ → List DataLine → Answer (List DataLine)
+with_messages T f folders = lines_of_messages T f >>= λ messages. Ok (folders ++ messages)
+
 -- the lines of the folders and of the messages in a folder
 unfoldable pub lines_in : Tree → ℕ → Answer (List DataLine)
-lines_in T f = each (line_of_folder T) (filter (is_child f) T.places) >>= λ folders. table_at T nothing (contents f) >>= λ t. each (line_of_message T) (message_ids t.table) >>= λ messages.
-    Ok (folders ++ messages)
+lines_in T f = each (line_of_folder T) (filter (is_child f) T.places) >>= with_messages T f
 
 -- what is listed of a plain folder
 unfoldable pub plain_listing : Tree → ℕ → Answer Outcome

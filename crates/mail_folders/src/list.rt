@@ -4,7 +4,7 @@ ghost use Rattle.mapi_values.specs.Messages.{Mes};
 ghost use Rattle.content_glance.specs.Glances.{IsTold};
 ghost use Rattle.mail_tree.specs.Tree.{Shown, Tree};
 ghost use Rattle.mail_tree.specs.Folders.{listed, listing};
-ghost use Rattle.mail_folders.specs.Pieces.{each, line_of_folder, line_of_message, lines_in, plain_listing};
+ghost use Rattle.mail_folders.specs.Pieces.{each, ids_in, line_of_folder, line_of_message, lines_in, lines_of_messages, plain_listing, with_messages};
 ghost use Rattle.mail_tree.specs.Places.{is_child};
 ghost use Rattle.mail_tree.specs.Settling.{message_ids};
 ghost use Rattle.mail_tree.specs.Changing.{message_at, nothing};
@@ -89,13 +89,74 @@ fn lines_in<W: Outside, K: NodeReader<W>>(
     ensures looks { Looks (K.holds keeper.old (W.view w.old)) (K.holds keeper.new (W.view w.new)) (K.last keeper.old) (K.last keeper.new) (K.room keeper.old) (K.room keeper.new) (W.view w.old) (W.view w.new) }
     ensures cause { IfErr result (IsCaused K.has_disk (W.view w.old).disk_faults (W.view w.new).disk_faults) }
 {
+    let lines = child_lines(alloc, keeper, w, places, folder)?;
+    with_messages(alloc, keeper, w, folder, lines)
+}
+
+/// The lines of the folders directly in a folder.
+fn child_lines<W: Outside, K: NodeReader<W>>(
+    alloc: Global,
+    keeper: &mut K,
+    w: &mut W,
+    places: &Places,
+    folder: Nid,
+) -> Result<Vec<DataLine>, Stop>
+    ensures answer { (T : Tree) → Shown (K.holds keeper.old (W.view w.old)) (K.last keeper.old) T → T.places ≡ places.now → Says (λ lines. lines.items) (each (line_of_folder T) (filter (is_child folder.bits) T.places)) result }
+    ensures looks { Looks (K.holds keeper.old (W.view w.old)) (K.holds keeper.new (W.view w.new)) (K.last keeper.old) (K.last keeper.new) (K.room keeper.old) (K.room keeper.new) (W.view w.old) (W.view w.new) }
+    ensures cause { IfErr result (IsCaused K.has_disk (W.view w.old).disk_faults (W.view w.new).disk_faults) }
+{
     let child_places = places_in(alloc, places, folder)?;
-    let mut lines = folder_lines(alloc, keeper, w, child_places.as_slice())?;
-    let table = table_in(alloc, keeper, w, contents(folder))?;
-    let ids = message_ids(alloc, table.table())?;
-    let mut messages = message_lines(alloc, keeper, w, ids.as_slice())?;
+    folder_lines(alloc, keeper, w, child_places.as_slice())
+}
+
+/// These lines, and behind them those of the messages in a folder.
+#[tactic(auto, unfolding(crate::specs::Pieces::with_messages))]
+fn with_messages<W: Outside, K: NodeReader<W>>(
+    alloc: Global,
+    keeper: &mut K,
+    w: &mut W,
+    folder: Nid,
+    mut lines: Vec<DataLine>,
+) -> Result<Vec<DataLine>, Stop>
+    ensures answer { (T : Tree) → Shown (K.holds keeper.old (W.view w.old)) (K.last keeper.old) T → Says (λ lines. lines.items) (with_messages T folder.bits lines.items) result }
+    ensures looks { Looks (K.holds keeper.old (W.view w.old)) (K.holds keeper.new (W.view w.new)) (K.last keeper.old) (K.last keeper.new) (K.room keeper.old) (K.room keeper.new) (W.view w.old) (W.view w.new) }
+    ensures cause { IfErr result (IsCaused K.has_disk (W.view w.old).disk_faults (W.view w.new).disk_faults) }
+{
+    let mut messages = lines_of_messages(alloc, keeper, w, folder)?;
     lines.append(&mut messages)?;
     Ok(lines)
+}
+
+/// The lines of the messages in a folder.
+#[tactic(auto, unfolding(crate::specs::Pieces::lines_of_messages))]
+fn lines_of_messages<W: Outside, K: NodeReader<W>>(
+    alloc: Global,
+    keeper: &mut K,
+    w: &mut W,
+    folder: Nid,
+) -> Result<Vec<DataLine>, Stop>
+    ensures answer { (T : Tree) → Shown (K.holds keeper.old (W.view w.old)) (K.last keeper.old) T → Says (λ lines. lines.items) (lines_of_messages T folder.bits) result }
+    ensures looks { Looks (K.holds keeper.old (W.view w.old)) (K.holds keeper.new (W.view w.new)) (K.last keeper.old) (K.last keeper.new) (K.room keeper.old) (K.room keeper.new) (W.view w.old) (W.view w.new) }
+    ensures cause { IfErr result (IsCaused K.has_disk (W.view w.old).disk_faults (W.view w.new).disk_faults) }
+{
+    let ids = ids_in(alloc, keeper, w, folder)?;
+    message_lines(alloc, keeper, w, ids.as_slice())
+}
+
+/// The ids of the messages in a folder.
+#[tactic(auto, unfolding(crate::specs::Pieces::ids_in))]
+fn ids_in<W: Outside, K: NodeReader<W>>(
+    alloc: Global,
+    keeper: &mut K,
+    w: &mut W,
+    folder: Nid,
+) -> Result<Vec<u32>, Stop>
+    ensures answer { (T : Tree) → Shown (K.holds keeper.old (W.view w.old)) (K.last keeper.old) T → Says (λ ids. ids.items) (ids_in T folder.bits) result }
+    ensures looks { Looks (K.holds keeper.old (W.view w.old)) (K.holds keeper.new (W.view w.new)) (K.last keeper.old) (K.last keeper.new) (K.room keeper.old) (K.room keeper.new) (W.view w.old) (W.view w.new) }
+    ensures cause { IfErr result (IsCaused K.has_disk (W.view w.old).disk_faults (W.view w.new).disk_faults) }
+{
+    let table = table_in(alloc, keeper, w, contents(folder))?;
+    Ok(message_ids(alloc, table.table())?)
 }
 
 /// The places of the folders directly in a folder.
