@@ -3,6 +3,7 @@ use Rattle.std.specs.Prelude.{ℕ, ◌||◌, ◌++◌, nat_eq, Bool, List, [], �
 use Rattle.std.specs.Cmp.Lexicographic.{pointwise}
 use Rattle.mapi_values.specs.Characters.{folded}
 use Rattle.mapi_values.specs.Keyed.{drop_key, put_key}
+use Rattle.mapi_values.specs.Messages.{Mes}
 use Rattle.mapi_values.specs.Properties.{put}
 use Rattle.mapi_values.specs.Values.{Val}
 use Rattle.command_text.specs.declared.reply.CommandRefusal.TheVariants.{NameTaken, NotEmpty, Limit}
@@ -69,9 +70,17 @@ removing_folder T f parent =
 unfoldable pub line_of_folder : Tree → FolderPlace → Answer DataLine
 line_of_folder T p = context_at T nothing p.nid.bits >>= λ c. Ok (folder_line p c.props)
 
--- the line of a message: what it tells of its size, and its subject
+-- the subject of a message
+unfoldable pub read_subject : Tree → ℕ → Answer (List ℕ)
+read_subject T m = message_at T nothing m >>= λ M. Ok (text_of 0x0037 M.props)
+
+-- the line of a message that is known: what it tells of its size, and its subject
+abbrev pub message_line : ℕ → Mes → DataLine
+message_line m M = lines.Message (nid m) (number_of 0x0E08 M.props) (text_of 0x0037 M.props)
+
+-- the line of a message
 unfoldable pub line_of_message : Tree → ℕ → Answer DataLine
-line_of_message T m = message_at T nothing m >>= λ M. Ok (lines.Message (nid m) (number_of 0x0E08 M.props) (text_of 0x0037 M.props))
+line_of_message T m = message_at T nothing m >>= λ M. Ok (message_line m M)
 
 -- what each gives, one after the other
 abbrev pub each : {A B : Type 0} → (A → Answer B) → List A → Answer (List B)

@@ -1,15 +1,16 @@
 //! `ls`
-ghost use Rattle.std.specs.Prelude.{◌≡◌, filter, IfErr, IfOk, Ok, Some};
+ghost use Rattle.std.specs.Prelude.{◌≡◌, ℕ, Bool, filter, IfErr, IfOk, Ok, Some};
 ghost use Rattle.mapi_values.specs.Messages.{Mes};
 ghost use Rattle.content_glance.specs.Glances.{IsTold};
 ghost use Rattle.mail_tree.specs.Tree.{Shown, Tree};
 ghost use Rattle.mail_tree.specs.Folders.{listed, listing};
-ghost use Rattle.mail_folders.specs.Pieces.{each, ids_in, line_of_folder, line_of_message, lines_in, lines_of_messages, plain_listing, with_messages};
+ghost use Rattle.mail_folders.specs.Pieces.{each, ids_in, line_of_folder, line_of_message, lines_in, lines_of_messages, message_line, plain_listing, read_subject, with_messages};
 ghost use Rattle.mail_tree.specs.Places.{is_child};
 ghost use Rattle.mail_tree.specs.Settling.{message_ids};
 ghost use Rattle.mail_tree.specs.Changing.{message_at, nothing};
-ghost use Rattle.mail_tree.specs.Values.{text_of};
-ghost use Rattle.mail_draft.specs.Answers.{IsCaused, Looks, Says};
+ghost use Rattle.mail_tree.specs.Values.{number_of, text_of};
+ghost use Rattle.mail_draft.specs.Answers.{IsCalm, IsCaused, Looks, Says};
+ghost use Rattle.mail_draft.specs.Glancing.{IsContent};
 ghost use Rattle.mail_draft.specs.Outcomes.{outcome_of};
 
 use crate::finding::folder_in;
@@ -22,8 +23,8 @@ use mail_draft::{
 };
 use mail_tree::{FolderPlace, Places, Sort};
 use mapi_values::tags::{PID_TAG_MESSAGE_SIZE, PID_TAG_SUBJECT};
-use mapi_values::{Table, Units};
-use node_port::NodeReader;
+use mapi_values::{Props, Table, Units};
+use node_port::{NodeReader, NodeRec};
 use pst_base::Nid;
 use pst_outside::Outside;
 use std::alloc::{AllocError, Global};
@@ -205,6 +206,30 @@ fn line_of_folder<W: Outside, K: NodeReader<W>>(
     })
 }
 
+/// The subject among a message's properties.
+fn subject_held(alloc: Global, props: &Props) -> Result<Units, Stop>
+    ensures answer { Says (λ units. units) (Ok (text_of 0x0037 props.now)) result }
+    ensures calm { IfErr result IsCalm }
+{
+    Ok(text_of(alloc, props, PID_TAG_SUBJECT.id)?)
+}
+
+/// The subject of a message, of the whole message.
+#[tactic(auto, unfolding(crate::specs::Pieces::read_subject))]
+fn read_subject<W: Outside, K: NodeReader<W>>(
+    alloc: Global,
+    keeper: &mut K,
+    w: &mut W,
+    id: Nid,
+) -> Result<Units, Stop>
+    ensures answer { (T : Tree) → Shown (K.holds keeper.old (W.view w.old)) (K.last keeper.old) T → Says (λ units. units) (read_subject T id.bits) result }
+    ensures looks { Looks (K.holds keeper.old (W.view w.old)) (K.holds keeper.new (W.view w.new)) (K.last keeper.old) (K.last keeper.new) (K.room keeper.old) (K.room keeper.new) (W.view w.old) (W.view w.new) }
+    ensures cause { IfErr result (IsCaused K.has_disk (W.view w.old).disk_faults (W.view w.new).disk_faults) }
+{
+    let mail = message_in(alloc, keeper, w, id)?;
+    subject_held(alloc, &mail.message().props)
+}
+
 /// The subject of a message whose node tells this of it. The whole message is read only where its subject stands in a subnode.
 fn subject_of<W: Outside, K: NodeReader<W>>(
     alloc: Global,
@@ -217,11 +242,52 @@ fn subject_of<W: Outside, K: NodeReader<W>>(
     ensures looks { Looks (K.holds keeper.old (W.view w.old)) (K.holds keeper.new (W.view w.new)) (K.last keeper.old) (K.last keeper.new) (K.room keeper.old) (K.room keeper.new) (W.view w.old) (W.view w.new) }
     ensures cause { IfErr result (IsCaused K.has_disk (W.view w.old).disk_faults (W.view w.new).disk_faults) }
 {
-    if let Some(told) = text_told(alloc, subject)? {
-        return Ok(told);
+    match text_told(alloc, subject)? {
+        Some(told) => Ok(told),
+        None => read_subject(alloc, keeper, w, id),
     }
-    let mail = message_in(alloc, keeper, w, id)?;
-    Ok(text_of(alloc, &mail.message().props, PID_TAG_SUBJECT.id)?)
+}
+
+/// The subject of a message whose node this is.
+fn subject_in<W: Outside, K: NodeReader<W>>(
+    alloc: Global,
+    keeper: &mut K,
+    w: &mut W,
+    id: Nid,
+    node: &NodeRec,
+) -> Result<Units, Stop>
+    ensures answer { (T : Tree) → Shown (K.holds keeper.old (W.view w.old)) (K.last keeper.old) T → (M : Mes) → message_at T nothing id.bits ≡ Ok M → IsContent node.now M → Says (λ units. units) (Ok (text_of 0x0037 M.props)) result }
+    ensures looks { Looks (K.holds keeper.old (W.view w.old)) (K.holds keeper.new (W.view w.new)) (K.last keeper.old) (K.last keeper.new) (K.room keeper.old) (K.room keeper.new) (W.view w.old) (W.view w.new) }
+    ensures cause { IfErr result (IsCaused K.has_disk (W.view w.old).disk_faults (W.view w.new).disk_faults) }
+{
+    let told = glance_of(alloc, node, PID_TAG_SUBJECT.id)?;
+    subject_of(alloc, keeper, w, id, &told)
+}
+
+/// What a message whose node this is tells of its size.
+fn size_in(alloc: Global, node: &NodeRec) -> Result<u32, Stop>
+    ensures answer { (M : Mes) → IsContent node.now M → Says (λ n. n) (Ok (number_of 0x0E08 M.props)) result }
+    ensures cause { (disk : Bool) (before after : ℕ) → IfErr result (IsCaused disk before after) }
+{
+    let told = glance_of(alloc, node, PID_TAG_MESSAGE_SIZE.id)?;
+    Ok(number_told(&told))
+}
+
+/// The line of a message whose node this is.
+fn line_in<W: Outside, K: NodeReader<W>>(
+    alloc: Global,
+    keeper: &mut K,
+    w: &mut W,
+    id: Nid,
+    node: &NodeRec,
+) -> Result<DataLine, Stop>
+    ensures answer { (T : Tree) → Shown (K.holds keeper.old (W.view w.old)) (K.last keeper.old) T → (M : Mes) → message_at T nothing id.bits ≡ Ok M → IsContent node.now M → Says (λ line. line) (Ok (message_line id.bits M)) result }
+    ensures looks { Looks (K.holds keeper.old (W.view w.old)) (K.holds keeper.new (W.view w.new)) (K.last keeper.old) (K.last keeper.new) (K.room keeper.old) (K.room keeper.new) (W.view w.old) (W.view w.new) }
+    ensures cause { IfErr result (IsCaused K.has_disk (W.view w.old).disk_faults (W.view w.new).disk_faults) }
+{
+    let size = size_in(alloc, node)?;
+    let subject = subject_in(alloc, keeper, w, id, node)?;
+    Ok(DataLine::Message { id, size, subject })
 }
 
 /// The line of a message: what it tells of its size, and its subject.
@@ -238,10 +304,7 @@ pub fn line_of_message<W: Outside, K: NodeReader<W>>(
 {
     let id = Nid { bits: message };
     let node = message_content(alloc, keeper, w, id)?;
-    let size = number_told(&glance_of(alloc, &node, PID_TAG_MESSAGE_SIZE.id)?);
-    let told = glance_of(alloc, &node, PID_TAG_SUBJECT.id)?;
-    let subject = subject_of(alloc, keeper, w, id, &told)?;
-    Ok(DataLine::Message { id, size, subject })
+    line_in(alloc, keeper, w, id, &node)
 }
 
 /// The lines of folders.

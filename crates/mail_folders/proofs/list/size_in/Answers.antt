@@ -1,0 +1,16 @@
+use Rattle.std.proofs.Common.{Ok}
+use Rattle.std.proofs.lemmas.Result.{err_from_is_err_and}
+use Rattle.mail_tree.specs.Values.{number_of}
+use Rattle.mail_folders.proofs.Steps.{stopped}
+use Rattle.mail_folders.proofs.list.size_in.Goals as goal
+
+pub returns-in_err-told-clause-answer : goal.returns-in_err-told-clause-answer
+returns-in_err-told-clause-answer c = λ M content. stopped _ (Ok (number_of 0x0E08 M.props)) _ _ c.from_residual.ensures.1 (c.in_err-told.ensures.told M content)
+
+pub returns-in_err-told-clause-cause : goal.returns-in_err-told-clause-cause
+returns-in_err-told-clause-cause c =
+    let p = err_from_is_err_and c.from_residual.result c.from_residual.ensures.1 in
+    rw (p.1, p.2) c.in_err-told.ensures.cause
+
+pub returns-clause-answer : goal.returns-clause-answer
+returns-clause-answer c = λ M content. c.number_told.ensures 0x0E08 M.props (c.in_ok-told.ensures.told M content)
