@@ -14,10 +14,10 @@ use Rattle.command_text.specs.declared.reply.LastLine.TheVariants.{Done}
 use Rattle.mail_tree.specs.declared.places.FolderPlace.{FolderPlace}
 use Rattle.mail_tree.specs.Places.{children, is_child, moves_deep, place_id}
 use Rattle.mail_tree.specs.Tree.{Tree}
-use Rattle.mail_tree.specs.Values.{name_of, number_of, text, text_of}
+use Rattle.mail_tree.specs.Values.{folder_props, name_of, number_of, text, text_of}
 use Rattle.mail_tree.specs.Changing.{Answer, Changed, ◌>>=◌, add_shown, contents, context_at, drop_shown, hierarchy, message_at, nothing, refused_if, table_at}
 use Rattle.mail_tree.specs.Settling.{message_ids, mirrored, settled, with_context}
-use Rattle.mail_tree.specs.Folders.{Outcome, associated_in, folder_in, folder_line, has_associated, has_rows, listed, moved_between, moving, nid, place, replied, unchanged, unless_named, unless_plain, without_folder}
+use Rattle.mail_tree.specs.Folders.{Outcome, associated_in, folder_in, folder_line, has_associated, has_rows, listed, moved_between, moving, nid, place, replied, unchanged, unless_named, unless_plain, with_folder, without_folder}
 
 -- where a folder stands that holds folders and messages
 unfoldable pub plain_in : Tree → ℕ → Answer FolderPlace
@@ -30,6 +30,10 @@ both_plain_in T f g = folder_in T f >>= λ p. folder_in T g >>= λ q. unless_pla
 -- whether the folder has this name, whose case is folded
 unfoldable pub has_name : Tree → List ℕ → ℕ → Answer Bool
 has_name T name f = context_at T nothing f >>= λ c. Ok (pointwise nat_eq (folded false (name_of c.props)) name)
+
+-- the nodes of a new folder and its row, with its parent counted anew, where the folders then stand at these places
+unfoldable pub counted_folder : Tree → ℕ → ℕ → List ℕ → List FolderPlace → Answer Changed
+counted_folder T f parent name places = add_shown T (hierarchy parent) f (folder_props name) (with_folder f parent name nothing) >>= settled T places parent
 
 -- the folder has this name, whose case is folded
 unfoldable pub unless_has_name : Tree → List ℕ → ℕ → Answer (Unit {0})

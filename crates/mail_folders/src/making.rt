@@ -1,7 +1,9 @@
 //! `mkdir`
 ghost use Rattle.std.specs.Prelude.{◌≡◌, ◌≤◌, IfErr, IfOk, OnOk, Some};
+ghost use Rattle.mail_tree.specs.Flags.{AreFlags};
 ghost use Rattle.mail_tree.specs.Knowing.{Knows};
-ghost use Rattle.mail_tree.specs.Tree.{Shown, Tree};
+ghost use Rattle.mail_tree.specs.Tree.{Shown, Tree, object_at};
+ghost use Rattle.mail_folders.specs.Pieces.{counted_folder};
 ghost use Rattle.mail_tree.specs.Folders.{made_folder, making_folder, unless_full, with_folder};
 ghost use Rattle.mail_tree.specs.Changing.{add_shown, associated, contents, hierarchy, nothing, refused_if, with_object};
 ghost use Rattle.mail_tree.specs.Ids.{is_spent};
@@ -23,7 +25,7 @@ use mail_draft::{
     put_text, settled, with_counts,
 };
 use mail_objects::{Context, Object};
-use mail_tree::{Known, contents_table, hierarchy_table};
+use mail_tree::{Flags, Known, Places, contents_table, hierarchy_table};
 use mapi_values::tags::PID_TAG_DISPLAY_NAME;
 use mapi_values::{Props, Units};
 use node_port::{Keeper, NodeReader};
@@ -86,17 +88,30 @@ pub fn folder_props(alloc: Global, name: &Units) -> Result<Props, AllocError>
     with_counts(alloc, props, 0, 0, false)
 }
 
+/// A draft with a table of folders that has no rows.
+fn with_folders_table(alloc: Global, draft: Draft, nid: Nid) -> Result<Draft, AllocError>
+    ensures { IfOk result (λ d. changed_of d ≡ with_object nid.bits (Some (Table hierarchy_table)) (changed_of draft)) }
+{
+    let table = hierarchy_table(alloc)?;
+    draft.with(nid, Some(Object::Table(table)))
+}
+
+/// A draft with a table of messages that has no rows.
+fn with_messages_table(alloc: Global, draft: Draft, nid: Nid) -> Result<Draft, AllocError>
+    ensures { IfOk result (λ d. changed_of d ≡ with_object nid.bits (Some (Table contents_table)) (changed_of draft)) }
+{
+    let table = contents_table(alloc)?;
+    draft.with(nid, Some(Object::Table(table)))
+}
+
 /// A draft with the three tables of a new folder.
 fn with_tables(alloc: Global, draft: Draft, folder: Nid) -> Result<Draft, AllocError>
     ensures { IfOk result (λ d. changed_of d ≡ with_object (associated folder.bits) (Some (Table contents_table)) (with_object (contents folder.bits) (Some (Table contents_table))
         (with_object (hierarchy folder.bits) (Some (Table hierarchy_table)) (changed_of draft)))) }
 {
-    let folders = hierarchy_table(alloc)?;
-    let messages = contents_table(alloc)?;
-    let others = contents_table(alloc)?;
-    let first = draft.with(hierarchy(folder), Some(Object::Table(folders)))?;
-    let second = first.with(contents(folder), Some(Object::Table(messages)))?;
-    second.with(associated(folder), Some(Object::Table(others)))
+    let first = with_folders_table(alloc, draft, hierarchy(folder))?;
+    let second = with_messages_table(alloc, first, contents(folder))?;
+    with_messages_table(alloc, second, associated(folder))
 }
 
 /// A draft with the nodes of a new folder.
@@ -127,6 +142,26 @@ fn added<W: Outside, K: NodeReader<W>>(
     add_shown(alloc, keeper, w, draft, hierarchy(parent), folder, &props)
 }
 
+/// A draft with a new folder and its row, and its parent counted anew. The folders then stand at these places.
+#[tactic(auto, unfolding(crate::specs::Pieces::counted_folder))]
+fn counted<W: Outside, K: NodeReader<W>>(
+    alloc: Global,
+    keeper: &mut K,
+    w: &mut W,
+    flags: &Flags,
+    places: &Places,
+    folder: Nid,
+    parent: Nid,
+    name: &Units,
+) -> Result<Draft, Stop>
+    ensures answer { (T : Tree) → Shown (K.holds keeper.old (W.view w.old)) (K.last keeper.old) T → AreFlags (object_at T) flags.now → Says changed_of (counted_folder T folder.bits parent.bits name.now places.now) result }
+    ensures looks { Looks (K.holds keeper.old (W.view w.old)) (K.holds keeper.new (W.view w.new)) (K.last keeper.old) (K.last keeper.new) (K.room keeper.old) (K.room keeper.new) (W.view w.old) (W.view w.new) }
+    ensures cause { IfErr result (IsCaused K.has_disk (W.view w.old).disk_faults (W.view w.new).disk_faults) }
+{
+    let with_row = added(alloc, keeper, w, folder, parent, name)?;
+    settled(alloc, keeper, w, with_row, flags, places, parent)
+}
+
 /// Makes the folder of this index: its nodes, its row, and its parent's counts.
 #[tactic(auto, unfolding(mail_tree::specs::Folders::making_folder))]
 fn making_folder<W: Outside, K: Keeper<W>>(
@@ -144,8 +179,9 @@ fn making_folder<W: Outside, K: Keeper<W>>(
 {
     let folder = new_id(2, index);
     let after = with_place(alloc, &known.places, folder, parent)?;
-    let with_row = added(alloc, keeper, w, folder, parent, name)?;
-    let draft = settled(alloc, keeper, w, with_row, &known.flags, &after, parent)?;
+    let draft = counted(
+        alloc, keeper, w, &known.flags, &after, folder, parent, name,
+    )?;
     let counts = keeper.counts();
     making(alloc, keeper, w, counts, draft, Some(after), 2, index)
 }
