@@ -30,8 +30,8 @@ use Rattle.mail_tree.specs.Tree.{Tree, object_at}
 use Rattle.mail_tree.specs.declared.note.Note.TheVariants.{Named}
 use Rattle.mail_tree.proofs.NoteLaws.{note_of_name}
 use Rattle.mail_tree.specs.Ids.{is_taken}
-use Rattle.mail_tree.specs.Folders.{Outcome, associated_in, folder_in, folder_line, folder_lines, listed, message_lines, nid, replied, unchanged, unless_named, unless_plain}
-use Rattle.mail_folders.specs.Pieces.{both_plain_in, each, line_of_folder, line_of_message, has_name, ids_in, lines_in, lines_of_messages, plain_in, plain_listing, unless_has_name, with_messages}
+use Rattle.mail_tree.specs.Folders.{Outcome, associated_in, folder_in, folder_line, folder_lines, has_associated, has_rows, listed, message_lines, nid, replied, unchanged, unless_named, unless_plain}
+use Rattle.mail_folders.specs.Pieces.{both_plain_in, each, line_of_folder, line_of_message, has_associated_in, has_name, has_rows_in, ids_in, lines_in, lines_of_messages, plain_in, plain_listing, unless_has_name, with_messages}
 use Rattle.mail_draft.proofs.Passes.{stop_says, then_says}
 
 -- a stop that is passed on
@@ -45,12 +45,15 @@ pub regroup : {A B C D : Type 0} (view : D → C) (answer : Answer A) (f : A →
 regroup view (Ok x) f g result said = said
 regroup view (Err e) f g result said = said
 
--- the same of a step after four others
-pub regroup_four : {A B C E F D : Type 0} (view : D → F) (a : Answer A) (b : Answer B) (c : Answer C) (d : A → B → C → Answer E) (g : E → Answer F) (result : Result D Stop)
-    → Says view ((a >>= λ x. b >>= λ y. c >>= λ z. d x y z) >>= g) result → Says view (a >>= λ x. b >>= λ y. c >>= λ z. d x y z >>= g) result
-regroup_four view (Err e) b c d g result said = said
-regroup_four view (Ok x) (Err e) c d g result said = said
-regroup_four view (Ok x) (Ok y) c d g result said = regroup view c (d x y) g result said
+-- the same of a step after a test of three others
+pub regroup_tests : {A B C E F D : Type 0} (view : D → F) (a : Answer A) (b : Answer B) (c : Answer C) (p : A → Bool) (q : B → Bool) (r : C → Bool) (d : Bool → Bool → Bool → Answer E)
+    (g : E → Answer F) (result : Result D Stop)
+    → Says view (((a >>= λ x. Ok (p x)) >>= λ x. (b >>= λ y. Ok (q y)) >>= λ y. (c >>= λ z. Ok (r z)) >>= λ z. d x y z) >>= g) result
+    → Says view (a >>= λ x. b >>= λ y. c >>= λ z. d (p x) (q y) (r z) >>= g) result
+regroup_tests view (Err e) b c p q r d g result said = said
+regroup_tests view (Ok x) (Err e) c p q r d g result said = said
+regroup_tests view (Ok x) (Ok y) (Err e) p q r d g result said = said
+regroup_tests view (Ok x) (Ok y) (Ok z) p q r d g result said = said
 
 -- what follows a plain folder, after the two steps that find it
 pub from_plain : {C D : Type 0} (view : D → C) (T : Tree) (f : ℕ) (g : FolderPlace → Answer C) (result : Result D Stop)
@@ -148,13 +151,14 @@ each_stops view f xs i d out stop h first =
     rw (drop-cons xs i d) (stop_says view view _ _ stop (stop_says (λ b. b) view (f (get_or xs i d)) _ stop first))
 
 -- a node at the id of the table is one
-pub associated_there : (T : Tree) (f : ℕ) (t : Tbl) → true ≡ is_taken T (associated f) → Says (λ t. t) (table_at T nothing (associated f)) (Ok t)
-    → Says (λ t. t) (associated_in T f) (Ok (Some t))
-associated_there T f t e h = rw (← e) (then_says (λ t. t) (λ t. t) (table_at T nothing (associated f)) (λ t. Ok (Some t)) t (Ok (Some t)) h refl)
-
-pub associated_stops : (T : Tree) (f : ℕ) (stop : Stop) → true ≡ is_taken T (associated f) → Says {A = Tbl} {B = Tbl} (λ t. t) (table_at T nothing (associated f)) (Err stop)
-    → Says {A = Option Tbl} {B = Option Tbl} (λ t. t) (associated_in T f) (Err stop)
-associated_stops T f stop e h = rw (← e) (stop_says (λ t. t) (λ t. t) (table_at T nothing (associated f)) (λ t. Ok (Some t)) stop h)
+pub associated_there : (T : Tree) (f : ℕ) (result : Result Bool Stop) → true ≡ is_taken T (associated f) → Says (λ b. b) (has_rows_in T (associated f)) result
+    → Says (λ b. b) (has_associated_in T f) result
+unfolding has_rows_in has_associated_in
+associated_there T f result e = rw (← e) (there (table_at T nothing (associated f)))
+  where
+    there : (a : Answer Tbl) → Says (λ b. b) (a >>= λ t. Ok (has_rows t)) result → Says (λ b. b) ((a >>= λ t. Ok (Some t)) >>= λ t. Ok (has_associated t)) result
+    there (Ok t) said = said
+    there (Err e) said = said
 
 -- three changes, one after the other
 pub in_turn : {C D : Type 0} (view : D → C) (a : Answer Changed) (f : Changed → Answer Changed) (g : Changed → Answer C) (x y : Draft) (result : Result D Stop)

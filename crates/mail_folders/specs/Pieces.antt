@@ -59,10 +59,17 @@ placing_folder T f from to = let places = put_key place_id (place f to) T.places
 unfoldable pub moving_folder : Tree → ℕ → ℕ → ℕ → Answer Outcome
 moving_folder T f from to = unless_crowds_name T f to >>= λ u. refused_if (moves_deep T.places f to) (Limit Depth) >>= λ v. placing_folder T f from to
 
+-- whether the table at an id has rows
+unfoldable pub has_rows_in : Tree → ℕ → Answer Bool
+has_rows_in T q = table_at T nothing q >>= λ t. Ok (has_rows t)
+
+-- whether the folder's table of associated messages, which may be missing, has rows
+unfoldable pub has_associated_in : Tree → ℕ → Answer Bool
+has_associated_in T f = associated_in T f >>= λ t. Ok (has_associated t)
+
 -- one of the folder's tables has rows
 unfoldable pub unless_filled : Tree → ℕ → Answer (Unit {0})
-unless_filled T f = table_at T nothing (hierarchy f) >>= λ a. table_at T nothing (contents f) >>= λ b. associated_in T f >>= λ c.
-    refused_if (has_rows a || (has_rows b || has_associated c)) NotEmpty
+unless_filled T f = has_rows_in T (hierarchy f) >>= λ a. has_rows_in T (contents f) >>= λ b. has_associated_in T f >>= λ c. refused_if (a || (b || c)) NotEmpty
 
 -- the folder in that parent goes, with its row, and the parent is counted anew
 unfoldable pub removing_folder : Tree → ℕ → ℕ → Answer Outcome

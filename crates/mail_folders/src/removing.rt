@@ -2,8 +2,8 @@
 ghost use Rattle.std.specs.Prelude.{◌≡◌, ◌||◌, IfErr, IfOk, None, Ok};
 ghost use Rattle.mail_tree.specs.Knowing.{Knows};
 ghost use Rattle.mail_tree.specs.Tree.{Shown, Tree};
-ghost use Rattle.mail_tree.specs.Folders.{associated_in, has_associated, has_rows, removed_folder, without_folder};
-ghost use Rattle.mail_folders.specs.Pieces.{removing_folder, unless_filled};
+ghost use Rattle.mail_tree.specs.Folders.{has_rows, removed_folder, without_folder};
+ghost use Rattle.mail_folders.specs.Pieces.{has_associated_in, has_rows_in, removing_folder, unless_filled};
 ghost use Rattle.mail_tree.specs.Changing.{contents, hierarchy, nothing, refused_if, with_object};
 ghost use Rattle.command_text.specs.declared.reply.CommandRefusal.TheVariants.{NotEmpty};
 ghost use Rattle.mail_draft.specs.Drafts.{changed_of};
@@ -51,48 +51,50 @@ fn has_rows(table: &TableNode) -> bool
     !table.table().rows().is_empty()
 }
 
-/// Whether a table of associated messages, which may be missing, has rows.
-fn has_associated(table: &Option<TableNode>) -> bool
-    ensures { result ≡ has_associated table.now }
+/// Whether the table at an id has rows.
+#[tactic(auto, unfolding(crate::specs::Pieces::has_rows_in))]
+fn has_rows_in<W: Outside, K: NodeReader<W>>(
+    alloc: Global,
+    keeper: &mut K,
+    w: &mut W,
+    nid: Nid,
+) -> Result<bool, Stop>
+    ensures answer { (T : Tree) → Shown (K.holds keeper.old (W.view w.old)) (K.last keeper.old) T → Says (λ b. b) (has_rows_in T nid.bits) result }
+    ensures looks { Looks (K.holds keeper.old (W.view w.old)) (K.holds keeper.new (W.view w.new)) (K.last keeper.old) (K.last keeper.new) (K.room keeper.old) (K.room keeper.new) (W.view w.old) (W.view w.new) }
+    ensures cause { IfErr result (IsCaused K.has_disk (W.view w.old).disk_faults (W.view w.new).disk_faults) }
 {
-    match table {
-        Some(table) => has_rows(table),
-        None => false,
-    }
+    let table = table_in(alloc, keeper, w, nid)?;
+    Ok(has_rows(&table))
 }
 
-/// Refused where one of the tables has rows.
-fn unless_rows(
-    folders: &TableNode,
-    messages: &TableNode,
-    others: &Option<TableNode>,
-) -> Result<(), Stop>
-    ensures answer { Says (λ u. u) (refused_if (has_rows folders.now || (has_rows messages.now || has_associated others.now)) NotEmpty) result }
-    ensures calm { IfErr result IsCalm }
-{
-    if has_rows(folders) || has_rows(messages) || has_associated(others) {
-        return Err(Stop::Refused(CommandRefusal::NotEmpty));
-    }
-    Ok(())
-}
-
-/// The table of what is associated with a folder, if a node stands there.
-fn associated_in<W: Outside, K: NodeReader<W>>(
+/// Whether a folder's table of associated messages, which may be missing, has rows.
+#[tactic(auto, unfolding(crate::specs::Pieces::has_associated_in))]
+fn has_associated_in<W: Outside, K: NodeReader<W>>(
     alloc: Global,
     keeper: &mut K,
     w: &mut W,
     folder: Nid,
-) -> Result<Option<TableNode>, Stop>
-    ensures answer { (T : Tree) → Shown (K.holds keeper.old (W.view w.old)) (K.last keeper.old) T → Says (λ t. t) (associated_in T folder.bits) result }
+) -> Result<bool, Stop>
+    ensures answer { (T : Tree) → Shown (K.holds keeper.old (W.view w.old)) (K.last keeper.old) T → Says (λ b. b) (has_associated_in T folder.bits) result }
     ensures looks { Looks (K.holds keeper.old (W.view w.old)) (K.holds keeper.new (W.view w.new)) (K.last keeper.old) (K.last keeper.new) (K.room keeper.old) (K.room keeper.new) (W.view w.old) (W.view w.new) }
     ensures cause { IfErr result (IsCaused K.has_disk (W.view w.old).disk_faults (W.view w.new).disk_faults) }
 {
     let nid = associated(folder);
     if is_taken(alloc, keeper, w, nid)? {
-        let table = table_in(alloc, keeper, w, nid)?;
-        return Ok(Some(table));
+        return has_rows_in(alloc, keeper, w, nid);
     }
-    Ok(None)
+    Ok(false)
+}
+
+/// Refused where one of the tables has rows.
+fn unless_rows(has_folders: bool, has_messages: bool, has_associated: bool) -> Result<(), Stop>
+    ensures answer { Says (λ u. u) (refused_if (has_folders || (has_messages || has_associated)) NotEmpty) result }
+    ensures calm { IfErr result IsCalm }
+{
+    if has_folders || has_messages || has_associated {
+        return Err(Stop::Refused(CommandRefusal::NotEmpty));
+    }
+    Ok(())
 }
 
 /// Refused where one of a folder's tables has rows.
@@ -107,10 +109,10 @@ fn unless_filled<W: Outside, K: NodeReader<W>>(
     ensures looks { Looks (K.holds keeper.old (W.view w.old)) (K.holds keeper.new (W.view w.new)) (K.last keeper.old) (K.last keeper.new) (K.room keeper.old) (K.room keeper.new) (W.view w.old) (W.view w.new) }
     ensures cause { IfErr result (IsCaused K.has_disk (W.view w.old).disk_faults (W.view w.new).disk_faults) }
 {
-    let folders = table_in(alloc, keeper, w, hierarchy(folder))?;
-    let messages = table_in(alloc, keeper, w, contents(folder))?;
-    let others = associated_in(alloc, keeper, w, folder)?;
-    unless_rows(&folders, &messages, &others)
+    let has_folders = has_rows_in(alloc, keeper, w, hierarchy(folder))?;
+    let has_messages = has_rows_in(alloc, keeper, w, contents(folder))?;
+    let has_associated = has_associated_in(alloc, keeper, w, folder)?;
+    unless_rows(has_folders, has_messages, has_associated)
 }
 
 /// A draft without the three nodes that each folder has.
