@@ -31,7 +31,7 @@ use Rattle.mail_tree.specs.declared.note.Note.TheVariants.{Named}
 use Rattle.mail_tree.proofs.NoteLaws.{note_of_name}
 use Rattle.mail_tree.specs.Ids.{is_taken}
 use Rattle.mail_tree.specs.Folders.{Outcome, associated_in, folder_in, folder_line, folder_lines, has_associated, has_rows, listed, message_lines, nid, replied, unchanged, unless_named, unless_plain}
-use Rattle.mail_folders.specs.Pieces.{both_plain_in, each, line_of_folder, line_of_message, has_associated_in, has_name, has_rows_in, ids_in, lines_in, lines_of_messages, plain_in, plain_listing, unless_has_name, with_messages}
+use Rattle.mail_folders.specs.Pieces.{both_plain_in, each, line_of_folder, line_of_message, has_associated_in, has_name, has_rows_in, ids_in, line_named, lines_in, lines_of_messages, name_in, plain_in, plain_listing, unless_has_name, with_messages}
 use Rattle.mail_draft.proofs.Passes.{stop_says, then_says}
 
 -- a stop that is passed on
@@ -189,11 +189,11 @@ this_way view a b first second result same says = rw (eq-eqb a b same) says
 
 -- the lines of folders, one by one
 pub each_folder : (T : Tree) (ps : List FolderPlace) → each (line_of_folder T) ps ≡ folder_lines T ps
-unfolding line_of_folder
+unfolding line_of_folder name_in
 each_folder T [] = refl
 each_folder T (p ∷ ps) = line (each (line_of_folder T) ps) (folder_lines T ps) (each_folder T ps) (context_at T nothing p.nid.bits)
   where
-    line : (b d : Answer (List DataLine)) → b ≡ d → (a : Answer Ctx) → ((a >>= λ c. Ok (folder_line p c.props)) >>= λ y. b >>= λ ys. Ok (y ∷ ys)) ≡ (a >>= λ c. d >>= λ more. Ok (folder_line p c.props ∷ more))
+    line : (b d : Answer (List DataLine)) → b ≡ d → (a : Answer Ctx) → (((a >>= λ c. Ok (name_of c.props)) >>= λ n. Ok (line_named p n)) >>= λ y. b >>= λ ys. Ok (y ∷ ys)) ≡ (a >>= λ c. d >>= λ more. Ok (folder_line p c.props ∷ more))
     line b d same (Ok c) = ap (λ (r : Answer (List DataLine)). r >>= λ ys. Ok (folder_line p c.props ∷ ys)) same
     line b d same (Err e) = refl
 

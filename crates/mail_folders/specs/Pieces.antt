@@ -1,5 +1,5 @@
 -- The commands on folders, part by part.
-use Rattle.std.specs.Prelude.{ℕ, ◌||◌, ◌++◌, nat_eq, Bool, List, [], ◌∷◌, filter, Ok, false}
+use Rattle.std.specs.Prelude.{ℕ, ◌||◌, ◌++◌, if◌then◌else◌, nat_eq, Bool, List, [], ◌∷◌, filter, Ok, false}
 use Rattle.std.specs.Cmp.Lexicographic.{pointwise}
 use Rattle.mapi_values.specs.Characters.{folded}
 use Rattle.mapi_values.specs.Keyed.{drop_key, put_key}
@@ -12,12 +12,12 @@ use Rattle.command_text.specs.declared.reply.DataLine.{DataLine}
 use Rattle.command_text.specs.declared.reply.DataLine.TheVariants as lines
 use Rattle.command_text.specs.declared.reply.LastLine.TheVariants.{Done}
 use Rattle.mail_tree.specs.declared.places.FolderPlace.{FolderPlace}
-use Rattle.mail_tree.specs.Places.{children, is_child, moves_deep, place_id}
+use Rattle.mail_tree.specs.Places.{children, is_child, is_plain, moves_deep, place_id}
 use Rattle.mail_tree.specs.Tree.{Tree}
 use Rattle.mail_tree.specs.Values.{folder_props, name_of, number_of, text, text_of}
 use Rattle.mail_tree.specs.Changing.{Answer, Changed, ◌>>=◌, add_shown, contents, context_at, drop_shown, hierarchy, message_at, nothing, refused_if, table_at}
 use Rattle.mail_tree.specs.Settling.{message_ids, mirrored, settled, with_context}
-use Rattle.mail_tree.specs.Folders.{Outcome, associated_in, folder_in, folder_line, has_associated, has_rows, listed, moved_between, moving, nid, place, replied, unchanged, unless_named, unless_plain, with_folder, without_folder}
+use Rattle.mail_tree.specs.Folders.{Outcome, associated_in, folder_in, has_associated, has_rows, listed, moved_between, moving, nid, place, replied, unchanged, unless_named, unless_plain, with_folder, without_folder}
 
 -- where a folder stands that holds folders and messages
 unfoldable pub plain_in : Tree → ℕ → Answer FolderPlace
@@ -26,6 +26,10 @@ plain_in T f = folder_in T f >>= λ p. unless_plain p >>= λ u. Ok p
 -- where the first of two such folders stands; what isn't there comes before what is of another sort
 unfoldable pub both_plain_in : Tree → ℕ → ℕ → Answer FolderPlace
 both_plain_in T f g = folder_in T f >>= λ p. folder_in T g >>= λ q. unless_plain p >>= λ u. unless_plain q >>= λ v. Ok p
+
+-- the folder's name
+unfoldable pub name_in : Tree → ℕ → Answer (List ℕ)
+name_in T f = context_at T nothing f >>= λ c. Ok (name_of c.props)
 
 -- whether the folder has this name, whose case is folded
 unfoldable pub has_name : Tree → List ℕ → ℕ → Answer Bool
@@ -77,9 +81,13 @@ removing_folder T f parent =
     let places = drop_key place_id f T.places in
     drop_shown T (hierarchy parent) f (without_folder T f nothing) >>= settled T places parent >>= moving T places (replied Done)
 
+-- the line of a folder with this name
+abbrev pub line_named : FolderPlace → List ℕ → DataLine
+line_named p name = if is_plain p then lines.Folder p.nid name else lines.Foreign p.nid name
+
 -- the line of the folder at a place
 unfoldable pub line_of_folder : Tree → FolderPlace → Answer DataLine
-line_of_folder T p = context_at T nothing p.nid.bits >>= λ c. Ok (folder_line p c.props)
+line_of_folder T p = name_in T p.nid.bits >>= λ name. Ok (line_named p name)
 
 -- the subject of a message
 unfoldable pub read_subject : Tree → ℕ → Answer (List ℕ)

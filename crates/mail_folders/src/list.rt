@@ -4,7 +4,7 @@ ghost use Rattle.mapi_values.specs.Messages.{Mes};
 ghost use Rattle.content_glance.specs.Glances.{IsTold};
 ghost use Rattle.mail_tree.specs.Tree.{Shown, Tree};
 ghost use Rattle.mail_tree.specs.Folders.{listed, listing};
-ghost use Rattle.mail_folders.specs.Pieces.{each, ids_in, line_of_folder, line_of_message, lines_in, lines_of_messages, message_line, plain_listing, read_subject, with_messages};
+ghost use Rattle.mail_folders.specs.Pieces.{each, ids_in, line_of_folder, line_of_message, line_named, lines_in, lines_of_messages, message_line, plain_listing, read_subject, with_messages};
 ghost use Rattle.mail_tree.specs.Places.{is_child};
 ghost use Rattle.mail_tree.specs.Settling.{message_ids};
 ghost use Rattle.mail_tree.specs.Changing.{message_at, nothing};
@@ -14,12 +14,12 @@ ghost use Rattle.mail_draft.specs.Glancing.{IsContent};
 ghost use Rattle.mail_draft.specs.Outcomes.{outcome_of};
 
 use crate::finding::folder_in;
-use crate::names::is_child;
-use crate::reading::{context_in, message_in, table_in};
+use crate::names::{is_child, name_in};
+use crate::reading::{message_in, table_in};
 use command_text::{DataLine, DataLines, LastLine, Reply};
 use content_glance::Glance;
 use mail_draft::{
-    Outcome, Stop, contents, glance_of, message_content, name_of, number_told, text_of, text_told,
+    Outcome, Stop, contents, glance_of, message_content, number_told, text_of, text_told,
 };
 use mail_tree::{FolderPlace, Places, Sort};
 use mapi_values::tags::{PID_TAG_MESSAGE_SIZE, PID_TAG_SUBJECT};
@@ -185,6 +185,17 @@ pub fn message_ids(alloc: Global, table: &Table) -> Result<Vec<u32>, AllocError>
     Ok(ids)
 }
 
+/// The line of a folder with this name.
+fn line_named(place: FolderPlace, name: Units) -> DataLine
+    ensures { result ≡ line_named place name }
+{
+    let id = place.nid;
+    match place.sort {
+        Sort::Plain => DataLine::Folder { id, name },
+        Sort::Foreign => DataLine::Foreign { id, name },
+    }
+}
+
 /// The line of a folder.
 #[tactic(auto, unfolding(crate::specs::Pieces::line_of_folder))]
 fn line_of_folder<W: Outside, K: NodeReader<W>>(
@@ -197,13 +208,8 @@ fn line_of_folder<W: Outside, K: NodeReader<W>>(
     ensures looks { Looks (K.holds keeper.old (W.view w.old)) (K.holds keeper.new (W.view w.new)) (K.last keeper.old) (K.last keeper.new) (K.room keeper.old) (K.room keeper.new) (W.view w.old) (W.view w.new) }
     ensures cause { IfErr result (IsCaused K.has_disk (W.view w.old).disk_faults (W.view w.new).disk_faults) }
 {
-    let context = context_in(alloc, keeper, w, place.nid)?;
-    let id = place.nid;
-    let name = name_of(alloc, context.props())?;
-    Ok(match place.sort {
-        Sort::Plain => DataLine::Folder { id, name },
-        Sort::Foreign => DataLine::Foreign { id, name },
-    })
+    let name = name_in(alloc, keeper, w, place.nid)?;
+    Ok(line_named(place, name))
 }
 
 /// The subject among a message's properties.

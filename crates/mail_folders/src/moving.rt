@@ -12,13 +12,13 @@ ghost use Rattle.mail_draft.specs.Answers.{IsCaused, Looks, Says};
 ghost use Rattle.mail_draft.specs.Outcomes.{outcome_of};
 
 use crate::finding::both_plain_in;
-use crate::names::unless_child_named;
+use crate::names::{name_in, unless_child_named};
 use crate::protecting::unless_protected;
 use crate::reading::context_in;
 use crate::standing::{unless_moves_deep, unless_within, with_place};
 use command_text::{LastLine, Reply};
 use mail_draft::{
-    Draft, Outcome, Stop, add_shown, drop_shown, hierarchy, moving, name_of, settled,
+    Draft, Outcome, Stop, add_shown, drop_shown, hierarchy, moving, settled,
 };
 use mail_objects::{Context, Object};
 use mail_tree::{Flags, Known, Places};
@@ -66,8 +66,7 @@ pub fn unless_crowds_name<W: Outside, K: NodeReader<W>>(
     ensures looks { Looks (K.holds keeper.old (W.view w.old)) (K.holds keeper.new (W.view w.new)) (K.last keeper.old) (K.last keeper.new) (K.room keeper.old) (K.room keeper.new) (W.view w.old) (W.view w.new) }
     ensures cause { IfErr result (IsCaused K.has_disk (W.view w.old).disk_faults (W.view w.new).disk_faults) }
 {
-    let context = context_in(alloc, keeper, w, folder)?;
-    let name = name_of(alloc, context.props())?;
+    let name = name_in(alloc, keeper, w, folder)?;
     unless_child_named(alloc, keeper, w, known, parent, &name)
 }
 

@@ -6,12 +6,12 @@ ghost use Rattle.mail_tree.specs.Flags.{AreFlags};
 ghost use Rattle.mail_tree.specs.Knowing.{Knows};
 ghost use Rattle.mail_tree.specs.Tree.{Shown, Tree, object_at};
 ghost use Rattle.mail_tree.specs.Folders.{siblings, unless_named};
-ghost use Rattle.mail_folders.specs.Pieces.{has_name, unless_has_name};
+ghost use Rattle.mail_folders.specs.Pieces.{has_name, name_in, unless_has_name};
 ghost use Rattle.mail_draft.specs.Answers.{IsCaused, Looks, Says};
 
 use crate::reading::context_in;
 use command_text::CommandRefusal;
-use mail_draft::{Stop, folded_name};
+use mail_draft::{Stop, folded_name, name_of};
 use mail_tree::{Flags, FolderPlace, Known, Places};
 use mapi_values::Units;
 use node_port::NodeReader;
@@ -55,6 +55,22 @@ pub(crate) fn siblings(
         .copied()
         .filter(|id| *id != folder.bits)
         .collect(alloc)
+}
+
+/// The name of a folder.
+#[tactic(auto, unfolding(crate::specs::Pieces::name_in))]
+pub(crate) fn name_in<W: Outside, K: NodeReader<W>>(
+    alloc: Global,
+    keeper: &mut K,
+    w: &mut W,
+    folder: Nid,
+) -> Result<Units, Stop>
+    ensures answer { (T : Tree) → Shown (K.holds keeper.old (W.view w.old)) (K.last keeper.old) T → Says (λ units. units) (name_in T folder.bits) result }
+    ensures looks { Looks (K.holds keeper.old (W.view w.old)) (K.holds keeper.new (W.view w.new)) (K.last keeper.old) (K.last keeper.new) (K.room keeper.old) (K.room keeper.new) (W.view w.old) (W.view w.new) }
+    ensures cause { IfErr result (IsCaused K.has_disk (W.view w.old).disk_faults (W.view w.new).disk_faults) }
+{
+    let context = context_in(alloc, keeper, w, folder)?;
+    Ok(name_of(alloc, context.props())?)
 }
 
 /// Whether a folder has this name, which is folded already. Its node is read only where its name isn't known.
