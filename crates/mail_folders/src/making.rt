@@ -179,9 +179,7 @@ fn making_folder<W: Outside, K: Keeper<W>>(
 {
     let folder = new_id(2, index);
     let after = with_place(alloc, &known.places, folder, parent)?;
-    let draft = counted(
-        alloc, keeper, w, &known.flags, &after, folder, parent, name,
-    )?;
+    let draft = counted(alloc, keeper, w, &known.flags, &after, folder, parent, name)?;
     let counts = keeper.counts();
     making(alloc, keeper, w, counts, draft, Some(after), 2, index)
 }

@@ -17,9 +17,7 @@ use crate::protecting::unless_protected;
 use crate::reading::context_in;
 use crate::standing::{unless_moves_deep, unless_within, with_place};
 use command_text::{LastLine, Reply};
-use mail_draft::{
-    Draft, Outcome, Stop, add_shown, drop_shown, hierarchy, moving, settled,
-};
+use mail_draft::{Draft, Outcome, Stop, add_shown, drop_shown, hierarchy, moving, settled};
 use mail_objects::{Context, Object};
 use mail_tree::{Flags, Known, Places};
 use mapi_values::Props;
