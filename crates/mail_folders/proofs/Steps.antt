@@ -30,7 +30,7 @@ use Rattle.mail_tree.specs.Tree.{Tree, object_at}
 use Rattle.mail_tree.specs.declared.note.Note.TheVariants.{Named}
 use Rattle.mail_tree.proofs.NoteLaws.{note_of_name}
 use Rattle.mail_tree.specs.Ids.{is_taken}
-use Rattle.mail_tree.specs.Folders.{Outcome, associated_in, folder_in, folder_line, folder_lines, has_associated, has_rows, listed, message_lines, nid, replied, unchanged, unless_named, unless_plain}
+use Rattle.mail_tree.specs.Folders.{Outcome, folder_in, folder_line, folder_lines, has_associated, has_rows, listed, message_lines, nid, replied, unchanged, unless_named, unless_plain}
 use Rattle.mail_folders.specs.Pieces.{both_plain_in, each, line_of_folder, line_of_message, has_associated_in, has_name, has_rows_in, ids_in, line_named, lines_in, lines_of_messages, name_in, plain_in, plain_listing, unless_has_name, with_messages}
 use Rattle.mail_draft.proofs.Passes.{stop_says, then_says}
 
