@@ -1,9 +1,41 @@
 //! One case: a call of the program, and what must come of it.
 use crate::outcome::{Change, Ending};
+use crate::texts::add_text;
 use pst_outside::FailPlan;
 use std::alloc::Global;
 use std::num::NonZeroUsize;
 use test_lines::{Trouble, Words};
+
+/// The first words of the lines about a case, but for those of its texts.
+const VERBS: [&str; 12] = [
+    "run", "takes", "says", "fails", "dead", "turns", "stops", "look", "status", "changed",
+    "writes", "has",
+];
+
+/// The change of bytes that words tell.
+fn change(words: &mut Words) -> Result<Change, Trouble> {
+    Ok(Change {
+        ib: words.number()?,
+        stored: words.number()?,
+        computed: words.number()?,
+    })
+}
+
+fn push<T: Drop>(list: &mut Vec<T>, item: T) -> Result<(), Trouble> {
+    Ok(list.push(item)?)
+}
+
+/// Has one call of a world fail.
+fn fail(fails: &mut FailPlan, words: &mut Words) -> Result<(), Trouble> {
+    let device = words.word()?;
+    let number = words.number()?;
+    match device {
+        "take" => push(&mut fails.takes, number),
+        "say" => push(&mut fails.says, number),
+        "disk" => push(&mut fails.disks, number),
+        _ => Err(Trouble::Spelling),
+    }
+}
 
 /// One case: a call of the program, and what must come of it.
 #[derive(Drop)]
@@ -63,61 +95,79 @@ impl<'a> Case<'a> {
         }
     }
 
-    /// Follows a line about the call.
-    pub(crate) fn arrange(
+    /// Whether lines with this first word are about a case.
+    pub(crate) fn knows(verb: &str) -> bool {
+        verb.starts_with('>') || verb.starts_with('<') || VERBS.contains(&verb)
+    }
+
+    /// Follows a line about the case.
+    pub(crate) fn follow(
         &mut self,
         alloc: Global,
         verb: &str,
         words: &mut Words<'a>,
     ) -> Result<(), Trouble> {
+        if let Some(sort) = verb.strip_prefix('>') {
+            return add_text(alloc, &mut self.input, sort, words);
+        }
+        if let Some(sort) = verb.strip_prefix('<') {
+            return add_text(alloc, &mut self.said, sort, words);
+        }
         match verb {
-            "run" if self.words.is_none() => self.words = Some(words.rest()),
+            "look" => add_text(alloc, &mut self.looks, "", words),
+            "turns" => self.turn_bytes(alloc, words),
+            _ => self.set(verb, words),
+        }
+    }
+
+    /// Follows a line that sets something by words and numbers.
+    fn set(&mut self, verb: &str, words: &mut Words<'a>) -> Result<(), Trouble> {
+        match verb {
+            "fails" => fail(&mut self.fails, words),
+            "changed" => {
+                self.ending.changed = Some(change(words)?);
+                Ok(())
+            }
+            "run" => self.run(words.rest()),
+            "has" => push(&mut self.has, words.rest()),
+            "stops" => {
+                self.stops = true;
+                Ok(())
+            }
+            "writes" => {
+                self.writes = true;
+                Ok(())
+            }
+            _ => self.count(verb, words),
+        }
+    }
+
+    /// Takes the words of the command line, which are said once.
+    fn run(&mut self, words: &'a str) -> Result<(), Trouble> {
+        if self.words.is_some() {
+            return Err(Trouble::Spelling);
+        }
+        self.words = Some(words);
+        Ok(())
+    }
+
+    /// Follows a line of one number.
+    fn count(&mut self, verb: &str, words: &mut Words) -> Result<(), Trouble> {
+        match verb {
             "takes" => self.take_at_most = words.some()?,
             "says" => self.say_at_most = words.some()?,
-            "fails" => self.fail(words)?,
-            "turns" => self.turn = Some((words.number()?, words.bytes(alloc)?)),
             "dead" => self.fails.dead_from = Some(words.number()?),
-            "stops" => self.stops = true,
-            "look" => {
-                self.looks.extend_from_slice(words.rest().as_bytes())?;
-                self.looks.push(b'\n')?;
-            }
-            _ => return Err(Trouble::Spelling),
-        }
-        Ok(())
-    }
-
-    /// Has one call of the world fail.
-    fn fail(&mut self, words: &mut Words) -> Result<(), Trouble> {
-        let device = words.word()?;
-        let number = words.number()?;
-        match device {
-            "take" => self.fails.takes.push(number)?,
-            "say" => self.fails.says.push(number)?,
-            "disk" => self.fails.disks.push(number)?,
-            _ => return Err(Trouble::Spelling),
-        }
-        Ok(())
-    }
-
-    /// Follows a line about what must come of the call.
-    pub(crate) fn expect(&mut self, verb: &str, words: &mut Words<'a>) -> Result<(), Trouble> {
-        match verb {
-            "has" => self.has.push(words.rest())?,
             "status" => self.ending.status = words.byte()?,
-            "changed" => {
-                let ib = words.number()?;
-                let stored = words.number()?;
-                let computed = words.number()?;
-                self.ending.changed = Some(Change {
-                    ib,
-                    stored,
-                    computed,
-                });
-            }
-            "writes" => self.writes = true,
             _ => return Err(Trouble::Spelling),
         }
+        Ok(())
+    }
+
+    /// Has bytes turn.
+    fn turn_bytes(&mut self, alloc: Global, words: &mut Words) -> Result<(), Trouble> {
+        let at = words.number()?;
+        let mask = words.bytes(alloc)?;
+        self.turn = Some((at, mask));
         Ok(())
     }
 }

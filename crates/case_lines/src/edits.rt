@@ -19,11 +19,11 @@ pub fn edit(
     words: &mut Words,
 ) -> Result<(), Trouble> {
     match verb {
-        "zeros" => add_zeros(bytes, words.size()?),
-        "cut" => cut(bytes, words.size()?),
-        "hex" => add(bytes, words.bytes(alloc)?.as_slice()),
-        "put" => put(bytes, words.size()?, words.bytes(alloc)?.as_slice()),
-        "xor" => flip(bytes, words.size()?, words.bytes(alloc)?.as_slice()),
+        "zeros" => add_zeros(bytes, words),
+        "cut" => cut(bytes, words),
+        "hex" => add_bytes(alloc, bytes, words),
+        "put" => put_bytes(alloc, bytes, words),
+        "xor" => flip(alloc, bytes, words),
         "fill" => fill(bytes, words),
         "u8" => numbers(bytes, words, 1),
         "u16" => numbers(bytes, words, 2),
@@ -35,18 +35,27 @@ pub fn edit(
     }
 }
 
-fn add_zeros(bytes: &mut Vec<u8>, count: usize) -> Result<(), Trouble> {
+fn add_zeros(bytes: &mut Vec<u8>, words: &mut Words) -> Result<(), Trouble> {
+    let count = words.size()?;
     if count > MOST || bytes.len() > MOST {
         return Err(Trouble::Place);
     }
     Ok(bytes.resize(bytes.len() + count, 0)?)
 }
 
-fn add(bytes: &mut Vec<u8>, more: &[u8]) -> Result<(), Trouble> {
+/// Adds bytes behind others.
+pub fn add(bytes: &mut Vec<u8>, more: &[u8]) -> Result<(), Trouble> {
     Ok(bytes.extend_from_slice(more)?)
 }
 
-fn cut(bytes: &mut Vec<u8>, len: usize) -> Result<(), Trouble> {
+/// Adds the bytes that the next word spells.
+pub fn add_bytes(alloc: Global, bytes: &mut Vec<u8>, words: &mut Words) -> Result<(), Trouble> {
+    let more = words.bytes(alloc)?;
+    add(bytes, more.as_slice())
+}
+
+fn cut(bytes: &mut Vec<u8>, words: &mut Words) -> Result<(), Trouble> {
+    let len = words.size()?;
     if len > bytes.len() {
         return Err(Trouble::Place);
     }
@@ -74,10 +83,23 @@ pub fn put(bytes: &mut [u8], at: usize, more: &[u8]) -> Result<(), Trouble>
     Ok(())
 }
 
-fn flip(bytes: &mut [u8], at: usize, mask: &[u8]) -> Result<(), Trouble> {
+fn put_bytes(alloc: Global, bytes: &mut [u8], words: &mut Words) -> Result<(), Trouble> {
+    let at = words.size()?;
+    let more = words.bytes(alloc)?;
+    put(bytes, at, more.as_slice())
+}
+
+/// Changes the bits of bytes at a place that are set in others.
+fn flip(alloc: Global, bytes: &mut [u8], words: &mut Words) -> Result<(), Trouble> {
+    let at = words.size()?;
+    let mask = words.bytes(alloc)?;
+    xor(bytes, at, mask.as_slice())
+}
+
+fn xor(bytes: &mut [u8], at: usize, mask: &[u8]) -> Result<(), Trouble> {
     reach(bytes, at, mask.len())?;
-    for (byte, bits) in bytes[at..at + mask.len()].iter_mut().zip(mask) {
-        *byte ^= *bits;
+    for i in 0..mask.len() {
+        bytes[at + i] ^= mask[i];
     }
     Ok(())
 }

@@ -37,7 +37,7 @@ pub fn first_missing<'a>(case: &Case<'a>, outcome: &Outcome) -> Option<&'a str> 
 }
 
 /// The first line in which two texts differ: its number from 1 on, and the line in each.
-#[derive(Clone, Copy, Debug)]
+#[derive(Clone, Copy)]
 pub struct LineDifference<'a> {
     pub number: u64,
     pub wanted: &'a [u8],

@@ -1,8 +1,7 @@
 //! What the lines of a case file make: bytes with a name, and one case after another.
 use crate::case::Case;
-use crate::edits::{edit, put};
+use crate::edits::{add, edit, put};
 use crate::outcome::Outcome;
-use crate::texts::add_text;
 use std::alloc::Global;
 use std::fs;
 use std::rt::Files;
@@ -16,7 +15,7 @@ struct Named<'a> {
 }
 
 /// What the changes of the next lines are made to.
-#[derive(Clone, Copy, Debug, PartialEq, Eq)]
+#[derive(Clone, Copy)]
 enum Target {
     Nothing,
     Named,
@@ -71,8 +70,7 @@ impl<'a> Script<'a> {
             return Ok(());
         }
         let mut words = Words::new(line);
-        let verb = words.word()?;
-        self.follow_words(rt, verb, &mut words)?;
+        self.follow_words(rt, &mut words)?;
         if words.is_empty() {
             Ok(())
         } else {
@@ -83,28 +81,36 @@ impl<'a> Script<'a> {
     fn follow_words<R: Files + AllocGlobal>(
         &mut self,
         rt: &R,
-        verb: &str,
         words: &mut Words<'a>,
     ) -> Result<(), Trouble> {
-        let alloc = self.alloc;
-        if let Some(sort) = verb.strip_prefix('>') {
-            return add_text(alloc, &mut self.case()?.input, sort, words);
+        match words.word()? {
+            "load" => self.load(rt, words),
+            verb if Case::knows(verb) => self.follow_case(verb, words),
+            verb => self.change(verb, words),
         }
-        if let Some(sort) = verb.strip_prefix('<') {
-            return add_text(alloc, &mut self.case()?.said, sort, words);
-        }
+    }
+
+    /// Follows a line about bytes.
+    fn change(&mut self, verb: &str, words: &mut Words<'a>) -> Result<(), Trouble> {
         match verb {
             "bytes" => self.name(words),
             "file" => self.begin_main(words),
             "gate" => self.begin_side(words),
-            "load" => self.load(rt, words.word()?),
             "copy" => self.copy(words),
-            "run" | "takes" | "says" | "fails" | "dead" | "turns" | "stops" | "look" => {
-                self.case()?.arrange(alloc, verb, words)
-            }
-            "status" | "changed" | "writes" | "has" => self.case()?.expect(verb, words),
-            _ => edit(alloc, self.target()?, verb, words),
+            _ => self.edit(verb, words),
         }
+    }
+
+    /// Changes the bytes that lines change.
+    fn edit(&mut self, verb: &str, words: &mut Words) -> Result<(), Trouble> {
+        let alloc = self.alloc;
+        edit(alloc, self.target()?, verb, words)
+    }
+
+    /// Follows a line about the case that has begun.
+    fn follow_case(&mut self, verb: &str, words: &mut Words<'a>) -> Result<(), Trouble> {
+        let alloc = self.alloc;
+        self.case()?.follow(alloc, verb, words)
     }
 
     fn case(&mut self) -> Result<&mut Case<'a>, Trouble> {
@@ -167,22 +173,43 @@ impl<'a> Script<'a> {
     }
 
     /// Adds the bytes of a file that lies beside the case files.
-    fn load<R: Files + AllocGlobal>(&mut self, rt: &R, name: &str) -> Result<(), Trouble> {
-        let Ok(bytes) = fs::read(rt, name) else {
-            return Err(Trouble::Name);
-        };
-        Ok(self.target()?.extend_from_slice(bytes.as_slice())?)
+    fn load<R: Files + AllocGlobal>(&mut self, rt: &R, words: &mut Words) -> Result<(), Trouble> {
+        match fs::read(rt, words.word()?) {
+            Ok(bytes) => self.add(bytes.as_slice()),
+            Err(_) => Err(Trouble::Name),
+        }
+    }
+
+    /// Adds bytes to those that lines change.
+    fn add(&mut self, bytes: &[u8]) -> Result<(), Trouble> {
+        add(self.target()?, bytes)
     }
 
     /// Puts a part of the bytes of a name at a place.
     fn copy(&mut self, words: &mut Words) -> Result<(), Trouble> {
+        let part = self.part(words)?;
+        self.put(words, part.as_slice())
+    }
+
+    /// A copy of the part of the bytes of a name that words tell.
+    fn part(&self, words: &mut Words) -> Result<Vec<u8>, Trouble> {
         let name = words.word()?;
         let at = words.size()?;
         let len = words.size()?;
-        let Some(Some(part)) = self.find(name)?.get(at..).map(|rest| rest.get(..len)) else {
-            return Err(Trouble::Place);
-        };
-        let part = Vec::from_slice(self.alloc, part)?;
-        put(self.target()?, words.size()?, part.as_slice())
+        self.cut_out(name, at, len)
+    }
+
+    /// A copy of so many bytes of a name from a place on.
+    fn cut_out(&self, name: &str, at: usize, len: usize) -> Result<Vec<u8>, Trouble> {
+        match self.find(name)?.get(at..at.saturating_add(len)) {
+            Some(part) => Ok(Vec::from_slice(self.alloc, part)?),
+            None => Err(Trouble::Place),
+        }
+    }
+
+    /// Puts bytes at the place of the next word.
+    fn put(&mut self, words: &mut Words, bytes: &[u8]) -> Result<(), Trouble> {
+        let at = words.size()?;
+        put(self.target()?, at, bytes)
     }
 }
