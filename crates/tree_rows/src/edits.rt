@@ -4,19 +4,9 @@ ghost use Rattle.std.specs.Prelude.{◌≡◌};
 use btree_pages::{BlockEntry, Entry, NodeEntry, write_leaf};
 use pst_base::{Bid, Bref, MemOr, Nid, SourceStop};
 use std::alloc::{AllocError, Global};
-use std::fmt::Write;
 use test_lines::{Trouble, Words, hex_number};
 use tree_change::change;
 use tree_edit::{Child, PageSource, Plan, PlanPage, are_edits, look_up};
-
-pub fn answer(alloc: Global, kind: &str, words: &mut Words) -> Result<String, Trouble> {
-    match kind {
-        "change" => ask_change(alloc, words),
-        "edit" => ask_edit(alloc, words),
-        "look" => ask_look(alloc, words),
-        _ => Err(Trouble::Spelling),
-    }
-}
 
 const ROOT: Bref = Bref {
     bid: Bid { bits: 1 },
@@ -116,34 +106,45 @@ fn planned<E: Entry>(
     }
 }
 
-/// How many new pages a plan has, how many it frees, and its root's level where that is new.
-fn counted<E: Entry>(alloc: Global, plan: &Plan<E>) -> Result<String, Trouble> {
-    let pages = plan.pages.len();
-    let freed = plan.freed.len();
-    Ok(match level_of(plan) {
-        Some(level) => format!(in alloc; "{pages} {freed} level {level}")?,
-        None => format!(in alloc; "{pages} {freed} same")?,
-    })
+/// Numbers of new and of freed pages, and the root's level where that is new.
+fn counts(
+    alloc: Global,
+    pages: usize,
+    freed: usize,
+    level: Option<u8>,
+) -> Result<String, AllocError> {
+    match level {
+        Some(level) => format!(in alloc; "{pages} {freed} level {level}"),
+        None => format!(in alloc; "{pages} {freed} same"),
+    }
+}
+
+/// How many new pages edits of an empty tree make, how many they free, and the root's level where that is new.
+fn counted<E: Entry>(alloc: Global, edits: &[(u64, Option<E>)]) -> Result<String, Trouble> {
+    match planned(alloc, write_leaf::<E>(&[]), edits) {
+        Ok(plan) => plan_text(alloc, &plan),
+        Err(trouble) => Err(trouble),
+    }
+}
+
+/// The counts of a plan.
+fn plan_text<E: Entry>(alloc: Global, plan: &Plan<E>) -> Result<String, Trouble> {
+    let (pages, freed) = (plan.pages.len(), plan.freed.len());
+    Ok(counts(alloc, pages, freed, level_of(plan))?)
 }
 
 /// What it makes of an empty tree to put so many blocks or nodes.
-fn ask_change(alloc: Global, words: &mut Words) -> Result<String, Trouble> {
+pub fn ask_change(alloc: Global, words: &mut Words) -> Result<String, Trouble> {
     let sort = words.word()?;
     let count = words.id()?;
     match sort {
         "blocks" => {
             let edits = blocks(alloc, count)?;
-            counted(
-                alloc,
-                &planned(alloc, write_leaf::<BlockEntry>(&[]), edits.as_slice())?,
-            )
+            counted(alloc, edits.as_slice())
         }
         "nodes" => {
             let edits = nodes(alloc, count)?;
-            counted(
-                alloc,
-                &planned(alloc, write_leaf::<NodeEntry>(&[]), edits.as_slice())?,
-            )
+            counted(alloc, edits.as_slice())
         }
         _ => Err(Trouble::Spelling),
     }
@@ -154,48 +155,64 @@ fn leaf() -> [u8; 496] {
     write_leaf(&[node(2), node(4), node(6)])
 }
 
-/// The edits that words tell: `KEY:NODE` puts a node at a key, and `-KEY` removes one.
+/// The edit that a word tells: `KEY:NODE` puts a node at a key, and `-KEY` removes one.
+fn edit(word: &str) -> Result<(u64, Option<NodeEntry>), Trouble> {
+    match (word.strip_prefix('-'), word.split_once(':')) {
+        (Some(key), _) => Ok((hex_number(key)?, None)),
+        (None, Some((key, id))) => Ok((hex_number(key)?, Some(spelled(id)?))),
+        (None, None) => Err(Trouble::Spelling),
+    }
+}
+
+/// The node with the number that a word spells.
+fn spelled(id: &str) -> Result<NodeEntry, Trouble> {
+    match u32::try_from(hex_number(id)?) {
+        Ok(bits) => Ok(node(bits)),
+        Err(_) => Err(Trouble::Spelling),
+    }
+}
+
+/// The edits that words tell.
 fn edits(alloc: Global, words: &str) -> Result<Edits<NodeEntry>, Trouble> {
     let mut edits = Vec::new(alloc);
     for word in words.split(' ') {
-        let edit = match (word.strip_prefix('-'), word.split_once(':')) {
-            (Some(key), _) => (hex_number(key)?, None),
-            (None, Some((key, id))) => {
-                let bits = u32::try_from(hex_number(id)?)
-                    .ok()
-                    .ok_or(Trouble::Spelling)?;
-                (hex_number(key)?, Some(node(bits)))
-            }
-            (None, None) => return Err(Trouble::Spelling),
-        };
-        edits.push(edit)?;
+        edits.push(edit(word)?)?;
     }
     Ok(edits)
 }
 
 /// How many entries the first new leaf has after edits of a leaf, and its first key.
-fn ask_edit(alloc: Global, words: &mut Words) -> Result<String, Trouble> {
+pub fn ask_edit(alloc: Global, words: &mut Words) -> Result<String, Trouble> {
     let edits = edits(alloc, words.rest())?;
-    let mut text = String::new(alloc);
-    if !are_edits(edits.as_slice()) {
-        text.push_str("no edits")?;
-        return Ok(text);
+    edited(alloc, edits.as_slice())
+}
+
+/// What edits make of a leaf, or that they are none.
+fn edited(alloc: Global, edits: &[(u64, Option<NodeEntry>)]) -> Result<String, Trouble> {
+    if !are_edits(edits) {
+        return Ok(String::from_str(alloc, "no edits")?);
     }
-    let plan = planned(alloc, leaf(), edits.as_slice())?;
-    let Some(PlanPage::Leaf(entries)) = plan.pages.first() else {
-        return Err(Trouble::Place);
-    };
+    let plan = planned(alloc, leaf(), edits)?;
+    match plan.pages.first() {
+        Some(PlanPage::Leaf(entries)) => Ok(leaf_text(alloc, entries.as_slice())?),
+        _ => Err(Trouble::Place),
+    }
+}
+
+/// How many entries a leaf has, and its first key.
+fn leaf_text(alloc: Global, entries: &[NodeEntry]) -> Result<String, AllocError> {
     let count = entries.len();
-    write!(text, "{count}")?;
-    if let Some(entry) = entries.first() {
-        let key = entry.key();
-        write!(text, " from {key:x}")?;
+    match entries.first() {
+        Some(entry) => {
+            let key = entry.key();
+            format!(in alloc; "{count} from {key:x}")
+        }
+        None => format!(in alloc; "{count}"),
     }
-    Ok(text)
 }
 
 /// Whether a key is found in the leaf, as the entry of that node.
-fn ask_look(alloc: Global, words: &mut Words) -> Result<String, Trouble> {
+pub fn ask_look(alloc: Global, words: &mut Words) -> Result<String, Trouble> {
     let bits = words.id()?;
     let mut source = OnePage { body: leaf() };
     let word = match look_up::<NodeEntry, OnePage>(ROOT, u64::from(bits), &mut source) {

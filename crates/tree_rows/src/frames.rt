@@ -5,16 +5,6 @@ use pst_base::{Bid, Bref, PageFault};
 use std::alloc::Global;
 use test_lines::{Trouble, Words, push_bytes};
 
-pub fn answer(alloc: Global, kind: &str, words: &mut Words) -> Result<String, Trouble> {
-    match kind {
-        "seal-page" => seal_page(alloc, words),
-        "seal-block" => seal_block(alloc, words),
-        "read-page" => read_page(alloc, words),
-        "read-block" => read_block(alloc, words),
-        _ => Err(Trouble::Spelling),
-    }
-}
-
 /// The id and the place of the next two words.
 pub fn bref(words: &mut Words) -> Result<Bref, Trouble> {
     Ok(Bref {
@@ -23,36 +13,44 @@ pub fn bref(words: &mut Words) -> Result<Bref, Trouble> {
     })
 }
 
-/// The content of a page.
-pub fn body(alloc: Global, words: &mut Words) -> Result<[u8; 496], Trouble> {
+/// The next word as so many bytes.
+pub fn array<const N: usize>(alloc: Global, words: &mut Words) -> Result<[u8; N], Trouble> {
     let bytes = words.bytes(alloc)?;
-    let mut body = [0u8; 496];
-    if bytes.len() != 496 {
+    let mut array = [0u8; N];
+    if bytes.len() != N {
         return Err(Trouble::Spelling);
     }
-    body.copy_from_slice(bytes.as_slice());
-    Ok(body)
+    array.copy_from_slice(bytes.as_slice());
+    Ok(array)
 }
 
-fn seal_page(alloc: Global, words: &mut Words) -> Result<String, Trouble> {
-    let kind = words.byte()?;
-    let at = bref(words)?;
-    let page = page_frame::seal(&body(alloc, words)?, kind, at);
+/// Bytes as a word spells them.
+pub fn bytes_text(alloc: Global, bytes: &[u8]) -> Result<String, Trouble> {
     let mut text = String::new(alloc);
-    push_bytes(&mut text, &page)?;
+    push_bytes(&mut text, bytes)?;
     Ok(text)
 }
 
-fn seal_block(alloc: Global, words: &mut Words) -> Result<String, Trouble> {
+pub fn seal_page(alloc: Global, words: &mut Words) -> Result<String, Trouble> {
+    let kind = words.byte()?;
+    let at = bref(words)?;
+    let body = array::<496>(alloc, words)?;
+    bytes_text(alloc, &page_frame::seal(&body, kind, at))
+}
+
+pub fn seal_block(alloc: Global, words: &mut Words) -> Result<String, Trouble> {
     let at = bref(words)?;
     let bytes = words.bytes(alloc)?;
+    sealed_text(alloc, bytes.as_slice(), at)
+}
+
+/// A block with its trailer.
+fn sealed_text(alloc: Global, bytes: &[u8], at: Bref) -> Result<String, Trouble> {
     if bytes.len() > 8176 {
         return Err(Trouble::Spelling);
     }
-    let block = block_frame::seal(alloc, bytes.as_slice(), at)?;
-    let mut text = String::new(alloc);
-    push_bytes(&mut text, block.as_slice())?;
-    Ok(text)
+    let block = block_frame::seal(alloc, bytes, at)?;
+    bytes_text(alloc, block.as_slice())
 }
 
 /// What is wrong, with what is stored and what it should be.
@@ -70,22 +68,11 @@ fn page_fault(alloc: Global, fault: PageFault) -> Result<String, Trouble> {
     }
 }
 
-/// A whole page.
-fn page(alloc: Global, words: &mut Words) -> Result<[u8; 512], Trouble> {
-    let bytes = words.bytes(alloc)?;
-    let mut page = [0u8; 512];
-    if bytes.len() != 512 {
-        return Err(Trouble::Spelling);
-    }
-    page.copy_from_slice(bytes.as_slice());
-    Ok(page)
-}
-
 /// Whether a page is whole, or what is wrong with it.
-fn read_page(alloc: Global, words: &mut Words) -> Result<String, Trouble> {
+pub fn read_page(alloc: Global, words: &mut Words) -> Result<String, Trouble> {
     let kind = words.byte()?;
     let at = bref(words)?;
-    let page = page(alloc, words)?;
+    let page = array::<512>(alloc, words)?;
     match PageView::read(&page, kind, at) {
         Ok(_) => Ok(String::from_str(alloc, "whole")?),
         Err(fault) => page_fault(alloc, fault),
@@ -113,7 +100,7 @@ fn block_text(alloc: Global, cb: u16, at: Bref, block: &[u8]) -> Result<String, 
 }
 
 /// Whether a block is whole, or what is wrong with it.
-fn read_block(alloc: Global, words: &mut Words) -> Result<String, Trouble> {
+pub fn read_block(alloc: Global, words: &mut Words) -> Result<String, Trouble> {
     let cb = u16::try_from(words.id()?).ok().ok_or(Trouble::Spelling)?;
     let at = bref(words)?;
     let block = words.bytes(alloc)?;

@@ -11,14 +11,6 @@ use std::alloc::{AllocError, Global};
 use std::fmt::Write;
 use test_lines::{Trouble, Words, push_bytes};
 
-pub fn answer(alloc: Global, kind: &str, words: &mut Words) -> Result<String, Trouble> {
-    match kind {
-        "data" => ask_data(alloc, words),
-        "data-kept" => ask_kept(alloc),
-        _ => Err(Trouble::Spelling),
-    }
-}
-
 /// A block of so many equal bytes.
 fn block(alloc: Global, byte: u8, size: usize) -> Result<Bytes, AllocError>
     ensures { IfOk result (λ b. length b ≡ size) }
@@ -50,8 +42,13 @@ fn content(alloc: Global, count: usize, last: usize) -> Result<Vec<Bytes>, Alloc
 }
 
 /// Whether the lists have the same bytes.
-fn same(a: &[Bytes], b: &[Bytes]) -> bool {
-    a.len() == b.len() && a.iter().zip(b).all(|(x, y)| x.as_slice() == y.as_slice())
+pub fn same(a: &[Bytes], b: &[Bytes]) -> bool {
+    for (x, y) in a.iter().zip(b) {
+        if x.as_slice() != y.as_slice() {
+            return false;
+        }
+    }
+    a.len() == b.len()
 }
 
 /// Why a tree can't be read.
@@ -62,45 +59,79 @@ pub fn stopped(stop: MemOr<TreeStop>) -> Trouble {
     }
 }
 
-/// How many bytes, data blocks and blocks a plan has that reads back as some data.
+/// Adds whether a plan reads back as what it was made of, and its numbers.
+pub fn push_reads(
+    text: &mut String,
+    is_same: bool,
+    size: u64,
+    counts: [usize; 2],
+) -> Result<(), AllocError> {
+    let word = if is_same { "same" } else { "other" };
+    let [parts, keys] = counts;
+    write!(text, ", reads {word} {size} {parts} {keys}")
+}
+
+/// Adds how many blocks a plan has, the id of its root, and the number of the next block.
+pub fn push_counts(
+    text: &mut String,
+    blocks: usize,
+    root: Bid,
+    next: u64,
+) -> Result<(), AllocError> {
+    let root = root.bits;
+    write!(text, "{blocks} {root} {next}")
+}
+
+/// Whether a list reads as some data, how many bytes it has, how many data blocks, and how many blocks.
 fn push_read(
+    alloc: Global,
+    text: &mut String,
+    bid: Bid,
+    s: &mut BlockList,
+    data: &[Bytes],
+) -> Result<(), MemOr<TreeStop>> {
+    let bytes = measure_data(alloc, bid, s)?;
+    let leaves = read_bids(alloc, bid, s)?.len();
+    let keys = read_data_keys(alloc, bid, s)?.len();
+    let is_same = same(read_data(alloc, bid, s)?.as_slice(), data);
+    Ok(push_reads(text, is_same, bytes, [leaves, keys])?)
+}
+
+/// How many blocks a plan has, the id of its root, the number of the next block, and what reads back.
+fn push_plan(
     alloc: Global,
     text: &mut String,
     plan: DataPlan,
     data: &[Bytes],
 ) -> Result<(), MemOr<TreeStop>> {
+    push_counts(text, plan.blocks.len(), plan.bid, plan.next)?;
     let mut s = BlockList {
         blocks: plan.blocks,
         limit: 1 << 32,
     };
-    let read = read_data(alloc, plan.bid, &mut s)?;
-    let bytes = measure_data(alloc, plan.bid, &mut s)?;
-    let leaves = read_bids(alloc, plan.bid, &mut s)?.len();
-    let keys = read_data_keys(alloc, plan.bid, &mut s)?.len();
-    let word = if same(read.as_slice(), data) {
-        "same"
-    } else {
-        "other"
-    };
-    write!(text, ", reads {word} {bytes} {leaves} {keys}")?;
-    Ok(())
+    push_read(alloc, text, plan.bid, &mut s, data)
+}
+
+/// The text on a plan.
+fn plan_text(alloc: Global, plan: DataPlan, data: &[Bytes]) -> Result<String, Trouble> {
+    let mut text = String::new(alloc);
+    match push_plan(alloc, &mut text, plan, data) {
+        Ok(()) => Ok(text),
+        Err(stop) => Err(stopped(stop)),
+    }
 }
 
 /// The blocks that are planned from the id 4 on for so many blocks of data, of which the last has so many bytes: how many they are, the id of the root, the number of the next block, and what reads back.
-fn ask_data(alloc: Global, words: &mut Words) -> Result<String, Trouble> {
+pub fn ask_data(alloc: Global, words: &mut Words) -> Result<String, Trouble> {
     let count = words.size()?;
     let last = words.size()?;
     if count > 1022 || last > 8176 {
         return Err(Trouble::Spelling);
     }
     let data = content(alloc, count, last)?;
-    let plan = plan_data(alloc, data.as_slice(), 4)?;
-    let mut text = String::new(alloc);
-    let (blocks, root, next) = (plan.blocks.len(), plan.bid.bits, plan.next);
-    write!(text, "{blocks} {root} {next}")?;
-    match push_read(alloc, &mut text, plan, data.as_slice()) {
-        Ok(()) => Ok(text),
-        Err(stop) => Err(stopped(stop)),
+    match plan_data(alloc, data.as_slice(), 4) {
+        Ok(plan) => plan_text(alloc, plan, data.as_slice()),
+        Err(AllocError) => Err(Trouble::Memory),
     }
 }
 
@@ -115,10 +146,17 @@ pub fn push_blocks(text: &mut String, blocks: &[(Bid, Bytes)]) -> Result<(), All
 }
 
 /// The blocks that are planned from the id 8 on for two blocks of data, of 8176 bytes and of one, of which the second stays in the block 4.
-fn ask_kept(alloc: Global) -> Result<String, Trouble> {
+pub fn ask_kept(alloc: Global) -> Result<String, Trouble> {
     let data = content(alloc, 2, 1)?;
     let keep = [None, Some(Bid { bits: 4 })];
-    let plan = plan_data_keep(alloc, data.as_slice(), &keep, 8)?;
+    match plan_data_keep(alloc, data.as_slice(), &keep, 8) {
+        Ok(plan) => kept_text(alloc, &plan),
+        Err(AllocError) => Err(Trouble::Memory),
+    }
+}
+
+/// The id of a plan's root, the number of the next block, and the blocks.
+fn kept_text(alloc: Global, plan: &DataPlan) -> Result<String, Trouble> {
     let mut text = String::new(alloc);
     let (root, next) = (plan.bid.bits, plan.next);
     write!(text, "{root} {next}")?;

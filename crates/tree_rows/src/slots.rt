@@ -1,19 +1,11 @@
 //! Places that are given, taken and freed, and the map pages.
+use crate::frames::bytes_text;
 use alloc_map::Slots;
 use pst_base::Place;
-use std::alloc::{AllocError, Global};
+use std::alloc::Global;
 use std::fmt::Write;
 use std::mem;
-use test_lines::{Trouble, Words, number, push_bytes};
-
-pub fn answer(alloc: Global, kind: &str, words: &mut Words) -> Result<String, Trouble> {
-    match kind {
-        "place" => ask_place(alloc, words),
-        "lend" => ask_lend(alloc, words),
-        "map" => ask_map(alloc, words),
-        _ => Err(Trouble::Spelling),
-    }
-}
+use test_lines::{Trouble, Words, number};
 
 /// The free slots of so many regions.
 fn regions(alloc: Global, words: &mut Words) -> Result<Slots, Trouble> {
@@ -24,27 +16,34 @@ fn regions(alloc: Global, words: &mut Words) -> Result<Slots, Trouble> {
     Slots::rebuild(alloc, &[], count).ok().ok_or(Trouble::Place)
 }
 
+/// The place of a piece `IB+LEN`.
+fn place(piece: &str) -> Result<Place, Trouble> {
+    let Some((ib, len)) = piece.split_once('+') else {
+        return Err(Trouble::Spelling);
+    };
+    Ok(Place {
+        ib: number(ib)?,
+        len: number(len)?,
+    })
+}
+
 /// The places of a word, `IB+LEN` parted by commas.
 fn places(alloc: Global, word: &str) -> Result<Vec<Place>, Trouble> {
     let mut places = Vec::new(alloc);
     for piece in word.split(',') {
-        let Some((ib, len)) = piece.split_once('+') else {
-            return Err(Trouble::Spelling);
-        };
-        places.push(Place {
-            ib: number(ib)?,
-            len: number(len)?,
-        })?;
+        places.push(place(piece)?)?;
     }
     Ok(places)
 }
 
-/// Adds where a place was given, or that there was none.
-fn push_place(text: &mut String, ib: Option<u64>) -> Result<(), AllocError> {
-    match ib {
-        Some(ib) => write!(text, " {ib}"),
-        None => text.push_str(" none"),
-    }
+/// Adds what a step gives, with a space before it where it isn't the first.
+fn push_answer(text: &mut String, answer: Option<u64>) -> Result<(), Trouble> {
+    let space = if text.is_empty() { "" } else { " " };
+    let pushed = match answer {
+        Some(number) => write!(text, "{space}{number}"),
+        None => write!(text, "{space}none"),
+    };
+    Ok(pushed?)
 }
 
 /// Gives a number of blocks of a length, and the start of the last.
@@ -80,44 +79,67 @@ struct Sets {
 }
 
 impl Sets {
+    /// Keeps a copy of the set as the other one.
+    fn copy(&mut self, alloc: Global) -> Result<(), Trouble> {
+        self.other = self.slots.copy(alloc)?;
+        Ok(())
+    }
+
     /// Follows a step without numbers.
     fn plain_step(&mut self, alloc: Global, text: &mut String, step: &str) -> Result<(), Trouble> {
         match step {
-            "page" => push_place(text, self.slots.place_page())?,
-            "cells" => {
-                let cells = self.slots.free_cells();
-                write!(text, " {cells}")?;
+            "page" => push_answer(text, self.slots.place_page()),
+            "cells" => push_answer(text, Some(self.slots.free_cells())),
+            "copy" => self.copy(alloc),
+            "swap" => {
+                mem::swap(&mut self.slots, &mut self.other);
+                Ok(())
             }
-            "copy" => self.other = self.slots.copy(alloc)?,
-            "swap" => mem::swap(&mut self.slots, &mut self.other),
-            "unite" => join(&mut self.slots, &self.other, true)?,
-            "assign" => join(&mut self.slots, &self.other, false)?,
-            _ => return Err(Trouble::Spelling),
+            "unite" => join(&mut self.slots, &self.other, true),
+            "assign" => join(&mut self.slots, &self.other, false),
+            _ => Err(Trouble::Spelling),
         }
-        Ok(())
+    }
+
+    /// Gives a number of blocks of a length, and adds the start of the last.
+    fn place(&mut self, text: &mut String, len: u64, count: u64) -> Result<(), Trouble> {
+        push_answer(text, place_blocks(&mut self.slots, len, count)?)
+    }
+
+    /// Frees places, or takes them again.
+    fn move_places(&mut self, places: &[Place], frees: bool) {
+        if frees {
+            self.slots.release(places);
+        } else {
+            self.slots.retake(places);
+        }
+    }
+
+    /// Follows a step with numbers, and adds what it gives.
+    fn number_step(
+        &mut self,
+        alloc: Global,
+        text: &mut String,
+        verb: &str,
+        numbers: &str,
+    ) -> Result<(), Trouble> {
+        match verb {
+            "block" => self.place(text, number(numbers)?, 1),
+            "blocks" => self.place(text, 8192, number(numbers)?),
+            "release" | "retake" => {
+                let places = places(alloc, numbers)?;
+                self.move_places(places.as_slice(), verb == "release");
+                Ok(())
+            }
+            _ => Err(Trouble::Spelling),
+        }
     }
 
     /// Follows a step, and adds what it gives.
     fn step(&mut self, alloc: Global, text: &mut String, step: &str) -> Result<(), Trouble> {
         match step.split_once(':') {
             None => self.plain_step(alloc, text, step),
-            Some(("block", len)) => {
-                let ib = place_blocks(&mut self.slots, number(len)?, 1)?;
-                Ok(push_place(text, ib)?)
-            }
-            Some(("blocks", count)) => {
-                let ib = place_blocks(&mut self.slots, 8192, number(count)?)?;
-                Ok(push_place(text, ib)?)
-            }
-            Some(("release", word)) => {
-                self.slots.release(places(alloc, word)?.as_slice());
-                Ok(())
-            }
-            Some(("retake", word)) => {
-                self.slots.retake(places(alloc, word)?.as_slice());
-                Ok(())
-            }
-            Some(_) => Err(Trouble::Spelling),
+            Some((verb, numbers)) => self.number_step(alloc, text, verb, numbers),
         }
     }
 }
@@ -129,7 +151,7 @@ fn twice(alloc: Global, words: &mut Words) -> Result<Sets, Trouble> {
     Ok(Sets { slots, other })
 }
 
-/// What each step gives, each behind a space.
+/// What each step gives, parted by spaces.
 fn follow(alloc: Global, sets: &mut Sets, steps: &str) -> Result<String, Trouble> {
     let mut text = String::new(alloc);
     for step in steps.split(' ') {
@@ -139,10 +161,9 @@ fn follow(alloc: Global, sets: &mut Sets, steps: &str) -> Result<String, Trouble
 }
 
 /// What each step gives, in a set of so many regions.
-fn ask_place(alloc: Global, words: &mut Words) -> Result<String, Trouble> {
+pub fn ask_place(alloc: Global, words: &mut Words) -> Result<String, Trouble> {
     let mut sets = twice(alloc, words)?;
-    let text = follow(alloc, &mut sets, words.rest())?;
-    Ok(String::from_str(alloc, text.as_str().trim_start())?)
+    follow(alloc, &mut sets, words.rest())
 }
 
 /// The place of a page, then that of a slot while the page was given back and taken again, and then when it was given back.
@@ -158,27 +179,30 @@ fn lend(slots: &mut Slots) -> Option<(u64, u64, u64)> {
 }
 
 /// What `lend` gives in a set of so many regions.
-fn ask_lend(alloc: Global, words: &mut Words) -> Result<String, Trouble> {
+pub fn ask_lend(alloc: Global, words: &mut Words) -> Result<String, Trouble> {
     let mut slots = regions(alloc, words)?;
-    let Some((page, behind, again)) = lend(&mut slots) else {
+    lent_text(alloc, lend(&mut slots))
+}
+
+/// The three places, if there were so many.
+fn lent_text(alloc: Global, lent: Option<(u64, u64, u64)>) -> Result<String, Trouble> {
+    let Some((page, behind, again)) = lent else {
         return Err(Trouble::Place);
     };
     Ok(format!(in alloc; "{page} {behind} {again}")?)
 }
 
-/// The map page of a region, if it is one of the set.
-fn map_text(alloc: Global, slots: &Slots, region: u32) -> Result<String, Trouble> {
+/// The map page of the region of the next word, if it is one of the set.
+fn map_text(alloc: Global, slots: &Slots, words: &mut Words) -> Result<String, Trouble> {
+    let region = words.id()?;
     if region >= slots.regions() {
         return Err(Trouble::Place);
     }
-    let mut text = String::new(alloc);
-    push_bytes(&mut text, &slots.map_page(region))?;
-    Ok(text)
+    bytes_text(alloc, &slots.map_page(region))
 }
 
 /// The map page of a region of a set of so many.
-fn ask_map(alloc: Global, words: &mut Words) -> Result<String, Trouble> {
+pub fn ask_map(alloc: Global, words: &mut Words) -> Result<String, Trouble> {
     let slots = regions(alloc, words)?;
-    let region = words.id()?;
-    map_text(alloc, &slots, region)
+    map_text(alloc, &slots, words)
 }

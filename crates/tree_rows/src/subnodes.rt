@@ -3,7 +3,7 @@ ghost use Rattle.std.specs.Prelude.{◌≡◌, ◌≤◌, ◌<◌, ◌+◌, ◌*
 ghost use Rattle.data_tree.specs.Plan.{MayKeep};
 ghost use Rattle.subnode_tree.specs.Plan.{IsForm};
 
-use crate::lists::{push_blocks, stopped};
+use crate::lists::{self, push_blocks, push_counts, push_reads, stopped};
 use data_tree::{BlockList, TreeStop};
 use pst_base::{Bid, Blocks, Bytes, MemOr, Nid, Sub, Subs};
 use std::alloc::{AllocError, Global};
@@ -12,14 +12,6 @@ use subnode_tree::{
     Kept, SubPlan, count_subs, plan_subs, plan_subs_keep, read_sub_bids, read_sub_keys, read_subs,
 };
 use test_lines::{Trouble, Words};
-
-pub fn answer(alloc: Global, kind: &str, words: &mut Words) -> Result<String, Trouble> {
-    match kind {
-        "subnodes" => ask_subnodes(alloc, words),
-        "subnodes-kept" => ask_kept(alloc),
-        _ => Err(Trouble::Spelling),
-    }
-}
 
 /// A subnode with a block of one byte, and with none below it.
 fn sub(alloc: Global, nid: u32, byte: u8) -> Result<Sub, AllocError>
@@ -60,59 +52,72 @@ fn single(alloc: Global, byte: u8) -> Result<Subs, AllocError>
     Ok(Subs::from_vec(all))
 }
 
-/// Whether the subnodes have the same ids and data, and none below them.
-fn same(a: &[Sub], b: &[Sub]) -> bool {
-    a.len() == b.len()
-        && a.iter().zip(b).all(|(x, y)| {
-            x.nid == y.nid
-                && x.subs.as_slice().len() == 0
-                && x.blocks.len() == y.blocks.len()
-                && x.blocks
-                    .as_slice()
-                    .iter()
-                    .zip(y.blocks.as_slice())
-                    .all(|(p, q)| p.as_slice() == q.as_slice())
-        })
+/// Whether a subnode has the id and the data of another, and none below it.
+fn is_alike(a: &Sub, b: &Sub) -> bool {
+    a.nid == b.nid
+        && a.subs.as_slice().is_empty()
+        && lists::same(a.blocks.as_slice(), b.blocks.as_slice())
 }
 
-/// How many subnodes and blocks a plan has that reads back as some subnodes.
+/// Whether the subnodes have the same ids and data, and none below them.
+fn same(a: &[Sub], b: &[Sub]) -> bool {
+    for (x, y) in a.iter().zip(b) {
+        if !is_alike(x, y) {
+            return false;
+        }
+    }
+    a.len() == b.len()
+}
+
+/// Whether a tree reads as some subnodes, how many it has, how many lists of their blocks, and how many blocks.
 fn push_read(
+    alloc: Global,
+    text: &mut String,
+    bid: Bid,
+    s: &mut BlockList,
+    subs: &[Sub],
+) -> Result<(), MemOr<TreeStop>> {
+    let counted = count_subs(alloc, bid, s)?;
+    let bids = read_sub_bids(alloc, bid, s)?.len();
+    let keys = read_sub_keys(alloc, bid, s)?.len();
+    let is_same = same(read_subs(alloc, bid, s)?.as_slice(), subs);
+    Ok(push_reads(text, is_same, counted, [bids, keys])?)
+}
+
+/// How many blocks a plan has, the id of its root, the number of the next block, and what reads back.
+fn push_plan(
     alloc: Global,
     text: &mut String,
     plan: SubPlan,
     subs: &[Sub],
 ) -> Result<(), MemOr<TreeStop>> {
+    push_counts(text, plan.blocks.len(), plan.bid, plan.next)?;
     let mut s = BlockList {
         blocks: plan.blocks,
         limit: 1 << 32,
     };
-    let read = read_subs(alloc, plan.bid, &mut s)?;
-    let counted = count_subs(alloc, plan.bid, &mut s)?;
-    let bids = read_sub_bids(alloc, plan.bid, &mut s)?.len();
-    let keys = read_sub_keys(alloc, plan.bid, &mut s)?.len();
-    let word = if same(read.as_slice(), subs) {
-        "same"
-    } else {
-        "other"
-    };
-    write!(text, ", reads {word} {counted} {bids} {keys}")?;
-    Ok(())
+    push_read(alloc, text, plan.bid, &mut s, subs)
+}
+
+/// The text on a plan.
+fn plan_text(alloc: Global, plan: SubPlan, subs: &[Sub]) -> Result<String, Trouble> {
+    let mut text = String::new(alloc);
+    match push_plan(alloc, &mut text, plan, subs) {
+        Ok(()) => Ok(text),
+        Err(stop) => Err(stopped(stop)),
+    }
 }
 
 /// The blocks that are planned from the id 4 on for so many subnodes: how many they are, the id of the root, the number of the next block, and what reads back.
-fn ask_subnodes(alloc: Global, words: &mut Words) -> Result<String, Trouble> {
+pub fn ask_subnodes(alloc: Global, words: &mut Words) -> Result<String, Trouble> {
     let count = words.id()?;
     if count > 341 {
         return Err(Trouble::Spelling);
     }
     let subs = flat(alloc, count)?;
-    let plan = plan_subs(alloc, &subs, 4)?;
-    let mut text = String::new(alloc);
-    let (blocks, root, next) = (plan.blocks.len(), plan.bid.bits, plan.next);
-    write!(text, "{blocks} {root} {next}")?;
-    match push_read(alloc, &mut text, plan, subs.as_slice()) {
-        Ok(()) => Ok(text),
-        Err(stop) => Err(stopped(stop)),
+    match plan_subs(alloc, &subs, 4) {
+        Ok(plan) => plan_text(alloc, plan, subs.as_slice()),
+        Err(AllocError) => Err(Trouble::Memory),
     }
 }
 
@@ -126,10 +131,17 @@ fn kept(alloc: Global) -> Result<Kept, AllocError>
 }
 
 /// The blocks that are planned from the id 8 on for one subnode, whose data stays in the block 4.
-fn ask_kept(alloc: Global) -> Result<String, Trouble> {
+pub fn ask_kept(alloc: Global) -> Result<String, Trouble> {
     let subs = single(alloc, 7)?;
     let keep = [kept(alloc)?];
-    let plan = plan_subs_keep(alloc, &subs, &keep, 8)?;
+    match plan_subs_keep(alloc, &subs, &keep, 8) {
+        Ok(plan) => kept_text(alloc, &plan),
+        Err(AllocError) => Err(Trouble::Memory),
+    }
+}
+
+/// The number of the next block behind a plan, and its blocks.
+fn kept_text(alloc: Global, plan: &SubPlan) -> Result<String, Trouble> {
     let mut text = String::new(alloc);
     let next = plan.next;
     write!(text, "{next}")?;

@@ -1,4 +1,6 @@
 //! How many pages are left of trees that lose entries.
+ghost use Rattle.std.specs.Prelude.{◌≤◌};
+
 use crate::edits::{Edits, block, blocks, level_of};
 use btree_pages::{BlockEntry, Entry};
 use page_shelf::Shelf;
@@ -7,14 +9,6 @@ use std::alloc::Global;
 use test_lines::{Trouble, Words, number};
 use tree_change::change;
 use tree_edit::{are_edits, look_up};
-
-pub fn answer(alloc: Global, kind: &str, words: &mut Words) -> Result<String, Trouble> {
-    match kind {
-        "thin" => ask_thin(alloc, words),
-        "narrow" => ask_narrow(alloc, words),
-        _ => Err(Trouble::Spelling),
-    }
-}
 
 /// A tree of blocks in memory, how many pages it has, and its root's level.
 #[derive(Drop)]
@@ -62,18 +56,22 @@ fn grown(alloc: Global, count: u32) -> Result<Tree, Trouble> {
     Ok(tree)
 }
 
+/// Whether a number is in a range `FROM-TO`.
+fn is_in(range: &str, n: u64) -> Result<bool, Trouble> {
+    let Some((from, to)) = range.split_once('-') else {
+        return Err(Trouble::Spelling);
+    };
+    Ok(number(from)? <= n && n <= number(to)?)
+}
+
 /// Whether words keep a number: `each:N` the multiples of N, or some ranges.
-fn is_kept(keep: &str, n: u32) -> Result<bool, Trouble> {
-    let n = u64::from(n);
+fn is_kept(keep: &str, n: u64) -> Result<bool, Trouble> {
     if let Some(each) = keep.strip_prefix("each:") {
         let each = number(each)?;
         return Ok(each > 0 && n % each == 0);
     }
     for range in keep.split(',') {
-        let Some((from, to)) = range.split_once('-') else {
-            return Err(Trouble::Spelling);
-        };
-        if number(from)? <= n && n <= number(to)? {
+        if is_in(range, n)? {
             return Ok(true);
         }
     }
@@ -84,15 +82,15 @@ fn is_kept(keep: &str, n: u32) -> Result<bool, Trouble> {
 fn takes(alloc: Global, count: u32, keep: &str) -> Result<Edits<BlockEntry>, Trouble> {
     let mut out = Vec::new(alloc);
     for n in 0..count {
-        if !is_kept(keep, n + 1)? {
+        if !is_kept(keep, u64::from(n + 1))? {
             out.push((block(n + 1).key(), None))?;
         }
     }
     Ok(out)
 }
 
-/// How many pages a tree has, its root's level, and how many of the blocks are found in it.
-fn counted(alloc: Global, tree: &mut Tree, count: u32) -> Result<String, Trouble> {
+/// How many of the blocks with the numbers from 1 on are found in a tree.
+fn found(tree: &mut Tree, count: u32) -> Result<u32, Trouble> {
     let mut found = 0u32;
     for n in 0..count {
         let root = tree.shelf.root();
@@ -102,47 +100,88 @@ fn counted(alloc: Global, tree: &mut Tree, count: u32) -> Result<String, Trouble
             Err(_) => return Err(Trouble::Place),
         }
     }
+    Ok(found)
+}
+
+/// How many pages a tree has, its root's level, and how many of the blocks are found in it.
+fn counted(alloc: Global, tree: &mut Tree, count: u32) -> Result<String, Trouble> {
+    let found = found(tree, count)?;
     let pages = tree.pages;
     let level = tree.level;
     Ok(format!(in alloc; "{pages} level {level}, {found} found")?)
 }
 
 /// What is left of a tree that loses blocks, all at once, or one by one upwards or downwards.
-fn ask_thin(alloc: Global, words: &mut Words) -> Result<String, Trouble> {
+pub fn ask_thin(alloc: Global, words: &mut Words) -> Result<String, Trouble> {
     let count = words.id()?;
     let order = words.word()?;
     let keep = words.word()?;
     let mut tree = grown(alloc, count)?;
-    let takes = takes(alloc, count, keep)?;
+    thin(alloc, &mut tree, count, order, keep)
+}
+
+/// What is left of a tree of so many blocks without those that words don't keep.
+fn thin(
+    alloc: Global,
+    tree: &mut Tree,
+    count: u32,
+    order: &str,
+    keep: &str,
+) -> Result<String, Trouble> {
+    let mut takes = takes(alloc, count, keep)?;
+    edit_by(alloc, tree, order, takes.as_mut_slice())?;
+    counted(alloc, tree, count)
+}
+
+/// Edits a tree in an order.
+fn edit_by(
+    alloc: Global,
+    tree: &mut Tree,
+    order: &str,
+    edits: &mut [(u64, Option<BlockEntry>)],
+) -> Result<(), Trouble> {
     match order {
-        "once" => edit(alloc, &mut tree, takes.as_slice())?,
-        "up" => {
-            for i in 0..takes.len() {
-                edit(alloc, &mut tree, &[takes[i]])?;
-            }
-        }
+        "once" => edit(alloc, tree, edits),
+        "up" => edit_each(alloc, tree, edits),
         "down" => {
-            for i in 0..takes.len() {
-                edit(alloc, &mut tree, &[takes[takes.len() - 1 - i]])?;
-            }
+            edits.reverse();
+            edit_each(alloc, tree, edits)
         }
-        _ => return Err(Trouble::Spelling),
+        _ => Err(Trouble::Spelling),
     }
-    counted(alloc, &mut tree, count)
+}
+
+/// Edits a tree by one edit after the other.
+fn edit_each(
+    alloc: Global,
+    tree: &mut Tree,
+    edits: &[(u64, Option<BlockEntry>)],
+) -> Result<(), Trouble> {
+    for next in edits {
+        edit(alloc, tree, &[*next])?;
+    }
+    Ok(())
 }
 
 /// What is left of a tree of one page at each level up to this one, whose leaf loses one of three blocks.
-fn ask_narrow(alloc: Global, words: &mut Words) -> Result<String, Trouble> {
+pub fn ask_narrow(alloc: Global, words: &mut Words) -> Result<String, Trouble> {
     let level = words.byte()?;
     if level > 7 {
         return Err(Trouble::Spelling);
     }
     let mut tree = grown(alloc, 3)?;
+    narrow(alloc, &mut tree, level)
+}
+
+/// What is left of a tree of one leaf as pages are put above it and its second block is taken.
+fn narrow(alloc: Global, tree: &mut Tree, level: u8) -> Result<String, Trouble>
+    requires { level ≤ 7 }
+{
     for i in 0..level {
         tree.shelf.raise(i + 1)?;
     }
     tree.pages = tree.pages.saturating_add(usize::from(level));
     tree.level = level;
-    edit(alloc, &mut tree, &[(block(2).key(), None)])?;
-    counted(alloc, &mut tree, 3)
+    edit(alloc, tree, &[(block(2).key(), None)])?;
+    counted(alloc, tree, 3)
 }
