@@ -30,17 +30,34 @@ enum Subject {
     Rows,
 }
 
+/// So many equal bytes.
+fn equal(alloc: Global, len: usize, byte: u8) -> Result<Bytes, AllocError> {
+    let mut bytes = Vec::new(alloc);
+    bytes.resize(len, byte)?;
+    Ok(Bytes::from_vec(bytes))
+}
+
+/// Puts a text of so many equal bytes, if it may be so long.
+fn put_text(
+    alloc: Global,
+    props: &mut Props,
+    id: u16,
+    len: usize,
+    byte: u8,
+) -> Result<(), AllocError> {
+    let bytes = equal(alloc, len, byte)?;
+    if fits(TEXT, bytes.len()) {
+        props.put(Value::new(Tag { id, kind: TEXT }, bytes))?;
+    }
+    Ok(())
+}
+
 /// Properties with texts of 0 to 126 bytes in turn.
 fn make_props(alloc: Global, count: u16) -> Result<Props, AllocError> {
     let mut props = Props::new(alloc);
     for id in 0..count {
         let len = usize::from(id % 64) * 2;
-        let mut bytes = Vec::new(alloc);
-        bytes.resize(len, (id & 0xff) as u8)?;
-        let bytes = Bytes::from_vec(bytes);
-        if fits(TEXT, bytes.len()) {
-            props.put(Value::new(Tag { id, kind: TEXT }, bytes))?;
-        }
+        put_text(alloc, &mut props, id, len, (id & 0xff) as u8)?;
     }
     Ok(props)
 }
@@ -63,15 +80,15 @@ fn read_count(alloc: Global, made: &(Blocks, Subs)) -> usize {
     }
 }
 
-/// The columns of a table of names.
+/// The columns of a table of names: id, kind, place and bit.
 const NAMES: [(u16, u16, u16, u8); 3] = [
     (0x3001, TEXT, 8, 2),
     (0x67F2, 0x0003, 0, 0),
     (0x67F3, 0x0003, 4, 1),
 ];
 
-/// A table of so many rows, each with a name of 2 to 64 bytes, or none where the columns have no layout.
-fn make_table(alloc: Global, rows: u32) -> Result<Option<Table>, AllocError> {
+/// The columns of a table of names.
+fn columns(alloc: Global) -> Result<Vec<Column>, AllocError> {
     let mut columns = Vec::new(alloc);
     for (id, kind, at, bit) in NAMES {
         let tag = Tag { id, kind };
@@ -82,25 +99,33 @@ fn make_table(alloc: Global, rows: u32) -> Result<Option<Table>, AllocError> {
             bit,
         })?;
     }
-    if !is_layout(columns.as_slice(), &[12, 12, 12, 13]) {
-        return Ok(None);
-    }
-    let mut table = Table::new(alloc, columns, [12, 12, 12, 13]);
+    Ok(columns)
+}
+
+/// Puts a row with a name of 2 to 64 bytes.
+fn put_name(alloc: Global, table: &mut Table, id: u32) -> Result<(), AllocError> {
+    let len = (id % 32 + 1) as usize * 2;
+    let mut props = Props::new(alloc);
+    put_text(alloc, &mut props, 0x3001, len, (id & 0xff) as u8)?;
+    put_row(alloc, table, id, &props)
+}
+
+/// Puts so many rows.
+fn put_names(alloc: Global, table: &mut Table, rows: u32) -> Result<(), AllocError> {
     for id in 0..rows {
-        let mut bytes = Vec::new(alloc);
-        bytes.resize((id % 32 + 1) as usize * 2, (id & 0xff) as u8)?;
-        let bytes = Bytes::from_vec(bytes);
-        if fits(TEXT, bytes.len()) {
-            let mut props = Props::new(alloc);
-            let tag = Tag {
-                id: 0x3001,
-                kind: TEXT,
-            };
-            props.put(Value::new(tag, bytes))?;
-            put_row(alloc, &mut table, id, &props)?;
-        }
+        put_name(alloc, table, id)?;
     }
-    Ok(Some(table))
+    Ok(())
+}
+
+/// A table without rows, or none where the columns have no layout.
+fn make_table(alloc: Global) -> Result<Option<Table>, AllocError> {
+    let columns = columns(alloc)?;
+    if is_layout(columns.as_slice(), &[12, 12, 12, 13]) {
+        Ok(Some(Table::new(alloc, columns, [12, 12, 12, 13])))
+    } else {
+        Ok(None)
+    }
 }
 
 /// What is written of a table, or nothing where it may not be written.
@@ -128,33 +153,71 @@ fn with_properties(
     count: u32,
 ) -> Result<usize, AllocError> {
     let props = make_props(alloc, values)?;
-    let made = written(alloc, &props)?;
+    over_properties(alloc, work, &props, count)
+}
+
+/// Does the work with some properties so many times.
+fn over_properties(
+    alloc: Global,
+    work: Work,
+    props: &Props,
+    count: u32,
+) -> Result<usize, AllocError> {
+    let made = written(alloc, props)?;
     let mut sum: usize = 0;
     for _ in 0..count {
-        sum = sum.wrapping_add(match work {
-            Work::Write => written(alloc, &props)?.0.len(),
-            Work::Read => read_count(alloc, &made),
-            Work::Copy => props.copy(alloc)?.values().len(),
-        });
+        sum = sum.wrapping_add(properties_once(alloc, work, props, &made)?);
     }
     Ok(sum)
 }
 
+/// Does the work with some properties, which were written, once.
+fn properties_once(
+    alloc: Global,
+    work: Work,
+    props: &Props,
+    made: &(Blocks, Subs),
+) -> Result<usize, AllocError> {
+    match work {
+        Work::Write => Ok(written(alloc, props)?.0.len()),
+        Work::Read => Ok(read_count(alloc, made)),
+        Work::Copy => Ok(props.copy(alloc)?.values().len()),
+    }
+}
+
 /// The same with a table of rows.
 fn with_rows(alloc: Global, work: Work, rows: u32, count: u32) -> Result<usize, AllocError> {
-    let Some(table) = make_table(alloc, rows)? else {
-        return Ok(0);
-    };
-    let made = written_table(alloc, &table)?;
+    match make_table(alloc)? {
+        Some(mut table) => {
+            put_names(alloc, &mut table, rows)?;
+            over_rows(alloc, work, &table, count)
+        }
+        None => Ok(0),
+    }
+}
+
+/// Does the work with a table so many times.
+fn over_rows(alloc: Global, work: Work, table: &Table, count: u32) -> Result<usize, AllocError> {
+    let made = written_table(alloc, table)?;
     let mut sum: usize = 0;
     for _ in 0..count {
-        sum = sum.wrapping_add(match work {
-            Work::Write => written_table(alloc, &table)?.0.len(),
-            Work::Read => read_rows(alloc, &made),
-            Work::Copy => table.copy(alloc)?.rows().len(),
-        });
+        sum = sum.wrapping_add(rows_once(alloc, work, table, &made)?);
     }
     Ok(sum)
+}
+
+/// Does the work with a table, which was written, once.
+fn rows_once(
+    alloc: Global,
+    work: Work,
+    table: &Table,
+    made: &(Blocks, Subs),
+) -> Result<usize, AllocError> {
+    match work {
+        Work::Write => Ok(written_table(alloc, table)?.0.len()),
+        Work::Read => Ok(read_rows(alloc, made)),
+        Work::Copy => Ok(table.copy(alloc)?.rows().len()),
+    }
 }
 
 /// What a word asks for.

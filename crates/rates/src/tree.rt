@@ -57,34 +57,61 @@ fn count_found(shelf: &mut Shelf, keys: u32) -> Result<u32, MemOr<SourceStop>> {
     Ok(found)
 }
 
-/// Makes the tree and changes it.
-fn run(alloc: Global, load: Load) -> Result<Counts, MemOr<SourceStop>> {
-    let mut shelf = Shelf::new(alloc)?;
-    let made = first_edits(alloc, load.keys, true)?;
-    let (first, _) = edit(alloc, &mut shelf, made.as_slice())?;
+/// Puts the keys of the first tree, or takes them away: how many pages are written, and how many are freed.
+fn edit_first(
+    alloc: Global,
+    shelf: &mut Shelf,
+    keys: u32,
+    put: bool,
+) -> Result<(usize, usize), MemOr<SourceStop>> {
+    let edits = first_edits(alloc, keys, put)?;
+    edit(alloc, shelf, edits.as_slice())
+}
+
+/// Puts the keys of one change, or takes them away.
+fn edit_one(
+    alloc: Global,
+    shelf: &mut Shelf,
+    load: Load,
+    n: u32,
+    put: bool,
+) -> Result<(usize, usize), MemOr<SourceStop>> {
+    let edits = random_edits(alloc, load.keys, load.each, n, put)?;
+    edit(alloc, shelf, edits.as_slice())
+}
+
+/// Puts the keys of all changes, or takes them away.
+fn edit_all(
+    alloc: Global,
+    shelf: &mut Shelf,
+    load: Load,
+    put: bool,
+) -> Result<(usize, usize), MemOr<SourceStop>> {
     let mut new = 0usize;
     let mut freed = 0usize;
     for n in 0..load.changes {
-        let puts = random_edits(alloc, load.keys, load.each, n, true)?;
-        let (more, gone) = edit(alloc, &mut shelf, puts.as_slice())?;
+        let (more, gone) = edit_one(alloc, shelf, load, n, put)?;
         new = new.saturating_add(more);
         freed = freed.saturating_add(gone);
     }
-    let found = count_found(&mut shelf, load.keys)?;
-    let mut last = first.saturating_add(new).saturating_sub(freed);
-    for n in 0..load.changes {
-        let takes = random_edits(alloc, load.keys, load.each, n, false)?;
-        let (more, gone) = edit(alloc, &mut shelf, takes.as_slice())?;
-        last = last.saturating_add(more).saturating_sub(gone);
-    }
-    let takes = first_edits(alloc, load.keys, false)?;
-    let (more, gone) = edit(alloc, &mut shelf, takes.as_slice())?;
+    Ok((new, freed))
+}
+
+/// Makes the tree on a shelf and changes it.
+fn run(alloc: Global, shelf: &mut Shelf, load: Load) -> Result<Counts, MemOr<SourceStop>> {
+    let (first, _) = edit_first(alloc, shelf, load.keys, true)?;
+    let (new, freed) = edit_all(alloc, shelf, load, true)?;
+    let found = count_found(shelf, load.keys)?;
+    let (more, gone) = edit_all(alloc, shelf, load, false)?;
+    let (end, others) = edit_first(alloc, shelf, load.keys, false)?;
+    let all_new = first.saturating_add(new).saturating_add(more);
+    let all_freed = freed.saturating_add(gone).saturating_add(others);
     Ok(Counts {
         first,
         new,
         freed,
         found,
-        last: last.saturating_add(more).saturating_sub(gone),
+        last: all_new.saturating_add(end).saturating_sub(all_freed),
     })
 }
 
@@ -95,7 +122,8 @@ pub(crate) fn report(alloc: Global, words: &[String]) -> Result<String, AllocErr
         each: number_or(words, 1, 100),
         changes: number_or(words, 2, 1),
     };
-    match run(alloc, load) {
+    let mut shelf = Shelf::new(alloc)?;
+    match run(alloc, &mut shelf, load) {
         Ok(counts) => format!(in alloc;
             "{} pages at first, {} written and {} freed, {} keys found, {} pages without any",
             counts.first, counts.new, counts.freed, counts.found, counts.last
