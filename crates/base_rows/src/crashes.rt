@@ -1,8 +1,9 @@
 //! What a crash leaves of a file in memory.
+use crate::values::{say, say_bytes};
 use pst_base::Bytes;
 use pst_outside::{FailPlan, Failed, MemWorld, Outside, Part, Pick};
 use std::alloc::Global;
-use test_lines::{Trouble, Words, number, push_bytes, read_bytes};
+use test_lines::{Trouble, Words, number, read_bytes};
 
 /// A world whose FILE has these bytes.
 fn world(alloc: Global, bytes: Vec<u8>) -> Result<MemWorld, Trouble> {
@@ -28,39 +29,32 @@ fn step(alloc: Global, world: &mut MemWorld, word: &str) -> Result<(), Trouble> 
     }
 }
 
-/// Follows each of some steps.
-fn follow(alloc: Global, world: &mut MemWorld, steps: &str) -> Result<(), Trouble> {
+/// Adds what a crash leaves of the file by this pick.
+fn say_left(alloc: Global, text: &mut String, world: &MemWorld, pick: Pick) -> Result<(), Trouble> {
+    let left = world.crash(alloc, Part::Main, pick)?;
+    say_bytes(text, left.as_slice())
+}
+
+/// Follows steps, and adds what a crash leaves of the file then: as it was synced, as it was written, and with junk in what wasn't synced.
+fn say_crash(
+    alloc: Global,
+    text: &mut String,
+    world: &mut MemWorld,
+    steps: &str,
+) -> Result<(), Trouble> {
     for word in steps.split(' ') {
         step(alloc, world, word)?;
     }
-    Ok(())
-}
-
-/// Adds what a crash leaves of the file by this pick.
-fn push_left(
-    alloc: Global,
-    text: &mut String,
-    world: &MemWorld,
-    pick: Pick,
-) -> Result<(), Trouble> {
-    let left = world.crash(alloc, Part::Main, pick)?;
-    Ok(push_bytes(text, left.as_slice())?)
-}
-
-/// What a crash leaves of the file: as it was synced, as it was written, and with junk in what wasn't synced.
-fn left(alloc: Global, world: &MemWorld) -> Result<String, Trouble> {
-    let mut text = String::new(alloc);
-    push_left(alloc, &mut text, world, Pick::Old)?;
-    text.push(' ')?;
-    push_left(alloc, &mut text, world, Pick::New)?;
-    text.push(' ')?;
-    push_left(alloc, &mut text, world, Pick::Junk)?;
-    Ok(text)
+    say_left(alloc, text, world, Pick::Old)?;
+    say(text, " ")?;
+    say_left(alloc, text, world, Pick::New)?;
+    say(text, " ")?;
+    say_left(alloc, text, world, Pick::Junk)
 }
 
 /// What a crash leaves of a file after some writes.
-pub fn answer(alloc: Global, words: &mut Words) -> Result<String, Trouble> {
-    let mut world = world(alloc, words.bytes(alloc)?)?;
-    follow(alloc, &mut world, words.rest())?;
-    left(alloc, &world)
+pub fn answer(alloc: Global, text: &mut String, words: &mut Words) -> Result<(), Trouble> {
+    let bytes = words.bytes(alloc)?;
+    let mut world = world(alloc, bytes)?;
+    say_crash(alloc, text, &mut world, words.rest())
 }

@@ -1,16 +1,21 @@
 //! Whether objects of some sizes may be written.
-use crate::objects::{message, truth};
-use crate::values::make_value;
-use mapi_values::{Props, Table, Tag, is_layout};
+use crate::objects::{message, table};
+use crate::values::{make_value, say_whether, small};
+use mapi_values::{Props, Table, Tag, Value};
 use pst_base::{Blocks, Bytes, Nid, Sub, Subs};
 use std::alloc::Global;
 use test_lines::{Trouble, Words};
 use write_limits::{message_fits, props_fit};
 
-pub fn answer(alloc: Global, kind: &str, words: &mut Words) -> Result<String, Trouble> {
+pub fn answer(
+    alloc: Global,
+    text: &mut String,
+    kind: &str,
+    words: &mut Words,
+) -> Result<(), Trouble> {
     match kind {
-        "props-fit" => ask_props_fit(alloc, words),
-        "message-fits" => ask_message_fits(alloc, words),
+        "props-fit" => ask_props_fit(alloc, text, words),
+        "message-fits" => ask_message_fits(alloc, text, words),
         _ => Err(Trouble::Spelling),
     }
 }
@@ -28,38 +33,52 @@ fn make_subs(alloc: Global, count: u32) -> Result<Subs, Trouble> {
     Ok(Subs::from_vec(subs))
 }
 
+/// A binary value of a length.
+fn binary(alloc: Global, id: u16, len: usize) -> Result<Value, Trouble> {
+    let mut bytes = Vec::new(alloc);
+    bytes.resize(len, 0)?;
+    make_value(Tag { id, kind: 0x0102 }, Bytes::from_vec(bytes))
+}
+
 /// So many binary values of a length.
 fn make_props(alloc: Global, count: u16, len: usize) -> Result<Props, Trouble> {
     let mut props = Props::new(alloc);
     for id in 0..count {
-        let mut bytes = Vec::new(alloc);
-        bytes.resize(len, 0)?;
-        props.put(make_value(Tag { id, kind: 0x0102 }, Bytes::from_vec(bytes))?)?;
+        props.put(binary(alloc, id, len)?)?;
     }
     Ok(props)
 }
 
+/// Adds whether values and so many subnodes may stand in one object.
+fn say_fit(alloc: Global, text: &mut String, props: &Props, count: u32) -> Result<(), Trouble> {
+    let rest = make_subs(alloc, count)?;
+    say_whether(text, props_fit(props, &rest))
+}
+
 /// Whether so many subnodes and so many binary values of a length may stand in one object.
-fn ask_props_fit(alloc: Global, words: &mut Words) -> Result<String, Trouble> {
-    let rest = make_subs(alloc, words.id()?)?;
-    let count = u16::try_from(words.number()?)
-        .ok()
-        .ok_or(Trouble::Spelling)?;
-    let props = make_props(alloc, count, words.size()?)?;
-    truth(alloc, props_fit(&props, &rest))
+fn ask_props_fit(alloc: Global, text: &mut String, words: &mut Words) -> Result<(), Trouble> {
+    let subnodes = words.id()?;
+    let count = small(words.word()?)?;
+    let len = words.size()?;
+    let props = make_props(alloc, count, len)?;
+    say_fit(alloc, text, &props, subnodes)
+}
+
+/// Adds whether a message of these values and recipients may be written.
+fn say_message_fits(
+    alloc: Global,
+    text: &mut String,
+    props: Props,
+    recipients: Table,
+) -> Result<(), Trouble> {
+    let message = message(alloc, props, Some(recipients));
+    say_whether(text, message_fits(&message))
 }
 
 /// Whether a message may be written whose table of recipients has rows of this size.
-fn ask_message_fits(alloc: Global, words: &mut Words) -> Result<String, Trouble> {
-    let size = u16::try_from(words.number()?)
-        .ok()
-        .ok_or(Trouble::Spelling)?;
-    let columns = Vec::new(alloc);
-    let ends = [0, 0, 0, size];
-    if !is_layout(columns.as_slice(), &ends) {
-        return Err(Trouble::Spelling);
-    }
-    let mut message = message(alloc, make_props(alloc, 2, 3581)?);
-    message.recipients = Some(Table::new(alloc, columns, ends));
-    truth(alloc, message_fits(&message))
+fn ask_message_fits(alloc: Global, text: &mut String, words: &mut Words) -> Result<(), Trouble> {
+    let size = small(words.word()?)?;
+    let props = make_props(alloc, 2, 3581)?;
+    let recipients = table(alloc, Vec::new(alloc), [0, 0, 0, size])?;
+    say_message_fits(alloc, text, props, recipients)
 }

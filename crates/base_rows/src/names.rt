@@ -1,5 +1,5 @@
 //! Names of properties.
-use crate::values::{props, push_props};
+use crate::values::{props, say_props};
 use mapi_values::Props;
 use named_props::{read_names, write_names};
 use std::alloc::Global;
@@ -20,6 +20,19 @@ fn named(alloc: Global, values: &Props, guid: [u8; 16], id: u32) -> Result<(u16,
     Ok((property, write_names(alloc, &names)?))
 }
 
+/// Adds the property of a name, and the values of the node of names with it.
+fn say_named(
+    alloc: Global,
+    text: &mut String,
+    values: &Props,
+    guid: [u8; 16],
+    id: u32,
+) -> Result<(), Trouble> {
+    let (property, values) = named(alloc, values, guid, id)?;
+    write!(text, "{property:04x} ")?;
+    say_props(text, &values)
+}
+
 fn guid(alloc: Global, words: &mut Words) -> Result<[u8; 16], Trouble> {
     let bytes = words.bytes(alloc)?;
     let mut guid = [0u8; 16];
@@ -31,13 +44,9 @@ fn guid(alloc: Global, words: &mut Words) -> Result<[u8; 16], Trouble> {
 }
 
 /// The property of a name, and the values of the node of names with it.
-pub fn answer(alloc: Global, words: &mut Words) -> Result<String, Trouble> {
+pub fn answer(alloc: Global, text: &mut String, words: &mut Words) -> Result<(), Trouble> {
     let guid = guid(alloc, words)?;
     let id = words.id()?;
     let values = props(alloc, words.rest())?;
-    let (property, values) = named(alloc, &values, guid, id)?;
-    let mut text = String::new(alloc);
-    write!(text, "{property:04x} ")?;
-    push_props(&mut text, &values)?;
-    Ok(text)
+    say_named(alloc, text, &values, guid, id)
 }

@@ -1,49 +1,55 @@
 //! Checksums, signatures and ids.
 use pst_base::{Bid, Nid, crc, make_nid, sig};
 use std::alloc::Global;
+use std::fmt::Write;
 use test_lines::{Trouble, Words};
 
-pub fn answer(alloc: Global, kind: &str, words: &mut Words) -> Result<String, Trouble> {
+pub fn answer(
+    alloc: Global,
+    text: &mut String,
+    kind: &str,
+    words: &mut Words,
+) -> Result<(), Trouble> {
     match kind {
-        "crc" => ask_crc(alloc, words),
-        "sig" => ask_sig(alloc, words),
-        "nid" => ask_nid(alloc, words),
-        "kind" => ask_kind(alloc, words),
-        "bid" => ask_bid(alloc, words),
+        "crc" => ask_crc(alloc, text, words),
+        "sig" => ask_sig(text, words),
+        "nid" => ask_nid(text, words),
+        "kind" => ask_kind(text, words),
+        "bid" => ask_bid(text, words),
         _ => Err(Trouble::Spelling),
     }
 }
 
-fn ask_crc(alloc: Global, words: &mut Words) -> Result<String, Trouble> {
+fn ask_crc(alloc: Global, text: &mut String, words: &mut Words) -> Result<(), Trouble> {
     let bytes = words.bytes(alloc)?;
     let crc = crc(bytes.as_slice());
-    Ok(format!(in alloc; "{crc:08x}")?)
+    Ok(write!(text, "{crc:08x}")?)
 }
 
-fn ask_sig(alloc: Global, words: &mut Words) -> Result<String, Trouble> {
+fn ask_sig(text: &mut String, words: &mut Words) -> Result<(), Trouble> {
     let ib = words.hex()?;
     let sig = sig(ib, Bid { bits: words.hex()? });
-    Ok(format!(in alloc; "{sig:04x}")?)
+    Ok(write!(text, "{sig:04x}")?)
 }
 
-fn ask_nid(alloc: Global, words: &mut Words) -> Result<String, Trouble> {
+fn ask_nid(text: &mut String, words: &mut Words) -> Result<(), Trouble> {
     let kind = words.byte()?;
     let index = words.id()?;
     if kind >= 32 || index >= 1 << 27 {
         return Err(Trouble::Spelling);
     }
     let nid = make_nid(kind, index).bits;
-    Ok(format!(in alloc; "{nid:x}")?)
+    Ok(write!(text, "{nid:x}")?)
 }
 
-fn ask_kind(alloc: Global, words: &mut Words) -> Result<String, Trouble> {
+fn ask_kind(text: &mut String, words: &mut Words) -> Result<(), Trouble> {
     let nid = Nid { bits: words.id()? };
     let kind = nid.kind();
     let index = nid.index();
-    Ok(format!(in alloc; "{kind} {index:x}")?)
+    Ok(write!(text, "{kind} {index:x}")?)
 }
 
-fn ask_bid(alloc: Global, words: &mut Words) -> Result<String, Trouble> {
+fn ask_bid(text: &mut String, words: &mut Words) -> Result<(), Trouble> {
     let bid = Bid { bits: words.hex()? };
     let sort = if bid.internal() {
         "internal"
@@ -51,5 +57,5 @@ fn ask_bid(alloc: Global, words: &mut Words) -> Result<String, Trouble> {
         "external"
     };
     let key = bid.key();
-    Ok(format!(in alloc; "{key:x} {sort}")?)
+    Ok(write!(text, "{key:x} {sort}")?)
 }

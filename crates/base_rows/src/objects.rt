@@ -1,61 +1,47 @@
 //! Values in their order, the columns of tables, what rows show, and sizes.
-use crate::values::{props, props_text, short, tag, value};
-use mapi_values::{Column, Message, Props, is_layout, mirror, size};
+use crate::values::{props, say_props, say_whether, small, tag};
+use mapi_values::{Column, Message, Props, Table, is_layout, mirror, size};
 use pst_base::{Nid, Subs};
 use std::alloc::Global;
-use test_lines::{Trouble, Words, number};
+use std::fmt::Write;
+use test_lines::{Trouble, Words};
 
-pub fn answer(alloc: Global, kind: &str, words: &mut Words) -> Result<String, Trouble> {
+pub fn answer(
+    alloc: Global,
+    text: &mut String,
+    kind: &str,
+    words: &mut Words,
+) -> Result<(), Trouble> {
     match kind {
-        "props" => ask_props(alloc, words),
-        "layout" => ask_layout(alloc, words),
-        "mirror" => ask_mirror(alloc, words),
-        "size" => ask_size(alloc, words),
+        "props" => ask_props(alloc, text, words),
+        "layout" => ask_layout(alloc, text, words),
+        "mirror" => ask_mirror(alloc, text, words),
+        "size" => ask_size(alloc, text, words),
         _ => Err(Trouble::Spelling),
     }
 }
 
-/// The word for a truth.
-pub fn truth(alloc: Global, is_so: bool) -> Result<String, Trouble> {
-    Ok(String::from_str(alloc, if is_so { "true" } else { "false" })?)
+fn ask_props(alloc: Global, text: &mut String, words: &mut Words) -> Result<(), Trouble> {
+    let props = props(alloc, words.rest())?;
+    say_props(text, &props)
 }
 
-/// Puts the value that a word spells, or removes the one of an id after a `-`, which must be there.
-fn step(alloc: Global, props: &mut Props, word: &str) -> Result<(), Trouble> {
-    match word.strip_prefix('-') {
-        Some(id) => {
-            if props.remove(short(id)?) {
-                Ok(())
-            } else {
-                Err(Trouble::Name)
-            }
-        }
-        None => Ok(props.put(value(alloc, word)?)?),
+/// Reads so many numbers as there are places from a word, in which commas part them.
+pub fn read_numbers(word: &str, places: &mut [u16]) -> Result<(), Trouble> {
+    let mut numbers = word.split(',');
+    for place in places.iter_mut() {
+        // No word is no number either.
+        *place = small(numbers.next().unwrap_or(""))?;
     }
-}
-
-fn ask_props(alloc: Global, words: &mut Words) -> Result<String, Trouble> {
-    let mut props = Props::new(alloc);
-    for word in words.rest().split(' ') {
-        step(alloc, &mut props, word)?;
-    }
-    props_text(alloc, &props)
-}
-
-/// So many numbers as a word has, which commas part.
-fn numbers<const N: usize>(word: &str) -> Result<[u16; N], Trouble> {
-    let mut all = [0u16; N];
-    let mut digits = word.split(',');
-    for place in all.iter_mut() {
-        let Some(next) = digits.next() else {
-            return Err(Trouble::Spelling);
-        };
-        *place = u16::try_from(number(next)?).ok().ok_or(Trouble::Spelling)?;
-    }
-    match digits.next() {
+    match numbers.next() {
         Some(_) => Err(Trouble::Spelling),
-        None => Ok(all),
+        None => Ok(()),
     }
+}
+
+/// A number of 8 bits.
+fn byte(number: u16) -> Result<u8, Trouble> {
+    u8::try_from(number).ok().ok_or(Trouble::Spelling)
 }
 
 /// The column of a word `TAG:AT,WIDTH,BIT`.
@@ -63,51 +49,79 @@ fn column(word: &str) -> Result<Column, Trouble> {
     let Some((digits, place)) = word.split_once(':') else {
         return Err(Trouble::Spelling);
     };
-    let [at, width, bit] = numbers::<3>(place)?;
+    let mut numbers = [0u16; 3];
+    read_numbers(place, &mut numbers)?;
+    let [at, width, bit] = numbers;
     Ok(Column {
         tag: tag(digits)?,
         at,
-        width: u8::try_from(width).ok().ok_or(Trouble::Spelling)?,
-        bit: u8::try_from(bit).ok().ok_or(Trouble::Spelling)?,
+        width: byte(width)?,
+        bit: byte(bit)?,
     })
 }
 
-fn columns(alloc: Global, words: &str) -> Result<Vec<Column>, Trouble> {
+pub fn columns(alloc: Global, words: &str) -> Result<Vec<Column>, Trouble> {
     let mut columns = Vec::new(alloc);
     for word in words.split(' ') {
-        columns.push(column(word)?)?;
+        let column = column(word)?;
+        columns.push(column)?;
     }
     Ok(columns)
 }
 
-fn ask_layout(alloc: Global, words: &mut Words) -> Result<String, Trouble> {
-    let ends = numbers::<4>(words.word()?)?;
+fn ask_layout(alloc: Global, text: &mut String, words: &mut Words) -> Result<(), Trouble> {
+    let mut ends = [0u16; 4];
+    read_numbers(words.word()?, &mut ends)?;
     let columns = columns(alloc, words.rest())?;
-    truth(alloc, is_layout(columns.as_slice(), &ends))
+    say_whether(text, is_layout(columns.as_slice(), &ends))
 }
 
-fn ask_mirror(alloc: Global, words: &mut Words) -> Result<String, Trouble> {
+/// Adds the cells that a row shows of values.
+fn say_cells(
+    alloc: Global,
+    text: &mut String,
+    columns: &[Column],
+    values: &str,
+) -> Result<(), Trouble> {
+    let props = props(alloc, values)?;
+    let cells = mirror(alloc, columns, &props)?;
+    say_props(text, &cells)
+}
+
+fn ask_mirror(alloc: Global, text: &mut String, words: &mut Words) -> Result<(), Trouble> {
     let columns = columns(alloc, words.part().rest())?;
-    let props = props(alloc, words.rest())?;
-    let cells = mirror(alloc, columns.as_slice(), &props)?;
-    props_text(alloc, &cells)
+    say_cells(alloc, text, columns.as_slice(), words.rest())
 }
 
-/// A message with these values, without recipients and attachments.
-pub fn message(alloc: Global, props: Props) -> Message {
+/// The table of these columns, without rows.
+pub fn table(alloc: Global, columns: Vec<Column>, ends: [u16; 4]) -> Result<Table, Trouble> {
+    if !is_layout(columns.as_slice(), &ends) {
+        return Err(Trouble::Spelling);
+    }
+    Ok(Table::new(alloc, columns, ends))
+}
+
+/// A message with these values and these recipients, without attachments.
+pub fn message(alloc: Global, props: Props, recipients: Option<Table>) -> Message {
     Message {
         nid: Nid { bits: 0x20_0024 },
         folder: Nid { bits: 0x8082 },
         props,
-        recipients: None,
+        recipients,
         attachments: None,
         parts: Vec::new(alloc),
         kept: Subs::new(alloc),
     }
 }
 
-fn ask_size(alloc: Global, words: &mut Words) -> Result<String, Trouble> {
-    let message = message(alloc, props(alloc, words.rest())?);
-    let size = size(&message);
-    Ok(format!(in alloc; "{size}")?)
+/// Adds the size that a message tells of itself.
+fn say_size(text: &mut String, message: &Message) -> Result<(), Trouble> {
+    let size = size(message);
+    Ok(write!(text, "{size}")?)
+}
+
+fn ask_size(alloc: Global, text: &mut String, words: &mut Words) -> Result<(), Trouble> {
+    let props = props(alloc, words.rest())?;
+    let message = message(alloc, props, None);
+    say_size(text, &message)
 }

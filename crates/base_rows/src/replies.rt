@@ -2,7 +2,7 @@
 use crate::values::tag;
 use command_text::{CommandRefusal, DataLine, DataLines, LastLine, Reply, reply_text};
 use mapi_values::{Units, parse_units};
-use pst_base::{Bytes, MemOr, Nid};
+use pst_base::{MemOr, Nid};
 use std::alloc::Global;
 use std::str;
 use test_lines::{Trouble, Words};
@@ -78,54 +78,30 @@ fn line(alloc: Global, sort: &str, words: &mut Words) -> Result<DataLine, Troubl
     }
 }
 
-/// The last line that words say.
-fn last(sort: &str, words: &mut Words) -> Result<LastLine, Trouble> {
+/// The refusal of a command that words say.
+fn refusal(sort: &str, words: &mut Words) -> Result<CommandRefusal, Trouble> {
     match sort {
-        "memory" => Ok(LastLine::NoMemory),
-        "full" => Ok(LastLine::Refused(CommandRefusal::Full {
+        "full" => Ok(CommandRefusal::Full {
             free: words.number()?,
             need: words.number()?,
-        })),
-        "restriction" => Ok(LastLine::Refused(CommandRefusal::Restriction {
+        }),
+        "restriction" => Ok(CommandRefusal::Restriction {
             at: words.number()?,
-        })),
+        }),
         _ => Err(Trouble::Spelling),
     }
 }
 
-/// The reply that words say.
-fn reply(alloc: Global, words: &mut Words) -> Result<Reply, Trouble> {
+/// The last line that words say.
+fn last(words: &mut Words) -> Result<LastLine, Trouble> {
     match words.word()? {
-        "last" => Ok(Reply::without_data(alloc, last(words.word()?, words)?)),
-        sort => {
-            let mut lines = Vec::new(alloc);
-            lines.push(line(alloc, sort, words)?)?;
-            Ok(Reply {
-                lines: DataLines::from_vec(lines),
-                last: LastLine::Count(1),
-            })
-        }
+        "memory" => Ok(LastLine::NoMemory),
+        sort => Ok(LastLine::Refused(refusal(sort, words)?)),
     }
 }
 
-/// The text of the reply that words say.
-fn said(alloc: Global, words: &mut Words) -> Result<Bytes, Trouble> {
-    let reply = reply(alloc, words)?;
-    Ok(reply_text(alloc, &reply)?)
-}
-
-/// The text of a reply, with each LF as `\n`.
-pub fn answer(alloc: Global, words: &mut Words) -> Result<String, Trouble> {
-    let said = said(alloc, words)?;
-    match str::from_utf8(said.as_slice()) {
-        Ok(said) => escaped(alloc, said),
-        Err(_) => Err(Trouble::Spelling),
-    }
-}
-
-/// A text with each LF as `\n`.
-fn escaped(alloc: Global, said: &str) -> Result<String, Trouble> {
-    let mut text = String::new(alloc);
+/// Adds a text, with each LF as `\n`.
+fn say_escaped(text: &mut String, said: &str) -> Result<(), Trouble> {
     for letter in said.chars() {
         if letter == '\n' {
             text.push_str("\\n")?;
@@ -133,5 +109,38 @@ fn escaped(alloc: Global, said: &str) -> Result<String, Trouble> {
             text.push(letter)?;
         }
     }
-    Ok(text)
+    Ok(())
+}
+
+/// Adds the text of a reply.
+fn say_reply(alloc: Global, text: &mut String, reply: &Reply) -> Result<(), Trouble> {
+    let said = reply_text(alloc, reply)?;
+    match str::from_utf8(said.as_slice()) {
+        Ok(said) => say_escaped(text, said),
+        Err(_) => Err(Trouble::Spelling),
+    }
+}
+
+/// A reply with one line of data.
+fn reply_of(alloc: Global, line: DataLine) -> Result<Reply, Trouble> {
+    let mut lines = Vec::new(alloc);
+    lines.push(line)?;
+    Ok(Reply {
+        lines: DataLines::from_vec(lines),
+        last: LastLine::Count(1),
+    })
+}
+
+/// The reply that words say.
+fn reply(alloc: Global, words: &mut Words) -> Result<Reply, Trouble> {
+    match words.word()? {
+        "last" => Ok(Reply::without_data(alloc, last(words)?)),
+        sort => reply_of(alloc, line(alloc, sort, words)?),
+    }
+}
+
+/// The text of a reply, with each LF as `\n`.
+pub fn answer(alloc: Global, text: &mut String, words: &mut Words) -> Result<(), Trouble> {
+    let reply = reply(alloc, words)?;
+    say_reply(alloc, text, &reply)
 }

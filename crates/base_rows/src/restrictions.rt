@@ -1,8 +1,9 @@
 //! Restrictions as bytes, and when they hold.
-ghost use Rattle.std.specs.Prelude.{◌≡◌};
+ghost use Rattle.std.specs.Prelude.{◌≡◌, IsTrue};
+ghost use Rattle.restr_codec.specs.Spelling.{has_spelling};
 
-use crate::objects::{message, truth};
-use crate::values::make_value;
+use crate::objects::message;
+use crate::values::{make_value, say, say_bytes, say_whether};
 use live_search::{Delta, touch};
 use mapi_values::tags::PID_TAG_SUBJECT;
 use mapi_values::{Message, Props};
@@ -10,61 +11,76 @@ use pst_base::{Bytes, Ledger, MemOr, Steps};
 use restr_codec::{Restriction, read, write};
 use restr_eval::eval;
 use std::alloc::Global;
+use std::fmt::Write;
 use std::marker::Brand;
 use std::sync::ledger::Blank;
-use test_lines::{Trouble, Words, push_bytes, read_bytes};
+use test_lines::{Trouble, Words, read_bytes};
 
-pub fn answer(alloc: Global, kind: &str, words: &mut Words) -> Result<String, Trouble> {
+pub fn answer(
+    alloc: Global,
+    text: &mut String,
+    kind: &str,
+    words: &mut Words,
+) -> Result<(), Trouble> {
     match kind {
-        "restriction" => ask_restriction(alloc, words),
-        "holds" => ask_holds(alloc, words),
-        "touch" => ask_touch(alloc, words),
+        "restriction" => ask_restriction(alloc, text, words),
+        "holds" => ask_holds(alloc, text, words),
+        "touch" => ask_touch(alloc, text, words),
         _ => Err(Trouble::Spelling),
     }
 }
 
-fn bytes_text(alloc: Global, bytes: &[u8]) -> Result<String, Trouble> {
-    let mut text = String::new(alloc);
-    push_bytes(&mut text, bytes)?;
-    Ok(text)
-}
-
-fn place_text(alloc: Global, at: u64) -> Result<String, Trouble> {
-    Ok(format!(in alloc; "at {at}")?)
+/// Adds the bytes of a restriction.
+fn say_restriction(alloc: Global, text: &mut String, r: &Restriction) -> Result<(), Trouble>
+    requires { IsTrue (has_spelling r.now) }
+{
+    let bytes = write(alloc, r)?;
+    say_bytes(text, bytes.as_slice())
 }
 
 /// The bytes of the restriction that bytes spell, or from where on they spell none.
-fn ask_restriction(alloc: Global, words: &mut Words) -> Result<String, Trouble> {
+fn ask_restriction(alloc: Global, text: &mut String, words: &mut Words) -> Result<(), Trouble> {
     let bytes = words.bytes(alloc)?;
     match read(alloc, bytes.as_slice()) {
-        Ok(restriction) => bytes_text(alloc, write(alloc, &restriction)?.as_slice()),
-        Err(MemOr::Refused(fault)) => place_text(alloc, fault.at),
+        Ok(restriction) => say_restriction(alloc, text, &restriction),
+        Err(MemOr::Refused(fault)) => say_place(text, fault.at),
         Err(MemOr::Memory) => Err(Trouble::Memory),
     }
 }
 
+fn say_place(text: &mut String, at: u64) -> Result<(), Trouble> {
+    Ok(write!(text, "at {at}")?)
+}
+
 /// The restriction that a word spells.
-fn restriction(alloc: Global, words: &mut Words) -> Result<Restriction, Trouble> {
-    let bytes = words.bytes(alloc)?;
+fn restriction(alloc: Global, word: &str) -> Result<Restriction, Trouble> {
+    let bytes = read_bytes(alloc, word)?;
     read(alloc, bytes.as_slice()).ok().ok_or(Trouble::Spelling)
 }
 
-/// The message with the subject that a word spells, or without one after `none`.
-fn subject(alloc: Global, word: &str) -> Result<Message, Trouble> {
+/// The subject that a word spells, or nothing after `none`.
+fn values(alloc: Global, word: &str) -> Result<Props, Trouble> {
     let mut props = Props::new(alloc);
     if word != "none" {
         let bytes = Bytes::from_vec(read_bytes(alloc, word)?);
         props.put(make_value(PID_TAG_SUBJECT, bytes)?)?;
     }
-    Ok(message(alloc, props))
+    Ok(props)
+}
+
+/// The message with the subject that a word spells.
+fn subject(alloc: Global, word: &str) -> Result<Message, Trouble> {
+    let props = values(alloc, word)?;
+    Ok(message(alloc, props, None))
 }
 
 /// The message that a word tells of, which may be `gone`.
-fn touched(alloc: Global, words: &mut Words) -> Result<Option<Message>, Trouble> {
-    match words.word()? {
-        "gone" => Ok(None),
-        word => Ok(Some(subject(alloc, word)?)),
+fn touched(alloc: Global, word: &str) -> Result<Option<Message>, Trouble> {
+    if word == "gone" {
+        return Ok(None);
     }
+    let props = values(alloc, word)?;
+    Ok(Some(message(alloc, props, None)))
 }
 
 fn holds_over<L: Ledger>(r: &Restriction, m: &Message, blank: Blank) -> bool
@@ -81,10 +97,22 @@ fn holds(r: &Restriction, m: &Message) -> bool {
     holds_over::<Brand>(r, m, Blank::new(1))
 }
 
-fn ask_holds(alloc: Global, words: &mut Words) -> Result<String, Trouble> {
-    let restriction = restriction(alloc, words)?;
-    let message = subject(alloc, words.word()?)?;
-    truth(alloc, holds(&restriction, &message))
+/// Adds whether a restriction holds of the message with a subject.
+fn say_holds(
+    alloc: Global,
+    text: &mut String,
+    restriction: &Restriction,
+    word: &str,
+) -> Result<(), Trouble> {
+    let message = subject(alloc, word)?;
+    say_whether(text, holds(restriction, &message))
+}
+
+fn ask_holds(alloc: Global, text: &mut String, words: &mut Words) -> Result<(), Trouble> {
+    let bytes = words.word()?;
+    let word = words.word()?;
+    let restriction = restriction(alloc, bytes)?;
+    say_holds(alloc, text, &restriction, word)
 }
 
 fn delta_over<L: Ledger>(
@@ -115,20 +143,35 @@ fn delta_word(delta: Delta) -> &'static str {
     }
 }
 
-/// What a change of a message does to the list of a search with that restriction.
-fn touch_word(
+/// Adds what becomes of a message in the list of a search, which was the one before and is the one that a word tells of.
+fn say_touch(
     alloc: Global,
+    text: &mut String,
     restriction: &Restriction,
-    words: &mut Words,
-) -> Result<&'static str, Trouble> {
-    let old = touched(alloc, words)?;
-    let new = touched(alloc, words)?;
-    Ok(delta_word(delta(restriction, old.as_ref(), new.as_ref())))
+    old: Option<&Message>,
+    word: &str,
+) -> Result<(), Trouble> {
+    let new = touched(alloc, word)?;
+    say(text, delta_word(delta(restriction, old, new.as_ref())))
+}
+
+/// Adds what becomes of a message in the list of a search, of which two words tell.
+fn say_touches(
+    alloc: Global,
+    text: &mut String,
+    restriction: &Restriction,
+    word: &str,
+    next: &str,
+) -> Result<(), Trouble> {
+    let old = touched(alloc, word)?;
+    say_touch(alloc, text, restriction, old.as_ref(), next)
 }
 
 /// What a change of a message does to the list of a search.
-fn ask_touch(alloc: Global, words: &mut Words) -> Result<String, Trouble> {
-    let restriction = restriction(alloc, words)?;
-    let word = touch_word(alloc, &restriction, words)?;
-    Ok(String::from_str(alloc, word)?)
+fn ask_touch(alloc: Global, text: &mut String, words: &mut Words) -> Result<(), Trouble> {
+    let bytes = words.word()?;
+    let old = words.word()?;
+    let new = words.word()?;
+    let restriction = restriction(alloc, bytes)?;
+    say_touches(alloc, text, &restriction, old, new)
 }

@@ -1,5 +1,5 @@
 //! The criteria of searches.
-use crate::values::{props, props_text};
+use crate::values::{props, say, say_props};
 use mapi_values::Props;
 use pst_base::{MemOr, Nid};
 use search_obj::{
@@ -9,12 +9,17 @@ use std::alloc::Global;
 use std::fmt::Write;
 use test_lines::{Trouble, Words, hex_number};
 
-pub fn answer(alloc: Global, kind: &str, words: &mut Words) -> Result<String, Trouble> {
+pub fn answer(
+    alloc: Global,
+    text: &mut String,
+    kind: &str,
+    words: &mut Words,
+) -> Result<(), Trouble> {
     match kind {
-        "flags" => ask_flags(alloc, words),
-        "criteria" => ask_criteria(alloc, words),
-        "change" => ask_change(alloc, words),
-        "scope" => ask_scope(alloc, words),
+        "flags" => ask_flags(text, words),
+        "criteria" => ask_criteria(alloc, text, words),
+        "change" => ask_change(alloc, text, words),
+        "scope" => ask_scope(alloc, text, words),
         _ => Err(Trouble::Spelling),
     }
 }
@@ -28,103 +33,101 @@ fn state_word(state: SearchState) -> &'static str {
 }
 
 /// What a search does under flags, where it may have them.
-fn ask_flags(alloc: Global, words: &mut Words) -> Result<String, Trouble> {
+fn ask_flags(text: &mut String, words: &mut Words) -> Result<(), Trouble> {
     let word = match SearchFlags::from_number(words.id()?) {
         Some(flags) => state_word(flags.state()),
         None => "refused",
     };
-    Ok(String::from_str(alloc, word)?)
+    say(text, word)
 }
 
-fn told(alloc: Global, criteria: &Criteria) -> Result<String, Trouble> {
+/// Adds what was set of criteria.
+fn say_set(text: &mut String, set: &CriteriaSet) -> Result<(), Trouble> {
+    let state = state_word(set.flags.state());
+    let builds = set.builds;
+    Ok(write!(text, " {state} {builds}")?)
+}
+
+fn say_criteria(text: &mut String, criteria: &Criteria) -> Result<(), Trouble> {
     let version = match criteria.version {
         Version::First => "first",
         Version::Second => "second",
     };
-    Ok(match &criteria.set {
-        None => format!(in alloc; "{version} unset")?,
-        Some(set) => {
-            let state = state_word(set.flags.state());
-            let builds = set.builds;
-            format!(in alloc; "{version} {state} {builds}")?
-        }
-    })
+    say(text, version)?;
+    match &criteria.set {
+        None => say(text, " unset"),
+        Some(set) => say_set(text, set),
+    }
 }
 
-/// What the object of a search folder tells.
-fn ask_criteria(alloc: Global, words: &mut Words) -> Result<String, Trouble> {
-    match read_search(alloc, &props(alloc, words.rest())?) {
-        Ok(None) => Ok(String::from_str(alloc, "foreign")?),
-        Ok(Some(criteria)) => told(alloc, &criteria),
-        Err(MemOr::Refused(_)) => Ok(String::from_str(alloc, "fault")?),
+/// Adds what the object of a search folder tells.
+fn say_search(alloc: Global, text: &mut String, object: &Props) -> Result<(), Trouble> {
+    match read_search(alloc, object) {
+        Ok(None) => say(text, "foreign"),
+        Ok(Some(criteria)) => say_criteria(text, &criteria),
+        Err(MemOr::Refused(_)) => say(text, "fault"),
         Err(MemOr::Memory) => Err(Trouble::Memory),
     }
 }
 
+/// What the object of a search folder tells.
+fn ask_criteria(alloc: Global, text: &mut String, words: &mut Words) -> Result<(), Trouble> {
+    let object = props(alloc, words.rest())?;
+    say_search(alloc, text, &object)
+}
+
 /// The criteria that an object tells.
-fn criteria(alloc: Global, object: &Props) -> Result<Criteria, Trouble> {
+fn told(alloc: Global, object: &Props) -> Result<Criteria, Trouble> {
     match read_search(alloc, object) {
         Ok(Some(criteria)) => Ok(criteria),
         _ => Err(Trouble::Spelling),
     }
 }
 
-/// Criteria after a line with these flags, or none where there is nothing to keep.
-fn changed(
+/// The criteria that values tell.
+fn criteria(alloc: Global, values: &str) -> Result<Criteria, Trouble> {
+    let object = props(alloc, values)?;
+    told(alloc, &object)
+}
+
+/// Adds what values are once they tell these criteria.
+fn say_written(
     alloc: Global,
+    text: &mut String,
+    criteria: &Criteria,
+    values: &str,
+) -> Result<(), Trouble> {
+    let object = props(alloc, values)?;
+    let written = write_search(alloc, object, criteria)?;
+    say_props(text, &written)
+}
+
+/// Adds what values are after a line with these flags, or that the line was refused, since there is nothing to keep.
+fn say_change(
+    alloc: Global,
+    text: &mut String,
     before: &Criteria,
     flags: SearchFlags,
-) -> Result<Option<Criteria>, Trouble> {
+    values: &str,
+) -> Result<(), Trouble> {
     if !flags.are_allowed() {
         return Err(Trouble::Spelling);
     }
     match before.changed(alloc, flags, None, None) {
-        Ok(after) => Ok(Some(after)),
-        Err(MemOr::Refused(_)) => Ok(None),
+        Ok(after) => say_written(alloc, text, &after, values),
+        Err(MemOr::Refused(_)) => say(text, "refused"),
         Err(MemOr::Memory) => Err(Trouble::Memory),
     }
 }
 
-fn flags(words: &mut Words) -> Result<SearchFlags, Trouble> {
-    SearchFlags::from_number(words.id()?).ok_or(Trouble::Spelling)
-}
-
-/// What an object tells after a line with these flags.
-fn criteria_after(
-    alloc: Global,
-    object: &Props,
-    flags: SearchFlags,
-) -> Result<Option<Criteria>, Trouble> {
-    let before = criteria(alloc, object)?;
-    changed(alloc, &before, flags)
-}
-
 /// The object after a line with these flags, which keeps the scope and the restriction.
-fn ask_change(alloc: Global, words: &mut Words) -> Result<String, Trouble> {
-    let flags = flags(words)?;
-    let object = props(alloc, words.rest())?;
-    let after = criteria_after(alloc, &object, flags)?;
-    object_text(alloc, object, after)
-}
-
-/// The object with these criteria, or that the line was refused.
-fn object_text(alloc: Global, object: Props, after: Option<Criteria>) -> Result<String, Trouble> {
-    match after {
-        Some(after) => props_text(alloc, &write_search(alloc, object, &after)?),
-        None => Ok(String::from_str(alloc, "refused")?),
-    }
-}
-
-/// The pairs of folders and their parents that words `FOLDER:PARENT` tell.
-fn pairs(alloc: Global, words: &str) -> Result<Vec<(Nid, Nid)>, Trouble> {
-    let mut pairs = Vec::new(alloc);
-    for word in words.split(' ') {
-        let Some((folder, parent)) = word.split_once(':') else {
-            return Err(Trouble::Spelling);
-        };
-        pairs.push((nid(folder)?, nid(parent)?))?;
-    }
-    Ok(pairs)
+fn ask_change(alloc: Global, text: &mut String, words: &mut Words) -> Result<(), Trouble> {
+    let Some(flags) = SearchFlags::from_number(words.id()?) else {
+        return Err(Trouble::Spelling);
+    };
+    let values = words.rest();
+    let before = criteria(alloc, values)?;
+    say_change(alloc, text, &before, flags, values)
 }
 
 fn nid(word: &str) -> Result<Nid, Trouble> {
@@ -134,33 +137,52 @@ fn nid(word: &str) -> Result<Nid, Trouble> {
     Ok(Nid { bits })
 }
 
-/// The ids in hex.
-fn ids_text(alloc: Global, ids: &[Nid]) -> Result<String, Trouble> {
-    let mut text = String::new(alloc);
+/// The folder and its parent that a word `FOLDER:PARENT` tells.
+fn pair(word: &str) -> Result<(Nid, Nid), Trouble> {
+    let Some((folder, parent)) = word.split_once(':') else {
+        return Err(Trouble::Spelling);
+    };
+    Ok((nid(folder)?, nid(parent)?))
+}
+
+/// The pairs of folders and their parents that words tell.
+fn pairs(alloc: Global, words: &str) -> Result<Vec<(Nid, Nid)>, Trouble> {
+    let mut pairs = Vec::new(alloc);
+    for word in words.split(' ') {
+        let pair = pair(word)?;
+        pairs.push(pair)?;
+    }
+    Ok(pairs)
+}
+
+/// Adds the ids in hex.
+fn say_ids(text: &mut String, ids: &[Nid]) -> Result<(), Trouble> {
     let mut before = "";
     for id in ids {
         let bits = id.bits;
         write!(text, "{before}{bits:x}")?;
         before = " ";
     }
-    Ok(text)
+    Ok(())
 }
 
-/// What was set of the criteria that values tell.
-fn set(alloc: Global, values: &str) -> Result<CriteriaSet, Trouble> {
-    let object = props(alloc, values)?;
-    criteria(alloc, &object)?.set.ok_or(Trouble::Spelling)
-}
-
-/// The folders that a search is about, among these.
-fn folders(alloc: Global, set: &CriteriaSet, words: &str) -> Result<Vec<Nid>, Trouble> {
+/// Adds the folders that a search is about, among those that words tell.
+fn say_scope(
+    alloc: Global,
+    text: &mut String,
+    set: &CriteriaSet,
+    words: &str,
+) -> Result<(), Trouble> {
     let plain = pairs(alloc, words)?;
-    Ok(scope_of(alloc, set, plain.as_slice())?)
+    let folders = scope_of(alloc, set, plain.as_slice())?;
+    say_ids(text, folders.as_slice())
 }
 
 /// The folders that a search is about.
-fn ask_scope(alloc: Global, words: &mut Words) -> Result<String, Trouble> {
-    let set = set(alloc, words.part().rest())?;
-    let folders = folders(alloc, &set, words.rest())?;
-    ids_text(alloc, folders.as_slice())
+fn ask_scope(alloc: Global, text: &mut String, words: &mut Words) -> Result<(), Trouble> {
+    let criteria = criteria(alloc, words.part().rest())?;
+    match &criteria.set {
+        Some(set) => say_scope(alloc, text, set, words.rest()),
+        None => Err(Trouble::Spelling),
+    }
 }

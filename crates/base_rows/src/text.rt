@@ -1,18 +1,23 @@
 //! Text as UTF-16 units, and values as lines spell them.
-use crate::values::{make_value, short};
+use crate::values::{make_value, say, say_bytes, short};
 use mapi_values::{Tag, Units, Value};
 use pst_base::{Bytes, MemOr};
 use std::alloc::Global;
 use std::fmt::Write;
-use test_lines::{Trouble, Words, push_bytes};
+use test_lines::{Trouble, Words};
 use value_text::{parse_value, value_text};
 
-pub fn answer(alloc: Global, kind: &str, words: &mut Words) -> Result<String, Trouble> {
+pub fn answer(
+    alloc: Global,
+    text: &mut String,
+    kind: &str,
+    words: &mut Words,
+) -> Result<(), Trouble> {
     match kind {
-        "fold" => ask_fold(alloc, words, false),
-        "strip" => ask_fold(alloc, words, true),
-        "value" => ask_value(alloc, words),
-        "print" => ask_print(alloc, words),
+        "fold" => ask_fold(alloc, text, words, false),
+        "strip" => ask_fold(alloc, text, words, true),
+        "value" => ask_value(alloc, text, words),
+        "print" => ask_print(alloc, text, words),
         _ => Err(Trouble::Spelling),
     }
 }
@@ -21,49 +26,70 @@ pub fn answer(alloc: Global, kind: &str, words: &mut Words) -> Result<String, Tr
 fn units(alloc: Global, words: &str) -> Result<Units, Trouble> {
     let mut units = Vec::new(alloc);
     for word in words.split(' ') {
-        units.push(short(word)?)?;
+        let unit = short(word)?;
+        units.push(unit)?;
     }
     Ok(Units::from_vec(units))
 }
 
-fn ask_fold(alloc: Global, words: &mut Words, strip: bool) -> Result<String, Trouble> {
-    let folded = units(alloc, words.rest())?.fold(alloc, strip)?;
-    let mut text = String::new(alloc);
+/// Adds units in hex digits.
+fn say_units(text: &mut String, units: &[u16]) -> Result<(), Trouble> {
     let mut before = "";
-    for unit in folded.as_slice() {
+    for unit in units {
         write!(text, "{before}{unit:04x}")?;
         before = " ";
     }
-    Ok(text)
+    Ok(())
 }
 
-/// The bytes of a value, and its own text.
-fn spelled(alloc: Global, value: &Value) -> Result<String, Trouble> {
+/// Adds units with their case folded.
+fn say_folded(alloc: Global, text: &mut String, units: &Units, strip: bool) -> Result<(), Trouble> {
+    let folded = units.fold(alloc, strip)?;
+    say_units(text, folded.as_slice())
+}
+
+fn ask_fold(
+    alloc: Global,
+    text: &mut String,
+    words: &mut Words,
+    strip: bool,
+) -> Result<(), Trouble> {
+    let units = units(alloc, words.rest())?;
+    say_folded(alloc, text, &units, strip)
+}
+
+/// Adds the text of a value.
+fn say_value(alloc: Global, text: &mut String, value: &Value) -> Result<(), Trouble> {
     let printed = value_text(alloc, value)?;
-    let mut text = String::new(alloc);
-    push_bytes(&mut text, value.bytes())?;
-    write!(text, " {printed}")?;
-    Ok(text)
+    say(text, printed.as_str())
+}
+
+/// Adds the bytes of a value, and its own text.
+fn say_both(alloc: Global, text: &mut String, value: &Value) -> Result<(), Trouble> {
+    say_bytes(text, value.bytes())?;
+    say(text, " ")?;
+    say_value(alloc, text, value)
+}
+
+/// The tag of a value of a kind.
+fn tag(words: &mut Words) -> Result<Tag, Trouble> {
+    let kind = short(words.word()?)?;
+    Ok(Tag { id: 0x37, kind })
 }
 
 /// The bytes of the value that a text says, and its own text.
-fn ask_value(alloc: Global, words: &mut Words) -> Result<String, Trouble> {
-    let tag = Tag {
-        id: 0x37,
-        kind: short(words.word()?)?,
-    };
+fn ask_value(alloc: Global, text: &mut String, words: &mut Words) -> Result<(), Trouble> {
+    let tag = tag(words)?;
     match parse_value(alloc, tag, words.rest()) {
-        Ok(value) => spelled(alloc, &value),
-        Err(MemOr::Refused(_)) => Ok(String::from_str(alloc, "no value")?),
+        Ok(value) => say_both(alloc, text, &value),
+        Err(MemOr::Refused(_)) => say(text, "no value"),
         Err(MemOr::Memory) => Err(Trouble::Memory),
     }
 }
 
-fn ask_print(alloc: Global, words: &mut Words) -> Result<String, Trouble> {
-    let tag = Tag {
-        id: 0x37,
-        kind: short(words.word()?)?,
-    };
+fn ask_print(alloc: Global, text: &mut String, words: &mut Words) -> Result<(), Trouble> {
+    let tag = tag(words)?;
     let bytes = Bytes::from_vec(words.bytes(alloc)?);
-    Ok(value_text(alloc, &make_value(tag, bytes)?)?)
+    let value = make_value(tag, bytes)?;
+    say_value(alloc, text, &value)
 }

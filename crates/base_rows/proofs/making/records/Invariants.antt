@@ -1,7 +1,7 @@
 use Rattle.std.proofs.Common.{◌≡◌, true, length}
 use Rattle.bth_tree.specs.Making.{AreRecords}
 use Rattle.bth_tree.specs.Records.{within}
-use Rattle.context_tests.proofs.bth_tree_test.records.Given as goal
+use Rattle.base_rows.proofs.making.records.Given as goal
 
 abbrev pub invariant-loop-key : goal.invariant-loop-key
 invariant-loop-key l = record {

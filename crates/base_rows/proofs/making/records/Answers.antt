@@ -1,7 +1,7 @@
 use Rattle.std.proofs.Common.{◌^◌, length, ap, arith}
 use Rattle.std.proofs.lemmas.List.{length_push}
 use Rattle.bth_tree.proofs.MakeLaws.{AreRecords-push, within-high, within-push}
-use Rattle.context_tests.proofs.bth_tree_test.records.Goals as goal
+use Rattle.base_rows.proofs.making.records.Goals as goal
 
 pub loop-key-preserved : goal.loop-key-preserved
 loop-key-preserved c = rw c.in_ok-push.ensures.items (record {
