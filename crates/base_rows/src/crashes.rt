@@ -53,7 +53,7 @@ fn say_crash(
 }
 
 /// What a crash leaves of a file after some writes.
-pub fn answer(alloc: Global, text: &mut String, words: &mut Words) -> Result<(), Trouble> {
+pub fn ask_crash(alloc: Global, text: &mut String, words: &mut Words) -> Result<(), Trouble> {
     let bytes = words.bytes(alloc)?;
     let mut world = world(alloc, bytes)?;
     say_crash(alloc, text, &mut world, words.rest())

@@ -1,5 +1,5 @@
 //! Heaps: where the maps of their blocks stand, their roots, and their items.
-use crate::making::{ask_ids, heap};
+use crate::making::heap;
 use crate::nodes::id;
 use crate::trees::{say_entry, say_tree};
 use crate::values::{part, say, say_bytes, say_number};
@@ -26,6 +26,13 @@ fn say_maps(text: &mut String, blocks: &[Bytes], words: &str) -> Result<(), Trou
         write!(text, " {place}")?;
     }
     Ok(())
+}
+
+/// How many blocks a heap has, and the places of the maps of some.
+pub fn ask_maps(alloc: Global, text: &mut String, words: &mut Words) -> Result<(), Trouble> {
+    let numbers = words.part().rest();
+    let blocks = heap(alloc, words)?;
+    say_maps(text, blocks.as_slice(), numbers)
 }
 
 /// Adds the client of a heap, and its root as a client sees it.
@@ -70,7 +77,7 @@ fn say_items(
     Ok(())
 }
 
-/// Adds what words ask of blocks, which may be a heap.
+/// Adds what words ask of blocks, if they are a heap.
 fn say_answer(
     alloc: Global,
     text: &mut String,
@@ -78,9 +85,6 @@ fn say_answer(
     kind: &str,
     words: &mut Words,
 ) -> Result<(), Trouble> {
-    if kind == "maps" {
-        return say_maps(text, blocks, words.rest());
-    }
     let Ok(view) = HeapView::read(blocks) else {
         return say(text, "no heap");
     };
@@ -93,16 +97,13 @@ fn say_answer(
     }
 }
 
-/// What the first part of a row asks of the heap behind it, or the ids of items.
+/// What the first part of a row asks of the heap behind it.
 pub fn answer(
     alloc: Global,
     text: &mut String,
     kind: &str,
     words: &mut Words,
 ) -> Result<(), Trouble> {
-    if kind == "ids" {
-        return ask_ids(alloc, text, words);
-    }
     let mut asked = words.part();
     let blocks = heap(alloc, words)?;
     say_answer(alloc, text, blocks.as_slice(), kind, &mut asked)

@@ -7,19 +7,6 @@ use std::alloc::Global;
 use test_lines::{Trouble, Words};
 use write_limits::{message_fits, props_fit};
 
-pub fn answer(
-    alloc: Global,
-    text: &mut String,
-    kind: &str,
-    words: &mut Words,
-) -> Result<(), Trouble> {
-    match kind {
-        "props-fit" => ask_props_fit(alloc, text, words),
-        "message-fits" => ask_message_fits(alloc, text, words),
-        _ => Err(Trouble::Spelling),
-    }
-}
-
 /// So many subnodes without data.
 fn make_subs(alloc: Global, count: u32) -> Result<Subs, Trouble> {
     let mut subs = Vec::new(alloc);
@@ -56,7 +43,7 @@ fn say_fit(alloc: Global, text: &mut String, props: &Props, count: u32) -> Resul
 }
 
 /// Whether so many subnodes and so many binary values of a length may stand in one object.
-fn ask_props_fit(alloc: Global, text: &mut String, words: &mut Words) -> Result<(), Trouble> {
+pub fn ask_props_fit(alloc: Global, text: &mut String, words: &mut Words) -> Result<(), Trouble> {
     let subnodes = words.id()?;
     let count = small(words.word()?)?;
     let len = words.size()?;
@@ -64,21 +51,19 @@ fn ask_props_fit(alloc: Global, text: &mut String, words: &mut Words) -> Result<
     say_fit(alloc, text, &props, subnodes)
 }
 
-/// Adds whether a message of these values and recipients may be written.
-fn say_message_fits(
-    alloc: Global,
-    text: &mut String,
-    props: Props,
-    recipients: Table,
-) -> Result<(), Trouble> {
-    let message = message(alloc, props, Some(recipients));
-    say_whether(text, message_fits(&message))
+/// Whether a message of these values and recipients may be written.
+fn fits(alloc: Global, props: Props, recipients: Table) -> bool {
+    message_fits(&message(alloc, props, Some(recipients)))
 }
 
 /// Whether a message may be written whose table of recipients has rows of this size.
-fn ask_message_fits(alloc: Global, text: &mut String, words: &mut Words) -> Result<(), Trouble> {
+pub fn ask_message_fits(
+    alloc: Global,
+    text: &mut String,
+    words: &mut Words,
+) -> Result<(), Trouble> {
     let size = small(words.word()?)?;
     let props = make_props(alloc, 2, 3581)?;
     let recipients = table(alloc, Vec::new(alloc), [0, 0, 0, size])?;
-    say_message_fits(alloc, text, props, recipients)
+    say_whether(text, fits(alloc, props, recipients))
 }

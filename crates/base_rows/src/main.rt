@@ -28,6 +28,32 @@ use test_lines::{Answerer, Trouble, Words, play_all};
 /// The crates of the base, of heaps and contexts, and of the objects that no store is needed for.
 struct Base;
 
+/// Adds the answer to a row on heaps, contexts, messages or searches.
+fn push_object_answer(
+    alloc: Global,
+    text: &mut String,
+    kind: &str,
+    words: &mut Words,
+) -> Result<(), Trouble> {
+    match kind {
+        "ids" => making::ask_ids(alloc, text, words),
+        "maps" => heaps::ask_maps(alloc, text, words),
+        "root" | "items" | "lengths" | "tree" | "find" => heaps::answer(alloc, text, kind, words),
+        "values" | "cells" | "message" => contexts::answer(alloc, text, kind, words),
+        "matrix" => matrices::ask_matrix(alloc, text, words),
+        "restriction" => restrictions::ask_restriction(alloc, text, words),
+        "holds" => restrictions::ask_holds(alloc, text, words),
+        "touch" => restrictions::ask_touch(alloc, text, words),
+        "flags" => searches::ask_flags(text, words),
+        "criteria" => searches::ask_criteria(alloc, text, words),
+        "change" => searches::ask_change(alloc, text, words),
+        "scope" => searches::ask_scope(alloc, text, words),
+        "reply" => replies::ask_reply(alloc, text, words),
+        "crash" => crashes::ask_crash(alloc, text, words),
+        _ => Err(Trouble::Spelling),
+    }
+}
+
 /// Adds the answer to a row.
 fn push_answer(
     alloc: Global,
@@ -36,21 +62,23 @@ fn push_answer(
     words: &mut Words,
 ) -> Result<(), Trouble> {
     match kind {
-        "crc" | "sig" | "nid" | "kind" | "bid" => numbers::answer(alloc, text, kind, words),
-        "fold" | "strip" | "value" | "print" => text::answer(alloc, text, kind, words),
-        "props" | "layout" | "mirror" | "size" => objects::answer(alloc, text, kind, words),
-        "props-fit" | "message-fits" => limits::answer(alloc, text, kind, words),
-        "restriction" | "holds" | "touch" => restrictions::answer(alloc, text, kind, words),
-        "flags" | "criteria" | "change" | "scope" => searches::answer(alloc, text, kind, words),
-        "values" | "cells" | "message" => contexts::answer(alloc, text, kind, words),
-        "ids" | "maps" | "root" | "items" | "lengths" | "tree" | "find" => heaps::answer(
-            alloc, text, kind, words,
-        ),
-        "matrix" => matrices::answer(alloc, text, words),
-        "names" => names::answer(alloc, text, words),
-        "reply" => replies::answer(alloc, text, words),
-        "crash" => crashes::answer(alloc, text, words),
-        _ => Err(Trouble::Spelling),
+        "crc" => numbers::ask_crc(alloc, text, words),
+        "sig" => numbers::ask_sig(text, words),
+        "nid" => numbers::ask_nid(text, words),
+        "kind" => numbers::ask_kind(text, words),
+        "bid" => numbers::ask_bid(text, words),
+        "fold" => text::ask_fold(alloc, text, words, false),
+        "strip" => text::ask_fold(alloc, text, words, true),
+        "value" => text::ask_value(alloc, text, words),
+        "print" => text::ask_print(alloc, text, words),
+        "props" => objects::ask_props(alloc, text, words),
+        "layout" => objects::ask_layout(alloc, text, words),
+        "mirror" => objects::ask_mirror(alloc, text, words),
+        "size" => objects::ask_size(alloc, text, words),
+        "props-fit" => limits::ask_props_fit(alloc, text, words),
+        "message-fits" => limits::ask_message_fits(alloc, text, words),
+        "names" => names::ask_names(alloc, text, words),
+        _ => push_object_answer(alloc, text, kind, words),
     }
 }
 

@@ -27,8 +27,11 @@ fn add(maker: &mut HeapMaker, text: &mut String, item: &[u8]) -> Result<(), Trou
 
 /// The heap of items, whose ids are added to a text.
 fn filled(alloc: Global, text: &mut String, items: &[Bytes]) -> Result<HeapMaker, Trouble> {
+    if items.len() > 65535 {
+        return Err(Trouble::Spelling);
+    }
     let mut maker = HeapMaker::new(alloc);
-    for added in 0..items.len().min(65535) {
+    for added in 0..items.len() {
         add(&mut maker, text, items[added].as_slice())?;
     }
     Ok(maker)

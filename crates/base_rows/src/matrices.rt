@@ -71,7 +71,7 @@ fn say_grown(
 }
 
 /// What the subnodes are that are written of a table of so many rows, which show values.
-pub fn answer(alloc: Global, text: &mut String, words: &mut Words) -> Result<(), Trouble> {
+pub fn ask_matrix(alloc: Global, text: &mut String, words: &mut Words) -> Result<(), Trouble> {
     let count = small(words.word()?)?;
     let mut ends = [0u16; 4];
     read_numbers(words.word()?, &mut ends)?;

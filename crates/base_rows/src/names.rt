@@ -44,7 +44,7 @@ fn guid(alloc: Global, words: &mut Words) -> Result<[u8; 16], Trouble> {
 }
 
 /// The property of a name, and the values of the node of names with it.
-pub fn answer(alloc: Global, text: &mut String, words: &mut Words) -> Result<(), Trouble> {
+pub fn ask_names(alloc: Global, text: &mut String, words: &mut Words) -> Result<(), Trouble> {
     let guid = guid(alloc, words)?;
     let id = words.id()?;
     let values = props(alloc, words.rest())?;

@@ -4,35 +4,22 @@ use std::alloc::Global;
 use std::fmt::Write;
 use test_lines::{Trouble, Words};
 
-pub fn answer(
-    alloc: Global,
-    text: &mut String,
-    kind: &str,
-    words: &mut Words,
-) -> Result<(), Trouble> {
-    match kind {
-        "crc" => ask_crc(alloc, text, words),
-        "sig" => ask_sig(text, words),
-        "nid" => ask_nid(text, words),
-        "kind" => ask_kind(text, words),
-        "bid" => ask_bid(text, words),
-        _ => Err(Trouble::Spelling),
-    }
-}
-
-fn ask_crc(alloc: Global, text: &mut String, words: &mut Words) -> Result<(), Trouble> {
+/// The checksum of bytes.
+pub fn ask_crc(alloc: Global, text: &mut String, words: &mut Words) -> Result<(), Trouble> {
     let bytes = words.bytes(alloc)?;
     let crc = crc(bytes.as_slice());
     Ok(write!(text, "{crc:08x}")?)
 }
 
-fn ask_sig(text: &mut String, words: &mut Words) -> Result<(), Trouble> {
+/// The signature of a place and an id.
+pub fn ask_sig(text: &mut String, words: &mut Words) -> Result<(), Trouble> {
     let ib = words.hex()?;
     let sig = sig(ib, Bid { bits: words.hex()? });
     Ok(write!(text, "{sig:04x}")?)
 }
 
-fn ask_nid(text: &mut String, words: &mut Words) -> Result<(), Trouble> {
+/// The id of a node, of its kind and its index.
+pub fn ask_nid(text: &mut String, words: &mut Words) -> Result<(), Trouble> {
     let kind = words.byte()?;
     let index = words.id()?;
     if kind >= 32 || index >= 1 << 27 {
@@ -42,14 +29,16 @@ fn ask_nid(text: &mut String, words: &mut Words) -> Result<(), Trouble> {
     Ok(write!(text, "{nid:x}")?)
 }
 
-fn ask_kind(text: &mut String, words: &mut Words) -> Result<(), Trouble> {
+/// The kind and the index of a node's id.
+pub fn ask_kind(text: &mut String, words: &mut Words) -> Result<(), Trouble> {
     let nid = Nid { bits: words.id()? };
     let kind = nid.kind();
     let index = nid.index();
     Ok(write!(text, "{kind} {index:x}")?)
 }
 
-fn ask_bid(text: &mut String, words: &mut Words) -> Result<(), Trouble> {
+/// The key of a block's id, and whether it is internal.
+pub fn ask_bid(text: &mut String, words: &mut Words) -> Result<(), Trouble> {
     let bid = Bid { bits: words.hex()? };
     let sort = if bid.internal() {
         "internal"

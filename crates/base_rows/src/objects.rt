@@ -6,22 +6,8 @@ use std::alloc::Global;
 use std::fmt::Write;
 use test_lines::{Trouble, Words};
 
-pub fn answer(
-    alloc: Global,
-    text: &mut String,
-    kind: &str,
-    words: &mut Words,
-) -> Result<(), Trouble> {
-    match kind {
-        "props" => ask_props(alloc, text, words),
-        "layout" => ask_layout(alloc, text, words),
-        "mirror" => ask_mirror(alloc, text, words),
-        "size" => ask_size(alloc, text, words),
-        _ => Err(Trouble::Spelling),
-    }
-}
-
-fn ask_props(alloc: Global, text: &mut String, words: &mut Words) -> Result<(), Trouble> {
+/// Values in their order.
+pub fn ask_props(alloc: Global, text: &mut String, words: &mut Words) -> Result<(), Trouble> {
     let props = props(alloc, words.rest())?;
     say_props(text, &props)
 }
@@ -69,7 +55,8 @@ pub fn columns(alloc: Global, words: &str) -> Result<Vec<Column>, Trouble> {
     Ok(columns)
 }
 
-fn ask_layout(alloc: Global, text: &mut String, words: &mut Words) -> Result<(), Trouble> {
+/// Whether columns are a layout with four ends.
+pub fn ask_layout(alloc: Global, text: &mut String, words: &mut Words) -> Result<(), Trouble> {
     let mut ends = [0u16; 4];
     read_numbers(words.word()?, &mut ends)?;
     let columns = columns(alloc, words.rest())?;
@@ -88,7 +75,8 @@ fn say_cells(
     say_props(text, &cells)
 }
 
-fn ask_mirror(alloc: Global, text: &mut String, words: &mut Words) -> Result<(), Trouble> {
+/// The cells that a row shows of values.
+pub fn ask_mirror(alloc: Global, text: &mut String, words: &mut Words) -> Result<(), Trouble> {
     let columns = columns(alloc, words.part().rest())?;
     say_cells(alloc, text, columns.as_slice(), words.rest())
 }
@@ -114,14 +102,14 @@ pub fn message(alloc: Global, props: Props, recipients: Option<Table>) -> Messag
     }
 }
 
-/// Adds the size that a message tells of itself.
-fn say_size(text: &mut String, message: &Message) -> Result<(), Trouble> {
-    let size = size(message);
-    Ok(write!(text, "{size}")?)
+/// The size that a message of values tells of itself.
+fn size_of(alloc: Global, props: Props) -> u32 {
+    size(&message(alloc, props, None))
 }
 
-fn ask_size(alloc: Global, text: &mut String, words: &mut Words) -> Result<(), Trouble> {
+/// The size that a message of values tells of itself.
+pub fn ask_size(alloc: Global, text: &mut String, words: &mut Words) -> Result<(), Trouble> {
     let props = props(alloc, words.rest())?;
-    let message = message(alloc, props, None);
-    say_size(text, &message)
+    let size = size_of(alloc, props);
+    Ok(write!(text, "{size}")?)
 }

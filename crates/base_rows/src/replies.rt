@@ -140,7 +140,7 @@ fn reply(alloc: Global, words: &mut Words) -> Result<Reply, Trouble> {
 }
 
 /// The text of a reply, with each LF as `\n`.
-pub fn answer(alloc: Global, text: &mut String, words: &mut Words) -> Result<(), Trouble> {
+pub fn ask_reply(alloc: Global, text: &mut String, words: &mut Words) -> Result<(), Trouble> {
     let reply = reply(alloc, words)?;
     say_reply(alloc, text, &reply)
 }

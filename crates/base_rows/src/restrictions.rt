@@ -16,20 +16,6 @@ use std::marker::Brand;
 use std::sync::ledger::Blank;
 use test_lines::{Trouble, Words, read_bytes};
 
-pub fn answer(
-    alloc: Global,
-    text: &mut String,
-    kind: &str,
-    words: &mut Words,
-) -> Result<(), Trouble> {
-    match kind {
-        "restriction" => ask_restriction(alloc, text, words),
-        "holds" => ask_holds(alloc, text, words),
-        "touch" => ask_touch(alloc, text, words),
-        _ => Err(Trouble::Spelling),
-    }
-}
-
 /// Adds the bytes of a restriction.
 fn say_restriction(alloc: Global, text: &mut String, r: &Restriction) -> Result<(), Trouble>
     requires { IsTrue (has_spelling r.now) }
@@ -39,7 +25,7 @@ fn say_restriction(alloc: Global, text: &mut String, r: &Restriction) -> Result<
 }
 
 /// The bytes of the restriction that bytes spell, or from where on they spell none.
-fn ask_restriction(alloc: Global, text: &mut String, words: &mut Words) -> Result<(), Trouble> {
+pub fn ask_restriction(alloc: Global, text: &mut String, words: &mut Words) -> Result<(), Trouble> {
     let bytes = words.bytes(alloc)?;
     match read(alloc, bytes.as_slice()) {
         Ok(restriction) => say_restriction(alloc, text, &restriction),
@@ -53,8 +39,8 @@ fn say_place(text: &mut String, at: u64) -> Result<(), Trouble> {
 }
 
 /// The restriction that a word spells.
-fn restriction(alloc: Global, word: &str) -> Result<Restriction, Trouble> {
-    let bytes = read_bytes(alloc, word)?;
+fn restriction(alloc: Global, words: &mut Words) -> Result<Restriction, Trouble> {
+    let bytes = words.bytes(alloc)?;
     read(alloc, bytes.as_slice()).ok().ok_or(Trouble::Spelling)
 }
 
@@ -69,13 +55,14 @@ fn values(alloc: Global, word: &str) -> Result<Props, Trouble> {
 }
 
 /// The message with the subject that a word spells.
-fn subject(alloc: Global, word: &str) -> Result<Message, Trouble> {
-    let props = values(alloc, word)?;
+fn subject(alloc: Global, words: &mut Words) -> Result<Message, Trouble> {
+    let props = values(alloc, words.word()?)?;
     Ok(message(alloc, props, None))
 }
 
 /// The message that a word tells of, which may be `gone`.
-fn touched(alloc: Global, word: &str) -> Result<Option<Message>, Trouble> {
+fn touched(alloc: Global, words: &mut Words) -> Result<Option<Message>, Trouble> {
+    let word = words.word()?;
     if word == "gone" {
         return Ok(None);
     }
@@ -93,8 +80,8 @@ fn holds_over<L: Ledger>(r: &Restriction, m: &Message, blank: Blank) -> bool
     eval(r, m, &mut steps)
 }
 
-fn holds(r: &Restriction, m: &Message) -> bool {
-    holds_over::<Brand>(r, m, Blank::new(1))
+fn holds(r: &Restriction, m: Message) -> bool {
+    holds_over::<Brand>(r, &m, Blank::new(1))
 }
 
 /// Adds whether a restriction holds of the message with a subject.
@@ -102,17 +89,16 @@ fn say_holds(
     alloc: Global,
     text: &mut String,
     restriction: &Restriction,
-    word: &str,
+    words: &mut Words,
 ) -> Result<(), Trouble> {
-    let message = subject(alloc, word)?;
-    say_whether(text, holds(restriction, &message))
+    let message = subject(alloc, words)?;
+    say_whether(text, holds(restriction, message))
 }
 
-fn ask_holds(alloc: Global, text: &mut String, words: &mut Words) -> Result<(), Trouble> {
-    let bytes = words.word()?;
-    let word = words.word()?;
-    let restriction = restriction(alloc, bytes)?;
-    say_holds(alloc, text, &restriction, word)
+/// Whether a restriction holds of the message with a subject.
+pub fn ask_holds(alloc: Global, text: &mut String, words: &mut Words) -> Result<(), Trouble> {
+    let restriction = restriction(alloc, words)?;
+    say_holds(alloc, text, &restriction, words)
 }
 
 fn delta_over<L: Ledger>(
@@ -130,8 +116,8 @@ fn delta_over<L: Ledger>(
     touch(r, old, new, &mut steps)
 }
 
-fn delta(r: &Restriction, old: Option<&Message>, new: Option<&Message>) -> Delta {
-    delta_over::<Brand>(r, old, new, Blank::new(1))
+fn delta(r: &Restriction, old: Option<Message>, new: Option<Message>) -> Delta {
+    delta_over::<Brand>(r, old.as_ref(), new.as_ref(), Blank::new(1))
 }
 
 fn delta_word(delta: Delta) -> &'static str {
@@ -143,35 +129,20 @@ fn delta_word(delta: Delta) -> &'static str {
     }
 }
 
-/// Adds what becomes of a message in the list of a search, which was the one before and is the one that a word tells of.
+/// Adds what becomes of a message in the list of a search.
 fn say_touch(
     alloc: Global,
     text: &mut String,
     restriction: &Restriction,
-    old: Option<&Message>,
-    word: &str,
+    words: &mut Words,
 ) -> Result<(), Trouble> {
-    let new = touched(alloc, word)?;
-    say(text, delta_word(delta(restriction, old, new.as_ref())))
-}
-
-/// Adds what becomes of a message in the list of a search, of which two words tell.
-fn say_touches(
-    alloc: Global,
-    text: &mut String,
-    restriction: &Restriction,
-    word: &str,
-    next: &str,
-) -> Result<(), Trouble> {
-    let old = touched(alloc, word)?;
-    say_touch(alloc, text, restriction, old.as_ref(), next)
+    let old = touched(alloc, words)?;
+    let new = touched(alloc, words)?;
+    say(text, delta_word(delta(restriction, old, new)))
 }
 
 /// What a change of a message does to the list of a search.
-fn ask_touch(alloc: Global, text: &mut String, words: &mut Words) -> Result<(), Trouble> {
-    let bytes = words.word()?;
-    let old = words.word()?;
-    let new = words.word()?;
-    let restriction = restriction(alloc, bytes)?;
-    say_touches(alloc, text, &restriction, old, new)
+pub fn ask_touch(alloc: Global, text: &mut String, words: &mut Words) -> Result<(), Trouble> {
+    let restriction = restriction(alloc, words)?;
+    say_touch(alloc, text, &restriction, words)
 }

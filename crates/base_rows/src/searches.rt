@@ -9,21 +9,6 @@ use std::alloc::Global;
 use std::fmt::Write;
 use test_lines::{Trouble, Words, hex_number};
 
-pub fn answer(
-    alloc: Global,
-    text: &mut String,
-    kind: &str,
-    words: &mut Words,
-) -> Result<(), Trouble> {
-    match kind {
-        "flags" => ask_flags(text, words),
-        "criteria" => ask_criteria(alloc, text, words),
-        "change" => ask_change(alloc, text, words),
-        "scope" => ask_scope(alloc, text, words),
-        _ => Err(Trouble::Spelling),
-    }
-}
-
 fn state_word(state: SearchState) -> &'static str {
     match state {
         SearchState::Running => "running",
@@ -33,7 +18,7 @@ fn state_word(state: SearchState) -> &'static str {
 }
 
 /// What a search does under flags, where it may have them.
-fn ask_flags(text: &mut String, words: &mut Words) -> Result<(), Trouble> {
+pub fn ask_flags(text: &mut String, words: &mut Words) -> Result<(), Trouble> {
     let word = match SearchFlags::from_number(words.id()?) {
         Some(flags) => state_word(flags.state()),
         None => "refused",
@@ -71,7 +56,7 @@ fn say_search(alloc: Global, text: &mut String, object: &Props) -> Result<(), Tr
 }
 
 /// What the object of a search folder tells.
-fn ask_criteria(alloc: Global, text: &mut String, words: &mut Words) -> Result<(), Trouble> {
+pub fn ask_criteria(alloc: Global, text: &mut String, words: &mut Words) -> Result<(), Trouble> {
     let object = props(alloc, words.rest())?;
     say_search(alloc, text, &object)
 }
@@ -121,7 +106,7 @@ fn say_change(
 }
 
 /// The object after a line with these flags, which keeps the scope and the restriction.
-fn ask_change(alloc: Global, text: &mut String, words: &mut Words) -> Result<(), Trouble> {
+pub fn ask_change(alloc: Global, text: &mut String, words: &mut Words) -> Result<(), Trouble> {
     let Some(flags) = SearchFlags::from_number(words.id()?) else {
         return Err(Trouble::Spelling);
     };
@@ -166,23 +151,23 @@ fn say_ids(text: &mut String, ids: &[Nid]) -> Result<(), Trouble> {
     Ok(())
 }
 
-/// Adds the folders that a search is about, among those that words tell.
+/// Adds the folders that a search with criteria is about, among those that words tell.
 fn say_scope(
     alloc: Global,
     text: &mut String,
-    set: &CriteriaSet,
-    words: &str,
+    criteria: &Criteria,
+    words: &mut Words,
 ) -> Result<(), Trouble> {
-    let plain = pairs(alloc, words)?;
+    let Some(set) = &criteria.set else {
+        return Err(Trouble::Spelling);
+    };
+    let plain = pairs(alloc, words.rest())?;
     let folders = scope_of(alloc, set, plain.as_slice())?;
     say_ids(text, folders.as_slice())
 }
 
 /// The folders that a search is about.
-fn ask_scope(alloc: Global, text: &mut String, words: &mut Words) -> Result<(), Trouble> {
+pub fn ask_scope(alloc: Global, text: &mut String, words: &mut Words) -> Result<(), Trouble> {
     let criteria = criteria(alloc, words.part().rest())?;
-    match &criteria.set {
-        Some(set) => say_scope(alloc, text, set, words.rest()),
-        None => Err(Trouble::Spelling),
-    }
+    say_scope(alloc, text, &criteria, words)
 }

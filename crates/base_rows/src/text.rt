@@ -7,21 +7,6 @@ use std::fmt::Write;
 use test_lines::{Trouble, Words};
 use value_text::{parse_value, value_text};
 
-pub fn answer(
-    alloc: Global,
-    text: &mut String,
-    kind: &str,
-    words: &mut Words,
-) -> Result<(), Trouble> {
-    match kind {
-        "fold" => ask_fold(alloc, text, words, false),
-        "strip" => ask_fold(alloc, text, words, true),
-        "value" => ask_value(alloc, text, words),
-        "print" => ask_print(alloc, text, words),
-        _ => Err(Trouble::Spelling),
-    }
-}
-
 /// The units of words of hex digits.
 fn units(alloc: Global, words: &str) -> Result<Units, Trouble> {
     let mut units = Vec::new(alloc);
@@ -48,7 +33,8 @@ fn say_folded(alloc: Global, text: &mut String, units: &Units, strip: bool) -> R
     say_units(text, folded.as_slice())
 }
 
-fn ask_fold(
+/// Units with their case folded, and without nonspacing marks where they are to be stripped.
+pub fn ask_fold(
     alloc: Global,
     text: &mut String,
     words: &mut Words,
@@ -78,7 +64,7 @@ fn tag(words: &mut Words) -> Result<Tag, Trouble> {
 }
 
 /// The bytes of the value that a text says, and its own text.
-fn ask_value(alloc: Global, text: &mut String, words: &mut Words) -> Result<(), Trouble> {
+pub fn ask_value(alloc: Global, text: &mut String, words: &mut Words) -> Result<(), Trouble> {
     let tag = tag(words)?;
     match parse_value(alloc, tag, words.rest()) {
         Ok(value) => say_both(alloc, text, &value),
@@ -87,7 +73,8 @@ fn ask_value(alloc: Global, text: &mut String, words: &mut Words) -> Result<(), 
     }
 }
 
-fn ask_print(alloc: Global, text: &mut String, words: &mut Words) -> Result<(), Trouble> {
+/// The text that is printed of a value.
+pub fn ask_print(alloc: Global, text: &mut String, words: &mut Words) -> Result<(), Trouble> {
     let tag = tag(words)?;
     let bytes = Bytes::from_vec(words.bytes(alloc)?);
     let value = make_value(tag, bytes)?;
