@@ -21,6 +21,11 @@ pub as_at2 : {X Y A B : Type 0} (view : B → A) (answer : X → Y → Answer A)
     → x ≡ x' → y ≡ y' → Says view (answer x y) result → Says view (answer x' y') result
 as_at2 view answer result {x} {x'} {y} {y'} e e' said = subst (λ z. Says view (answer x' z) result) e' (subst (λ z. Says view (answer z y) result) e said)
 
+-- the same of three equal things
+pub as_at3 : {X Y Z A B : Type 0} (view : B → A) (answer : X → Y → Z → Answer A) (result : Result B Stop) {x x' : X} {y y' : Y} {z z' : Z}
+    → x ≡ x' → y ≡ y' → z ≡ z' → Says view (answer x y z) result → Says view (answer x' y' z') result
+as_at3 view answer result {x} {x'} {y} {y'} {z} {z'} e e' f said = as_at view (answer x' y') result f (as_at2 view (λ a b. answer a b z) result e e' said)
+
 -- the same of four equal things
 pub as_at4 : {X Y Z U A B : Type 0} (view : B → A) (answer : X → Y → Z → U → Answer A) (result : Result B Stop) {x x' : X} {y y' : Y} {z z' : Z} {u u' : U}
     → x ≡ x' → y ≡ y' → z ≡ z' → u ≡ u' → Says view (answer x y z u) result → Says view (answer x' y' z' u') result
