@@ -11,7 +11,7 @@ mod tree_pages;
 mod trees;
 
 pub use file_blocks::BlockRefusal;
-pub use opening::{Opened, open_header};
+pub use opening::{Opened, counted_header, open_header};
 pub use stops::{NodeFault, OpenRefusal, OpenStop, PageRefusal};
 pub use tree_pages::Seat;
 pub use trees::{keys_rise, read_tree};

@@ -76,6 +76,18 @@ fn read_header<W: Outside>(w: &mut W, gate_open: bool) -> Result<[u8; 564], Fail
     Ok(bytes)
 }
 
+/// The header that counts, as bytes that nothing has checked: that of the gate's file where the gate is open, else that of the store's file, which must be as long as a header. `Failed` comes where the disk fails.
+pub fn counted_header<W: Outside>(w: &mut W) -> Result<[u8; 564], Failed>
+    requires { (W.view w.old).tells → 564 ≤ length (W.view w.old).here.main }
+    ensures bytes { IfOk result (λ bytes. (W.view w.new).tells → bytes ≡ header_bytes (W.view w.new).here.main (W.view w.new).here.side) }
+    ensures cause { OnErr result (Rose (W.view w.old).disk_faults (W.view w.new).disk_faults) }
+    ensures same { Untouched (W.view w.old) (W.view w.new) }
+{
+    let side_len = w.len(Part::Side)?;
+    let gate_open = read_gate(w, side_len)?;
+    read_header(w, gate_open)
+}
+
 /// The header that the bytes are, or its refusal.
 fn read_as(bytes: &[u8; 564], gate_open: bool) -> Result<Opened, OpenStop>
     ensures reads { ReadsAs result (reading bytes.now) gate_open }

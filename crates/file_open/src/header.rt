@@ -1,46 +1,14 @@
-//! The header that counts, as bytes.
-ghost use Rattle.std.specs.Prelude.{◌≡◌, ◌≤◌, length, take, Ok, Err, IfOk, IfErr, OnOk, OnErr, IsTrue, ◌↔◌};
+//! The bytes of a header that was found.
+ghost use Rattle.std.specs.Prelude.{◌≡◌, take, Ok, Err, IfOk, IfErr, OnOk, IsTrue, ◌↔◌};
 ghost use Rattle.pst_outside.specs.Calls.{Rose, Untouched};
 ghost use Rattle.pst_header.specs.Format.{IsWritable, reading};
-ghost use Rattle.gate_file.specs.Effective.{header_bytes, is_open};
 ghost use Rattle.file_blocks.specs.Blocks.{file_of};
 ghost use Rattle.file_layout.specs.Opening.{opening};
 
 use crate::stops::FileStop;
-use gate_file::SIDE_LEN;
+use file_layout::counted_header;
 use pst_header::Header;
-use pst_outside::{Failed, Outside, Part, read_part};
-
-/// Whether the gate is open.
-fn has_open_gate<W: Outside>(w: &mut W) -> Result<bool, Failed>
-    ensures gate { IfOk result (λ open_gate. (W.view w.new).tells → open_gate ≡ is_open (W.view w.new).here.side) }
-    ensures cause { OnErr result (Rose (W.view w.old).disk_faults (W.view w.new).disk_faults) }
-    ensures same { Untouched (W.view w.old) (W.view w.new) }
-{
-    if w.len(Part::Side)? != SIDE_LEN {
-        return Ok(false);
-    }
-    let mut gate = [0];
-    read_part(w, Part::Side, 0, &mut gate)?;
-    Ok(gate[0] == 1)
-}
-
-/// The header that counts, as bytes.
-fn counted_header<W: Outside>(w: &mut W) -> Result<[u8; 564], Failed>
-    requires { (W.view w.old).tells → 564 ≤ length (W.view w.old).here.main }
-    ensures bytes { IfOk result (λ bytes. (W.view w.new).tells → bytes ≡ header_bytes (W.view w.new).here.main (W.view w.new).here.side) }
-    ensures cause { OnErr result (Rose (W.view w.old).disk_faults (W.view w.new).disk_faults) }
-    ensures same { Untouched (W.view w.old) (W.view w.new) }
-{
-    let is_open = has_open_gate(w)?;
-    let mut bytes = [0; 564];
-    if is_open {
-        read_part(w, Part::Side, 16, &mut bytes)?;
-    } else {
-        read_part(w, Part::Main, 0, &mut bytes)?;
-    }
-    Ok(bytes)
-}
+use pst_outside::Outside;
 
 /// Whether bytes are a header's.
 fn is_header(bytes: &[u8; 564], header: &Header) -> bool
