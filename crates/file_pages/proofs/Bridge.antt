@@ -16,31 +16,8 @@ use Rattle.file_layout.proofs.SeatLaws.{page_in-owed, page_in-err, page_in-ok, p
 use Rattle.tree_edit.specs.Shapes.{Shape, leaf, inner, RiseIn, heads, up_to, AreBelow, IsTree, IsRootOf, IsWhole}
 use Rattle.tree_edit.specs.Pages.{child_in, shape_of, seen, shown, shapes}
 use Rattle.file_pages.specs.InFile.{shapes_in, ok_of, body_at, IsShaped, IsUnshaped, IsShapedRoot, IsUnshapedRoot}
-use Rattle.file_pages.proofs.SpanLaws.{page-ascends, rises-in, spans-in}
-
-pub same-keys : {E : Type 0} (rule : ℕ → ℕ) (entry_of : List ℕ → E) (key : E → ℕ) → ((b : List ℕ) → key (entry_of b) ≡ rule (number_at 8 0 b)) → (bs : List (List ℕ)) → map key (map entry_of bs) ≡ keys rule bs
-same-keys rule entry_of key law [] = refl
-same-keys rule entry_of key law (b ∷ bs) = ap (λ (k : ℕ). k ∷ map key (map entry_of bs)) (law b) ∙ ap (λ (l : List ℕ). key_in rule b ∷ l) (same-keys rule entry_of key law bs)
-
-pub same-heads : (rule : ℕ → ℕ) (bs : List (List ℕ)) → heads (map (child_in rule) bs) ≡ keys rule bs
-unfolding inner_of
-same-heads rule [] = refl
-same-heads rule (b ∷ bs) = ap (λ (l : List ℕ). key_in rule b ∷ l) (same-heads rule bs)
-
--- ---- what a page shows
-
-pub shown-here : {E : Type 0} (rule : ℕ → ℕ) (size : ℕ) (entry_of : List ℕ → E) (find : Bref → Option (List ℕ)) (at : Bref) (body : List ℕ) (page : Page) → find at ≡ Some body → page_of rule size body ≡ Ok page
-    → shapes rule size entry_of find at ≡ Some (shape_of rule entry_of page)
-shown-here rule size entry_of find at body page found reads = ap (shown rule size entry_of) found ∙ ap (seen rule entry_of) reads
-
-pub some-same : {A : Type 0} (o : Option A) (x y : A) → o ≡ Some x → o ≡ Some y → x ≡ y
-some-same {A} o x y e h = let both_are : ◌≡◌ {A = Option A} (Some x) (Some y) = sym e ∙ h in cc
-
-pub leaf-shape : {E : Type 0} (rule : ℕ → ℕ) (entry_of : List ℕ → E) (page : Page) → page.level ≡ 0 → shape_of rule entry_of page ≡ leaf (map entry_of page.entries)
-leaf-shape rule entry_of page e = rw (eq-eqb page.level 0 e) refl
-
-pub inner-shape : {E : Type 0} (rule : ℕ → ℕ) (entry_of : List ℕ → E) (page : Page) (n : ℕ) → page.level ≡ suc n → shape_of {E = E} rule entry_of page ≡ inner (suc n) (map (child_in rule) page.entries)
-inner-shape {E} rule entry_of page n e = rw (ne_eqb page.level 0 (λ z. absurd (omega (arith, z, e)))) (ap (λ (m : ℕ). inner {E = E} m (map (child_in rule) page.entries)) e)
+use Rattle.tree_edit.proofs.SpanLaws.{page-ascends, rises-in, spans-in}
+use Rattle.tree_edit.proofs.StepLaws.{inner-shape, leaf-shape, same-heads, same-keys, shown-here, some-same}
 
 -- the content of a page of a tree, and what is said of it
 body-here : (t : FileTree) (seat : Seat) (page : Page) (here : IsTreePage t seat page) → body_at t seat.at ≡ Some here.body

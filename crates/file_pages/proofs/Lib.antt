@@ -1,3 +1,2 @@
-pub mod SpanLaws
 pub mod Bridge
 pub mod SourceLaws

@@ -2,12 +2,8 @@
 use Rattle.std.proofs.Common.{Bool, true, false, ◌≡◌, ◌∙◌, inl, inr, ℕ, ◌+◌, ◌<◌, ◌≤◌, eqb, List, [], ◌∷◌, ◌++◌, Option, Some, None, refl, sym, ap, subst, arith, if◌then◌else◌}
 use Rattle.std.proofs.lemmas.Bool.{cases_lt, cases_eq, lt-ltb, le-ltb, eq-eqb, ne_eqb}
 use Rattle.tree_edit.specs.Edits.{under, over, given, edited, Keyed, AreEdits, entry_with, of_some, extra}
+use Rattle.tree_edit.proofs.PutLaws.{AreFrom, from-none, with-behind, with-skip}
 use Rattle.node_layout.specs.Lookups.{edit_at, or_old, Each, IsPut, EachPut, sum_of}
-
--- every key is at least a number
-abbrev pub AreFrom : {E : Type 0} → (E → ℕ) → ℕ → List E → Type 0
-AreFrom key k [] = Unit {0}
-AreFrom key k (e ∷ es) = (k ≤ key e) × AreFrom key k es
 
 from-append : {E : Type 0} (key : E → ℕ) (k : ℕ) (xs ys : List E) → AreFrom key k xs → AreFrom key k ys → AreFrom key k (xs ++ ys)
 from-append key k [] ys a b = b
@@ -38,24 +34,6 @@ edited-from key low high m es (x ∷ ds) le a d =
     (edited-from key (x.0 + 1) high m (over key x.0 es) ds (omega (arith, le, lx)) (over-from key x.0 m es a) d.3))
 
 -- ---- one key
-
-pub from-none : {E : Type 0} (key : E → ℕ) (k : ℕ) (es : List E) → AreFrom key (k + 1) es → entry_with key k es ≡ None
-from-none key k [] a = refl
-from-none key k (e ∷ es) a = let x = a.0 in rw (ne_eqb (key e) k (λ h. absurd (omega (arith, h, x)))) (from-none key k es a.1)
-
--- a list and then another, in which a key doesn't stand, or that begins behind it
-pub with-behind : {E : Type 0} (key : E → ℕ) (k : ℕ) (xs ys : List E) → entry_with key k ys ≡ None → entry_with key k (xs ++ ys) ≡ entry_with key k xs
-with-behind key k [] ys none = none
-with-behind key k (x ∷ xs) ys none = ap (λ (o : Option _). if eqb (key x) k then Some x else o) (with-behind key k xs ys none)
-
-pub with-skip : {E : Type 0} (key : E → ℕ) (k : ℕ) (xs ys : List E) → entry_with key k xs ≡ None → entry_with key k (xs ++ ys) ≡ entry_with key k ys
-with-skip key k [] ys none = refl
-with-skip {E} key k (x ∷ xs) ys none = by (eqb (key x) k) (with-skip key k xs ys) none
-  where
-    by : (b : Bool) → (entry_with key k xs ≡ None → entry_with key k (xs ++ ys) ≡ entry_with key k ys) → (if b then Some x else entry_with key k xs) ≡ None
-        → (if b then Some x else entry_with key k (xs ++ ys)) ≡ entry_with key k ys
-    by true rest h = absurd (cc)
-    by false rest h = rest h
 
 under-with : {E : Type 0} (key : E → ℕ) (k d : ℕ) (es : List E) → k < d → entry_with key k (under key d es) ≡ entry_with key k es
 under-with key k d [] lt = refl
