@@ -10,7 +10,7 @@ use Rattle.file_blocks.specs.Blocks.{data_of, entry_key}
 use Rattle.file_layout.specs.Nodes.{place_of}
 use Rattle.file_layout.specs.Trees.{IsPlace}
 use Rattle.lays_kept.specs.Kept.{Each as EachPlace}
-use Rattle.lays_kept.specs.Once.{Once}
+use Rattle.alloc_map.specs.Covered.{Once}
 use Rattle.node_layout.specs.Joined.{found_after}
 use Rattle.node_layout.specs.Lookups.{Each as EachOf}
 use Rattle.node_layout.proofs.LookupLaws.{with-edited}

@@ -22,12 +22,13 @@ use Rattle.file_layout.specs.Nodes.{Lays, NodeMap, block_tree, blocks_in, node_t
 use Rattle.file_layout.specs.Trees.{IsPlace, page_place}
 use Rattle.lays_kept.specs.declared.Piece.{Piece}
 use Rattle.lays_kept.specs.Kept.{Each as EachPlace, IsClear, SameAt, Scattered}
-use Rattle.lays_kept.specs.Tally.{one_at, tally}
+use Rattle.alloc_map.specs.Tally.{one_at, tally}
 use Rattle.lays_kept.proofs.Beside.{IsWhole}
 use Rattle.lays_kept.proofs.Kept.{all_kept, each_back, each_front}
 use Rattle.lays_kept.proofs.Places.{blocks_places, each_append, lays_places, scattered_same}
 use Rattle.lays_kept.proofs.Renewed.{behind}
-use Rattle.lays_kept.proofs.Tally.{once_reordered, tally_append}
+use Rattle.alloc_map.proofs.TallyLaws.{tally_append}
+use Rattle.lays_kept.proofs.Tally.{once_reordered}
 use Rattle.node_port.specs.declared.node.NodeRec.{NodeRec}
 use Rattle.node_layout.specs.Commit.{HasRoom, IsNext, Shows}
 use Rattle.node_layout.specs.Growth.{AllGrow}

@@ -6,8 +6,8 @@ use Rattle.pst_base.specs.declared.places.Place.{Place}
 use Rattle.btree_pages.specs.declared.entry.BlockEntry.{BlockEntry}
 use Rattle.file_blocks.specs.Blocks.{entry_key}
 use Rattle.file_layout.specs.Nodes.{place_of}
-use Rattle.lays_kept.specs.Tally.{one_at, tally}
-use Rattle.lays_kept.proofs.Tally.{tally_append}
+use Rattle.alloc_map.specs.Tally.{one_at, tally}
+use Rattle.alloc_map.proofs.TallyLaws.{tally_append}
 use Rattle.tree_edit.specs.Edits.{AreEdits, entry_with, of_some}
 use Rattle.tree_edit.specs.Shapes.{IsWhole, IsRootOf, IsTree, RiseIn, Shape}
 use Rattle.tree_edit.proofs.ShapeLaws.{below-rise, tree-rise}

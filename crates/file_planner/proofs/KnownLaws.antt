@@ -24,10 +24,10 @@ use Rattle.file_scan.proofs.ScanLaws.{whole-once}
 use Rattle.lays_kept.specs.declared.Piece.{Piece}
 use Rattle.lays_kept.specs.Kept.{Each as EachPlace, HoldsEach, SameAt, Scattered}
 use Rattle.lays_kept.specs.Renewed.{EachLeads}
-use Rattle.lays_kept.specs.Tally.{one_at, tally}
+use Rattle.alloc_map.specs.Tally.{one_at, tally}
 use Rattle.lays_kept.proofs.Kept.{each_front, pages_back, pages_front}
 use Rattle.lays_kept.proofs.Rows.{pages_tally}
-use Rattle.lays_kept.proofs.Tally.{tally_append}
+use Rattle.alloc_map.proofs.TallyLaws.{tally_append}
 use Rattle.node_port.specs.declared.node.NodeRec.{NodeRec}
 use Rattle.node_layout.specs.Changed.{IsChangedTree}
 use Rattle.node_layout.specs.Joined.{HasPlanned, found_after, node_id}

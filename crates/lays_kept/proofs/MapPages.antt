@@ -5,10 +5,9 @@ use Rattle.std.proofs.lemmas.List.{drop-take, take-take, get_or-take, length-tak
 use Rattle.pst_base.specs.declared.places.Place.{Place}
 use Rattle.alloc_map.specs.Slots.{is_used}
 use Rattle.alloc_map.specs.Standing.{Covers, SomeCovers, IsCovered, occupied, fixed_place, fixed_places, amap_place, amap_places}
-use Rattle.alloc_map.specs.Covered.{IsTwice}
+use Rattle.alloc_map.specs.Covered.{IsTwice, Once}
 use Rattle.alloc_map.specs.Maps.{IsMapPage}
 use Rattle.lays_kept.specs.Kept.{Each, IsClear}
-use Rattle.lays_kept.specs.Once.{Once}
 use Rattle.lays_kept.specs.Saved.{map_pieces}
 use Rattle.lays_kept.proofs.Beside.{IsWhole, apart_slots}
 

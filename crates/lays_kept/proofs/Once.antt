@@ -4,8 +4,7 @@ use Rattle.std.proofs.lemmas.Bool.{cases_lt}
 use Rattle.pst_base.specs.declared.places.Place.{Place}
 use Rattle.alloc_map.specs.Slots.{slot_of}
 use Rattle.alloc_map.specs.Standing.{Covers, SomeCovers, Meet, MeetsSome, IsMeeting}
-use Rattle.alloc_map.specs.Covered.{IsTwice}
-use Rattle.lays_kept.specs.Once.{Once, picked}
+use Rattle.alloc_map.specs.Covered.{IsTwice, Once}
 
 meets_covers : (p : Place) (ps : List Place) (slot : ℕ) → MeetsSome p ps slot → Covers p slot × SomeCovers ps slot
 unfolding MeetsSome SomeCovers
@@ -64,25 +63,3 @@ pub once_more : (q : Place) (ps : List Place) → Once ps → ((slot : ℕ) → 
 unfolding IsTwice
 once_more q ps once free slot (inl both) = free slot both.0 both.1
 once_more q ps once free slot (inr twice) = once slot twice
-
--- some of the places cover no more
-pub picked_covers : (ms : List Bool) (ps : List Place) (slot : ℕ) → SomeCovers (picked ms ps) slot → SomeCovers ps slot
-unfolding SomeCovers
-picked_covers [] [] slot covers = covers
-picked_covers [] (p ∷ ps) slot covers = absurd covers
-picked_covers (m ∷ ms) [] slot covers = covers
-picked_covers (true ∷ ms) (p ∷ ps) slot (inl covers) = inl covers
-picked_covers (true ∷ ms) (p ∷ ps) slot (inr covers) = inr (picked_covers ms ps slot covers)
-picked_covers (false ∷ ms) (p ∷ ps) slot covers = inr (picked_covers ms ps slot covers)
-
-picked_twice : (ms : List Bool) (ps : List Place) (slot : ℕ) → IsTwice (picked ms ps) slot → IsTwice ps slot
-unfolding IsTwice
-picked_twice [] [] slot twice = twice
-picked_twice [] (p ∷ ps) slot twice = absurd twice
-picked_twice (m ∷ ms) [] slot twice = twice
-picked_twice (true ∷ ms) (p ∷ ps) slot (inl both) = inl (both.0, picked_covers ms ps slot both.1)
-picked_twice (true ∷ ms) (p ∷ ps) slot (inr twice) = inr (picked_twice ms ps slot twice)
-picked_twice (false ∷ ms) (p ∷ ps) slot twice = inr (picked_twice ms ps slot twice)
-
-pub picked_once : (ms : List Bool) (ps : List Place) → Once ps → Once (picked ms ps)
-picked_once ms ps once slot twice = once slot (picked_twice ms ps slot twice)

@@ -4,7 +4,7 @@ use Rattle.std.proofs.lemmas.Bool.{cases_lt}
 use Rattle.pst_base.specs.declared.places.Place.{Place}
 use Rattle.alloc_map.specs.Slots.{AreAll, Becomes, slot_of, slots_in}
 use Rattle.alloc_map.specs.Standing.{Covers, SomeCovers, IsCovered}
-use Rattle.lays_kept.specs.Once.{Once}
+use Rattle.alloc_map.specs.Covered.{Once}
 use Rattle.lays_kept.proofs.Once.{once_more}
 
 -- a slot of a place, or one beside it

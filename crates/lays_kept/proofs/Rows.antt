@@ -1,7 +1,7 @@
 -- A tree written anew is a tree: from the leaves upward.
 use Rattle.std.proofs.Common.{◌≡◌, ◌∙◌, ℕ, suc, List, [], ◌∷◌, ◌++◌, map, refl, sym, ap, subst, append_assoc, arith, ◌+◌}
 use Rattle.pst_base.specs.declared.ids.Bref.{Bref}
-use Rattle.lays_kept.specs.Tally.{tally}
+use Rattle.alloc_map.specs.Tally.{tally}
 use Rattle.file_layout.specs.declared.tree_pages.Seat.{Seat}
 use Rattle.file_layout.specs.Trees.{FileTree, Found, nothing, both, page_alone, page_place, page_places, leaf_of, child_of, before_next, AreChildren, IsTree}
 use Rattle.lays_kept.specs.Rows.{names, seats, within, page_with, AreRow, AreLeaves, Lead}

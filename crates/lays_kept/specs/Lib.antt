@@ -3,8 +3,6 @@ pub mod Moved
 pub mod Grown
 pub mod Rows
 pub mod Packing
-pub mod Once
-pub mod Tally
 pub mod Stands
 pub mod Renewed
 pub mod Saved

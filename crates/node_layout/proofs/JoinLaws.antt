@@ -13,11 +13,12 @@ use Rattle.file_blocks.specs.Blocks.{Stands, AllStand, entry_key, found_in}
 use Rattle.file_layout.specs.Trees.{Found, IsWhole as IsFileWhole, page_place}
 use Rattle.file_layout.specs.Nodes.{Node, NodeMap, Lays, block_tree, node_tree, blocks_in, nodes_in, node_at as read_node, AreNodes, place_of, places_of, regions_to}
 use Rattle.lays_kept.specs.Kept.{Each as EachPlace, SameAt}
-use Rattle.lays_kept.specs.Tally.{one_at, tally as slot_tally}
+use Rattle.alloc_map.specs.Tally.{one_at, tally as slot_tally}
 use Rattle.lays_kept.proofs.Kept.{each_front, each_back, pages_front, pages_back, all_kept}
 use Rattle.lays_kept.proofs.Once.{once_apart}
 use Rattle.lays_kept.proofs.Rows.{pages_tally}
-use Rattle.lays_kept.proofs.Tally.{tally_append, once_reordered}
+use Rattle.alloc_map.proofs.TallyLaws.{tally_append}
+use Rattle.lays_kept.proofs.Tally.{once_reordered}
 use Rattle.node_port.specs.declared.node.NodeRec.{NodeRec}
 use Rattle.node_port.specs.Nodes as port
 use Rattle.lays_kept.specs.Stands.{AreThose}

@@ -2,11 +2,10 @@
 use Rattle.std.proofs.Common.{◌≡◌, ◌∙◌, inl, inr, ℕ, ◌≤◌, List, [], ◌∷◌, ◌++◌, length, drop, map, arith}
 use Rattle.pst_base.specs.declared.places.Place.{Place}
 use Rattle.alloc_map.specs.Standing.{Covers, SomeCovers}
-use Rattle.alloc_map.specs.Covered.{IsTwice}
+use Rattle.alloc_map.specs.Covered.{IsTwice, Once}
 use Rattle.file_layout.specs.Trees.{IsPlace}
 use Rattle.lays_kept.specs.declared.Piece.{Piece}
 use Rattle.lays_kept.specs.Kept.{Each, IsClear, HoldsEach}
-use Rattle.lays_kept.specs.Once.{Once}
 use Rattle.lays_kept.proofs.Beside.{IsWhole, apart_slots}
 use Rattle.lays_kept.proofs.Renewed.{behind}
 use Rattle.node_layout.specs.Pieces.{piece_place, AreApart, EachStands}

@@ -12,13 +12,14 @@ use Rattle.file_layout.specs.Trees.{IsPlace}
 use Rattle.file_layout.specs.Nodes.{Lays, NodeMap, places_of, regions_to}
 use Rattle.lays_kept.specs.declared.Piece.{Piece}
 use Rattle.lays_kept.specs.Kept.{Each, SameAt, IsClear, HoldsEach, Scattered}
-use Rattle.lays_kept.specs.Once.{Once}
-use Rattle.lays_kept.specs.Tally.{one_at, tally}
+use Rattle.alloc_map.specs.Covered.{Once}
+use Rattle.alloc_map.specs.Tally.{one_at, tally}
 use Rattle.lays_kept.proofs.Beside.{IsWhole}
 use Rattle.lays_kept.proofs.Kept.{each_front}
 use Rattle.lays_kept.proofs.Places.{each_append, lays_places, lays_wholes, scattered_same}
 use Rattle.lays_kept.proofs.Renewed.{behind}
-use Rattle.lays_kept.proofs.Tally.{tally_append, once_reordered}
+use Rattle.alloc_map.proofs.TallyLaws.{tally_append}
+use Rattle.lays_kept.proofs.Tally.{once_reordered}
 use Rattle.node_port.specs.declared.node.NodeRec.{NodeRec}
 use Rattle.node_port.specs.Nodes as port
 use Rattle.lays_kept.specs.Stands.{FileStands, IsPlan}

@@ -8,7 +8,7 @@ use Rattle.file_layout.specs.Trees.{IsPlace, page_place, page_places}
 use Rattle.file_layout.specs.Trees.{FileTree, Found, root_seat, IsWhole as IsFileWhole}
 use Rattle.lays_kept.specs.Kept.{Each, SameAt}
 use Rattle.lays_kept.specs.Moved.{moved}
-use Rattle.lays_kept.specs.Tally.{one_at, tally as slot_tally}
+use Rattle.alloc_map.specs.Tally.{one_at, tally as slot_tally}
 use Rattle.lays_kept.proofs.Places.{tree_places}
 use Rattle.tree_edit.specs.Shapes.{Shape, IsWhole}
 use Rattle.tree_edit.specs.Edits.{edited}

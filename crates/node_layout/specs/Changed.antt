@@ -3,7 +3,7 @@ use Rattle.std.specs.Prelude.{◌≡◌, ℕ, ◌+◌, List, map, Option}
 use Rattle.pst_base.specs.declared.ids.Bref.{Bref}
 use Rattle.file_layout.specs.Trees.{FileTree, Found, IsWhole as IsFileWhole, page_place, page_places}
 use Rattle.lays_kept.specs.Moved.{moved}
-use Rattle.lays_kept.specs.Tally.{tally}
+use Rattle.alloc_map.specs.Tally.{tally}
 use Rattle.tree_edit.specs.declared.plan.Child.{Child}
 use Rattle.tree_edit.specs.declared.plan.PlanPage.{PlanPage}
 use Rattle.tree_edit.specs.Edits.{edited}

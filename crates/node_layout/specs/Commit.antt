@@ -12,8 +12,8 @@ use Rattle.file_blocks.specs.Blocks.{Stands}
 use Rattle.file_layout.specs.Nodes.{NodeMap, Lays, block_tree, node_tree, blocks_in, nodes_in, places_of, regions_to, LARGEST}
 use Rattle.lays_kept.specs.declared.Piece.{Piece}
 use Rattle.lays_kept.specs.Kept.{Each as EachPlace, IsClear, HoldsEach, Scattered}
-use Rattle.lays_kept.specs.Once.{Once}
-use Rattle.lays_kept.specs.Tally.{tally as slot_tally}
+use Rattle.alloc_map.specs.Covered.{Once}
+use Rattle.alloc_map.specs.Tally.{tally as slot_tally}
 use Rattle.lays_kept.proofs.Beside.{IsWhole}
 use Rattle.node_port.specs.declared.node.NodeRec.{NodeRec}
 use Rattle.tree_edit.specs.Plans.{resolve, AreShown}

@@ -16,8 +16,8 @@ use Rattle.file_layout.specs.Trees.{page_place}
 use Rattle.file_layout.specs.Nodes.{NodeMap, Lays, block_tree, node_tree, blocks_in, nodes_in, place_of, places_of, regions_to, LARGEST}
 use Rattle.lays_kept.specs.Kept.{Each as EachPlace, SameAt}
 use Rattle.lays_kept.specs.Grown.{NeedsOnly}
-use Rattle.lays_kept.specs.Once.{Once}
-use Rattle.lays_kept.specs.Tally.{one_at, tally as slot_tally}
+use Rattle.alloc_map.specs.Covered.{Once}
+use Rattle.alloc_map.specs.Tally.{one_at, tally as slot_tally}
 use Rattle.node_port.specs.declared.node.NodeRec.{NodeRec}
 use Rattle.lays_kept.specs.Renewed.{LeadsTo}
 use Rattle.tree_edit.specs.declared.plan.Child.{Child}

@@ -8,12 +8,12 @@ use Rattle.pst_base.specs.declared.places.Place.{Place}
 use Rattle.btree_pages.specs.declared.entry.BlockEntry.{BlockEntry}
 use Rattle.alloc_map.specs.Slots.{slot_of, slots_in}
 use Rattle.alloc_map.specs.Standing.{Covers, SomeCovers}
-use Rattle.alloc_map.specs.Covered.{IsTwice}
+use Rattle.alloc_map.specs.Covered.{IsTwice, Once}
 use Rattle.file_layout.specs.Trees.{IsPlace}
 use Rattle.file_layout.specs.Nodes.{place_of}
 use Rattle.lays_kept.specs.Kept.{Each}
-use Rattle.lays_kept.specs.Once.{Once}
-use Rattle.lays_kept.specs.Tally.{one_at, tally}
+use Rattle.alloc_map.specs.Tally.{one_at, tally}
+use Rattle.alloc_map.proofs.TallyLaws.{tally_some, tally_twice}
 use Rattle.data_tree.specs.Plan.{bytes_in, contents}
 use Rattle.file_blocks.specs.Blocks.{data_of, entry_key}
 use Rattle.tree_edit.specs.Edits.{entry_with, of_some}
@@ -21,39 +21,6 @@ use Rattle.node_layout.specs.Lookups.{sum_of, Each as EachOf}
 use Rattle.data_tree.specs.Keys.{count_of}
 
 -- ---- a slot is covered at most once
-
-one_covers : (p : Place) (slot : ℕ) → 1 ≤ one_at slot p → Covers p slot
-one_covers p slot some = by (leb (slot_of p.ib) slot) (ltb slot (slot_of p.ib + slots_in p)) refl refl some
-  where
-    by : (a b : Bool) → leb (slot_of p.ib) slot ≡ a → ltb slot (slot_of p.ib + slots_in p) ≡ b → 1 ≤ (if a && b then 1 else 0) → Covers p slot
-    by true true e f h = record { begins = leb-true (slot_of p.ib) slot e; ends = ltb-true slot (slot_of p.ib + slots_in p) f }
-    by true false e f h = absurd (omega (arith, h))
-    by false b e f h = absurd (omega (arith, h))
-
-at_most_one : (slot : ℕ) (p : Place) → one_at slot p ≤ 1
-at_most_one slot p = by (leb (slot_of p.ib) slot && ltb slot (slot_of p.ib + slots_in p))
-  where
-    by : (b : Bool) → (if b then 1 else 0) ≤ 1
-    by true = omega arith
-    by false = omega arith
-
-pub tally_some : (ps : List Place) (slot : ℕ) → 1 ≤ tally slot ps → SomeCovers ps slot
-unfolding SomeCovers
-tally_some [] slot h = absurd (omega (arith, h))
-tally_some (p ∷ ps) slot h = by (tally_some ps slot) (one_at slot p) refl
-  where
-    by : (1 ≤ tally slot ps → SomeCovers ps slot) → (n : ℕ) → one_at slot p ≡ n → Covers p slot ⊎ SomeCovers ps slot
-    by rest zero e = inr (rest (omega (arith, h, e)))
-    by rest (suc n) e = inl (one_covers p slot (omega (arith, e)))
-
-tally_twice : (ps : List Place) (slot : ℕ) → 2 ≤ tally slot ps → IsTwice ps slot
-unfolding IsTwice
-tally_twice [] slot h = absurd (omega (arith, h))
-tally_twice (p ∷ ps) slot h = by (tally_twice ps slot) (one_at slot p) refl
-  where
-    by : (2 ≤ tally slot ps → IsTwice ps slot) → (n : ℕ) → one_at slot p ≡ n → (Covers p slot × SomeCovers ps slot) ⊎ IsTwice ps slot
-    by rest zero e = inr (rest (omega (arith, h, e)))
-    by rest (suc n) e = inl (one_covers p slot (omega (arith, e)), tally_some ps slot (omega (arith, h, at_most_one slot p)))
 
 pub once-tally : (ps : List Place) → Once ps → (slot : ℕ) → tally slot ps ≤ 1
 once-tally ps once slot = elim (cases_lt 1 (tally slot ps)) [ inl a ↦ absurd (once slot (tally_twice ps slot (omega (arith, a)))) | inr a ↦ a ]

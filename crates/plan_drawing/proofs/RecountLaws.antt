@@ -4,7 +4,7 @@ use Rattle.std.proofs.lemmas.Bool.{cases_lt, cases_eq, lt-ltb, le-ltb, eq-eqb, n
 use Rattle.btree_pages.specs.declared.entry.BlockEntry.{BlockEntry}
 use Rattle.file_blocks.specs.Blocks.{Stands, data_at, entry_key, misplaced}
 use Rattle.file_layout.specs.Nodes.{place_of}
-use Rattle.lays_kept.specs.Tally.{one_at, tally}
+use Rattle.alloc_map.specs.Tally.{one_at, tally}
 use Rattle.tree_edit.specs.Edits.{AreEdits, Keyed, entry_with, extra, of_some}
 use Rattle.node_layout.specs.Joined.{AreLeft, Recounts}
 use Rattle.node_layout.specs.Lookups.{Each, EachPut, IsPut, edit_at, or_old, sum_of}
