@@ -1,6 +1,6 @@
 #!/bin/sh
 # Runs `rt ci` once and says how many processor minutes each crate took, apart for its proofs, its tests and its must-fail edits, and how long the whole took.
-# The gate's own lines go to the file that is named (default gate.log). It looks at the checks that run twice a second, so give it the machine alone.
+# The gate's own lines go to the file that is named (default gate.log). It looks at the checks that run twice a second, so give it the machine alone. Machines differ by a factor of two, so it also says how long a fixed piece of work took on this one.
 log=${1:-gate.log}
 cd "$(dirname "$0")/.." || exit 1
 rt ci >"$log" 2>&1 &
@@ -34,6 +34,14 @@ def look():
         spent[pid, fields[19]] = crate, kind, (int(fields[11]) + int(fields[12])) / TICKS
 
 
+def fixed_work():
+    """How many processor seconds a loop takes that is always the same."""
+    begun, sum = time.process_time(), 0
+    for i in range(5_000_000):
+        sum += i * i & 7
+    return time.process_time() - begun
+
+
 def ended():
     try:
         with open(f"/proc/{gate}/stat") as it:
@@ -43,6 +51,7 @@ def ended():
 
 
 begun = time.time()
+work = fixed_work()
 while not ended():
     look()
     time.sleep(0.5)
@@ -57,6 +66,7 @@ for crate, of in sorted(minutes.items(), key=lambda it: -sum(it[1].values())):
 sums = [sum(of.get(kind, 0) for of in minutes.values()) for kind in ("proofs", "tests", "edits")]
 print(f"{'all':20} {sums[0]:6.1f} {sums[1]:6.1f} {sums[2]:6.1f} {sum(sums):6.1f}")
 print(f"minutes on the clock: {(time.time() - begun) / 60:.1f}")
+print(f"seconds of the fixed work: {work:.2f} at the start, {fixed_work():.2f} at the end")
 with open(log, errors="replace") as it:
     print([line.rstrip() for line in it][-1])
 PYTHON
