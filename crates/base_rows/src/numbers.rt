@@ -1,5 +1,6 @@
 //! Checksums, signatures and ids.
-use pst_base::{Bid, Nid, crc, make_nid, sig};
+use pst_base::{Bid, Nid, make_nid};
+use pst_checksum::{crc, sig};
 use std::alloc::Global;
 use std::fmt::Write;
 use test_lines::{Trouble, Words};

@@ -2,10 +2,10 @@
 use Rattle.std.specs.Prelude.{◌≡◌, ◌==◌, not, ℕ, ◌+◌, ◌-◌, List, [], ◌∷◌, ◌++◌, length, replicate, take, if◌then◌else◌, Result, Ok, Err}
 use Rattle.pst_base.specs.declared.ids.Bref.{Bref}
 use Rattle.pst_base.specs.Cells.{Cell, written}
-use Rattle.pst_base.specs.Crc.{crc_of}
+use Rattle.pst_checksum.specs.Crc.{crc_of}
 use Rattle.pst_base.specs.Fields.{number_at}
 use Rattle.pst_base.specs.Ids.{key_of}
-use Rattle.pst_base.specs.Sig.{sig_of}
+use Rattle.pst_checksum.specs.Sig.{sig_of}
 use Rattle.block_frame.specs.declared.block.BlockFault.{BlockFault}
 use Rattle.block_frame.specs.declared.block.BlockFault.TheVariants.{Length, Crc, Sig, Bid}
 use Rattle.block_frame.specs.Size.{disk_size_of}

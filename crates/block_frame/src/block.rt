@@ -2,7 +2,8 @@
 ghost use Rattle.std.specs.Prelude.{◌≡◌, ◌≤◌, length};
 ghost use Rattle.block_frame.specs.Size.{disk_size_of};
 
-use pst_base::{Bid, Bref, crc, sig, u16_at, u32_at, u64_at};
+use pst_base::{Bid, Bref, u16_at, u32_at, u64_at};
+use pst_checksum::{crc, sig};
 use std::marker::Model;
 
 /// What is wrong with a block's trailer ([MS-PST] 2.2.2.8.1), with the two numbers that the check compared.

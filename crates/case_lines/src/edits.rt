@@ -4,7 +4,8 @@ ghost use Rattle.pst_base.specs.Fields.{replaced};
 
 use block_frame::seal as seal_block;
 use page_frame::seal as seal_page;
-use pst_base::{Bid, Bref, crc, put_u32, u64_at};
+use pst_base::{Bid, Bref, put_u32, u64_at};
+use pst_checksum::crc;
 use std::alloc::Global;
 use test_lines::{Trouble, Words, number};
 

@@ -3,7 +3,7 @@ ghost use Rattle.std.specs.Prelude.{◌≡◌, ◌++◌, IfOk, OnOk};
 ghost use Rattle.mail_tree.specs.Start.{entry_id, record_key, utf8_bytes, utf8_of};
 
 use mapi_values::{Character, Units, split_character};
-use pst_base::crc;
+use pst_checksum::crc;
 use std::alloc::{AllocError, Global};
 
 /// Puts the bytes of a character at the end. An `Err` leaves a vector that is to be given up.

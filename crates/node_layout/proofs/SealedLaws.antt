@@ -3,10 +3,10 @@ use Rattle.std.proofs.Common.{Bool, true, false, not, ◌≡◌, ◌∙◌, ℕ,
 use Rattle.std.proofs.lemmas.List.{take-take}
 use Rattle.pst_base.specs.declared.ids.Bid.{Bid}
 use Rattle.pst_base.specs.declared.ids.Bref.{Bref}
-use Rattle.pst_base.specs.Crc.{crc_of}
+use Rattle.pst_checksum.specs.Crc.{crc_of}
 use Rattle.pst_base.specs.Fields.{number_at}
 use Rattle.pst_base.specs.Ids.{key_of}
-use Rattle.pst_base.specs.Sig.{sig_of}
+use Rattle.pst_checksum.specs.Sig.{sig_of}
 use Rattle.block_frame.specs.declared.block.BlockFault.{BlockFault}
 use Rattle.block_frame.specs.declared.block.BlockFault.TheVariants as faults
 use Rattle.block_frame.specs.Block.{reading, trailer_at}

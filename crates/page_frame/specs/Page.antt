@@ -4,9 +4,9 @@ use Rattle.pst_base.specs.declared.ids.Bref.{Bref}
 use Rattle.pst_base.specs.declared.stops.PageFault.{PageFault}
 use Rattle.pst_base.specs.declared.stops.PageFault.TheVariants.{Kind, Crc, Sig, Bid}
 use Rattle.pst_base.specs.Cells.{Cell, written}
-use Rattle.pst_base.specs.Crc.{crc_of}
+use Rattle.pst_checksum.specs.Crc.{crc_of}
 use Rattle.pst_base.specs.Fields.{number_at}
-use Rattle.pst_base.specs.Sig.{sig_of}
+use Rattle.pst_checksum.specs.Sig.{sig_of}
 
 -- the signature of a page of a kind: pages of the two trees and the list of dense pages have that of their place and id, and the maps have 0
 unfoldable pub signature_of : ℕ → ℕ → ℕ → ℕ

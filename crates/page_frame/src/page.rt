@@ -2,7 +2,8 @@
 ghost use Rattle.std.specs.Prelude.{◌≡◌, length};
 ghost use Rattle.page_frame.specs.Page.{reading, signature_of, stored_kind};
 
-use pst_base::{Bid, Bref, PageFault, crc, sig, u8_at, u16_at, u32_at, u64_at};
+use pst_base::{Bid, Bref, PageFault, u8_at, u16_at, u32_at, u64_at};
+use pst_checksum::{crc, sig};
 use std::marker::Model;
 
 /// How many bytes a page's content has.

@@ -1,11 +1,12 @@
 //! Writing a page's frame.
 ghost use Rattle.std.specs.Prelude.{◌≡◌, ◌<◌, ℕ, List, slice_index};
 ghost use Rattle.pst_base.specs.Cells.{Fit};
-ghost use Rattle.pst_base.specs.Crc.{crc_of};
+ghost use Rattle.pst_checksum.specs.Crc.{crc_of};
 ghost use Rattle.page_frame.specs.Page.{IsPage, page_of, signature_of, trailer_cells, trailer_of};
 
 use crate::page::{BODY, signature};
-use pst_base::{Bref, crc, put_u8, put_u16, put_u32, put_u64};
+use pst_base::{Bref, put_u8, put_u16, put_u32, put_u64};
+use pst_checksum::crc;
 
 /// A trailer of these numbers.
 #[tactic(auto, unfolding(crate::specs::Page::trailer_of))]

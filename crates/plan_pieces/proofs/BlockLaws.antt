@@ -4,9 +4,9 @@ use Rattle.std.proofs.lemmas.List.{get_or-map, length-map, length-replicate, tak
 use Rattle.std.proofs.lemmas.List.Elements.{All-map, All-weaker}
 use Rattle.std.specs.List.{All}
 use Rattle.pst_base.specs.Cells.{written}
-use Rattle.pst_base.specs.Crc.{crc_of}
+use Rattle.pst_checksum.specs.Crc.{crc_of}
 use Rattle.pst_base.specs.Fields.{replaced}
-use Rattle.pst_base.specs.Sig.{sig_of}
+use Rattle.pst_checksum.specs.Sig.{sig_of}
 use Rattle.pst_base.specs.declared.ids.Bid.{Bid}
 use Rattle.pst_base.specs.declared.ids.Bref.{Bref}
 use Rattle.pst_base.specs.declared.places.Place.{Place}

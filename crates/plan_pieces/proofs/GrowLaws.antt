@@ -3,7 +3,7 @@ use Rattle.std.proofs.Common.{Bool, true, false, ◌≡◌, ◌∙◌, inl, inr,
 use Rattle.std.proofs.lemmas.Bool.{leb-true}
 use Rattle.std.proofs.lemmas.List.{length-replicate}
 use Rattle.pst_base.specs.Cells.{written}
-use Rattle.pst_base.specs.Crc.{crc_of}
+use Rattle.pst_checksum.specs.Crc.{crc_of}
 use Rattle.pst_base.specs.Fields.{replaced}
 use Rattle.pst_base.specs.declared.ids.Bref.{Bref}
 use Rattle.page_frame.specs.Page.{page_of, signature_of, trailer_of}

@@ -1,12 +1,9 @@
 -- Numbers of n bytes in lists of bytes: where they stand behind others, how large they are, and which bytes they read.
-use Rattle.std.proofs.Common.{◌≡◌, ℕ, zero, suc, ◌+◌, ◌/◌, ◌%◌, ◌^◌, ◌<◌, ◌≤◌, bit_xor, List, [], ◌∷◌, ◌++◌, length, get_or, slice_index, drop, refl, sym, ap, ◌∙◌, arith}
+use Rattle.std.proofs.Common.{◌≡◌, ℕ, zero, suc, ◌+◌, ◌^◌, ◌<◌, ◌≤◌, List, ◌++◌, length, get_or, slice_index, drop, refl, sym, ap, ◌∙◌, arith}
 use Rattle.std.proofs.lemmas.List.{drop_at, drop-drop, get_or-drop}
-use Rattle.std.proofs.lemmas.Nat.{xor_lt}
 use Rattle.byteorder.specs.Endian.{little_bytes, little_from, little_number}
 use Rattle.byteorder.specs.Numbers.{length-bytes_low_first, little_from-lt, little_number-reads_back}
-use Rattle.pst_base.specs.Crc.{after_bit, after_bits, crc_from, crc_of}
 use Rattle.pst_base.specs.Fields.{number_at}
-use Rattle.pst_base.specs.Sig.{sig_of}
 
 -- a number behind k bytes
 pub number_at-behind : (n at k : ℕ) (xs ys : List ℕ) → length xs ≡ k → number_at n (k + at) (xs ++ ys) ≡ number_at n at ys
@@ -41,34 +38,3 @@ pub number_at-same : (n p q : ℕ) (a b : List ℕ) → ((k : ℕ) → k < n →
 unfolding number_at
 number_at-same n p q a b same =
     little_from-same 0 n (drop p a) (drop q b) (λ k high low. get_or-drop p a k 0 ∙ same k (omega arith) ∙ sym (get_or-drop q b k 0))
-
-after_bit-fits : (c : ℕ) → c < 2 ^ 32 → after_bit c < 2 ^ 32
-unfolding after_bit
-after_bit-fits c h =
-    let half : c / 2 < 2 ^ 32 = omega arith in
-    let added : bit_xor (c / 2) 0xEDB88320 < 2 ^ 32 = xor_lt 32 (c / 2) 0xEDB88320 half (omega arith) in
-    grind arith
-
-after_bits-fits : (n c : ℕ) → c < 2 ^ 32 → after_bits n c < 2 ^ 32
-unfolding after_bits
-after_bits-fits zero c h = h
-after_bits-fits (suc n) c h = after_bits-fits n (after_bit c) (after_bit-fits c h)
-
-crc_from-fits : (c : ℕ) (bs : List ℕ) → c < 2 ^ 32 → ((i : ℕ) → get_or bs i 0 < 256) → crc_from c bs < 2 ^ 32
-unfolding crc_from
-crc_from-fits c [] h fit = h
-crc_from-fits c (b ∷ bs) h fit =
-    let byte : b < 256 = fit 0 in
-    crc_from-fits (after_bits 8 (bit_xor c b)) bs (after_bits-fits 8 (bit_xor c b) (xor_lt 32 c b h (omega arith))) (λ i. fit (suc i))
-
--- the checksum of bytes fits 32 bits
-pub crc_of-fits : (bs : List ℕ) → ((i : ℕ) → get_or bs i 0 < 256) → crc_of bs < 2 ^ 32
-unfolding crc_of
-crc_of-fits bs fit = crc_from-fits 0 bs (omega arith) fit
-
--- a signature fits 16 bits
-pub sig_of-fits : (ib bid : ℕ) → sig_of ib bid < 2 ^ 16
-unfolding sig_of
-sig_of-fits ib bid =
-    let x = bit_xor ib bid in
-    xor_lt 16 (x % 2 ^ 16) (x / 2 ^ 16 % 2 ^ 16) (omega arith) (omega arith)

@@ -1,9 +1,6 @@
 pub mod Cells
-pub mod Crc
 pub mod Fields
 pub mod Ids
-pub mod Lanes
-pub mod Sig
 pub mod Stops
 pub mod Flat
 pub mod Subs

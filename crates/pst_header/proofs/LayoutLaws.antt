@@ -6,7 +6,7 @@ use Rattle.std.proofs.lemmas.List.{ext_get_or, get_or-drop, get_or-take, length-
 use Rattle.std.proofs.lemmas.List.FromFn.{fill_by_all, get_or-map-range_with_len}
 use Rattle.byteorder.specs.Endian.{little_bytes}
 use Rattle.pst_base.specs.Cells.{written, is_apart, value_at, is_covered, Fit, AllZero}
-use Rattle.pst_base.specs.Crc.{crc_of}
+use Rattle.pst_checksum.specs.Crc.{crc_of}
 use Rattle.pst_base.specs.Fields.{number_at, replaced}
 use Rattle.pst_base.proofs.CellLaws.{length-written, number_at-written}
 use Rattle.pst_base.proofs.CoverLaws.{byte_uncovered, written-over}

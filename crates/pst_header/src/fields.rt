@@ -10,9 +10,8 @@ use crate::layout::{
     FREE_MAPS, FULL, INDEXES, IS_PST, IS_STORE, MAGIC, MAGIC_CLIENT, MAPS, NBT_BID, NBT_IB,
     NEXT_BLOCK, NEXT_PAGE, PARTIAL, PLATFORMS, PMAP_FREE, SENTINEL, UNICODE, UNIQUE, VERSION,
 };
-use pst_base::{
-    Bid, Bref, crc, part, put_u8, put_u16, put_u32, put_u64, u8_at, u16_at, u32_at, u64_at,
-};
+use pst_base::{Bid, Bref, part, put_u8, put_u16, put_u32, put_u64, u8_at, u16_at, u32_at, u64_at};
+use pst_checksum::crc;
 
 /// A header of zeros.
 const BLANK: Header = Header {

@@ -2,7 +2,7 @@
 use Rattle.std.proofs.Common.{◌≡◌, ℕ, ◌<◌, List, map, get_or, refl, ap, ◌∙◌, arith}
 use Rattle.std.specs.List.{range_with_len}
 use Rattle.std.proofs.lemmas.List.FromFn.{get_or-map-range_with_len}
-use Rattle.pst_base.specs.Crc.{after_bit, after_bits}
+use Rattle.pst_checksum.specs.Crc.{after_bit, after_bits}
 use Rattle.rates.specs.declared.crc.table.TheConstants.{AFTER_8}
 
 whole : AFTER_8 ≡ map (after_bits 8) (range_with_len 0 256)

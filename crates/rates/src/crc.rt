@@ -6,11 +6,11 @@ mod one_table;
 mod table;
 
 ghost use Rattle.std.specs.Prelude.{◌≡◌};
-ghost use Rattle.pst_base.specs.Crc.{crc_of};
+ghost use Rattle.pst_checksum.specs.Crc.{crc_of};
 
 use crate::numbers::number_or;
 use one_table::crc_by_one_table;
-use pst_base::crc;
+use pst_checksum::crc;
 use std::alloc::{AllocError, Global};
 
 /// How the checksum is computed.

@@ -6,7 +6,8 @@ ghost use Rattle.std.specs.Prelude.{◌≡◌, length};
 
 use crate::numbers::number_or;
 use block_frame::{BlockView, seal};
-use pst_base::{Bid, Bref, crc, u32_at};
+use pst_base::{Bid, Bref, u32_at};
+use pst_checksum::crc;
 use std::alloc::{AllocError, Global};
 
 /// Where the block stands.

@@ -1,6 +1,6 @@
 //! The checksum as it is mostly written: a byte at a time, with one table.
 ghost use Rattle.std.specs.Prelude.{◌≡◌};
-ghost use Rattle.pst_base.specs.Crc.{crc_of};
+ghost use Rattle.pst_checksum.specs.Crc.{crc_of};
 
 use crate::crc::table::AFTER_8;
 

@@ -1,7 +1,7 @@
 use Rattle.std.proofs.Common.{◌∙◌, ◌≡◌, ◌≤◌, ◌-◌, ◌++◌, List, ℕ, ap, length, replicate, arith}
 use Rattle.std.proofs.lemmas.List.{take-replicate}
-use Rattle.pst_base.specs.Crc.{crc_of}
-use Rattle.pst_base.specs.Sig.{sig_of}
+use Rattle.pst_checksum.specs.Crc.{crc_of}
+use Rattle.pst_checksum.specs.Sig.{sig_of}
 use Rattle.block_frame.specs.Block.{block_of, trailer_at, trailer_of}
 use Rattle.block_frame.proofs.sealing.sealed.Goals as goal
 

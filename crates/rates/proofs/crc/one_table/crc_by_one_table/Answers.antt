@@ -1,8 +1,8 @@
 use Rattle.std.proofs.Common.{◌≡◌, ◌<◌, ◌+◌, ◌%◌, ◌^◌, bit_xor, get_or, drop, ◌∷◌, arith, refl}
 use Rattle.std.proofs.lemmas.List.{drop_more, drop_all}
 use Rattle.std.proofs.lemmas.Nat.{and_mask, xor_lt}
-use Rattle.pst_base.specs.Crc.{crc_of}
-use Rattle.pst_base.proofs.RegisterLaws.{after_bits-byte, crc_from-cons, crc_from-nil}
+use Rattle.pst_checksum.specs.Crc.{crc_of}
+use Rattle.pst_checksum.proofs.RegisterLaws.{after_bits-byte, crc_from-cons, crc_from-nil}
 use Rattle.rates.proofs.TableRule.{entry_at}
 use Rattle.rates.proofs.crc.one_table.crc_by_one_table.Goals as goal
 

@@ -1,5 +1,5 @@
 use Rattle.std.proofs.Common.{◌≡◌, drop}
-use Rattle.pst_base.specs.Crc.{crc_from, crc_of}
+use Rattle.pst_checksum.specs.Crc.{crc_from, crc_of}
 use Rattle.rates.proofs.crc.one_table.crc_by_one_table.Given as goal
 
 abbrev pub invariant-loop-b : goal.invariant-loop-b

@@ -1,6 +1,0 @@
-use Rattle.std.proofs.Common.{arith}
-use Rattle.pst_base.proofs.TableRules.{near_at}
-use Rattle.pst_base.proofs.checksum.after_bytes.Goals as goal
-
-pub returns : goal.returns
-returns c = near_at c.args.n c.args.i c.requires.low c.requires.high (omega arith)

@@ -1,0 +1,6 @@
+use Rattle.std.proofs.Common.{arith}
+use Rattle.pst_checksum.proofs.TableRules.{near_at}
+use Rattle.pst_checksum.proofs.checksum.after_bytes.Goals as goal
+
+pub returns : goal.returns
+returns c = near_at c.args.n c.args.i c.requires.low c.requires.high (omega arith)
