@@ -1,8 +1,8 @@
 //! Property contexts, table contexts and messages that words lay out.
 use crate::nodes::node;
 use crate::values::{part, say, say_number, short};
+use mail_objects::{MessageFault, read_message};
 use mapi_values::{Message, Props, Table};
-use message_obj::{MessageFault, read_message};
 use node_port::NodeRec;
 use property_context::read_pc;
 use pst_base::{MemOr, Nid};

@@ -16,8 +16,8 @@ use Rattle.file_layout.specs.declared.stops.PageRefusal.{PageRefusal}
 use Rattle.file_layout.specs.declared.stops.PageRefusal.TheVariants.{Outside, Faulty}
 use Rattle.file_layout.specs.declared.stops.OpenRefusal.{OpenRefusal}
 use Rattle.file_layout.specs.declared.stops.OpenRefusal.TheVariants as refusals
-use Rattle.message_obj.specs.declared.fault.MessageFault.{MessageFault}
-use Rattle.message_obj.specs.declared.fault.MessageFault.TheVariants as forms
+use Rattle.mail_objects.specs.declared.message.fault.MessageFault.{MessageFault}
+use Rattle.mail_objects.specs.declared.message.fault.MessageFault.TheVariants as forms
 use Rattle.tree_look.specs.declared.stops.LookRefusal.{LookRefusal}
 use Rattle.tree_look.specs.declared.stops.LookRefusal.TheVariants as looks
 use Rattle.tree_look.specs.declared.stops.TreeFault.{TreeFault}

@@ -5,7 +5,7 @@ ghost use Rattle.call_forms.specs.Texts.{file_line, form_word, look_line, search
 
 use crate::texts::refusal_line;
 use file_open::FileRefusal;
-use message_obj::MessageFault;
+use mail_objects::MessageFault;
 use search_look::SearchRefusal;
 use std::alloc::{AllocError, Global};
 use std::fmt::Write;

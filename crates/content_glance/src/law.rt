@@ -2,7 +2,7 @@
 ghost use Rattle.std.specs.Prelude.{◌≡◌, ℕ, Option};
 ghost use Rattle.mapi_values.specs.Messages.{Mes};
 ghost use Rattle.node_port.specs.declared.node.NodeRec.{NodeRec};
-ghost use Rattle.message_obj.specs.Message.{ShowsMessage};
+ghost use Rattle.mail_objects.specs.Message.{ShowsMessage};
 ghost use Rattle.content_glance.specs.declared.content.Glance.{Glance};
 ghost use Rattle.content_glance.specs.Glances.{IsTold, Tells};
 

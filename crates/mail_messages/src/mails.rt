@@ -18,7 +18,7 @@ use pst_base::{Bytes, Nid, Subs};
 use std::alloc::{AllocError, Global};
 
 /// The same message with another id, in another folder.
-#[tactic(auto, unfolding(message_obj::specs::Message::is_formed))]
+#[tactic(auto, unfolding(mail_objects::specs::Message::is_formed))]
 pub(crate) fn copy_of(nid: Nid, folder: Nid, original: Mail) -> Mail
     ensures { result ≡ copy_of nid.bits folder.bits original }
 {
@@ -35,7 +35,7 @@ pub(crate) fn copy_of(nid: Nid, folder: Nid, original: Mail) -> Mail
 }
 
 /// A message without recipients, attachments and other subnodes.
-#[tactic(auto, unfolding(message_obj::specs::Message::is_formed))]
+#[tactic(auto, unfolding(mail_objects::specs::Message::is_formed))]
 pub(crate) fn plain_message(alloc: Global, nid: Nid, folder: Nid, props: Props) -> Mail
     ensures { result ≡ plain_message nid.bits folder.bits props }
 {
@@ -86,7 +86,7 @@ fn finish(alloc: Global, message: &mut Message) -> Result<(), AllocError>
 }
 
 /// The message with its flags and its size right. It is lost with an `Err`.
-#[tactic(auto, unfolding(mail_tree::specs::Values::finished, message_obj::specs::Message::is_formed))]
+#[tactic(auto, unfolding(mail_tree::specs::Values::finished, mail_objects::specs::Message::is_formed))]
 pub(crate) fn finished(alloc: Global, mail: Mail) -> Result<Mail, AllocError>
     ensures { IfOk result (λ m. m ≡ finished mail) }
 {
@@ -103,7 +103,7 @@ fn put_copy(alloc: Global, props: &mut Props, value: &Value) -> Result<(), Alloc
 }
 
 /// The same message with a value in place of the one of its id. It is lost with an `Err`.
-#[tactic(auto, unfolding(message_obj::specs::Message::is_formed))]
+#[tactic(auto, unfolding(mail_objects::specs::Message::is_formed))]
 pub(crate) fn with_value(alloc: Global, mail: Mail, value: &Value) -> Result<Mail, AllocError>
     ensures { IfOk result (λ m. m ≡ with_props (put value.now mail.props) mail) }
 {
@@ -113,7 +113,7 @@ pub(crate) fn with_value(alloc: Global, mail: Mail, value: &Value) -> Result<Mai
 }
 
 /// The same message without the value of this id.
-#[tactic(auto, unfolding(message_obj::specs::Message::is_formed))]
+#[tactic(auto, unfolding(mail_objects::specs::Message::is_formed))]
 pub(crate) fn without_value(mail: Mail, id: u16) -> Mail
     ensures { result ≡ with_props (remove_id id mail.props) mail }
 {

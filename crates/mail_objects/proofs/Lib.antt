@@ -1,2 +1,11 @@
-pub mod OneLaws
+pub mod AddLaws
 pub mod BareLaws
+pub mod BelowLaws
+pub mod FaultLaws
+pub mod FindLaws
+pub mod KeptLaws
+pub mod OneLaws
+pub mod OneMessage
+pub mod OrderLaws
+pub mod PartLaws
+pub mod SizeLaws

@@ -1,2 +1,7 @@
+pub mod Answers
 pub mod Forms
+pub mod Message
 pub mod Objects
+pub mod Reading
+pub mod Subnodes
+pub mod Writing

@@ -7,7 +7,7 @@ use Rattle.node_port.specs.declared.node.NodeRec.{NodeRec}
 use Rattle.property_context.specs.Context.{IsPropertyContext}
 use Rattle.node_values.specs.Subnodes.{ids_ascend}
 use Rattle.table_context.specs.Context.{IsTableContext}
-use Rattle.message_obj.specs.Message.{ShowsMessage, is_formed}
+use Rattle.mail_objects.specs.Message.{ShowsMessage, is_formed}
 use Rattle.write_limits.specs.Limits.{props_fit, table_fits, message_fits}
 use Rattle.space_bound.specs.Space.{kept_space, message_space, props_space, table_space}
 use Rattle.mail_objects.specs.Forms.{Ctx, Tbl}

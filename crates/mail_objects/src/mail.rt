@@ -14,7 +14,7 @@ pub struct Mail {
 impl Model for Mail {
     ghost use Rattle.std.specs.Prelude.{◌≡◌, true};
     ghost use Rattle.mapi_values.specs.Messages.{Mes};
-    ghost use Rattle.message_obj.specs.Message.{is_formed};
+    ghost use Rattle.mail_objects.specs.Message.{is_formed};
 
     ghost Value = { Mes };
 
@@ -24,7 +24,7 @@ impl Model for Mail {
 }
 
 impl Mail {
-    ghost use Rattle.message_obj.specs.Message.{is_formed};
+    ghost use Rattle.mail_objects.specs.Message.{is_formed};
 
     /// A message that can be laid out.
     pub fn new(message: Message) -> Mail

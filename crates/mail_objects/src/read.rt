@@ -7,8 +7,8 @@ ghost use Rattle.mail_objects.specs.Objects.{ShowsBare, ShowsContext, ShowsMail,
 
 use crate::context::Context;
 use crate::mail::Mail;
+use crate::message::{is_formed, read_message};
 use crate::table::TableNode;
-use message_obj::{is_formed, read_message};
 use node_port::NodeRec;
 use node_values::ids_ascend;
 use property_context::read_pc;

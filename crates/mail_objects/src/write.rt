@@ -5,9 +5,9 @@ ghost use Rattle.write_limits.specs.Limits.{props_fit, table_fits};
 ghost use Rattle.mail_objects.specs.Objects.{ShowsBare, ShowsContext, ShowsObject, ShowsTable, node_size, object_fits, object_space, stands_at};
 
 use crate::context::Context;
+use crate::message::write_message;
 use crate::object::Object;
 use crate::table::TableNode;
-use message_obj::write_message;
 use node_port::NodeRec;
 use property_context::write_pc;
 use pst_base::{Blocks, Nid, Subs};

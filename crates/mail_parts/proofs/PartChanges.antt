@@ -9,7 +9,7 @@ use Rattle.mapi_values.specs.Messages.{Mes, part_id}
 use Rattle.mapi_values.specs.Tables.{Tab, drop_row}
 use Rattle.mapi_values.specs.Values.{Val}
 use Rattle.mapi_values.proofs.KeyedLaws.{drop-all, drop-here, find-here, put-all}
-use Rattle.message_obj.specs.Message.{is_formed, part_is_formed}
+use Rattle.mail_objects.specs.Message.{is_formed, part_is_formed}
 use Rattle.mail_tree.specs.Changing.{shown_row}
 use Rattle.mail_tree.specs.Parts.{with_part, without_attachment}
 use Rattle.mail_parts.proofs.PartTables.{Formed, formed_from, formed_parts, rows_ascend}

@@ -11,7 +11,7 @@ use Rattle.mapi_values.specs.Keyed.{IsGap, IsHere, drop_key, find_key, keys_asce
 use Rattle.mapi_values.specs.Messages.{AreNamed, Mes, are_others, part_id}
 use Rattle.mapi_values.specs.Tables.{Tab, drop_row, mirror}
 use Rattle.mapi_values.specs.Values.{Val}
-use Rattle.message_obj.specs.Message.{is_formed, part_is_formed, table_ascends}
+use Rattle.mail_objects.specs.Message.{is_formed, part_is_formed, table_ascends}
 use Rattle.node_values.specs.Subnodes.{ids_ascend}
 use Rattle.pst_base.specs.Ids.{nid_of}
 use Rattle.mail_tree.specs.Changing.{shown_row}

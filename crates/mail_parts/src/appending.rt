@@ -6,7 +6,7 @@ ghost use Rattle.command_text.specs.declared.reply.LastLine.TheVariants.{Done};
 ghost use Rattle.mapi_values.specs.Keyed.{put_key};
 ghost use Rattle.mapi_values.specs.Messages.{Mes, are_others, part_id};
 ghost use Rattle.mapi_values.specs.declared.part.Part.{Part};
-ghost use Rattle.message_obj.specs.Message.{part_is_formed};
+ghost use Rattle.mail_objects.specs.Message.{part_is_formed};
 ghost use Rattle.mail_tree.specs.Knowing.{Knows};
 ghost use Rattle.mail_tree.specs.Tree.{Shown, Tree};
 ghost use Rattle.mail_tree.specs.Messages.{appended_data};

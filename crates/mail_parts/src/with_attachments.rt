@@ -3,7 +3,7 @@ ghost use Rattle.std.specs.Prelude.{◌≡◌, None, Some, true, IfOk, IfSome, I
 ghost use Rattle.mapi_values.specs.Keyed.{put_key};
 ghost use Rattle.mapi_values.specs.Messages.{AreNamed, are_others, part_id};
 ghost use Rattle.mapi_values.specs.declared.part.Part.{Part};
-ghost use Rattle.message_obj.specs.Message.{part_is_formed};
+ghost use Rattle.mail_objects.specs.Message.{part_is_formed};
 ghost use Rattle.mail_tree.specs.Parts.{attachment_tags, attachments_for, is_wide, part_in, room_for, shown_anew, with_attachment, with_part, without_attachment};
 
 use crate::part_places::{place, put_at};
@@ -67,7 +67,7 @@ fn attachments_for(
 }
 
 /// The message that an attachment of this index is put into: where no index is left, it is without what it keeps, and changes are planned with the last index.
-#[tactic(auto, unfolding(message_obj::specs::Message::is_formed))]
+#[tactic(auto, unfolding(mail_objects::specs::Message::is_formed))]
 pub(crate) fn room_for(alloc: Global, index: u64, mail: Mail) -> Mail
     ensures value { result ≡ room_for index mail }
     ensures others { are_others mail.parts mail.kept ≡ true }
@@ -89,7 +89,7 @@ pub(crate) fn room_for(alloc: Global, index: u64, mail: Mail) -> Mail
 }
 
 /// The message with a table of attachments to which one may be added; `None` where it would have more than 255 columns. It is lost with an `Err`.
-#[tactic(auto, unfolding(message_obj::specs::Message::is_formed))]
+#[tactic(auto, unfolding(mail_objects::specs::Message::is_formed))]
 pub(crate) fn with_table(alloc: Global, mail: Mail) -> Result<Option<Mail>, AllocError>
     ensures { IfOk result (λ m. m ≡ (if is_wide attachment_tags mail.attachments then None else Some (record mail { attachments = Some (attachments_for mail.parts mail.attachments) }))) }
 {
@@ -110,7 +110,7 @@ pub(crate) fn with_table(alloc: Global, mail: Mail) -> Result<Option<Mail>, Allo
 }
 
 /// The message with this in place of the attachment of its id, or beside those of other ids, and shown by its row. It is lost with an `Err`.
-#[tactic(auto, unfolding(message_obj::specs::Message::is_formed))]
+#[tactic(auto, unfolding(mail_objects::specs::Message::is_formed))]
 pub(crate) fn with_part(alloc: Global, mail: Mail, part: Part) -> Result<Mail, AllocError>
     requires table { IsSome mail.attachments }
     requires free { are_others (put_key part_id part mail.parts) mail.kept ≡ true }
@@ -137,7 +137,7 @@ pub(crate) fn with_part(alloc: Global, mail: Mail, part: Part) -> Result<Mail, A
 }
 
 /// Takes the attachment with this id, and its row, from a message, which is left with the others; `None` where it has none.
-#[tactic(auto, unfolding(message_obj::specs::Message::is_formed))]
+#[tactic(auto, unfolding(mail_objects::specs::Message::is_formed))]
 pub(crate) fn take_attachment(mail: Mail, nid: Nid) -> Option<(Mail, Part)>
     ensures taken { MatchOption result (part_in nid.bits mail ≡ None) (λ taken. (part_in nid.bits mail ≡ Some taken.1) × (taken.0 ≡ without_attachment nid.bits mail)) }
     ensures table { IfSome result (λ taken. IsSome taken.0.attachments) }

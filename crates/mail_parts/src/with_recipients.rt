@@ -74,7 +74,7 @@ fn recipients_for(alloc: Global, table: Option<Table>) -> Result<Option<Table>, 
 }
 
 /// The message with a recipient of these values in a row; `None` where its table would have more than 255 columns. It is lost with an `Err`.
-#[tactic(auto, unfolding(message_obj::specs::Message::is_formed))]
+#[tactic(auto, unfolding(mail_objects::specs::Message::is_formed))]
 pub(crate) fn with_recipient(
     alloc: Global,
     mail: Mail,
@@ -110,7 +110,7 @@ pub(crate) fn has_recipient(mail: &Mail, row: u32) -> bool
 }
 
 /// The message without the recipient in this row.
-#[tactic(auto, unfolding(message_obj::specs::Message::is_formed))]
+#[tactic(auto, unfolding(mail_objects::specs::Message::is_formed))]
 pub(crate) fn without_recipient(mail: Mail, row: u32) -> Mail
     ensures { result ≡ without_recipient row mail }
 {

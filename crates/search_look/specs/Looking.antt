@@ -5,7 +5,7 @@ use Rattle.pst_base.specs.declared.stops.MemOr.{MemOr}
 use Rattle.pst_base.specs.declared.stops.MemOr.TheVariants as or_memory
 use Rattle.mapi_values.specs.Keyed.{keys_ascend, put_key}
 use Rattle.mapi_values.specs.Tables.{find_row}
-use Rattle.message_obj.specs.declared.fault.MessageFault.{MessageFault}
+use Rattle.mail_objects.specs.declared.message.fault.MessageFault.{MessageFault}
 use Rattle.node_port.specs.Nodes.{Nodes, node_at}
 use Rattle.node_port.specs.Stops.{KeepStops}
 use Rattle.node_port.specs.declared.keeper.KeepStop.TheVariants as keep

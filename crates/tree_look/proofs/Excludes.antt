@@ -1,7 +1,7 @@
 -- A fault excludes every tree.
 use Rattle.std.proofs.Common.{◌≡◌, ◌⊎◌, inl, inr, ⊎_elim, ◌∙◌, ℕ, zero, suc, ◌%◌, true, List, None, Some, Result, Ok, Err, IfErr, arith, refl, sym, subst, ap}
 use Rattle.std.proofs.lemmas.Option.{none-some, same_Some}
-use Rattle.message_obj.specs.declared.fault.MessageFault.{MessageFault}
+use Rattle.mail_objects.specs.declared.message.fault.MessageFault.{MessageFault}
 use Rattle.mail_objects.specs.Forms.{Ctx, Tbl}
 use Rattle.mail_objects.specs.Objects.{ShowsContext, ShowsMail, ShowsTable}
 use Rattle.mail_tree.specs.Changing.{associated, contents, hierarchy}

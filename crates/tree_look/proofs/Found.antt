@@ -6,8 +6,8 @@ use Rattle.std.proofs.lemmas.Option.{none-some, same_Some}
 use Rattle.pst_base.specs.declared.ids.Nid.{Nid}
 use Rattle.pst_base.specs.declared.stops.MemOr.{MemOr}
 use Rattle.pst_base.specs.declared.stops.MemOr.TheVariants as or_memory
-use Rattle.message_obj.specs.Answers.{Refuses}
-use Rattle.message_obj.specs.declared.fault.MessageFault.{MessageFault}
+use Rattle.mail_objects.specs.Answers.{Refuses}
+use Rattle.mail_objects.specs.declared.message.fault.MessageFault.{MessageFault}
 use Rattle.mapi_values.specs.Tables.{find_row}
 use Rattle.mapi_values.specs.Values.{Val}
 use Rattle.mail_objects.specs.Forms.{Ctx, Tbl}

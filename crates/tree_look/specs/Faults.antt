@@ -1,6 +1,6 @@
 -- Why nodes have no tree.
 use Rattle.std.specs.Prelude.{◌≡◌, ◌⊎◌, ℕ, List, zero, suc, ◌%◌, None, Some, Result, Ok, Err}
-use Rattle.message_obj.specs.declared.fault.MessageFault.{MessageFault}
+use Rattle.mail_objects.specs.declared.message.fault.MessageFault.{MessageFault}
 use Rattle.mail_tree.specs.Changing.{associated, contents, hierarchy}
 use Rattle.mail_tree.specs.Names.{AreNames}
 use Rattle.mail_tree.specs.Places.{ROOT}

@@ -8,10 +8,10 @@ use Rattle.node_port.specs.declared.node.NodeRec.{NodeRec}
 use Rattle.node_values.specs.Subnodes.{ids_ascend}
 use Rattle.property_context.specs.Context.{IsPropertyContext}
 use Rattle.table_context.specs.Context.{IsTableContext}
-use Rattle.message_obj.specs.Message.{ShowsMessage, is_formed}
-use Rattle.message_obj.specs.Reading.{LacksContext, LacksMessage, LacksTable}
-use Rattle.message_obj.specs.declared.fault.MessageFault.{MessageFault}
-use Rattle.message_obj.specs.declared.fault.MessageFault.TheVariants.{Pc, Tc}
+use Rattle.mail_objects.specs.Message.{ShowsMessage, is_formed}
+use Rattle.mail_objects.specs.Reading.{LacksContext, LacksMessage, LacksTable}
+use Rattle.mail_objects.specs.declared.message.fault.MessageFault.{MessageFault}
+use Rattle.mail_objects.specs.declared.message.fault.MessageFault.TheVariants.{Pc, Tc}
 use Rattle.mail_objects.specs.Forms.{Ctx, Tbl}
 use Rattle.mail_objects.specs.Objects.{ShowsContext, ShowsMail, ShowsTable}
 

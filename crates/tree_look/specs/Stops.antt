@@ -3,7 +3,7 @@ use Rattle.std.specs.Prelude.{ℕ, ◌%◌, ◌==◌, Option, None, Some, Result
 use Rattle.pst_base.specs.declared.ids.Nid.{Nid}
 use Rattle.pst_base.specs.declared.stops.MemOr.{MemOr}
 use Rattle.pst_base.specs.declared.stops.MemOr.TheVariants as or_memory
-use Rattle.message_obj.specs.declared.fault.MessageFault.{MessageFault}
+use Rattle.mail_objects.specs.declared.message.fault.MessageFault.{MessageFault}
 use Rattle.mail_tree.specs.declared.places.Sort.{Sort}
 use Rattle.mail_tree.specs.declared.places.Sort.TheVariants.{Plain, Foreign}
 use Rattle.tree_look.specs.declared.stops.LookRefusal.TheVariants.{Node, Tree}

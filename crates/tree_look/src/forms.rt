@@ -1,13 +1,12 @@
 //! What a node is, or why it isn't.
 ghost use Rattle.std.specs.Prelude.{◌≡◌};
-ghost use Rattle.message_obj.specs.Answers.{Reads, context_fault, table_fault};
+ghost use Rattle.mail_objects.specs.Answers.{Reads, context_fault, table_fault};
 ghost use Rattle.mail_objects.specs.Objects.{ShowsContext, ShowsMail, ShowsTable};
 ghost use Rattle.tree_look.specs.Faults.{HoldNames};
 ghost use Rattle.tree_look.specs.Forms.{IsNoContext, IsNoMail, IsNoTable};
 
 use crate::stops::{LookRefusal, LookStop};
-use mail_objects::{Context, Mail, TableNode};
-use message_obj::{MessageFault, is_formed, read_message};
+use mail_objects::{Context, Mail, MessageFault, TableNode, is_formed, read_message};
 use named_props::read_names;
 use node_port::NodeRec;
 use node_values::ids_ascend;

@@ -1,5 +1,5 @@
 //! Why nodes have no tree.
-use message_obj::MessageFault;
+use mail_objects::MessageFault;
 use node_port::KeepStop;
 use pst_base::{MemOr, Nid};
 use std::alloc::AllocError;

@@ -5,7 +5,7 @@ use Rattle.mapi_values.specs.declared.part.Part.{Part}
 use Rattle.mapi_values.specs.Keyed.{put_key}
 use Rattle.mapi_values.specs.Messages.{Mes, are_others, part_id}
 use Rattle.mapi_values.specs.Values.{Val}
-use Rattle.message_obj.specs.Message.{part_is_formed}
+use Rattle.mail_objects.specs.Message.{part_is_formed}
 use Rattle.mail_tree.specs.Parts.{attachment_tags, attachments_for, is_wide, part_nid, plain_part, room_for, with_attachment, with_part}
 use Rattle.mail_parts.proofs.PartTables.{new_formed, room_free}
 use Rattle.mail_tree.specs.Ids.{new_id}

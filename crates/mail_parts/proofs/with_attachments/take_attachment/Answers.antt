@@ -5,7 +5,7 @@ use Rattle.mapi_values.specs.Keyed.{put_key}
 use Rattle.mapi_values.specs.Messages.{AreNamed, Mes, are_others, part_id}
 use Rattle.mapi_values.specs.Tables.{Tab, drop_row}
 use Rattle.mapi_values.proofs.KeyedLaws.{find-gap}
-use Rattle.message_obj.specs.Message.{is_formed, part_is_formed}
+use Rattle.mail_objects.specs.Message.{is_formed, part_is_formed}
 use Rattle.mail_tree.specs.Parts.{with_part}
 use Rattle.mail_tree.proofs.PartLaws.{kept_without}
 use Rattle.mail_parts.proofs.PartChanges.{all_found, drop_message, part_there, parts_left, table_changed, table_missing, without_formed}

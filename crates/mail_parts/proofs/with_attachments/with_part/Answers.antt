@@ -4,7 +4,7 @@ use Rattle.mapi_values.specs.declared.part.Part.{Part}
 use Rattle.mapi_values.specs.Keyed.{put_key}
 use Rattle.mapi_values.specs.Messages.{AreNamed, Mes, are_others, part_id}
 use Rattle.mapi_values.specs.Tables.{Tab}
-use Rattle.message_obj.specs.Message.{is_formed}
+use Rattle.mail_objects.specs.Message.{is_formed}
 use Rattle.mail_tree.specs.Changing.{shown_row}
 use Rattle.mail_parts.proofs.PartChanges.{put_message, table_changed, table_missing, with_formed}
 use Rattle.mail_parts.proofs.PartTables.{with_named}

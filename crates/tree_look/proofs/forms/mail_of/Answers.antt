@@ -1,6 +1,6 @@
 use Rattle.std.proofs.Common.{◌∙◌, inl, inr, refl, sym, ap}
-use Rattle.message_obj.specs.Message.{is_formed}
-use Rattle.message_obj.proofs.OneLaws.{same-message}
+use Rattle.mail_objects.specs.Message.{is_formed}
+use Rattle.mail_objects.proofs.OneMessage.{same-message}
 use Rattle.tree_look.proofs.forms.mail_of.Goals as goal
 
 pub returns-else-is_formed : goal.returns-else-is_formed

@@ -5,9 +5,9 @@ use Rattle.node_port.specs.declared.node.NodeRec.{NodeRec}
 use Rattle.table_context.specs.Context.{Lacks, ReadsTc}
 use Rattle.table_context.specs.declared.fault.TcFault.{TcFault}
 use Rattle.table_context.proofs.ContextLaws.{no-table}
-use Rattle.message_obj.specs.Answers.{table_fault}
-use Rattle.message_obj.specs.declared.fault.MessageFault.{MessageFault}
-use Rattle.message_obj.proofs.PartLaws.{lacks-table}
+use Rattle.mail_objects.specs.Answers.{table_fault}
+use Rattle.mail_objects.specs.declared.message.fault.MessageFault.{MessageFault}
+use Rattle.mail_objects.proofs.PartLaws.{lacks-table}
 use Rattle.tree_look.specs.Forms.{IsNoTable}
 use Rattle.tree_look.proofs.forms.table_of.Goals as goal
 

@@ -1,9 +1,0 @@
-pub mod AddLaws
-pub mod BelowLaws
-pub mod FaultLaws
-pub mod FindLaws
-pub mod KeptLaws
-pub mod OneLaws
-pub mod OrderLaws
-pub mod PartLaws
-pub mod SizeLaws

@@ -1,8 +1,0 @@
-use Rattle.std.proofs.Common.{drop, false}
-use Rattle.node_values.specs.Subnodes.{without}
-use Rattle.message_obj.specs.Subnodes.{is_table}
-use Rattle.message_obj.proofs.PartLaws.{ShowsRest, StopsRest}
-use Rattle.message_obj.proofs.read.read_parts.Given as goal
-
-abbrev pub invariant-loop-row : goal.invariant-loop-row
-invariant-loop-row l = ShowsRest (without is_table false l.finder) l.rows (drop l.row-index l.rows) l.parts.items × StopsRest (without is_table false l.finder) l.rows (drop l.row-index l.rows)

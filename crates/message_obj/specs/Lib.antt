@@ -1,5 +1,0 @@
-pub mod Answers
-pub mod Message
-pub mod Reading
-pub mod Subnodes
-pub mod Writing
