@@ -1,5 +1,4 @@
 pub mod AddLaws
-pub mod BareLaws
 pub mod BelowLaws
 pub mod FaultLaws
 pub mod FindLaws

@@ -66,16 +66,3 @@ pub fn read_mail(alloc: Global, nid: Nid, node: &NodeRec) -> Result<Option<Mail>
         Err(MemOr::Refused(_)) => Ok(None),
     }
 }
-
-/// The parent of a node that has neither data nor subnodes, or `None` exactly where it has some. Takes no memory.
-pub fn read_bare(node: &NodeRec) -> Option<Nid>
-    ensures { MatchOption result ((parent : Nid) → ShowsBare node.now parent → ⊥) (ShowsBare node.now) }
-{
-    match node.blocks.as_slice() {
-        [] => match node.subs.as_slice() {
-            [] => Some(node.parent),
-            _ => None,
-        },
-        _ => None,
-    }
-}

@@ -1,5 +1,4 @@
 pub mod StoreLaws
 pub mod FlagLaws
-pub mod OpeningLaws
 pub mod QuietLaws
 pub mod SpaceLaws

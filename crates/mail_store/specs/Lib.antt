@@ -1,4 +1,3 @@
 pub mod Planning
-pub mod Opening
 pub mod Space
 pub mod Knowing

@@ -1,17 +1,15 @@
-//! A store: the tree of folders and messages that the nodes of a keeper show, opened, and changed by commands.
+//! A store: the tree of folders and messages that the nodes of a keeper show, changed by commands.
 //!
-//! Promises: `open` finds the folders of the tree that the nodes show, if it is whole and found from the root down, and changes nothing. `plan` answers what the step of a command says of every tree that the nodes show, and changes nothing; want of room or of numbers is said only of a command that writes, and where one is planned there was room (`Space`); `outcome` and `plan_outcome` are its two halves, for a caller who adds to what a command comes to before it is planned; `commit` makes the nodes show the tree after it, and a stop at any of its moments leaves a disk that stands for the tree from before or for that after (`any_moment`); `do_command` does both; `save` keeps the tree. What a store knows of its tree beside the nodes is so at each time (`Knows`).
+//! Promises: `plan` answers what the step of a command says of every tree that the nodes show, and changes nothing; want of room or of numbers is said only of a command that writes, and where one is planned there was room (`Space`); `outcome` and `plan_outcome` are its two halves, for a caller who adds to what a command comes to before it is planned; `commit` makes the nodes show the tree after it, and a stop at any of its moments leaves a disk that stands for the tree from before or for that after (`any_moment`); `do_command` does both; `save` keeps the tree. What a store knows of its tree beside the nodes is so at each time (`Knows`).
 //!
-//! Leaves to others: what nodes are kept in, and lines and replies as text.
+//! Leaves to others: what nodes are kept in, how a tree is found in them (`tree_look`), and lines and replies as text.
 #![tactic(auto)]
 
 mod commands;
 mod knowing;
-mod opening;
 mod planned;
 mod store;
 
 pub use commands::outcome;
-pub use opening::open;
 pub use planned::Planned;
 pub use store::{Store, commit, do_command, plan, plan_outcome, save};
