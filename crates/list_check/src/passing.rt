@@ -5,8 +5,8 @@ ghost use Rattle.mail_draft.specs.Answers.{IsCaused, Looks, Says};
 ghost use Rattle.list_check.specs.Watching.{bits_of, stale_among, stale_at, stale_below, stale_in, stale_listed, watches_of};
 
 use crate::watching::{Watched, stale_of};
-use mail_draft::{Stop, contents};
-use mail_folders::{message_ids, message_in, table_in};
+use mail_draft::{Stop, contents, message_ids};
+use mail_folders::{message_in, table_in};
 use mail_tree::{FolderPlace, Places, Sort};
 use node_port::NodeReader;
 use pst_base::{Ledger, Nid, Steps};

@@ -32,7 +32,7 @@ pub use flags::{flag_changes, flag_of};
 pub use glance::{content_at, glance_of, has_row, message_content, number_told, text_told};
 pub use ids::{new_id, next_index};
 pub use limits::within_limits;
-pub use listed::message_ids_at;
+pub use listed::{message_ids, message_ids_at};
 pub use outcome::Outcome;
 pub use outcomes::{changing, making, moving, replying};
 pub use read::{as_message, context_at, message_at, table_at};

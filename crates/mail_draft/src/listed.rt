@@ -25,7 +25,7 @@ fn is_message_row(row: &(u32, Props)) -> bool
 }
 
 /// The ids of the messages that a folder's table lists.
-fn message_ids(alloc: Global, table: &Table) -> Result<Vec<u32>, AllocError>
+pub fn message_ids(alloc: Global, table: &Table) -> Result<Vec<u32>, AllocError>
     ensures { IfOk result (λ ids. ids.items ≡ message_ids table.now) }
 {
     let mut ids = Vec::new(alloc);

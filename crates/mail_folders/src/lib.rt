@@ -17,7 +17,7 @@ mod renaming;
 mod standing;
 
 pub use finding::{folder_in, plain_in};
-pub use list::{line_of_message, list_folder, listed, message_ids};
+pub use list::{line_of_message, list_folder, listed};
 pub use making::{folder_props, make_folder, unless_full};
 pub use moving::{move_folder, moved_between, unless_crowds_name};
 pub use names::unless_child_named;

@@ -19,11 +19,12 @@ use crate::reading::{message_in, table_in};
 use command_text::{DataLine, DataLines, LastLine, Reply};
 use content_glance::Glance;
 use mail_draft::{
-    Outcome, Stop, contents, glance_of, message_content, number_told, text_of, text_told,
+    Outcome, Stop, contents, glance_of, message_content, message_ids, number_told, text_of,
+    text_told,
 };
 use mail_tree::{FolderPlace, Places, Sort};
 use mapi_values::tags::{PID_TAG_MESSAGE_SIZE, PID_TAG_SUBJECT};
-use mapi_values::{Props, Table, Units};
+use mapi_values::{Props, Units};
 use node_port::{NodeReader, NodeRec};
 use pst_base::Nid;
 use pst_outside::Outside;
@@ -170,19 +171,6 @@ fn places_in(alloc: Global, places: &Places, folder: Nid) -> Result<Vec<FolderPl
         .copied()
         .filter(|place| is_child(folder, place))
         .collect(alloc)
-}
-
-/// The ids of the messages that a folder's table lists.
-pub fn message_ids(alloc: Global, table: &Table) -> Result<Vec<u32>, AllocError>
-    ensures { IfOk result (λ ids. ids.items ≡ message_ids table.now) }
-{
-    let mut ids = Vec::new(alloc);
-    for row in table.rows() {
-        if row.0 % 32 == 4 {
-            ids.push(row.0)?;
-        }
-    }
-    Ok(ids)
 }
 
 /// The line of a folder with this name.

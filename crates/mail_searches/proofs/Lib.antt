@@ -4,3 +4,4 @@ pub mod AskLaws
 pub mod OwnLaws
 pub mod CriteriaLaws
 pub mod HoldLaws
+pub mod Said

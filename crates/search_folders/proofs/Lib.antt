@@ -1,6 +1,5 @@
 pub mod Lines
 pub mod IndexLaws
 pub mod Made
-pub mod Said
 pub mod Built
 pub mod Set

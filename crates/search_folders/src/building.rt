@@ -8,8 +8,8 @@ ghost use Rattle.mail_searches.specs.Building.{built, found_among, found_below, 
 ghost use Rattle.search_folders.specs.Pieces.{found_at, found_in};
 
 use crate::nodes::results;
-use mail_draft::{Draft, Stop, contents, table_at};
-use mail_folders::{message_ids, message_in, table_in};
+use mail_draft::{Draft, Stop, contents, message_ids, table_at};
+use mail_folders::{message_in, table_in};
 use mail_objects::TableNode;
 use mail_searches::OwnSearch;
 use mail_tree::{FolderPlace, Places};

@@ -1,4 +1,3 @@
-pub mod Said
 pub mod OneAt
 pub mod Keeping
 pub mod Parts

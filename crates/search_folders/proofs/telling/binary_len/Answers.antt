@@ -1,4 +1,4 @@
-use Rattle.search_folders.proofs.Said.{looked}
+use Rattle.mail_searches.proofs.Said.{looked}
 use Rattle.search_folders.proofs.telling.binary_len.Goals as goal
 
 pub returns : goal.returns

@@ -1,5 +1,5 @@
 use Rattle.std.proofs.Common.{refl}
-use Rattle.search_folders.proofs.Said.{none_of_foreign, some_of_said}
+use Rattle.mail_searches.proofs.Said.{none_of_foreign, some_of_said}
 use Rattle.search_folders.proofs.telling.criteria_in.Goals as goal
 
 pub returns-in-Ok-Some-clause-answer : goal.returns-in-Ok-Some-clause-answer

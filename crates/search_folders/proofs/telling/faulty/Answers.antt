@@ -1,4 +1,4 @@
-use Rattle.search_folders.proofs.Said.{none_of_faulty}
+use Rattle.mail_searches.proofs.Said.{none_of_faulty}
 use Rattle.search_folders.proofs.telling.faulty.Goals as goal
 
 pub returns-clause-none : goal.returns-clause-none

@@ -1,4 +1,4 @@
-use Rattle.search_look.proofs.Said.{looked}
+use Rattle.mail_searches.proofs.Said.{looked}
 use Rattle.search_look.proofs.criteria.binary_len.Goals as goal
 
 pub returns : goal.returns

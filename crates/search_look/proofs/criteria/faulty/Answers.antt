@@ -1,4 +1,4 @@
-use Rattle.search_look.proofs.Said.{none_of_faulty}
+use Rattle.mail_searches.proofs.Said.{none_of_faulty}
 use Rattle.search_look.proofs.criteria.faulty.Goals as goal
 
 pub returns-clause-none : goal.returns-clause-none
