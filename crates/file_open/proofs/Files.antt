@@ -1,5 +1,5 @@
 -- Two files lay one set of nodes at most, and a refusal excludes every tree.
-use Rattle.std.proofs.Common.{◌≡◌, inl, inr, ◌∙◌, ℕ, ◌^◌, ◌||◌, nat_le, Bool, true, false, cond, eqb, List, [], ◌∷◌, Option, Some, Result, Ok, Err, if◌then◌else◌, refl, sym, ap, subst, Ordering, Less, Equal, Greater}
+use Rattle.std.proofs.Common.{◌≡◌, inl, inr, ◌∙◌, ℕ, ◌^◌, nat_le, Bool, true, false, cond, eqb, List, [], ◌∷◌, Option, Some, Result, Ok, Err, if◌then◌else◌, refl, sym, ap, subst, Ordering, Less, Equal, Greater, ◌||◌}
 use Rattle.std.proofs.lemmas.Bool.{cases_eq, eq-eqb, ne_eqb}
 use Rattle.std.specs.Ordering.{nat_cmp, eq_by_cmp, is_eq}
 use Rattle.std.specs.Cmp.{nat_cmp_total, eq_by_cmp_equiv, ranked}
@@ -22,9 +22,8 @@ use Rattle.node_port.specs.Nodes.{Nodes, get-set_at, no_nodes, node_at, set_at}
 use Rattle.node_port.specs.declared.node.NodeRec.{NodeRec}
 use Rattle.lays_kept.specs.Stands.{AreThose, node_with, rec_of}
 use Rattle.mail_searches.specs.Searching.{Searching}
-use Rattle.searches_shown.specs.Showing.{ShowsFresh}
 use Rattle.node_port.specs.declared.keeper.KeepStop.TheVariants as keep
-use Rattle.store_open.specs.Opening.{StopsTree}
+use Rattle.store_open.specs.Opening.{ShowsFresh, StopsTree}
 use Rattle.store_open.specs.declared.stops.TreeStop.{TreeStop}
 use Rattle.store_open.specs.declared.stops.TreeStop.TheVariants as trees
 use Rattle.file_open.specs.Opening.{LaysNodes, ReadsFresh, StopsOpening, spent_in}

@@ -13,9 +13,8 @@ use Rattle.file_scan.specs.Found.{IsFound}
 use Rattle.file_scan.specs.Scan.{IsRefused}
 use Rattle.file_scan.specs.declared.scan.FoundFile.{FoundFile}
 use Rattle.mail_searches.specs.Searching.{Searching}
-use Rattle.searches_shown.specs.Showing.{ShowsFresh}
-use Rattle.store_open.specs.Opening.{IsTreeRefused, KnowsTree}
-use Rattle.store_open.specs.declared.open.OpenedTree.{OpenedTree}
+use Rattle.store_open.specs.Opening.{IsTreeRefused, KnowsTree, ShowsFresh}
+pub use Rattle.store_open.specs.declared.open.OpenedTree.{OpenedTree}
 use Rattle.file_open.specs.declared.stops.FileRefusal.{FileRefusal}
 use Rattle.file_open.specs.declared.stops.FileRefusal.TheVariants as refusals
 use Rattle.file_open.specs.declared.stops.FileStop.{FileStop}

@@ -10,16 +10,13 @@ use Rattle.lays_kept.specs.Stands.{Stands}
 use Rattle.node_port.specs.Nodes.{Nodes}
 use Rattle.pst_commit.specs.Commit.{LeavesNodes}
 use Rattle.pst_commit.specs.Keeping.{Holds}
-use Rattle.mail_store.specs.Planning.{StandsFor}
 use Rattle.mail_searches.specs.Searching.{Searching}
-use Rattle.search_order.specs.Order.{InOrder}
 use Rattle.file_open.proofs.Keepers.{laid_stands}
-use Rattle.file_open.specs.Opening.{IsFileRefused, IsOpened, ReadsFresh, StopsOpening}
+use Rattle.file_open.specs.Opening.{IsFileRefused, IsOpened, OpenedTree, ReadsFresh, StopsOpening}
 use Rattle.file_open.specs.declared.stops.FileRefusal.{FileRefusal}
 use Rattle.file_open.specs.declared.stops.FileStop.{FileStop}
 use Rattle.file_open.specs.declared.stops.FileStop.TheVariants as stops
-use Rattle.store_open.specs.declared.open.OpenedTree.{OpenedTree}
-use Rattle.store_session.specs.Carrying.{Has}
+use Rattle.store_session.specs.Carrying.{Has, InOrder, StandsFor}
 use Rattle.store_session.specs.Disks.{Effects}
 use Rattle.store_session.specs.Session.{StoreSessionEnds}
 use Rattle.store_session.specs.Turns.{IsReached, StoreTurn, texts}

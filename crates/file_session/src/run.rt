@@ -11,11 +11,9 @@ ghost use Rattle.file_session.specs.FileRun.{FileRunEnds};
 
 use file_laying::FoundStore;
 use file_open::{FileRefusal, FileStop, open_file};
-use mail_store::Store;
 use pst_outside::Outside;
-use search_store::SearchStore;
 use std::alloc::Global;
-use store_session::{SessionEnd, run_session};
+use store_session::{SearchStore, SessionEnd, Store, run_session};
 
 /// How a session over a file went.
 #[derive(Clone, Copy, Debug, PartialEq, Eq)]

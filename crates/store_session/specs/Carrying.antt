@@ -10,9 +10,9 @@ use Rattle.mail_draft.specs.declared.stop.Stop.{Stop}
 use Rattle.mail_draft.specs.declared.stop.Stop.TheVariants as stops
 use Rattle.mail_searches.specs.Searching.{Searching}
 use Rattle.mail_searches.specs.declared.known.KnownSearches.{KnownSearches}
-use Rattle.mail_store.specs.Planning.{StandsFor}
+pub use Rattle.mail_store.specs.Planning.{StandsFor}
 use Rattle.mail_tree.specs.declared.known.Known.{Known}
-use Rattle.search_order.specs.Order.{InOrder}
+pub use Rattle.search_order.specs.Order.{InOrder}
 use Rattle.search_store.specs.Planning.{StoresSearches}
 use Rattle.store_session.specs.Run.{refused}
 use Rattle.store_session.specs.declared.carrying.StoreStop.{StoreStop}

@@ -11,5 +11,7 @@ mod planning;
 mod session;
 
 pub use carrying::{StoreStop, answer_line};
+pub use mail_store::Store;
 pub use planning::plan_counted;
+pub use search_store::SearchStore;
 pub use session::{SessionEnd, run_session};
