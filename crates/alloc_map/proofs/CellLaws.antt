@@ -105,9 +105,6 @@ until-ends slot c lt = omega arith
 from-begins : (slot c : ℕ) → cells_from slot ≤ c → slot ≤ cell_slot c
 from-begins slot c le = omega arith
 
-pub cells-ordered : (slot n : ℕ) → cells_until slot ≤ cells_from (slot + n)
-cells-ordered slot n = omega arith
-
 pub cells-within : (slot r : ℕ) → slot ≤ 3968 * r → cells_from slot ≤ 30 * r
 cells-within slot r le = omega arith
 

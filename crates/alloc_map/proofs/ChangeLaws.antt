@@ -1,15 +1,7 @@
 -- How changes of used slots follow one another.
-use Rattle.std.proofs.Common.{◌≡◌, ◌+◌, ℕ, Bool, List, refl, ◌∙◌, inl, inr, arith}
+use Rattle.std.proofs.Common.{◌≡◌, ◌+◌, ℕ, Bool, List, ◌∙◌, inl, inr, arith}
 use Rattle.std.proofs.lemmas.Bool.{cases_lt}
 use Rattle.alloc_map.specs.Slots.{Becomes}
-
-pub Becomes-none : (used : List Bool) (slot : ℕ) (v : Bool) → Becomes used used slot 0 v
-Becomes-none used slot v = record {
-  size = refl;
-  inside = λ s low high. absurd (omega arith);
-  below = λ s _. refl;
-  above = λ s _. refl;
-}
 
 -- one more slot behind those that have changed
 pub Becomes-more : {a b c : List Bool} {slot n : ℕ} {v : Bool} (at m : ℕ) → Becomes a b slot n v → Becomes b c at 1 v → at ≡ slot + n → m ≡ n + 1 → Becomes a c slot m v

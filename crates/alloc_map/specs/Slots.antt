@@ -1,6 +1,6 @@
 -- The slots of 64 bytes of which a file's regions are made. Slot 0 begins at 4400h, and each region has 3968.
 -- A set of used slots is a list with one entry for each slot of the regions: true where the slot is used.
-use Rattle.std.specs.Prelude.{◌≡◌, ◌<◌, ◌≤◌, ℕ, ◌+◌, ◌-◌, ◌*◌, ◌/◌, ◌%◌, Bool, false, ◌||◌, List, length, slice_index_or}
+use Rattle.std.specs.Prelude.{◌≡◌, ◌<◌, ◌≤◌, ℕ, ◌+◌, ◌-◌, ◌*◌, ◌/◌, ◌%◌, Bool, false, List, length, slice_index_or, ◌||◌}
 use Rattle.pst_base.specs.declared.places.Place.{Place}
 
 -- where a slot begins in the file

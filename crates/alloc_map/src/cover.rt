@@ -1,6 +1,6 @@
 //! Places covered one after another, and the least slot that two of them cover.
 ghost use Rattle.std.specs.Prelude.{◌≡◌, ◌<◌, ◌≤◌, ◌*◌, ◌+◌, ◌^◌, ◌++◌, List, true, false, length, All};
-ghost use Rattle.alloc_map.specs.Slots.{is_used, AreAll, Becomes, IsLaid, slot_of, slots_in, start_of};
+ghost use Rattle.alloc_map.specs.Slots.{AreAll, Becomes, IsLaid, slot_of, slots_in, start_of};
 ghost use Rattle.alloc_map.specs.Standing.{IsCovered, amap_places, fixed_places, fixed_slots, standing};
 ghost use Rattle.pst_base.specs.declared.places.Place.{Place as Places};
 ghost use Rattle.alloc_map.specs.Covered.{IsCovering, IsLeastOf, IsUsedIn, least_of};

@@ -1,6 +1,6 @@
 //! The search for the least free place of a length.
-ghost use Rattle.std.specs.Prelude.{◌≡◌, ◌<◌, ◌≤◌, ◌*◌, ◌+◌, ◌^◌, ◌%◌, ℕ, false, length, IfSome, IfNone};
-ghost use Rattle.alloc_map.specs.Slots.{AreAll, InRegion, IsRoom};
+ghost use Rattle.std.specs.Prelude.{◌≡◌, ◌<◌, ◌≤◌, ◌*◌, ◌+◌, ◌^◌, ℕ, length, IfSome, IfNone};
+ghost use Rattle.alloc_map.specs.Slots.{IsRoom};
 ghost use Rattle.alloc_map.specs.Rooms.{AreBounds, ArePageBounds, IsLeast, IsIn, IsPageIn, IsRoomAtEighth};
 
 use crate::bits::Bits;

@@ -1,10 +1,9 @@
 //! Writing a block's frame.
-ghost use Rattle.std.specs.Prelude.{◌≡◌, ◌≤◌, ◌-◌, ◌++◌, length, IfOk, OnOk, Ok, replicate};
+ghost use Rattle.std.specs.Prelude.{◌≡◌, ◌≤◌, ◌-◌, length, IfOk, Ok};
 ghost use Rattle.pst_base.specs.Cells.{Fit};
 ghost use Rattle.pst_checksum.specs.Crc.{crc_of};
 ghost use Rattle.pst_checksum.specs.Sig.{sig_of};
 ghost use Rattle.block_frame.specs.Block.{block_of, reading, trailer_cells, trailer_of};
-ghost use Rattle.block_frame.specs.Size.{disk_size_of};
 
 use crate::block::disk_size;
 use pst_base::{Bref, Bytes, put_u16, put_u32, put_u64};

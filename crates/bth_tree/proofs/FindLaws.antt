@@ -1,5 +1,5 @@
 -- Sums of records, one part behind the other.
-use Rattle.std.proofs.Common.{◌≡◌, ◌≤◌, ◌<◌, ◌==◌, ◌&&◌, ◌+◌, inl, inr, nat_lt, nat_le, ℕ, suc, Bool, true, false, List, [], ◌∷◌, ◌++◌, length, take, drop, Option, Some, None, refl, sym, ap, ◌∙◌, arith}
+use Rattle.std.proofs.Common.{◌≡◌, ◌≤◌, ◌<◌, ◌==◌, ◌&&◌, ◌+◌, inl, inr, nat_lt, nat_le, ℕ, suc, Bool, true, false, List, [], ◌∷◌, ◌++◌, length, take, drop, Option, Some, refl, sym, ap, ◌∙◌, arith}
 use Rattle.std.proofs.lemmas.Bool.{cases_Bool, le-leb, lt-ltb, ltb-true}
 use Rattle.std.proofs.lemmas.List.{append-nil}
 use Rattle.byteorder.specs.Endian.{little_number}
@@ -59,10 +59,6 @@ ends-within low end below high (r ∷ (s ∷ rs)) n h =
           rw (← next, t, lt-ltb r.0 end less, le-leb (suc r.0) s.0 g.0) refl
       | inr z ↦ rw (← next, z, and-false (nat_le (suc r.0) s.0), and-false (nat_lt r.0 end)) refl
     ])
-
-pub before-nil : (o : Option (List (ℕ × List ℕ))) → before [] o ≡ o
-before-nil None = refl
-before-nil (Some more) = refl
 
 pub before-all : (rs : List (ℕ × List ℕ)) (o : Option (List (ℕ × List ℕ))) → before rs (Some []) ≡ o → o ≡ Some rs
 before-all rs o h = sym h ∙ ap Some (append-nil rs)

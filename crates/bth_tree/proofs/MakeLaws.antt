@@ -104,10 +104,6 @@ level-step old mid new k e done part ps p m a some recs = record {
     first-fits k e [] n some h is = absurd (omega arith)
     first-fits k e (r ∷ rs) n some h is = omega (arith, h.0, is)
 
--- an empty level
-pub level-none : (old : List (List (List ℕ))) (k : ℕ) → MakesLevel old old k [] []
-level-none old k = record { kept = λ hid x h. h; parts = refl; pairs = tt; blocks = omega arith; half = omega arith; spent = omega arith }
-
 pub along : (k e : ℕ) (xs ys : List (ℕ × List ℕ)) → xs ≡ ys → AreRecords k e xs → AreRecords k e ys
 along k e xs ys same h = subst (λ (ws : List (ℕ × List ℕ)). AreRecords k e ws) same h
 
@@ -338,10 +334,6 @@ one-pair child (p ∷ []) rs d n h =
     g.2 ∙ ap Some (sym (append-nil g.0) ∙ ap (λ (ws : List (ℕ × List ℕ)). g.0 ++ ws) (some-injective [] g.1 g.3) ∙ g.5)
 one-pair child (p ∷ (q ∷ ps)) rs d n h = absurd (omega arith)
 
-pub AreRecords-first : (k e : ℕ) (ps : List (ℕ × List ℕ)) (d : ℕ × List ℕ) → AreRecords k e ps → 0 < length ps → length (get_or ps 0 d).1 ≡ e
-AreRecords-first k e [] d h n = absurd (omega arith)
-AreRecords-first k e (p ∷ ps) d h n = h.1
-
 pub root-from : (get : ℕ → Option (List ℕ)) (k e n hid : ℕ) (rs : List (ℕ × List ℕ)) → tree get k e n hid ≡ Some rs → root get k e n hid ≡ Some rs
 unfolding tree
 root-from get k e zero hid rs h =
@@ -406,9 +398,6 @@ room-first h0 h1 per ch ps a b = sum h0 h1 ch ps (items_above per 2 ps) (items_a
 
 pub few-first : (h0 ch ps x : ℕ) → h0 + (1 + (ch + x)) < 65536 → ps ≡ ch → ps ≤ 65535
 few-first h0 ch ps x a b = omega arith
-
-pub few-level : (h0 ch x : ℕ) → h0 + (1 + (ch + x)) < 65536 → h0 + ch ≤ 65536
-few-level h0 ch x a = omega arith
 
 pub room-step : (h per level m bound : ℕ) → level ≤ 2 → (level ≡ 2 → m ≤ 1) → 1 < m → h + items_above per (2 - level) m + 1 ≤ bound
     → (level < 2) × (h + (chunks per m + items_above per (2 - (level + 1)) (chunks per m)) + 1 ≤ bound)

@@ -1,10 +1,10 @@
 //! Looking up one key.
-ghost use Rattle.std.specs.Prelude.{◌≡◌, ◌≤◌, ◌<◌, ◌^◌, ◌+◌, ◌++◌, ◌∷◌, [], ℕ, List, length, take, map, drop, true, IfOk, OnOk, option_copied};
+ghost use Rattle.std.specs.Prelude.{◌≡◌, ◌≤◌, ◌<◌, ◌^◌, ◌+◌, ◌++◌, ◌∷◌, [], ℕ, List, length, true, option_copied};
 ghost use Rattle.heap_on_node.specs.Heap.{item};
 ghost use Rattle.bth_tree.specs.Answers.{seen};
 ghost use Rattle.bth_tree.specs.Find.{FindsEntry, Looks, LooksPart, SumsMaybe, SumsPart, either as either_entry};
 ghost use Rattle.bth_tree.specs.Records.{entry_of, ordered, within};
-ghost use Rattle.bth_tree.specs.Tree.{any_bth, bth, filled, is_header, tree, under};
+ghost use Rattle.bth_tree.specs.Tree.{any_bth, filled, tree, under};
 
 use crate::read::{behind, end_at, has_header};
 use crate::record::{BthFault, Record, key_at, record_at};

@@ -1,7 +1,6 @@
 //! Making a tree.
-ghost use Rattle.std.specs.Prelude.{◌≡◌, ◌≤◌, ◌<◌, ◌^◌, ◌+◌, ◌*◌, ◌++◌, length, take, drop, true, IfOk, OnOk};
-ghost use Rattle.byteorder.specs.Endian.{little_bytes};
-ghost use Rattle.heap_on_node.specs.Packing.{Adds, item_in};
+ghost use Rattle.std.specs.Prelude.{◌≡◌, ◌≤◌, ◌<◌, ◌^◌, ◌+◌, length, true, IfOk};
+ghost use Rattle.heap_on_node.specs.Packing.{Adds};
 ghost use Rattle.bth_tree.specs.Records.{within};
 ghost use Rattle.bth_tree.specs.Making.{AddsPart, AreRecords, Makes, MakesLevel, MakesLevels, header_of, chunks, items_made, per_item, spelled};
 

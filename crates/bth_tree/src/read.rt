@@ -1,5 +1,5 @@
 //! Reading all records of a tree.
-ghost use Rattle.std.specs.Prelude.{◌≡◌, ◌≤◌, ◌<◌, ◌^◌, ◌+◌, length, take, map, drop, true, All, IfOk, OnOk};
+ghost use Rattle.std.specs.Prelude.{◌≡◌, ◌≤◌, ◌<◌, ◌^◌, ◌+◌, length, map, drop, true, All, IfOk, OnOk};
 ghost use Rattle.pst_base.specs.Stops.{Finds};
 ghost use Rattle.heap_on_node.specs.Heap.{item};
 ghost use Rattle.bth_tree.specs.Answers.{IsRecord, Puts, seen};
@@ -9,7 +9,7 @@ ghost use Rattle.bth_tree.specs.Tree.{bth, filled, is_header, tree, under};
 use crate::record::{BthFault, Record, key_at, record_at};
 use heap_on_node::HeapView;
 use pst_base::{MemOr, u8_at, u32_at};
-use std::alloc::{AllocError, Global};
+use std::alloc::Global;
 
 /// The bytes behind the first `n`.
 pub fn behind(b: &[u8], n: usize) -> &[u8]

@@ -1,5 +1,5 @@
 //! One record.
-ghost use Rattle.std.specs.Prelude.{◌≡◌, ◌≤◌, ◌<◌, ◌^◌, ◌+◌, length, take, map, drop};
+ghost use Rattle.std.specs.Prelude.{◌≡◌, ◌≤◌, ◌<◌, ◌^◌, ◌+◌, length, take, drop};
 ghost use Rattle.byteorder.specs.Endian.{little_number};
 
 use byteorder::{ByteOrder, LittleEndian};

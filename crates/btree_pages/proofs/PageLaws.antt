@@ -1,13 +1,11 @@
 -- Pieces of a page by their places, and ascending keys.
-use Rattle.std.proofs.Common.{Bool, true, false, ◌≡◌, ℕ, zero, suc, ◌+◌, ◌*◌, ◌-◌, ◌<◌, ◌≤◌, ltb, ◌&&◌, List, [], ◌∷◌, length, take, drop, get_or, Option, Some, None, inl, inr, refl, sym, ap, subst, ◌∙◌, arith}
+use Rattle.std.proofs.Common.{Bool, true, false, ◌≡◌, ℕ, zero, suc, ◌+◌, ◌*◌, ◌-◌, ◌<◌, ◌≤◌, ltb, ◌&&◌, List, [], ◌∷◌, length, take, drop, get_or, Some, inl, inr, refl, sym, ap, subst, ◌∙◌, arith}
 use Rattle.std.specs.List.{slice_get}
-use Rattle.std.specs.Option.{SomeIff}
-use Rattle.std.proofs.lemmas.Bool.{and_parts, cases_lt, ne_eqb, ltb-true, lt-ltb, le-ltb}
-use Rattle.std.proofs.lemmas.List.{drop-drop, drop_all, get_or-map, length-map}
+use Rattle.std.proofs.lemmas.Bool.{and_parts, cases_lt, ne_eqb, ltb-true, le-ltb}
+use Rattle.std.proofs.lemmas.List.{drop-drop, drop_all, length-map}
 use Rattle.std.proofs.lemmas.Nat.{mul-le}
-use Rattle.std.proofs.lemmas.Option.{get_or_from_slice_get}
 use Rattle.std.proofs.Math.Seq.{drop-cons}
-use Rattle.btree_pages.specs.Pages.{pieces, rise_above, ascend, keys, key_in, size_at, FindsLast}
+use Rattle.btree_pages.specs.Pages.{pieces, rise_above, ascend, keys, key_in, size_at}
 
 pub length-pieces : (s n : ℕ) (b : List ℕ) → length (pieces s n b) ≡ n
 length-pieces s zero b = refl
@@ -30,26 +28,11 @@ piece_within s n m i h less = let e = times-suc i s in let more : suc i * s ≤ 
 pub length-keys : (rule : ℕ → ℕ) (s n : ℕ) (b : List ℕ) → length (keys rule (pieces s n b)) ≡ n
 length-keys rule s n b = length-map (pieces s n b) (key_in rule) ∙ length-pieces s n b
 
-pub get_or-keys : (rule : ℕ → ℕ) (s n : ℕ) (b : List ℕ) (i : ℕ) (x : List ℕ) → i < n → slice_get (pieces s n b) i ≡ Some x
-    → get_or (keys rule (pieces s n b)) i 0 ≡ key_in rule x
-get_or-keys rule s n b i x h e =
-    let len = length-pieces s n b in
-    get_or-map (key_in rule) (pieces s n b) i [] 0 (omega (arith, len))
-    ∙ ap (key_in rule) (get_or_from_slice_get (pieces s n b) i x [] e)
-
 -- ---- ascending
-
-pub ascend-first : (ks : List ℕ) → 0 < length ks → ascend ks ≡ rise_above (get_or ks 0 0) (drop 1 ks)
-ascend-first [] h = absurd (omega arith)
-ascend-first (k ∷ ks) h = refl
 
 -- the keys from a place on
 drop-here : (i : ℕ) (ks : List ℕ) → i < length ks → drop i ks ≡ get_or ks i 0 ∷ drop (i + 1) ks
 drop-here i ks h = let e : suc i ≡ i + 1 = omega arith in drop-cons ks i 0 h ∙ ap (λ (k : ℕ). get_or ks i 0 ∷ drop k ks) e
-
-pub rise-next : (low i : ℕ) (ks : List ℕ) → i < length ks → low < get_or ks i 0 → rise_above low (drop i ks) ≡ rise_above (get_or ks i 0) (drop (i + 1) ks)
-rise-next low i ks h above =
-    ap (rise_above low) (drop-here i ks h) ∙ ap (λ (t : Bool). t && rise_above (get_or ks i 0) (drop (i + 1) ks)) (lt-ltb low (get_or ks i 0) above)
 
 pub rise-stop : (low i : ℕ) (ks : List ℕ) → i < length ks → get_or ks i 0 ≤ low → rise_above low (drop i ks) ≡ false
 rise-stop low i ks h below =
@@ -118,19 +101,6 @@ between-high ks key low middle high rising between from less over =
         | inl later ↦ let less_key : get_or ks middle 0 < get_or ks j 0 = ascend-index ks rising middle j later k in omega (arith, less_key, over)
         | inr here ↦ let e : j ≡ middle = omega arith in let at : ℕ → Type 0 = λ n. key < get_or ks n 0 in subst at (sym e) over
       ];
-    }
-
-pub between-end : (ks : List ℕ) (key low high : ℕ) → Between ks key low high → high ≤ low → (found : Option ℕ) → SomeIff found (1 ≤ low) (low - 1) → FindsLast ks key found
-between-end ks key low high between over None none = λ j h. between.above j (let o = between.ordered in elim (cases_lt low 1) [ inl l ↦ omega arith | inr m ↦ absurd (none m) ]) h
-between-end ks key low high between over (Some place) some =
-    let o = between.ordered in
-    let w = between.within in
-    let one = some.0 in
-    let e : place ≡ low - 1 = some.1 in
-    record {
-      within = omega arith;
-      reached = between.below place (omega arith);
-      above = λ next h k. between.above next (omega arith) k;
     }
 
 pub size_at-inner : (leaf level : ℕ) → 1 ≤ level → size_at leaf level ≡ 24

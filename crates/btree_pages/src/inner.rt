@@ -1,5 +1,5 @@
 //! The entries of the inner pages of both trees.
-ghost use Rattle.std.specs.Prelude.{◌≡◌, ◌≤◌, ◌<◌, ◌+◌, ◌^◌, length};
+ghost use Rattle.std.specs.Prelude.{◌≡◌, ◌≤◌, ◌+◌, length};
 ghost use Rattle.pst_base.specs.Fields.{replaced};
 ghost use Rattle.btree_pages.specs.Entries.{inner_bytes, inner_of, InnerFits};
 

@@ -1,8 +1,8 @@
 //! Reading a tree page.
-ghost use Rattle.std.specs.Prelude.{◌≡◌, ◌≤◌, ◌<◌, ◌+◌, ◌*◌, IsTrue, Some, length, take, drop, slice_get, slice_index, slice_index_or, []};
+ghost use Rattle.std.specs.Prelude.{◌≡◌, ◌≤◌, ◌<◌, ◌+◌, ◌*◌, IsTrue, Some, length, slice_get, slice_index, slice_index_or, []};
 ghost use Rattle.pst_base.specs.Fields.{number_at};
 ghost use Rattle.btree_pages.specs.Entries.{inner_of};
-ghost use Rattle.btree_pages.specs.Pages.{Page, pieces, size_at, key_in, keys, ascend, is_counted, page_with, page_of, FindsLast};
+ghost use Rattle.btree_pages.specs.Pages.{Page, pieces, size_at, keys, ascend, is_counted, page_with, page_of, FindsLast};
 
 use crate::entry::Entry;
 use crate::inner::Inner;

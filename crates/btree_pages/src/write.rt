@@ -1,9 +1,8 @@
 //! Writing a tree page.
-ghost use Rattle.std.specs.Prelude.{◌≡◌, ◌≤◌, ◌<◌, ◌+◌, ◌*◌, ◌++◌, true, Ok, map, take, drop, length, replicate};
+ghost use Rattle.std.specs.Prelude.{◌≡◌, ◌≤◌, ◌<◌, ◌*◌, true, Ok, map, length};
 ghost use Rattle.std.specs.List.{All};
-ghost use Rattle.pst_base.specs.Fields.{number_at, replaced};
 ghost use Rattle.btree_pages.specs.Entries.{inner_bytes, InnerFits};
-ghost use Rattle.btree_pages.specs.Pages.{Page, ascend, page_of, with_head, page_bytes};
+ghost use Rattle.btree_pages.specs.Pages.{ascend, page_of, with_head, page_bytes};
 
 use crate::entry::Entry;
 use crate::inner::Inner;

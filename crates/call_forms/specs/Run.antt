@@ -53,8 +53,3 @@ Run before [] (said ∷ replies) trees = ⊥
 Run before [] [] (after ∷ trees) = ⊥
 Run before (piece ∷ pieces) [] trees = ⊥
 Run before (piece ∷ pieces) (said ∷ replies) [] = ⊥
-
--- the tree at the end of a run
-abbrev pub last_tree : Searching → List Searching → Searching
-last_tree before [] = before
-last_tree before (after ∷ trees) = last_tree after trees

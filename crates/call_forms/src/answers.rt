@@ -2,7 +2,6 @@
 ghost use Rattle.std.specs.Prelude.{◌≡◌, IfOk, OnErr};
 ghost use Rattle.command_text.specs.Lines.{command};
 ghost use Rattle.line_server.specs.Lines.{line};
-ghost use Rattle.command_text.specs.declared.reply.CommandRefusal.{CommandRefusal as Refusal};
 ghost use Rattle.call_forms.specs.Boxes.{Answering, StaysAs};
 ghost use Rattle.call_forms.specs.Run.{Carries, refused};
 ghost use Rattle.call_forms.specs.Boxes.{Holds};

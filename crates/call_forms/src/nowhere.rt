@@ -1,5 +1,4 @@
 //! A world for what needs none.
-ghost use Rattle.std.specs.Prelude.{◌≡◌};
 
 use pst_outside::{Failed, Outside, Part};
 

@@ -1,6 +1,6 @@
 -- Columns that are laid out anew have places of their own.
-use Rattle.std.proofs.Common.{◌≡◌, ℕ, ◌+◌, ◌*◌, ◌/◌, ◌≤◌, ◌<◌, ◌⊎◌, ◌==◌, ◌||◌, ◌&&◌, Bool, true, false, not, nat_le, nat_lt, List, [], ◌∷◌, length, map, get_or, drop, zero, suc, Option, None, Some, is_some, add-one, drop-cons, arith, refl, sym, ap, subst, ◌∙◌, inl, inr, cond}
-use Rattle.std.proofs.lemmas.Bool.{cases_Bool, cases_lt, cases_eq, false≢true, and_parts, and_from, or_parts, eqb-true, eq-eqb, ne_eqb, leb-true, le-leb, ltb-true, lt-ltb, le-ltb}
+use Rattle.std.proofs.Common.{◌≡◌, ℕ, ◌+◌, ◌*◌, ◌/◌, ◌≤◌, ◌<◌, ◌⊎◌, ◌==◌, ◌&&◌, Bool, true, false, not, nat_le, nat_lt, List, [], ◌∷◌, length, map, get_or, drop, zero, suc, Option, None, Some, is_some, add-one, drop-cons, arith, refl, sym, ap, subst, ◌∙◌, inl, inr, ◌||◌}
+use Rattle.std.proofs.lemmas.Bool.{cases_Bool, cases_lt, cases_eq, false≢true, and_parts, and_from, eqb-true, eq-eqb, ne_eqb, leb-true, le-leb, ltb-true, lt-ltb}
 use Rattle.std.proofs.lemmas.Option.{none-some}
 use Rattle.std.specs.List.{list_all}
 use Rattle.mapi_values.specs.declared.column.Column.{Column}
@@ -12,7 +12,7 @@ use Rattle.mapi_values.specs.Tables.{IsTable, Tab, cells_suit, row_suits, value_
 use Rattle.mapi_values.specs.Properties.{all_fit, ascend_from}
 use Rattle.mapi_values.specs.Values.{Val, in_field}
 use Rattle.column_layout.specs.Layout.{IsOneOf, bits_of, count_where, first_bit, group, group_end, has_tag, is_row_column, is_row_id, is_row_version, laid_out, placed, placed_ends, precedes, unplaced, width_of, widths_where, with_column, with_columns, within_group}
-use Rattle.column_layout.proofs.Sums.{Implies, count-both, count-grow, count-has, count-le, count-small, one-has, widths-grow, widths-le, widths-small}
+use Rattle.column_layout.proofs.Sums.{Implies, count-both, count-grow, count-has, one-has, widths-grow, widths-le}
 
 -- what the tests say
 pub record Precedes (c d : Column) : Type 0 where
@@ -89,18 +89,9 @@ precedes-within c = record { implies = λ x e. within-from 2 x (precedes-true c 
 within-more : (a b : ℕ) → a ≤ b → Implies (within_group a) (within_group b)
 within-more a b le = record { implies = λ x e. let p = within-true a x e in within-from b x p.0 (omega (arith, p.1)) }
 
--- the row id and the row version
-row-parts : (c : Column) → is_row_column c ≡ false → (is_row_id c ≡ false) × (is_row_version c ≡ false)
-unfolding is_row_column
-row-parts c e = or_parts (is_row_id c) (is_row_version c) e
-
 row-from : (c : Column) → is_row_id c ≡ false → is_row_version c ≡ false → is_row_column c ≡ false
 unfolding is_row_column
 row-from c a b = rw (a, b) refl
-
-id-is-row : (c : Column) → is_row_id c ≡ true → is_row_column c ≡ true
-unfolding is_row_column
-id-is-row c e = rw e refl
 
 version-is-row : (c : Column) → is_row_version c ≡ true → is_row_column c ≡ true
 unfolding is_row_column

@@ -1,5 +1,5 @@
 -- How many columns pass a test, and how wide their cells are together.
-use Rattle.std.proofs.Common.{◌≡◌, ℕ, ◌+◌, ◌*◌, ◌≤◌, ◌<◌, ◌⊎◌, ◌||◌, Bool, true, false, List, [], ◌∷◌, length, get_or, drop, zero, suc, arith, refl, sym, ap, subst, ◌∙◌, inl, inr}
+use Rattle.std.proofs.Common.{◌≡◌, ℕ, ◌+◌, ◌*◌, ◌≤◌, ◌<◌, Bool, true, false, List, [], ◌∷◌, length, get_or, drop, zero, suc, arith, refl, ap, subst, inl, inr, ◌||◌}
 use Rattle.std.proofs.lemmas.Bool.{cases_Bool, false≢true}
 use Rattle.mapi_values.specs.declared.column.Column.{Column}
 use Rattle.mapi_values.specs.Columns.{cell_width, in_cell, has_column, is_column}

@@ -1,6 +1,6 @@
 //! The places of columns in a row that is laid out anew.
-ghost use Rattle.std.specs.Prelude.{◌≡◌, ◌≤◌, ◌*◌, IfOk, length, map, false};
-ghost use Rattle.column_layout.specs.Layout.{IsOneOf, bits_of, count_where, first_bit, group, group_end, is_row_column, is_row_id, is_row_version, placed, placed_ends, precedes, widths_where, within_group};
+ghost use Rattle.std.specs.Prelude.{◌≡◌, ◌≤◌, ◌*◌, IfOk, length, map};
+ghost use Rattle.column_layout.specs.Layout.{IsOneOf, count_where, first_bit, group, group_end, is_row_column, is_row_id, is_row_version, placed, placed_ends, precedes, widths_where, within_group};
 
 use mapi_values::tags::{PID_TAG_LTP_ROW_ID, PID_TAG_LTP_ROW_VER};
 use mapi_values::{Column, Keyed, cell_width, has_column};

@@ -16,9 +16,6 @@ pub record ReadsHex (ds : List ℕ) (i number : ℕ) : Type 0 where
   pub below : number < 16 ^ i
   pub rest : list_all (λ d. is_digit d 16) (drop i ds) ≡ list_all (λ d. is_digit d 16) ds
 
-pub hex-start : (ds : List ℕ) → ReadsHex ds 0 0
-hex-start ds = record { value = refl; below = omega arith; rest = refl }
-
 pub hex-small : (ds : List ℕ) (i number value : ℕ) → ReadsHex ds i number → i < 8 → value < 16 → number * 16 + value < 2 ^ 32
 hex-small ds i number value here less small =
     let more : 16 ^ suc i ≡ 16 ^ i * 16 = pow-suc 16 i in

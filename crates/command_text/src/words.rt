@@ -1,5 +1,5 @@
 //! The words of a line, and what stands in them.
-ghost use Rattle.std.specs.Prelude.{◌≡◌, ◌≤◌, ◌<◌, Bool, true, false, Option, Some, None, Ok, Err, ok_or, option_map, MatchOption, length};
+ghost use Rattle.std.specs.Prelude.{◌≡◌, ◌≤◌, ◌<◌, true, false, Option, Some, None, Ok, Err, ok_or, option_map, MatchOption, length};
 ghost use Rattle.std.specs.Str.{is_utf8};
 ghost use Rattle.pst_base.specs.Stops.{Gives};
 ghost use Rattle.value_text.specs.Hex.{hex_bytes};

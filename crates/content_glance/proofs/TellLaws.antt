@@ -1,5 +1,5 @@
 -- From what a record tells to what is told of a whole property context.
-use Rattle.std.proofs.Common.{◌≡◌, ◌==◌, ◌%◌, ◌-◌, ◌||◌, if◌then◌else◌, ℕ, Bool, true, false, List, length, take, drop, Option, Some, None, is_some, refl, sym, ap, ◌∙◌, inl, inr, arith}
+use Rattle.std.proofs.Common.{◌≡◌, ◌==◌, ◌%◌, ◌-◌, if◌then◌else◌, ℕ, Bool, true, false, List, length, take, drop, Option, Some, None, is_some, refl, sym, ap, ◌∙◌, inl, inr, arith, ◌||◌}
 use Rattle.std.proofs.lemmas.Bool.{cases_Bool, eq-eqb}
 use Rattle.std.proofs.lemmas.List.{take_rest}
 use Rattle.pst_base.specs.Flat.{Flat}

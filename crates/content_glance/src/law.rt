@@ -1,5 +1,5 @@
 //! What is told of the values of a message.
-ghost use Rattle.std.specs.Prelude.{◌≡◌, ℕ, Option};
+ghost use Rattle.std.specs.Prelude.{ℕ, Option};
 ghost use Rattle.mapi_values.specs.Messages.{Mes};
 ghost use Rattle.node_port.specs.declared.node.NodeRec.{NodeRec};
 ghost use Rattle.mail_objects.specs.Message.{ShowsMessage};

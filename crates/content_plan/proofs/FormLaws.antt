@@ -1,5 +1,5 @@
 -- Contents that have the form of nodes.
-use Rattle.std.proofs.Common.{◌≡◌, ◌⊎◌, inl, inr, ℕ, ◌+◌, ◌-◌, ◌*◌, ◌<◌, ◌≤◌, ◌^◌, get_or, List, [], ◌∷◌, ◌++◌, length, take, refl, sym, ap, subst, ◌∙◌, arith}
+use Rattle.std.proofs.Common.{◌≡◌, ◌⊎◌, inl, inr, ℕ, ◌+◌, ◌-◌, ◌*◌, ◌<◌, ◌≤◌, get_or, List, [], ◌∷◌, ◌++◌, length, take, sym, ap, subst, ◌∙◌, arith}
 use Rattle.std.specs.List.{All}
 use Rattle.std.proofs.lemmas.Bool.{cases_lt}
 use Rattle.std.proofs.lemmas.List.{take_all, take_more}
@@ -24,9 +24,6 @@ pub record Measured (blocks : List (List ℕ)) (i total : ℕ) : Type 0 where
   pub small : Each Short (take i blocks)
   pub room : total ≤ 8176 * i
 
-pub measured-start : (blocks : List (List ℕ)) → Measured blocks 0 0
-measured-start blocks = record { is = refl; small = tt; room = omega arith }
-
 pub measured-next : (blocks : List (List ℕ)) (i total n : ℕ) (b : List ℕ) → i < length blocks → b ≡ get_or blocks i b → n ≡ length b → length b ≤ 8176 → Measured blocks i total → Measured blocks (i + 1) (total + n)
 measured-next blocks i total n b h is size few so_far =
     let more : take (i + 1) blocks ≡ take i blocks ++ b ∷ [] = take_more blocks i b h ∙ ap (λ (l : List ℕ). take i blocks ++ l ∷ []) (sym is) in
@@ -40,17 +37,6 @@ measured-next blocks i total n b h is size few so_far =
       room = omega (arith, room, size, few);
     }
 
-pub measured-content : (blocks : List (List ℕ)) (i total : ℕ) → length blocks ≤ i → length blocks ≤ 1042441 → total < 2 ^ 32 → Measured blocks i total → IsContent blocks
-measured-content blocks i total h few low so_far =
-    let all = take_all i blocks h in
-    let same = so_far.is in
-    let sum = ap bytes_in all in
-    record {
-      small = all_from-each Short blocks (subst (λ (l : List (List ℕ)). Each Short l) all so_far.small);
-      few = few;
-      together = omega (arith, same, sum, low);
-    }
-
 pub made-next : (levels low next : ℕ) (xs : List Sub) (i : ℕ) (x : Sub) → i < length xs → x ≡ get_or xs i x → low ≤ (x.nid).bits → next ≡ (x.nid).bits + 1 → IsContent x.blocks → IsForm x.subs → All (λ f. f.level < levels) x.subs
     → Made levels (take i xs) low → Made levels (take (i + 1) xs) next
 made-next levels low next xs i x h is above after content form shallow made =
@@ -62,9 +48,6 @@ made-next levels low next xs i x h is above after content form shallow made =
 pub record Forming (levels low : ℕ) (xs : List Sub) (i : ℕ) : Type 0 where
   pub made : Made (levels - 1) (take i xs) low
   pub some : 1 ≤ i → 1 ≤ levels
-
-pub forming-start : (levels : ℕ) (xs : List Sub) → Forming levels 0 xs 0
-forming-start levels xs = record { made = made-none (levels - 1) 0; some = λ h. absurd (omega (arith, h)) }
 
 -- subnodes at no more than so many levels
 pub record Formed (levels : ℕ) (flats : List Flat) : Type 0 where

@@ -1,5 +1,5 @@
 -- What stays of data.
-use Rattle.std.proofs.Common.{Bool, true, false, not, ◌&&◌, ◌||◌, ◌≡◌, ◌⊎◌, inl, inr, ◌∙◌, ℕ, zero, suc, ◌+◌, ◌/◌, ◌%◌, ◌<◌, ◌≤◌, eqb, leb, ltb, get_or, List, [], ◌∷◌, ◌++◌, length, drop, min, append-nil, Option, Some, None, IsSome, refl, sym, ap, subst, arith, if◌then◌else◌}
+use Rattle.std.proofs.Common.{Bool, true, false, not, ◌&&◌, ◌≡◌, ◌⊎◌, inl, inr, ◌∙◌, ℕ, zero, suc, ◌+◌, ◌/◌, ◌%◌, ◌<◌, ◌≤◌, eqb, leb, ltb, List, [], ◌∷◌, ◌++◌, length, drop, min, append-nil, Option, Some, None, IsSome, refl, sym, ap, subst, arith, if◌then◌else◌, ◌||◌}
 use Rattle.std.proofs.lemmas.Bool.{and_parts, cases_eq, cases_lt, eq-eqb, ne_eqb, eqb-true, eqb-false, leb-true, ltb-true}
 use Rattle.pst_base.specs.declared.ids.Bid.{Bid}
 use Rattle.pst_base.specs.Ids.{key_of}
@@ -7,7 +7,6 @@ use Rattle.data_tree.specs.Keys.{count_of}
 use Rattle.data_tree.specs.Plan.{AreFound, MayKeep}
 use Rattle.data_tree.specs.Tree.{is_internal}
 use Rattle.data_tree.proofs.KeyLaws.{count-append}
-use Rattle.data_tree.proofs.ListingLaws.{drop-here}
 use Rattle.node_layout.specs.Joined.{kept_keys}
 use Rattle.subnode_tree.proofs.PairLaws.{Pair}
 use Rattle.content_plan.specs.Keep.{same_bytes, has_key, may_stay, kept_one, keys_with, kept_from, kept_list, Keeps}
@@ -21,26 +20,6 @@ bytes-same (x ∷ a) [] h = absurd (cc)
 bytes-same (x ∷ a) (y ∷ b) h =
     let parts = and_parts (eqb x y) (same_bytes a b) h in
     ap (λ (n : ℕ). n ∷ a) (eqb-true x y parts.0) ∙ ap (λ (l : List ℕ). y ∷ l) (bytes-same a b parts.1)
-
-pub same-bytes : (a b : List ℕ) → a ≡ b → same_bytes a b ≡ true
-same-bytes a b e = subst (λ (l : List ℕ). same_bytes a l ≡ true) e (go a)
-  where
-    go : (l : List ℕ) → same_bytes l l ≡ true
-    go [] = refl
-    go (x ∷ l) = rw (eq-eqb x x refl) (go l)
-
-pub other-bytes : (a b : List ℕ) → (a ≡ b → ⊥) → same_bytes a b ≡ false
-other-bytes a b ne = by (same_bytes a b) refl
-  where
-    by : (t : Bool) → same_bytes a b ≡ t → same_bytes a b ≡ false
-    by true e = absurd (ne (bytes-same a b e))
-    by false e = e
-
-key-here : (key : ℕ) (keys : List ℕ) (i : ℕ) (d : ℕ) → i < length keys → get_or keys i d ≡ key → has_key key (drop i keys) ≡ true
-key-here key keys i d h is = rw (drop-here keys i d h, eq-eqb (get_or keys i d) key is) refl
-
-key-next : (key : ℕ) (keys : List ℕ) (i : ℕ) (d : ℕ) → i < length keys → (get_or keys i d ≡ key → ⊥) → has_key key (drop i keys) ≡ has_key key (drop (i + 1) keys)
-key-next key keys i d h other = rw (drop-here keys i d h, ne_eqb (get_or keys i d) key other) refl
 
 none-there : (key : ℕ) (keys : List ℕ) → has_key key keys ≡ false → count_of key keys ≡ 0
 none-there key [] h = refl
@@ -173,28 +152,7 @@ keeps-list next ids was now = record {
   short = kept-short next [] ids was now;
 }
 
-pub keeps-none : (next : ℕ) (now : List (List ℕ)) → Keeps next [] now
-keeps-none next now = record { may = tt; once = λ key. omega arith; short = omega arith }
-
 -- ---- the loop
-
-pub kept-step : (next : ℕ) (keys : List ℕ) (keep : List (Option Bid)) (ids : List (Option Bid)) (was now : List (List ℕ)) (i : ℕ) (d : Option Bid) (x y : List ℕ) (one : Option Bid) (more : List ℕ) (out whole : List (Option Bid))
-    → i < length ids → i < length was → i < length now → one ≡ kept_one next keys (get_or ids i d) (get_or was i x) (get_or now i y) → more ≡ keys_with keys one → out ≡ keep ++ one ∷ []
-    → keep ++ kept_from next keys (drop i ids) (drop i was) (drop i now) ≡ whole → out ++ kept_from next more (drop (i + 1) ids) (drop (i + 1) was) (drop (i + 1) now) ≡ whole
-kept-step next keys keep ids was now i d x y one more out whole h k l is with_one pushed so_far =
-    let a = drop-here ids i d h in
-    let b = drop-here was i x k in
-    let c = drop-here now i y l in
-    let rest : kept_from next keys (drop i ids) (drop i was) (drop i now) ≡ one ∷ kept_from next more (drop (i + 1) ids) (drop (i + 1) was) (drop (i + 1) now) =
-    rw (a, b, c, with_one, is) refl in
-    rw pushed (rw append_one (ap (λ (l : List (Option Bid)). keep ++ l) (sym rest) ∙ so_far))
-  where
-    append_one : (keep ++ one ∷ []) ++ kept_from next more (drop (i + 1) ids) (drop (i + 1) was) (drop (i + 1) now) ≡ keep ++ (one ∷ kept_from next more (drop (i + 1) ids) (drop (i + 1) was) (drop (i + 1) now))
-    append_one = go keep
-      where
-        go : (k : List (Option Bid)) → (k ++ one ∷ []) ++ kept_from next more (drop (i + 1) ids) (drop (i + 1) was) (drop (i + 1) now) ≡ k ++ (one ∷ kept_from next more (drop (i + 1) ids) (drop (i + 1) was) (drop (i + 1) now))
-        go [] = refl
-        go (z ∷ k) = ap (λ (l : List (Option Bid)). z ∷ l) (go k)
 
 from-none : (next : ℕ) (keys : List ℕ) (ids : List (Option Bid)) (was : List (List ℕ)) → kept_from next keys ids was [] ≡ []
 from-none next keys [] was = refl

@@ -4,7 +4,6 @@ pub mod PathLaws
 pub mod OrderLaws
 pub mod MatchLaws
 pub mod FitLaws
-pub mod BoundLaws
 pub mod PutLaws
 pub mod ReadLaws
 pub mod PlanLaws

@@ -50,9 +50,6 @@ passes-join low high old ids mid mid_ids left left_ids le first later = record {
   ascend = λ up. later.ascend (first.ascend up);
 }
 
-pub begins-none : (low : ℕ) (left : List Sub) → left ≡ [] → BeginsFrom low left
-begins-none low left none = λ sub rest is. let both : [] ≡ sub ∷ rest = sym none ∙ is in absurd (cc)
-
 pub begins-with : (low : ℕ) (left : List Sub) (x : Sub) (xs : List Sub) → left ≡ x ∷ xs → low ≤ (x.nid).bits → BeginsFrom low left
 begins-with low left x xs parts le = λ sub rest is. let both : x ∷ xs ≡ sub ∷ rest = sym parts ∙ is in let same : x ≡ sub = cc in subst (λ (s : Sub). low ≤ (s.nid).bits) same le
 
@@ -88,9 +85,6 @@ other-first nid old x xs parts ne = λ y ys is same.
     let both : x ∷ xs ≡ y ∷ ys = sym parts ∙ is in
     let first : x ≡ y = cc in
     ne (ap (λ (s : Sub). (s.nid).bits) first ∙ same)
-
-pub none-first : (nid : ℕ) (old : List Sub) → old ≡ [] → (y : Sub) (ys : List Sub) → old ≡ y ∷ ys → (y.nid).bits ≡ nid → ⊥
-none-first nid old none = λ y ys is same. let both : [] ≡ y ∷ ys = sym none ∙ is in absurd (cc)
 
 -- where none has it
 pub there-none : (nid : ℕ) (old : List Sub) (old_ids : Keep) → ((x : Sub) (xs : List Sub) → old ≡ x ∷ xs → (x.nid).bits ≡ nid → ⊥) → subs_ascend (flattened old) ≡ true → BeginsFrom nid old → IsThere nid old old_ids [] [] [] []

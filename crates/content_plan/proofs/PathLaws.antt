@@ -137,10 +137,6 @@ pub kept-first : (kept : List ℕ → List (List ℕ) → List (Option Bid)) (y 
     → kept_each kept (paths_of (flattened (y ∷ ys))) (flattened (y ∷ ys)) ≡ kept ((y.nid).bits ∷ []) y.blocks ∷ (kept_each (λ path. kept ((y.nid).bits ∷ path)) (paths_of y.subs) y.subs ++ kept_each kept (paths_of (flattened ys)) (flattened ys))
 kept-first kept y ys = ap (λ (l : Keep). kept ((y.nid).bits ∷ []) y.blocks ∷ l) (kept-join kept (y.nid).bits y.subs [] ys)
 
-pub kept-count : (kept : List ℕ → List (List ℕ) → List (Option Bid)) (flats : List Flat) (last : List ℕ) → length (kept_each kept (paths_after last flats) flats) ≡ length flats
-kept-count kept [] last = refl
-kept-count kept (f ∷ flats) last = ap suc (kept-count kept flats (path_after last f))
-
 -- ---- what stays may stay, and is found
 
 among-found : (find : ℕ → Option (List ℕ)) (next : ℕ) (paths : List (List ℕ)) (had : List Pair) (path : List ℕ) (now : List (List ℕ)) → Each (PairFound find) had → AreFound find (kept_among next paths had path now) now

@@ -21,7 +21,7 @@ use Rattle.node_port.specs.declared.node.NodeRec.{NodeRec}
 use Rattle.node_port.specs.Nodes.{ascend}
 use Rattle.node_port.specs.Stops.{size}
 use Rattle.node_refs.specs.Counts as refs
-use Rattle.node_refs.specs.Counts.{is_edit, is_edited, sum_if, sum_put, uses}
+use Rattle.node_refs.specs.Counts.{is_edit, sum_put, uses}
 use Rattle.tree_edit.specs.Edits.{AreEdits, entry_with}
 use Rattle.tree_edit.specs.Shapes.{RiseIn}
 use Rattle.content_plan.specs.Keep.{kept_list, kept_subs}
@@ -51,10 +51,6 @@ edits-append low mid high (x ∷ xs) ys a b first later =
 pub edits-raise : (low high more : ℕ) (xs : Edits) → high ≤ more → AreEdits node_id low high xs → AreEdits node_id low more xs
 edits-raise low high more [] le e = tt
 edits-raise low high more (x ∷ xs) le e = let h = e.1 in (e.0, omega (arith, h, le), e.2, edits-raise (x.0 + 1) high more xs le e.3)
-
-edits-above : (low high k : ℕ) (xs : Edits) → high ≤ k → AreEdits node_id low high xs → edit_at k xs ≡ None
-edits-above low high k [] le e = refl
-edits-above low high k (x ∷ xs) le e = let h = e.1 in rw (ne_eqb x.0 k (λ s. absurd (omega (arith, s, h, le)))) (edits-above (x.0 + 1) high k xs le e.3)
 
 -- an entry has an edit in one part at most
 edited-parts : (low mid high k : ℕ) (xs ys : Edits) (n : ℕ) → AreEdits node_id low mid xs → AreEdits node_id mid high ys
@@ -198,12 +194,6 @@ taken-one find key k o low high (e ∷ es) rise = elim (cases_eq k (node_id e)) 
       rw (ne_eqb k (node_id e) other, ne_eqb (node_id e) k (λ s. other (sym s))) (omega (arith, rest))
 ]
 
-pub removed-counted : (next : ℕ) (nid : Nid) → IsCounted next nid.bits (nid.bits + 1) ((nid, None) ∷ []) ((nid.bits, None) ∷ []) []
-removed-counted next nid = record { rise = tt; small = all_from-each Small [] tt; most = omega arith; edits_rise = (omega arith, omega arith, tt, tt) }
-
-pub gone-counted : (next : ℕ) (nid : Nid) → IsCounted next nid.bits (nid.bits + 1) ((nid, None) ∷ []) [] []
-gone-counted next nid = record { rise = tt; small = all_from-each Small [] tt; most = omega arith; edits_rise = tt }
-
 -- a node that goes
 pub removed-plans : (find : ℕ → Option (List ℕ)) (eof limit : ℕ) (es : List NodeEntry) (nid : Nid) (entry : Option NodeEntry) (keys : List ℕ) → RiseIn 0 (2 ^ 64) (map node_id es) → entry_with node_id nid.bits es ≡ entry → keys ≡ keys_at find entry
     → PlansContents find eof limit es ((nid, None) ∷ []) ((nid.bits, None) ∷ []) [] keys []
@@ -223,15 +213,6 @@ gone-plans find eof limit es nid keys there are = record {
   fresh = λ key some. absurd (omega (arith, some));
   shows = λ after more found still bounds. (inr (refl, there, refl), λ key. refl);
   names = λ after found. inr (refl, refl);
-}
-
-pub put-counted : (limit next : ℕ) (nid : Nid) (node : NodeRec) (old : Content) (entry : NodeEntry) (blocks : List (Bid × List ℕ)) (keys : List ℕ) → PutsOver limit next nid node old entry blocks keys
-    → IsCounted next nid.bits (nid.bits + 1) ((nid, Some node) ∷ []) ((nid.bits, Some entry) ∷ []) blocks
-put-counted limit next nid node old entry blocks keys p = record {
-  rise = p.rise;
-  small = p.small;
-  most = let m = p.most in omega (arith, m);
-  edits_rise = (omega arith, omega arith, p.own, tt);
 }
 
 -- the blocks of a node that is put

@@ -63,12 +63,6 @@ keeps-blocks {old} {new} {header} {caches} {now} asks nodes find es is = record 
   lead = is.lead;
 }
 
-pub keeps-then : {old mid new : World} {header : Header} {caches between now : PageCaches} → KeepsParts old mid header caches between → KeepsParts mid new header between now → KeepsParts old new header caches now
-keeps-then first later find es is = later find es (first find es is)
-
-pub keeps-same : {world : World} {header : Header} {caches : PageCaches} → KeepsParts world world header caches caches
-keeps-same find es is = is
-
 -- so a world tells nodes on
 pub keeps-telling : {old new : World} {header : Header} {caches now : PageCaches} → Untouched old new → KeepsParts old new header caches now → KeepsTelling old new header caches now
 keeps-telling {old} {new} {header} {caches} {now} same on m told =

@@ -1,5 +1,5 @@
 //! The blocks and the entry of one node that is put.
-ghost use Rattle.std.specs.Prelude.{◌≡◌, ◌≤◌, ◌+◌, ◌*◌, ◌%◌, ◌^◌, ◌++◌, length, map, IfOk};
+ghost use Rattle.std.specs.Prelude.{◌≡◌, ◌≤◌, ◌+◌, ◌*◌, ◌%◌, ◌^◌, ◌++◌, length, IfOk};
 ghost use Rattle.std.specs.List.{All};
 ghost use Rattle.data_tree.specs.Keys.{keys_of};
 ghost use Rattle.data_tree.specs.Plan.{IsContent, bids_in};

@@ -1,11 +1,10 @@
 -- The readings of lists of ids, at one id more.
 use Rattle.std.proofs.Common.{Bool, true, ◌≡◌, ℕ, ◌+◌, ◌-◌, ◌<◌, ◌≤◌, ltb, if◌then◌else◌, List, [], ◌∷◌, ◌++◌, length, drop, get_or, Option, Some, None, Result, Ok, Err, refl, ap, ◌∙◌, arith}
-use Rattle.std.proofs.lemmas.Bool.{lt-ltb, le-ltb}
-use Rattle.std.proofs.lemmas.List.{drop_all}
+use Rattle.std.proofs.lemmas.Bool.{le-ltb}
 use Rattle.std.proofs.lemmas.List.Sums.{sum_by-append}
 use Rattle.pst_base.specs.declared.ids.Bid.{Bid}
 use Rattle.data_tree.specs.declared.source.TreeStop.{TreeStop}
-use Rattle.data_tree.specs.declared.source.TreeStop.TheVariants.{Missing, Long}
+use Rattle.data_tree.specs.declared.source.TreeStop.TheVariants.{Long}
 use Rattle.pst_base.specs.Ids.{key_of}
 use Rattle.data_tree.specs.Measure.{bytes_in}
 use Rattle.data_tree.specs.Source.{length_if, size_in}
@@ -24,20 +23,11 @@ pub listed-leaves : (find : Finder) (bid : Bid) (b : List ℕ) → is_listing 1 
 unfolding listed
 listed-leaves find bid b listing = rw listing refl
 
-pub below-next : (find : Finder) (parent : Bid) (bids here : List Bid) (i : ℕ) (d : Bid) → i < length bids → below find parent (get_or bids i d) ≡ Ok here
-    → all_below find parent (drop i bids) ≡ before here (all_below find parent (drop (i + 1) bids))
-below-next find parent bids here i d h e =
-    ap (all_below find parent) (drop-here bids i d h)
-    ∙ ap (λ (r : Result (List Bid) TreeStop). and_then r (λ here. and_then (all_below find parent (drop (i + 1) bids)) (λ more. Ok (here ++ more)))) e
-
 pub below-stop : (find : Finder) (parent : Bid) (bids : List Bid) (i : ℕ) (d : Bid) (fault : TreeStop) → i < length bids → below find parent (get_or bids i d) ≡ Err fault
     → all_below find parent (drop i bids) ≡ Err fault
 below-stop find parent bids i d fault h e =
     ap (all_below find parent) (drop-here bids i d h)
     ∙ ap (λ (r : Result (List Bid) TreeStop). and_then r (λ here. and_then (all_below find parent (drop (i + 1) bids)) (λ more. Ok (here ++ more)))) e
-
-pub below-end : (find : Finder) (parent : Bid) (bids : List Bid) (i : ℕ) → length bids ≤ i → all_below find parent (drop i bids) ≡ Ok []
-below-end find parent bids i h = ap (all_below find parent) (drop_all i bids h)
 
 -- the data after bids i, of which so many bytes may still come
 abbrev pub blocks_left : Finder → ℕ → ℕ → List Bid → Result (List (List ℕ)) TreeStop
@@ -65,42 +55,17 @@ blocks-next find eof left bids i d b h room fit e =
     ∙ ap (λ (t : Bool). if t then Err Long else and_then (blocks_from find eof (eof - left + length b) (drop (i + 1) bids)) (λ more. Ok (b ∷ more))) (le-ltb eof (eof - left + length b) within)
     ∙ ap (λ (n : ℕ). and_then (blocks_from find eof n (drop (i + 1) bids)) (λ more. Ok (b ∷ more))) same
 
-pub blocks-long : (find : Finder) (eof left : ℕ) (bids : List Bid) (i : ℕ) (d : Bid) (b : List ℕ) → i < length bids → left ≤ eof → left < length b
-    → fetched find (get_or bids i d) ≡ Ok b → blocks_left find eof left (drop i bids) ≡ Err Long
-unfolding first_block
-blocks-long find eof left bids i d b h room over e =
-    let past : eof < eof - left + length b = omega arith in
-    first-is find eof (eof - left) bids i d h
-    ∙ ap (first_block find eof (eof - left) (drop (i + 1) bids)) e
-    ∙ ap (λ (t : Bool). if t then Err Long else and_then (blocks_from find eof (eof - left + length b) (drop (i + 1) bids)) (λ more. Ok (b ∷ more))) (lt-ltb eof (eof - left + length b) past)
-
-pub blocks-stop : (find : Finder) (eof left : ℕ) (bids : List Bid) (i : ℕ) (d : Bid) (fault : TreeStop) → i < length bids
-    → fetched find (get_or bids i d) ≡ Err fault → blocks_left find eof left (drop i bids) ≡ Err fault
-unfolding first_block
-blocks-stop find eof left bids i d fault h e =
-    first-is find eof (eof - left) bids i d h ∙ ap (first_block find eof (eof - left) (drop (i + 1) bids)) e
-
-pub blocks-end : (find : Finder) (eof left : ℕ) (bids : List Bid) (i : ℕ) → length bids ≤ i → blocks_left find eof left (drop i bids) ≡ Ok []
-blocks-end find eof left bids i h = ap (blocks_from find eof (eof - left)) (drop_all i bids h)
-
 -- ---- sizes alone
 
 length_if-some : (o : Option (List ℕ)) (n : ℕ) → length_if o ≡ Some n → (b : List ℕ) × (o ≡ Some b) × (length b ≡ n)
 length_if-some None n e = absurd cc
 length_if-some (Some b) n e = (b, refl, cc)
 
-length_if-none : (o : Option (List ℕ)) → length_if o ≡ None → o ≡ None
-length_if-none None e = refl
-length_if-none (Some b) e = absurd cc
-
 -- the block that has a size, and the fault of one that has none
 pub size-some : (find : Finder) (bid : Bid) (n : ℕ) → size_in find bid ≡ Some n → (b : List ℕ) × (fetched find bid ≡ Ok b) × (length b ≡ n)
 size-some find bid n e =
     let block = length_if-some (find (key_of bid.bits)) n e in
     (block.0, ap (named bid) block.1, block.2)
-
-pub size-none : (find : Finder) (bid : Bid) → size_in find bid ≡ None → fetched find bid ≡ Err (Missing bid)
-size-none find bid e = ap (named bid) (length_if-none (find (key_of bid.bits)) e)
 
 -- one block more, of which the size is known
 pub sizes-next : (find : Finder) (eof left : ℕ) (bids : List Bid) (i : ℕ) (d : Bid) (n : ℕ) → i < length bids → left ≤ eof → n ≤ left

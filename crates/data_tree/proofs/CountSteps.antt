@@ -5,7 +5,7 @@ use Rattle.data_tree.specs.declared.source.TreeStop.{TreeStop}
 use Rattle.data_tree.specs.Source.{Source, Later}
 use Rattle.data_tree.specs.Stops.{TreeStops}
 use Rattle.data_tree.specs.Tree.{and_then}
-use Rattle.data_tree.proofs.Steps.{later-same, later-then, stops-after, before}
+use Rattle.data_tree.proofs.Steps.{later-then, stops-after, before}
 
 -- how much a reading gives
 abbrev pub tallied : {Y : Type 0} → (List Y → ℕ) → Result (List Y) TreeStop → Result ℕ TreeStop
@@ -33,10 +33,6 @@ pub tallied-fault : {Y : Type 0} (tally : List Y → ℕ) (r : Result (List Y) T
 tallied-fault tally (Ok found) fault e = absurd cc
 tallied-fault tally (Err other) fault e = cc
 
-adding-none : (r : Result ℕ TreeStop) → adding 0 r ≡ r
-adding-none (Ok n) = let e : 0 + n ≡ n = omega arith in ap Ok e
-adding-none (Err fault) = refl
-
 adding-more : {Y : Type 0} (tally : List Y → ℕ) (here : List Y) (n k : ℕ) (rest : Result (List Y) TreeStop) → IsTally tally → tally here ≡ k
     → adding n (tallied tally (before here rest)) ≡ adding (n + k) (tallied tally rest)
 adding-more tally here n k (Ok more) sums e =
@@ -44,9 +40,6 @@ adding-more tally here n k (Ok more) sums e =
     let same : n + tally (here ++ more) ≡ n + k + tally more = omega (arith, sum, e) in
     ap Ok same
 adding-more tally here n k (Err fault) sums e = refl
-
-pub counting-start : {A Y : Type 0} (tally : List Y → ℕ) (old : Source A) (whole : (ℕ → Option (List ℕ)) → Result (List Y) TreeStop) → Counting tally old old 0 whole whole
-counting-start tally old whole = record { later = later-same old; so_far = λ find h. adding-none (tallied tally (whole find)) }
 
 pub counting-next : {A Y : Type 0} (tally : List Y → ℕ) (old mid now : Source A) (n k : ℕ) (rest next whole : (ℕ → Option (List ℕ)) → Result (List Y) TreeStop)
     → IsTally tally → Counting tally old mid n rest whole → Later mid now

@@ -10,9 +10,6 @@ use Rattle.data_tree.specs.Tree.{and_then, named, fetched, is_internal, is_listi
 
 -- ---- readings
 
-pub err_gives : {Y : Type 0} (fault : TreeStop) (s : Result Y TreeStop) → Gives (Err fault) s
-err_gives fault s = λ y e. absurd (cc)
-
 pub same_gives : {Y : Type 0} (r : Result Y TreeStop) → Gives r r
 same_gives r = λ y e. e
 

@@ -1,13 +1,12 @@
 -- The keys that a data tree reaches, one id more.
-use Rattle.std.proofs.Common.{Bool, true, false, ◌≡◌, ℕ, ◌+◌, ◌<◌, ◌≤◌, inl, inr, eqb, if◌then◌else◌, List, [], ◌∷◌, ◌++◌, length, drop, get_or, Option, Some, None, Result, Ok, Err, refl, sym, ap, ◌∙◌, arith}
+use Rattle.std.proofs.Common.{Bool, true, false, ◌≡◌, ℕ, ◌+◌, ◌<◌, inl, inr, if◌then◌else◌, List, [], ◌∷◌, ◌++◌, length, drop, get_or, Option, Some, None, Result, Ok, Err, refl, ap, ◌∙◌}
 use Rattle.std.proofs.lemmas.Bool.{ne_eqb, cases_Bool}
-use Rattle.std.proofs.lemmas.List.{drop_all}
 use Rattle.pst_base.specs.declared.ids.Bid.{Bid}
 use Rattle.pst_base.specs.Ids.{key_of}
 use Rattle.data_tree.specs.declared.source.TreeStop.{TreeStop}
 use Rattle.data_tree.specs.declared.source.TreeStop.TheVariants.{Form}
 use Rattle.data_tree.specs.Keys.{below_keys, data_keys, data_keys_read, keys_of, leaf_keys, led_from, led_keys, marked_keys, named_in, under, under_keys}
-use Rattle.data_tree.specs.Tree.{all_below, and_then, are_data, below, bids_of, fetched, is_internal, is_listing, leaves, listed, named, names_of}
+use Rattle.data_tree.specs.Tree.{all_below, and_then, are_data, below, bids_of, is_internal, is_listing, leaves, listed, named, names_of}
 use Rattle.data_tree.proofs.ListingLaws.{drop-here}
 use Rattle.data_tree.proofs.Steps.{before}
 
@@ -69,9 +68,6 @@ pub under-stop : (find : Finder) (parent : Bid) (bids : List Bid) (i : ℕ) (d :
 unfolding after-first
 under-stop find parent bids i d fault h e =
     ap (under_keys find parent) (drop-here bids i d h) ∙ under-first find parent (get_or bids i d) (drop (i + 1) bids) ∙ ap (after-first find parent (drop (i + 1) bids)) e
-
-pub under-end : (find : Finder) (parent : Bid) (bids : List Bid) (i : ℕ) → length bids ≤ i → under_keys find parent (drop i bids) ≡ Ok []
-under-end find parent bids i h = ap (under_keys find parent) (drop_all i bids h)
 
 -- ---- a block of level 1 or 2
 

@@ -1,11 +1,11 @@
 -- Blocks that name others, id by id.
-use Rattle.std.proofs.Common.{Bool, true, false, not, ◌≡◌, ℕ, suc, ◌+◌, ◌-◌, ◌*◌, ◌<◌, ◌≤◌, leb, eqb, ◌&&◌, List, [], ◌∷◌, ◌++◌, length, drop, get_or, sym, ap, ◌∙◌, arith, append_assoc, append-nil}
+use Rattle.std.proofs.Common.{true, ◌≡◌, ℕ, suc, ◌+◌, ◌-◌, ◌*◌, ◌<◌, ◌≤◌, leb, eqb, ◌&&◌, List, [], ◌∷◌, ◌++◌, length, drop, get_or, sym, ap, ◌∙◌, arith, append_assoc}
 use Rattle.std.proofs.lemmas.Bool.{and_parts, leb-true, eqb-true}
 use Rattle.std.proofs.lemmas.List.{drop-drop}
 use Rattle.std.proofs.Math.Seq.{drop-cons}
 use Rattle.pst_base.specs.declared.ids.Bid.{Bid}
 use Rattle.pst_base.specs.Fields.{number_at}
-use Rattle.data_tree.specs.Tree.{ids, is_listing, names_of, is_internal, are_data}
+use Rattle.data_tree.specs.Tree.{ids, is_listing, names_of}
 
 -- the layout of a block that names others
 pub record IsLaidOut (b : List ℕ) : Type 0 where
@@ -47,16 +47,3 @@ pub names-next : (bids : List Bid) (i : ℕ) (b : List ℕ) → i < number_at 2 
 names-next bids i b h so_far =
     append_assoc bids (record { bits = number_at 8 (8 + 8 * i) b } ∷ []) (ids (number_at 2 2 b - (i + 1)) (drop (8 + 8 * (i + 1)) b))
     ∙ ap (λ (rest : List Bid). bids ++ rest) (sym (ids-next (number_at 2 2 b) i b h)) ∙ so_far
-
-pub names-end : (bids : List Bid) (i : ℕ) (b : List ℕ) → number_at 2 2 b ≤ i → bids ++ ids (number_at 2 2 b - i) (drop (8 + 8 * i) b) ≡ names_of b → bids ≡ names_of b
-names-end bids i b h so_far =
-    let none : number_at 2 2 b - i ≡ 0 = omega arith in
-    sym (append-nil bids) ∙ ap (λ (n : ℕ). bids ++ ids n (drop (8 + 8 * i) b)) (sym none) ∙ so_far
-
-pub are_data-next : (bids : List Bid) (i : ℕ) (d : Bid) → i < length bids → is_internal (get_or bids i d) ≡ false → are_data (drop i bids) ≡ are_data (drop (i + 1) bids)
-are_data-next bids i d h plain =
-    ap are_data (drop-here bids i d h) ∙ ap (λ (t : Bool). not t && are_data (drop (i + 1) bids)) plain
-
-pub are_data-stop : (bids : List Bid) (i : ℕ) (d : Bid) → i < length bids → is_internal (get_or bids i d) ≡ true → are_data (drop i bids) ≡ false
-are_data-stop bids i d h marked =
-    ap are_data (drop-here bids i d h) ∙ ap (λ (t : Bool). not t && are_data (drop (i + 1) bids)) marked

@@ -79,16 +79,9 @@ pub record Along {A Y : Type 0} (old now : Source A) (out : List Y) (rest whole 
   pub later : Later old now
   pub so_far : (find : ℕ → Option (List ℕ)) → old.holds find → before out (rest find) ≡ whole find
 
-before-none : {Y : Type 0} (rest : Result (List Y) TreeStop) → before [] rest ≡ rest
-before-none (Ok more) = refl
-before-none (Err fault) = refl
-
 before-more : {Y : Type 0} (out here : List Y) (rest : Result (List Y) TreeStop) → before (out ++ here) rest ≡ before out (before here rest)
 before-more out here (Ok more) = ap Ok (append_assoc out here more)
 before-more out here (Err fault) = refl
-
-pub along-start : {A Y : Type 0} (old : Source A) (whole : (ℕ → Option (List ℕ)) → Result (List Y) TreeStop) → Along old old [] whole whole
-along-start old whole = record { later = later-same old; so_far = λ find h. before-none (whole find) }
 
 pub along-next : {A Y : Type 0} (old mid now : Source A) (out here : List Y) (rest next whole : (ℕ → Option (List ℕ)) → Result (List Y) TreeStop)
     → Along old mid out rest whole → Later mid now → ((find : ℕ → Option (List ℕ)) → mid.holds find → rest find ≡ before here (next find))

@@ -1,5 +1,4 @@
 //! How long the data of a tree is.
-ghost use Rattle.std.specs.Prelude.{◌≡◌};
 ghost use Rattle.data_tree.specs.Source.{Later};
 ghost use Rattle.data_tree.specs.Stops.{Reads};
 ghost use Rattle.data_tree.specs.Tree.{blocks_from, blocks_of};

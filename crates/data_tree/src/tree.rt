@@ -1,5 +1,4 @@
 //! The ids of a tree's data blocks.
-ghost use Rattle.std.specs.Prelude.{◌≡◌, true};
 ghost use Rattle.data_tree.specs.Source.{Later};
 ghost use Rattle.data_tree.specs.Stops.{Reads};
 ghost use Rattle.data_tree.specs.Tree.{below, all_below, listed, bids_of};

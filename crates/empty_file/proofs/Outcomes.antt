@@ -43,10 +43,6 @@ pub no-bytes : (image : Image) → IsVacant image → HasBytes image → ⊥
 no-bytes image vacant (inl some) = let e = ap length vacant.main in omega (arith, e, some)
 no-bytes image vacant (inr some) = let e = ap length vacant.side in omega (arith, e, some)
 
--- bytes that were there are there still
-pub bytes-now : {old new : World} → Untouched old new → old.tells → HasBytes old.here → HasBytes new.here
-bytes-now same told bytes = subst HasBytes (sym (same.stays.here (same.keeps_told told))) bytes
-
 pub never-fall : {old mid new : World} → NeverFall old mid → NeverFall mid new → NeverFall old new
 never-fall one two = record {
   in_faults = let a = one.in_faults in let b = two.in_faults in omega (arith, a, b);

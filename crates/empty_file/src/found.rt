@@ -2,7 +2,7 @@
 ghost use Rattle.std.specs.Prelude.{◌≡◌, ◌*◌, length, IfOk, IfErr};
 ghost use Rattle.alloc_map.specs.Standing.{IsCovered, occupied};
 ghost use Rattle.file_layout.specs.Nodes.{places_of};
-ghost use Rattle.empty_file.specs.Empty.{IsFirst, alone, block_root, node_root};
+ghost use Rattle.empty_file.specs.Empty.{alone, block_root, node_root};
 ghost use Rattle.empty_file.specs.Known.{IsKnown};
 
 use crate::laying::LayStop;

@@ -1,7 +1,7 @@
 //! The header of a file without nodes, and the parts of the file.
 ghost use Rattle.std.specs.Prelude.{◌≡◌, IfOk, OnOk};
 ghost use Rattle.pst_header.specs.Format.{IsWritable};
-ghost use Rattle.empty_file.specs.Empty.{AddsPage, AreParts, IsFirst, block_root, dense_at, map_at, node_root};
+ghost use Rattle.empty_file.specs.Empty.{AddsPage, AreParts, IsFirst};
 
 use btree_pages::{BlockEntry, NodeEntry, write_leaf};
 use lays_kept::Piece;

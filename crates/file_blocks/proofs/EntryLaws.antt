@@ -5,18 +5,6 @@ use Rattle.std.proofs.lemmas.Bool.{cases_lt, and_parts, leb-true, eq-eqb, ne_eqb
 use Rattle.btree_pages.specs.declared.entry.BlockEntry.{BlockEntry}
 use Rattle.file_blocks.specs.Blocks.{entry_key, rise_from, entry_with, AllStand, Stands}
 
--- below the first of ascending keys there is none
-pub below-first : (low : ℕ) (es : List BlockEntry) (key : ℕ) → rise_from low es ≡ true → key < low → entry_with key es ≡ None
-below-first low [] key rise below = refl
-below-first low (e ∷ es) key rise below =
-    let parts = and_parts (leb low (entry_key e)) (rise_from (entry_key e + 1) es) rise in
-    let first : low ≤ entry_key e = leb-true low (entry_key e) parts.0 in
-    rw (ne_eqb (entry_key e) key (λ same. absurd (lt-irrefl-of key (omega (arith, first, below, same)))))
-    (below-first (entry_key e + 1) es key parts.1 (omega (arith, first, below)))
-  where
-    lt-irrefl-of : (n : ℕ) → n < n → ⊥
-    lt-irrefl-of n h = omega (arith, h)
-
 -- each key is one from low on
 pub from-low : (low : ℕ) (es : List BlockEntry) (i : ℕ) (d : BlockEntry) → rise_from low es ≡ true → i < length es → low ≤ entry_key (get_or es i d)
 from-low low [] i d rise within = absurd (not-below i within)

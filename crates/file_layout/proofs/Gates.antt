@@ -1,6 +1,6 @@
 -- What is read of the gate's file.
-use Rattle.std.proofs.Common.{◌≡◌, ◌∙◌, ℕ, ap, refl, arith, true, false, eqb, eq-eqb, eqb-true, List, length, get_or, take, drop, length-drop}
-use Rattle.std.proofs.lemmas.Bool.{ne_eqb, and_parts}
+use Rattle.std.proofs.Common.{◌≡◌, ◌∙◌, ℕ, ap, refl, arith, true, false, eqb, eq-eqb, List, length, get_or, take, drop, length-drop}
+use Rattle.std.proofs.lemmas.Bool.{ne_eqb}
 use Rattle.std.proofs.lemmas.List.{get_or-take, take_all}
 use Rattle.file_blocks.proofs.FileLaws.{open_size}
 use Rattle.gate_file.specs.Effective.{is_open, header_bytes}

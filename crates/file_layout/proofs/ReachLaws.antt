@@ -1,16 +1,15 @@
 -- Which entries a reading has reached, and that a tree has them.
-use Rattle.std.proofs.Common.{◌≡◌, ℕ, zero, suc, ◌+◌, ◌-◌, ◌<◌, List, [], ◌∷◌, ◌++◌, length, drop, map, get_or, Result, Ok, Err, refl, sym, ap, subst, ◌∙◌, arith, append_assoc, append-nil, ◌⊎◌, ⊎_elim}
+use Rattle.std.proofs.Common.{◌≡◌, ℕ, zero, suc, ◌+◌, ◌-◌, ◌<◌, List, [], ◌∷◌, ◌++◌, length, drop, map, get_or, Ok, refl, sym, ap, subst, ◌∙◌, arith, append_assoc, append-nil, ◌⊎◌, ⊎_elim}
 use Rattle.std.specs.List.{Contains}
 use Rattle.std.proofs.lemmas.List.{map-append}
 use Rattle.std.proofs.lemmas.List.Elements.{Contains-append_left, Contains-append_right, Contains-append_cases}
 use Rattle.std.proofs.Math.Seq.{drop-cons}
 use Rattle.pst_base.specs.declared.ids.Bref.{Bref}
 use Rattle.btree_pages.specs.Pages.{Page}
-use Rattle.file_layout.specs.declared.stops.PageRefusal.{PageRefusal}
 use Rattle.file_layout.specs.declared.stops.OpenStop.{OpenStop}
 use Rattle.file_layout.specs.declared.stops.OpenStop.TheVariants.{Refused, Fault, Changed, Memory}
 use Rattle.file_layout.specs.declared.tree_pages.Seat.{Seat}
-use Rattle.file_layout.specs.Trees.{FileTree, page_at, IsTreePage, Found, both, child_of, AreChildren, IsTree, root_seat, IsWhole}
+use Rattle.file_layout.specs.Trees.{FileTree, page_at, Found, child_of, AreChildren, IsTree, root_seat, IsWhole}
 use Rattle.file_layout.specs.Walk.{Leads, IsReached, AddsReached, AddsBefore}
 use Rattle.file_layout.proofs.WalkLaws.{stands-read, same_page}
 

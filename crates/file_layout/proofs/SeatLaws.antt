@@ -1,9 +1,8 @@
 -- Pages in their seats: the order of their faults, and their keys.
-use Rattle.std.proofs.Common.{Bool, true, false, not, ◌≡◌, ◌≢◌, ℕ, suc, ◌+◌, ◌-◌, ◌%◌, ◌<◌, ◌≤◌, ltb, leb, eqb, ◌&&◌, ◌||◌, List, [], ◌∷◌, ◌++◌, length, take, drop, get_or, Option, Some, None, Result, Ok, Err, refl, sym, ap, subst, ◌∙◌, arith, length-drop, length-append, inl, inr, ◌⊎◌, if◌then◌else◌}
-use Rattle.std.proofs.lemmas.Bool.{cases_lt, le-leb, lt-leb, ltb-false, eqb-true, eq-eqb, ne_eqb}
-use Rattle.std.proofs.lemmas.List.{drop-drop, drop_at, drop_all, get_or-map, length-map}
+use Rattle.std.proofs.Common.{Bool, true, false, not, ◌≡◌, ℕ, suc, ◌+◌, ◌-◌, ◌<◌, ◌≤◌, ltb, eqb, ◌&&◌, List, [], ◌∷◌, length, drop, get_or, Option, Some, None, Result, Ok, Err, refl, sym, ap, subst, ◌∙◌, arith, inl, inr, ◌⊎◌, if◌then◌else◌, ◌||◌}
+use Rattle.std.proofs.lemmas.Bool.{le-leb, lt-leb, ltb-false, eqb-true}
+use Rattle.std.proofs.lemmas.List.{get_or-map, length-map}
 use Rattle.std.proofs.Math.Seq.{drop-cons}
-use Rattle.gate_file.specs.Effective.{is_open, effective}
 use Rattle.pst_base.specs.Fields.{number_at}
 use Rattle.pst_base.specs.declared.stops.PageFault.{PageFault}
 use Rattle.pst_base.specs.declared.stops.PageFault.TheVariants.{Count, Level, Key}
@@ -40,11 +39,6 @@ pub span-high : (rule : ℕ → ℕ) (entries : List (List ℕ)) (i low high key
 span-high rule entries i low high key h here above over =
     ap (in_span low high) (keys_here rule entries i h ∙ ap (λ (k : ℕ). k ∷ drop (i + 1) (keys rule entries)) (sym here))
     ∙ rw (le-leb low key above, lt-leb key high over) refl
-
-pub span-end : (rule : ℕ → ℕ) (entries : List (List ℕ)) (i low high : ℕ) → length entries ≤ i → in_span low high (drop i (keys rule entries)) ≡ true
-span-end rule entries i low high h =
-    let len : length (keys rule entries) ≡ length entries = length-map entries (key_in rule) in
-    ap (in_span low high) (drop_all i (keys rule entries) (omega (arith, len)))
 
 -- ---- the order of faults
 

@@ -1,5 +1,5 @@
 -- The numbers that the next block and the next page of a file get.
-use Rattle.std.specs.Prelude.{◌≡◌, ℕ, ◌+◌, ◌-◌, ◌%◌, ◌^◌, ◌||◌, nat_le, max, min, Bool, List, [], ◌∷◌, ◌++◌}
+use Rattle.std.specs.Prelude.{ℕ, ◌+◌, ◌-◌, ◌%◌, ◌^◌, nat_le, max, min, Bool, List, [], ◌∷◌, ◌++◌, ◌||◌}
 use Rattle.pst_base.specs.declared.ids.Bref.{Bref}
 use Rattle.pst_header.specs.declared.header.Header.{Header}
 use Rattle.btree_pages.specs.declared.entry.BlockEntry.{BlockEntry}

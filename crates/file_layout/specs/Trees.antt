@@ -1,5 +1,5 @@
 -- The trees of pages in a file, by levels: the pages that they reach, and the entries of their leaves in order.
-use Rattle.std.specs.Prelude.{◌≡◌, ℕ, zero, suc, ◌+◌, ◌-◌, ◌%◌, ◌^◌, ◌≤◌, ◌==◌, ◌&&◌, ◌||◌, nat_le, nat_lt, not, if◌then◌else◌, Bool, true, List, [], ◌∷◌, ◌++◌, map, take, drop, Result, Ok, Err, Option, Some, None}
+use Rattle.std.specs.Prelude.{◌≡◌, ℕ, zero, suc, ◌+◌, ◌-◌, ◌%◌, ◌^◌, ◌≤◌, ◌==◌, ◌&&◌, nat_le, nat_lt, not, if◌then◌else◌, Bool, true, List, [], ◌∷◌, ◌++◌, map, take, drop, Result, Ok, Err, Option, Some, None, ◌||◌}
 use Rattle.pst_base.specs.declared.ids.Bref.{Bref}
 use Rattle.pst_base.specs.declared.places.Place.{Place}
 use Rattle.pst_base.specs.declared.stops.PageFault.{PageFault}

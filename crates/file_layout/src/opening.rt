@@ -1,6 +1,5 @@
 //! The header that counts.
-ghost use Rattle.std.specs.Prelude.{◌≡◌, ◌≢◌, ◌≤◌, ℕ, length, take, drop, slice_index, Err, IfOk, IfErr, OnErr};
-ghost use Rattle.pst_outside.specs.World.{content};
+ghost use Rattle.std.specs.Prelude.{◌≡◌, ◌≢◌, ◌≤◌, ℕ, length, Err, IfOk, OnErr};
 ghost use Rattle.pst_outside.specs.Calls.{Rose, Untouched};
 ghost use Rattle.pst_header.specs.Format.{reading};
 ghost use Rattle.gate_file.specs.Effective.{is_open, header_bytes};

@@ -1,7 +1,7 @@
 //! The pages of the two trees: where each must stand, and what it owes to its parent.
 ghost use Rattle.std.specs.Prelude.{◌≡◌, ◌≤◌, ◌<◌, ◌+◌, ◌-◌, [], length, take, drop, slice_index_or, IfOk, OnErr};
 ghost use Rattle.pst_outside.specs.Calls.{Rose, Untouched};
-ghost use Rattle.btree_pages.specs.Pages.{Page, keys, key_in};
+ghost use Rattle.btree_pages.specs.Pages.{keys, key_in};
 ghost use Rattle.file_layout.specs.Trees.{in_span, owed, sooner, page_in, framed, child_of, file_of};
 
 use btree_pages::{Entry, TreePage};

@@ -1,7 +1,7 @@
 //! Reading a whole tree.
-ghost use Rattle.std.specs.Prelude.{◌≡◌, ◌≤◌, ◌<◌, ◌+◌, ◌-◌, ◌++◌, zero, true, map, length, OnOk, OnErr, IfErr, IfOk};
+ghost use Rattle.std.specs.Prelude.{◌≡◌, ◌≤◌, ◌<◌, ◌+◌, ◌-◌, ◌++◌, true, map, length, OnOk, IfErr, IfOk};
 ghost use Rattle.pst_outside.specs.Calls.{Rose, Untouched};
-ghost use Rattle.file_layout.specs.Trees.{FileTree, tree_in, file_of, page_at, framed, is_placed, AllPages, Found, IsWhole, rise_from, root_seat};
+ghost use Rattle.file_layout.specs.Trees.{FileTree, tree_in, file_of, is_placed, AllPages, Found, IsWhole, rise_from, root_seat};
 ghost use Rattle.file_layout.specs.Walk.{walk, Adds, AddsBefore, AddsReached, StopsWalk, StopsTree, Stands, StopsOutside};
 
 use crate::stops::{OpenRefusal, OpenStop, PageRefusal};

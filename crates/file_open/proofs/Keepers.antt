@@ -1,5 +1,5 @@
 -- The keeper of a file from its scan to the end of an opening.
-use Rattle.std.proofs.Common.{◌≡◌, inr, ◌∙◌, ℕ, ◌^◌, ◌||◌, nat_le, Bool, true, false, List, take, Result, Ok, Err, IfErr, arith, refl, sym, ap, subst}
+use Rattle.std.proofs.Common.{◌≡◌, inr, ◌∙◌, ℕ, ◌^◌, nat_le, Bool, true, false, List, take, Result, Ok, Err, IfErr, arith, refl, sym, ap, subst, ◌||◌}
 use Rattle.std.specs.Result.{IsErrAnd}
 use Rattle.pst_outside.specs.World.{Image, World}
 use Rattle.pst_outside.specs.Calls.{Untouched}

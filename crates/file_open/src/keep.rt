@@ -1,7 +1,6 @@
 //! A keeper of a file that was scanned.
-ghost use Rattle.std.specs.Prelude.{◌≡◌, ◌≤◌, ◌^◌, ◌||◌, nat_le, take, Err, IfOk, IfErr};
+ghost use Rattle.std.specs.Prelude.{◌≡◌, ◌^◌, nat_le, Err, IfOk, IfErr, ◌||◌};
 ghost use Rattle.pst_outside.specs.Calls.{Rose, Untouched};
-ghost use Rattle.file_blocks.specs.Blocks.{file_of};
 ghost use Rattle.file_scan.specs.Found.{IsFound};
 ghost use Rattle.node_port.specs.Pins.{no_pins};
 ghost use Rattle.pst_commit.specs.Keeping.{pins_of};

@@ -6,7 +6,7 @@ use Rattle.pst_base.specs.declared.ids.Bref.{Bref}
 use Rattle.pst_base.specs.declared.stops.PageFault.{PageFault}
 use Rattle.pst_base.specs.Fields.{number_at}
 use Rattle.btree_pages.specs.Entries.{inner_of}
-use Rattle.btree_pages.specs.Pages.{Page, pieces, keys, key_in, ascend, is_counted, page_of, page_with}
+use Rattle.btree_pages.specs.Pages.{Page, pieces, keys, ascend, is_counted, page_of, page_with}
 use Rattle.btree_pages.proofs.PageLaws.{length-pieces}
 use Rattle.pst_base.specs.declared.stops.PageFault.TheVariants.{Count, Level, Key}
 use Rattle.file_layout.specs.declared.tree_pages.Seat.{Seat}
@@ -17,7 +17,7 @@ use Rattle.tree_edit.specs.Shapes.{Shape, leaf, inner, RiseIn, heads, up_to, Are
 use Rattle.tree_edit.specs.Pages.{child_in, shape_of, seen, shown, shapes}
 use Rattle.file_pages.specs.InFile.{shapes_in, ok_of, body_at, IsShaped, IsUnshaped, IsShapedRoot, IsUnshapedRoot}
 use Rattle.tree_edit.proofs.SpanLaws.{page-ascends, rises-in, spans-in}
-use Rattle.tree_edit.proofs.StepLaws.{inner-shape, leaf-shape, same-heads, same-keys, shown-here, some-same}
+use Rattle.tree_edit.proofs.StepLaws.{inner-shape, leaf-shape, same-heads, same-keys, shown-here}
 
 -- the content of a page of a tree, and what is said of it
 body-here : (t : FileTree) (seat : Seat) (page : Page) (here : IsTreePage t seat page) → body_at t seat.at ≡ Some here.body

@@ -1,5 +1,5 @@
 //! A tree of a file after edits.
-ghost use Rattle.std.specs.Prelude.{◌≡◌, ◌^◌, ℕ, List, IfOk, IfErr};
+ghost use Rattle.std.specs.Prelude.{◌≡◌, ◌^◌, List, IfOk, IfErr};
 ghost use Rattle.pst_outside.specs.Calls.{Untouched};
 ghost use Rattle.file_blocks.specs.Blocks.{file_of};
 ghost use Rattle.tree_edit.specs.Edits.{AreEdits};

@@ -1,5 +1,5 @@
 //! Looking entries up in a tree of a file.
-ghost use Rattle.std.specs.Prelude.{◌≡◌, ℕ, List, IfOk, IfErr};
+ghost use Rattle.std.specs.Prelude.{◌≡◌, List, IfOk, IfErr};
 ghost use Rattle.pst_outside.specs.Calls.{Untouched};
 ghost use Rattle.file_blocks.specs.Blocks.{file_of};
 ghost use Rattle.tree_edit.specs.Edits.{entry_with};

@@ -1,5 +1,5 @@
 //! A file as a source of pages.
-ghost use Rattle.std.specs.Prelude.{◌≡◌, ◌≤◌, ◌+◌, ℕ, List, Option, take, drop, length, IfOk, IfErr, OnErr};
+ghost use Rattle.std.specs.Prelude.{◌≡◌, ◌≤◌, ◌+◌, Option, take, drop, length, IfOk, OnErr};
 ghost use Rattle.page_frame.specs.Page.{reading};
 ghost use Rattle.pst_outside.specs.Calls.{Rose, Untouched};
 ghost use Rattle.file_blocks.specs.Blocks.{file_of};
@@ -29,7 +29,7 @@ pub(crate) struct FilePages<'a, W: Outside> {
 }
 
 impl<'a, W: Outside> PageSource for FilePages<'a, W> {
-    ghost use Rattle.std.specs.Prelude.{◌≡◌, ℕ};
+    ghost use Rattle.std.specs.Prelude.{◌≡◌};
     ghost use Rattle.pst_outside.specs.Calls.{Untouched};
     ghost use Rattle.file_pages.specs.Told.{Gives};
 

@@ -1,5 +1,5 @@
 -- Places that were taken over more slots than a file uses, as what pins hold is used too.
-use Rattle.std.proofs.Common.{Bool, true, false, ◌≡◌, ◌∙◌, inl, inr, ℕ, ◌/◌, ◌<◌, ◌≤◌, ◌||◌, ltb, List, [], ◌∷◌, length, map, refl, sym, ap, subst, arith}
+use Rattle.std.proofs.Common.{Bool, true, false, ◌≡◌, ◌∙◌, inl, inr, ℕ, ◌/◌, ◌<◌, ◌≤◌, ltb, List, [], ◌∷◌, length, map, refl, sym, ap, subst, arith, ◌||◌}
 use Rattle.std.specs.List.{All, range_with_len}
 use Rattle.std.proofs.lemmas.Bool.{cases_lt, le-ltb, lt-ltb}
 use Rattle.std.proofs.lemmas.List.{get_or_past}

@@ -1,5 +1,5 @@
 -- What a planner knows of a file.
-use Rattle.std.specs.Prelude.{◌^◌, ◌||◌, nat_le, ℕ, Bool, List}
+use Rattle.std.specs.Prelude.{◌^◌, nat_le, ℕ, Bool, List, ◌||◌}
 use Rattle.pst_header.specs.declared.header.Header.{Header}
 use Rattle.alloc_map.specs.Cells.{free_cells_of}
 use Rattle.alloc_map.specs.Taken.{Taken}

@@ -1,5 +1,5 @@
 //! The entries of old blocks whose numbers of references change.
-ghost use Rattle.std.specs.Prelude.{◌≡◌, ◌≤◌, ◌++◌, ◌∷◌, [], ℕ, List, OnOk, IfOk, IfErr};
+ghost use Rattle.std.specs.Prelude.{◌≡◌, ◌++◌, ◌∷◌, [], List, OnOk, IfOk, IfErr};
 ghost use Rattle.btree_pages.specs.declared.entry.BlockEntry.{BlockEntry as Entries};
 ghost use Rattle.btree_pages.specs.Entries.{block_of};
 ghost use Rattle.file_blocks.specs.Blocks.{entry_key, file_of};

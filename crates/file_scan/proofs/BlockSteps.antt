@@ -1,12 +1,11 @@
 -- Blocks, one by one.
-use Rattle.std.proofs.Common.{◌≡◌, ℕ, ◌≤◌, ◌<◌, ◌+◌, ◌%◌, List, [], ◌∷◌, length, drop, get_or, Err, refl, sym, subst, arith, inl, inr, zero, suc, map, ◌++◌, ◌*◌, All}
-use Rattle.std.proofs.lemmas.List.{drop_all}
+use Rattle.std.proofs.Common.{◌≡◌, ℕ, ◌≤◌, ◌<◌, ◌+◌, ◌%◌, List, [], ◌∷◌, length, drop, get_or, sym, subst, arith, inr, zero, suc, map, ◌++◌, ◌*◌, All}
 use Rattle.data_tree.proofs.ListingLaws.{drop-here}
 use Rattle.pst_outside.specs.World.{Image, World}
 use Rattle.pst_outside.specs.Calls.{Untouched}
 use Rattle.btree_pages.specs.declared.entry.BlockEntry.{BlockEntry}
 use Rattle.file_blocks.specs.declared.check.BlockRefusal.{BlockRefusal}
-use Rattle.file_blocks.specs.Blocks.{data_at, Stands, AllStand}
+use Rattle.file_blocks.specs.Blocks.{Stands, AllStand}
 use Rattle.file_blocks.specs.Stops.{Tells, IsPlaced}
 use Rattle.block_frame.specs.Size.{disk_size_of}
 use Rattle.pst_base.specs.declared.ids.Bref.{Bref}
@@ -27,9 +26,6 @@ pub record Checking (file : List ℕ) (eof : ℕ) (blocks : List BlockEntry) (i 
   pub stand : AllStand file eof (drop i blocks) → AllStand file eof blocks
   pub bad : (ib : ℕ) (fault : BlockRefusal) → IsFirstBad file eof (drop i blocks) ib fault → IsFirstBad file eof blocks ib fault
 
-pub checking-start : (file : List ℕ) (eof : ℕ) (blocks : List BlockEntry) → Checking file eof blocks 0
-checking-start file eof blocks = record { stand = λ h. h; bad = λ ib fault h. h }
-
 pub checking-next : (file : List ℕ) (eof : ℕ) (blocks : List BlockEntry) (i : ℕ) (d : BlockEntry) → i < length blocks → Checking file eof blocks i → Stands file eof (get_or blocks i d) → Checking file eof blocks (i + 1)
 checking-next file eof blocks i d within checking stands =
     let here = sym (drop-here blocks i d within) in
@@ -37,15 +33,6 @@ checking-next file eof blocks i d within checking stands =
       stand = λ h. checking.stand (subst (AllStand file eof) here (stands, h));
       bad = λ ib fault h. checking.bad ib fault (subst (λ (es : List BlockEntry). IsFirstBad file eof es ib fault) here (inr (stands, h)));
     }
-
-pub checking-bad : (file : List ℕ) (eof : ℕ) (blocks : List BlockEntry) (i : ℕ) (d : BlockEntry) (fault : BlockRefusal) → i < length blocks → Checking file eof blocks i
-    → data_at file eof (get_or blocks i d) ≡ Err fault → IsFirstBad file eof blocks ((get_or blocks i d).at.ib) fault
-checking-bad file eof blocks i d fault within checking stops =
-    checking.bad ((get_or blocks i d).at.ib) fault
-    (subst (λ (es : List BlockEntry). IsFirstBad file eof es ((get_or blocks i d).at.ib) fault) (sym (drop-here blocks i d within)) (inl (refl, stops)))
-
-pub checking-end : (file : List ℕ) (eof : ℕ) (blocks : List BlockEntry) (i : ℕ) → length blocks ≤ i → Checking file eof blocks i → AllStand file eof blocks
-checking-end file eof blocks i all checking = checking.stand (subst (AllStand file eof) (sym (drop_all i blocks all)) tt)
 
 -- ---- places
 
@@ -58,9 +45,6 @@ placed-place eof e placed = record { above = placed.above; start = placed.start;
 pub placing-next : (eof : ℕ) (blocks : List BlockEntry) (i : ℕ) (d : BlockEntry) → i < length blocks → (AllPlaced eof (drop i blocks) → AllPlaced eof blocks) → IsPlaced eof (get_or blocks i d)
     → AllPlaced eof (drop (i + 1) blocks) → AllPlaced eof blocks
 placing-next eof blocks i d within so_far placed rest = so_far (subst (AllPlaced eof) (sym (drop-here blocks i d within)) (placed, rest))
-
-pub placing-end : (eof : ℕ) (blocks : List BlockEntry) (i : ℕ) → length blocks ≤ i → (AllPlaced eof (drop i blocks) → AllPlaced eof blocks) → AllPlaced eof blocks
-placing-end eof blocks i all so_far = so_far (subst (AllPlaced eof) (sym (drop_all i blocks all)) tt)
 
 pub all-short : (eof : ℕ) (blocks : List BlockEntry) → AllPlaced eof blocks → AllShort blocks
 all-short eof [] placed = tt

@@ -31,10 +31,6 @@ blocks-next blocks i d n s all within so_far is =
     ap counted_to (blocks-more n s rest) ∙ one-more ((get_or blocks i d).at.bid.bits + 4) (past_blocks n rest) s is
     ∙ sym (ap (λ (es : List BlockEntry). counted_to (past_blocks n es)) (drop-here blocks i d within)) ∙ so_far
 
-pub blocks-end : (blocks : List BlockEntry) (i n all : ℕ) → length blocks ≤ i → n ≤ 0xffff_ffff_ffff_ffff → counted_to (past_blocks n (drop i blocks)) ≡ all → n ≡ all
-blocks-end blocks i n all done small so_far =
-    sym (counted-small n small) ∙ sym (ap (λ (es : List BlockEntry). counted_to (past_blocks n es)) (drop_all i blocks done)) ∙ so_far
-
 pub pages-next : (pages : List Bref) (i : ℕ) (d : Bref) (n s all : ℕ) → i < length pages → counted_to (past_pages n (drop i pages)) ≡ all → s ≡ counted_to ((get_or pages i d).bid.bits + 1)
     → counted_to (past_pages (max n s) (drop (i + 1) pages)) ≡ all
 pages-next pages i d n s all within so_far is =

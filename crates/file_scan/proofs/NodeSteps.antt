@@ -173,9 +173,6 @@ pub record Lining (find : ℕ → Option (List ℕ)) (eof : ℕ) (nodes : List N
   pub rest : (more : List NodeLine) → AreLines find eof (drop i nodes) more → AreLines find eof nodes (lines ++ more)
   pub stop : (nid : ℕ) (fault : TreeStop) → IsFirstStop find eof (drop i nodes) nid fault → IsFirstStop find eof nodes nid fault
 
-pub lining-start : (find : ℕ → Option (List ℕ)) (eof : ℕ) (nodes : List NodeEntry) → Lining find eof nodes 0 []
-lining-start find eof nodes = record { rest = λ more h. h; stop = λ nid fault h. h }
-
 here_is : (nodes : List NodeEntry) (i : ℕ) (d : NodeEntry) → i < length nodes → drop i nodes ≡ get_or nodes i d ∷ drop (i + 1) nodes
 here_is nodes i d within = drop-here nodes i d within
 

@@ -178,23 +178,6 @@ block-stops file eof root old blocks bs (Refused (refusals.Missing bid)) none ad
 block-stops file eof root old blocks bs (Refused (refusals.Overlap ib)) none adds same stops = absurd stops
 block-stops file eof root old blocks bs (Refused (refusals.Node nid fault)) none adds same stops = absurd stops
 
--- a stop at a page of the block tree
-pub page-stops : (file : List ℕ) (eof : ℕ) (root : Bref) (stop : OpenStop) → StopsTree stop (block_tree file eof) root → StopsBlocks stop file eof root
-page-stops file eof root Memory stops = tt
-page-stops file eof root Fault stops = tt
-page-stops file eof root (Changed ib stored computed) stops = stops
-page-stops file eof root (Refused (refusals.Page ib fault)) stops = stops
-page-stops file eof root (Refused (refusals.Block ib fault)) stops = absurd stops
-page-stops file eof root (Refused refusals.Empty) stops = absurd stops
-page-stops file eof root (Refused (refusals.Gate len)) stops = absurd stops
-page-stops file eof root (Refused (refusals.Short len)) stops = absurd stops
-page-stops file eof root (Refused (refusals.Header refusal)) stops = absurd stops
-page-stops file eof root (Refused (refusals.Truncated len end)) stops = absurd stops
-page-stops file eof root (Refused (refusals.Large end)) stops = absurd stops
-page-stops file eof root (Refused (refusals.Missing bid)) stops = absurd stops
-page-stops file eof root (Refused (refusals.Overlap ib)) stops = absurd stops
-page-stops file eof root (Refused (refusals.Node nid fault)) stops = absurd stops
-
 pub blocks-stops : (header : Header) (file : List ℕ) (stop : OpenStop) → StopsBlocks stop file header.eof header.bbt → StopsTrees stop header file
 blocks-stops header file Memory stops = tt
 blocks-stops header file Fault stops = tt

@@ -1,6 +1,6 @@
 //! What ends a commit that a stop has cut short.
 ghost use Rattle.std.specs.Prelude.{◌≡◌, ◌≤◌, ◌<◌, ◌+◌, length, take, drop, slice_index, IfOk, OnOk, OnErr};
-ghost use Rattle.pst_outside.specs.World.{Image, content};
+ghost use Rattle.pst_outside.specs.World.{content};
 ghost use Rattle.pst_outside.specs.Calls.{Rose, NeverFall, LeavesOnly, Settled, Untouched};
 ghost use Rattle.gate_file.specs.Gate.{IsClosed, IsShut, HasOpenGate, SameStore, KeepsStore};
 

@@ -1,5 +1,5 @@
 -- What the blocks of packed groups read as.
-use Rattle.std.proofs.Common.{◌≡◌, ◌<◌, ◌==◌, ◌&&◌, ◌+◌, ◌-◌, ◌*◌, ◌%◌, ◌^◌, inl, inr, nat_lt, ℕ, zero, suc, true, false, List, [], ◌∷◌, ◌++◌, length, map, get_or, replicate, Some, None, slice_get, refl, sym, ap, ◌∙◌, append_assoc, arith}
+use Rattle.std.proofs.Common.{◌≡◌, ◌<◌, ◌==◌, ◌&&◌, ◌+◌, ◌-◌, ◌*◌, ◌%◌, ◌^◌, inl, inr, nat_lt, ℕ, zero, suc, true, false, List, [], ◌∷◌, ◌++◌, length, map, get_or, replicate, Some, None, slice_get, refl, sym, ap, ◌∙◌, arith}
 use Rattle.std.proofs.lemmas.Bool.{cases_Bool, cases_lt, and_from, and_left, and_right, eq-eqb, eqb-true, le-ltb, lt-ltb}
 use Rattle.std.proofs.lemmas.List.{get_or_past}
 use Rattle.std.proofs.lemmas.Option.{get_or_from_slice_get}
@@ -29,11 +29,6 @@ pub laid-at : (client root i : ℕ) (gs : List (List (List ℕ))) → i < length
 laid-at client root i gs h =
     let e : 0 + i ≡ i = omega arith in
     laid-from 0 client root i gs h ∙ ap (λ (k : ℕ). block k client root (get_or gs i [])) e
-
--- one more block
-pub laid-more : (k client root : ℕ) (bs : List (List ℕ)) (g : List (List ℕ)) (gs : List (List (List ℕ)))
-    → (bs ++ block k client root g ∷ []) ++ laid (k + 1) client root gs ≡ bs ++ laid k client root (g ∷ gs)
-laid-more k client root bs g gs = append_assoc bs (block k client root g ∷ []) (laid (k + 1) client root gs)
 
 signature-block : (client root : ℕ) (xs : List (List ℕ)) → number_at 1 2 (block 0 client root xs) ≡ 0xEC
 unfolding number_at block head_rest

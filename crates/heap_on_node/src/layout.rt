@@ -1,9 +1,9 @@
 //! The bytes of a heap's blocks.
-ghost use Rattle.std.specs.Prelude.{◌≡◌, ◌<◌, ◌≤◌, ◌^◌, ◌+◌, ◌%◌, true, ◌++◌, length, map, replicate, OnOk, IfOk};
+ghost use Rattle.std.specs.Prelude.{◌≡◌, ◌<◌, ◌^◌, ◌+◌, ◌%◌, true, ◌++◌, length, map, replicate, OnOk, IfOk};
 ghost use Rattle.std.specs.List.{concat, flat_map};
 ghost use Rattle.byteorder.specs.Endian.{little_bytes};
 ghost use Rattle.heap_on_node.specs.Layout.{block, head_rest, offsets, page_map, total};
-ghost use Rattle.heap_on_node.specs.Packing.{fit_block, has_room, head_size, map_place};
+ghost use Rattle.heap_on_node.specs.Packing.{fit_block, has_room, head_size};
 
 use crate::draft::Draft;
 use pst_base::Bytes;

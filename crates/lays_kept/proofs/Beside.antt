@@ -1,11 +1,9 @@
--- Places whose slots are free have no byte in common with places that stand.
-use Rattle.std.proofs.Common.{Bool, true, false, ◌≡◌, ◌∙◌, ◌⊎◌, inl, inr, ℕ, ◌+◌, ◌*◌, ◌%◌, ◌<◌, ◌≤◌, List, [], ◌∷◌, length, sym, arith, ⊎_elim}
+-- Places of whole slots that cover no common slot have no byte in common.
+use Rattle.std.proofs.Common.{◌≡◌, ◌⊎◌, inl, inr, ℕ, ◌+◌, ◌*◌, ◌%◌, ◌<◌, ◌≤◌, arith, ⊎_elim}
 use Rattle.std.proofs.lemmas.Bool.{cases_lt}
 use Rattle.pst_base.specs.declared.places.Place.{Place}
-use Rattle.alloc_map.specs.Slots.{AreAll, is_used, slot_of, slots_in}
-use Rattle.alloc_map.specs.Standing.{Covers, SomeCovers, IsCovered}
-use Rattle.lays_kept.specs.declared.Piece.{Piece}
-use Rattle.lays_kept.specs.Kept.{Each, IsClear}
+use Rattle.alloc_map.specs.Slots.{slot_of, slots_in}
+use Rattle.alloc_map.specs.Standing.{Covers}
 
 -- a place of whole slots, with one at least
 pub record IsWhole (p : Place) : Type 0 where
@@ -38,36 +36,3 @@ apart_slots p q whole_p whole_q none =
     (λ (past : b + slots_in q ≤ a). inr (omega (arith, at_p, at_q, len_q, past)))
     (cases_lt a (b + slots_in q)))
     (cases_lt a b)
-
--- what covers in a list covers in the longer one
-some_first : (p : Place) (ps : List Place) (slot : ℕ) → Covers p slot → SomeCovers (p ∷ ps) slot
-unfolding SomeCovers
-some_first p ps slot covers = inl covers
-
-some_later : (p : Place) (ps : List Place) (slot : ℕ) → SomeCovers ps slot → SomeCovers (p ∷ ps) slot
-unfolding SomeCovers
-some_later p ps slot covers = inr covers
-
-each_apart : (used : List Bool) (q : Place) → IsWhole q → slot_of q.ib + slots_in q ≤ length used → AreAll used (slot_of q.ib) (slots_in q) false
-    → (ps : List Place) → ((slot : ℕ) → slot < length used → SomeCovers ps slot → is_used used slot ≡ true) → Each IsWhole ps → Each (λ p. Apart p q) ps
-each_apart used q whole within free [] covers all = tt
-each_apart used q whole within free (p ∷ ps) covers all = (
-  apart_slots p q all.0 whole (λ slot one two.
-      let lt : slot < length used = omega (arith, two.ends, within) in
-      clash (sym (covers slot lt (some_first p ps slot one)) ∙ free slot two.begins two.ends)),
-  each_apart used q whole within free ps (λ slot lt some. covers slot lt (some_later p ps slot some)) all.1,
-)
-  where
-    clash : true ≡ false → ⊥
-    clash e = cc
-
--- A place whose slots are free has no byte in common with those that stand.
-pub beside_free : (places : List Place) (used : List Bool) (q : Place) → IsCovered places used → Each IsWhole places → IsWhole q → slot_of q.ib + slots_in q ≤ length used
-    → AreAll used (slot_of q.ib) (slots_in q) false → Each (λ p. Apart p q) places
-beside_free places used q covered all whole within free = each_apart used q whole within free places (λ slot lt some. (covered slot lt).1 some) all
-
--- and so has no piece that lies in such a place
-pub clear_more : (piece : Piece) (pieces : List Piece) (ps : List Place) → Each (λ p. Apart p (record { ib = piece.at; len = length piece.bytes })) ps → Each (λ p. IsClear pieces p.ib p.len) ps
-    → Each (λ p. IsClear (piece ∷ pieces) p.ib p.len) ps
-clear_more piece pieces [] one rest = tt
-clear_more piece pieces (p ∷ ps) one rest = ((one.0, rest.0), clear_more piece pieces ps one.1 rest.1)

@@ -29,10 +29,6 @@ pub each_back : (P : Place → Type 0) (xs ys : List Place) → Each P (xs ++ ys
 each_back P [] ys all = all
 each_back P (x ∷ xs) ys all = each_back P xs ys all.1
 
-pub each_weaker : (P Q : Place → Type 0) → ((p : Place) → P p → Q p) → (xs : List Place) → Each P xs → Each Q xs
-each_weaker P Q f [] all = tt
-each_weaker P Q f (x ∷ xs) all = (f x all.0, each_weaker P Q f xs all.1)
-
 -- ---- places of pages
 
 pub pages_front : (P : Place → Type 0) (xs ys : List Bref) → Each P (map page_place (xs ++ ys)) → Each P (map page_place xs)

@@ -5,9 +5,7 @@ pub mod Grown
 pub mod Renewed
 pub mod Beside
 pub mod Rows
-pub mod Packing
 pub mod Once
-pub mod Placing
 pub mod Tally
 pub mod Plans
 pub mod Renewing

@@ -1,5 +1,5 @@
 -- Places meet nowhere just where no slot is covered twice.
-use Rattle.std.proofs.Common.{Bool, true, false, inl, inr, ℕ, ◌<◌, ◌≤◌, List, [], ◌∷◌, refl, arith, ⊎_elim}
+use Rattle.std.proofs.Common.{inl, inr, ℕ, ◌<◌, ◌≤◌, List, [], ◌∷◌, refl, arith, ⊎_elim}
 use Rattle.std.proofs.lemmas.Bool.{cases_lt}
 use Rattle.pst_base.specs.declared.places.Place.{Place}
 use Rattle.alloc_map.specs.Slots.{slot_of}
@@ -57,9 +57,3 @@ meeting_of (p ∷ ps) slot (inr twice) = let m = meeting_of ps slot twice in (m.
 -- and the other way round
 pub apart_once : (ps : List Place) → ((slot : ℕ) → IsMeeting ps slot → ⊥) → Once ps
 apart_once ps apart slot twice = let m = meeting_of ps slot twice in apart m.0 m.1
-
--- one place more, whose slots no other covers
-pub once_more : (q : Place) (ps : List Place) → Once ps → ((slot : ℕ) → Covers q slot → SomeCovers ps slot → ⊥) → Once (q ∷ ps)
-unfolding IsTwice
-once_more q ps once free slot (inl both) = free slot both.0 both.1
-once_more q ps once free slot (inr twice) = once slot twice

@@ -1,5 +1,5 @@
 -- Where the pages and blocks of a file stand, and that writes beside them leave them.
-use Rattle.std.proofs.Common.{Bool, true, false, ◌≡◌, inl, inr, ℕ, zero, suc, ◌+◌, ◌%◌, ◌<◌, ◌≤◌, leb, eqb, ltb, ◌&&◌, List, [], ◌∷◌, ◌++◌, length, take, drop, map, Some, None, refl, sym, subst, arith, ⊎_elim, if◌then◌else◌}
+use Rattle.std.proofs.Common.{Bool, true, false, ◌≡◌, ℕ, zero, suc, ◌+◌, ◌%◌, ◌<◌, ◌≤◌, leb, eqb, ltb, ◌&&◌, List, [], ◌∷◌, ◌++◌, length, take, drop, map, Some, None, refl, sym, subst, arith, ⊎_elim, if◌then◌else◌}
 use Rattle.std.proofs.lemmas.Bool.{and_parts, leb-true, eqb-true, cases_eq}
 use Rattle.pst_base.specs.declared.ids.Bref.{Bref}
 use Rattle.pst_base.specs.declared.places.Place.{Place}
@@ -118,8 +118,3 @@ each_amap P (suc n) r lt all = ⊎_elim
     (λ (last : r ≡ n). subst (λ k. P (amap_place k)) (sym last) all.0)
     (λ (other : r ≡ n → ⊥). each_amap P n r (omega (arith, lt, other)) all.1)
     (cases_eq r n)
-
--- a shorter span at the same place is clear too
-pub clear_less : (pieces : List Piece) (at n m : ℕ) → m ≤ n → IsClear pieces at n → IsClear pieces at m
-clear_less [] at n m less clear = tt
-clear_less (p ∷ ps) at n m less clear = (⊎_elim (λ l. inl (omega (arith, l, less))) inr clear.0, clear_less ps at n m less clear.1)

@@ -1,5 +1,5 @@
 -- The lines up to `quit`, and lists that go on by one more element.
-use Rattle.std.proofs.Common.{◌≡◌, ◌∙◌, ℕ, suc, ◌+◌, ap, sym, refl, arith, Bool, true, false, List, [], ◌∷◌, ◌++◌, ◌||◌, length, take, append_assoc, length-append}
+use Rattle.std.proofs.Common.{◌≡◌, ◌∙◌, ℕ, suc, ◌+◌, ap, sym, refl, arith, Bool, true, false, List, [], ◌∷◌, ◌++◌, length, take, append_assoc, length-append, ◌||◌}
 use Rattle.std.proofs.lemmas.Bool.{true≢false}
 use Rattle.std.proofs.lemmas.List.{append-nil}
 use Rattle.std.specs.List.{concat, list_any}

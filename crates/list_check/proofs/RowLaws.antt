@@ -1,5 +1,5 @@
 -- The ids of rows.
-use Rattle.std.proofs.Common.{◌≡◌, ◌∙◌, ℕ, suc, ◌==◌, ◌||◌, ◌&&◌, Bool, true, false, List, [], ◌∷◌, map, Option, None, Some, is_some, option_copied, Bor, ap, refl, if◌then◌else◌}
+use Rattle.std.proofs.Common.{◌≡◌, ◌∙◌, ℕ, suc, ◌==◌, ◌&&◌, Bool, true, false, List, [], ◌∷◌, map, Option, None, Some, is_some, option_copied, Bor, ap, refl, if◌then◌else◌, ◌||◌}
 use Rattle.std.specs.Prelude.{nat_le}
 use Rattle.mapi_values.specs.Keyed.{find_key, keys_ascend}
 use Rattle.mapi_values.specs.Tables.{IsTable, Tab}

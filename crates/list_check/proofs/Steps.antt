@@ -75,11 +75,6 @@ listed_told T ws f q node t ms result there first same are next =
     then_says (λ t. t) bits_of (table_at T nothing (contents f)) (λ t. stale_among T ws (message_ids t.table)) node result (subst (λ q. Says {B = Tbl} (λ t. t) (table_at T nothing q) (Ok node)) there first)
     (subst (λ ids. Says bits_of (stale_among T ws ids) result) (are ∙ ap message_ids same) next)
 
-pub listed_stops : (T : Tree) (ws : List Watch) (f q : ℕ) (stop : Stop) → q ≡ contents f → Says {B = Tbl} (λ t. t) (table_at T nothing q) (Err stop) → Says {B = Option Nid} bits_of (stale_listed T ws f) (Err stop)
-unfolding stale_listed
-listed_stops T ws f q stop there first =
-    stop_says (λ t. t) bits_of (table_at T nothing (contents f)) (λ t. stale_among T ws (message_ids t.table)) stop (subst (λ q. Says {B = Tbl} (λ t. t) (table_at T nothing q) (Err stop)) there first)
-
 -- ---- a search after another
 
 module _ {D : Type 0} (view : D → List Watch) (T : Tree) where

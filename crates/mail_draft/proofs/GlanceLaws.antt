@@ -4,7 +4,6 @@ use Rattle.std.proofs.lemmas.Option.{same_Some}
 use Rattle.std.proofs.lemmas.Bool.{ne_eqb}
 use Rattle.std.specs.Option.{option_and_then, unwrap_or}
 use Rattle.pst_base.specs.Fields.{number_at}
-use Rattle.value_text.specs.UnitBytes.{units_in}
 use Rattle.mapi_values.specs.Messages.{Mes}
 use Rattle.mapi_values.specs.Tables.{find_row}
 use Rattle.mapi_values.specs.Values.{Val, in_field}
@@ -21,7 +20,7 @@ use Rattle.mail_objects.specs.declared.object.Object.TheVariants.{Context, Table
 use Rattle.mail_tree.specs.Changing.{Answer, ◌>>=◌, as_message, as_table, known, nothing, now_at}
 use Rattle.mail_tree.proofs.AfterTree.{now_nothing}
 use Rattle.mail_tree.specs.Tree.{StandsAt, Tree, object_at}
-use Rattle.mail_tree.specs.Values.{bytes_of, number_of, of_kind, text_of}
+use Rattle.mail_tree.specs.Values.{bytes_of, number_of, of_kind}
 use Rattle.mail_draft.specs.declared.stop.Stop.{Stop}
 use Rattle.mail_draft.specs.Answers.{Says}
 use Rattle.mail_draft.specs.Glancing.{AreOfTable, IsContent, TellsHas, told_bytes}
@@ -80,9 +79,6 @@ number-bytes id props glance told = told-bytes id 0x0003 props glance told (λ b
 pub number-told : (id : ℕ) (props : List Val) (glance : Glance) (bytes : List ℕ) → Some bytes ≡ told_bytes 0x0003 glance → IsTold id props (Some glance) → number_at 4 0 bytes ≡ number_of id props
 number-told id props glance bytes is told =
     ap (λ (o : Option (List ℕ)). number_at 4 0 (unwrap_or o (0 ∷ 0 ∷ 0 ∷ 0 ∷ []))) (is ∙ number-bytes id props glance told)
-
-pub text-told : (id : ℕ) (props : List Val) (glance : Glance) → (glance ≡ Below → ⊥) → IsTold id props (Some glance) → units_in (unwrap_or (told_bytes 0x001F glance) []) ≡ text_of id props
-text-told id props glance out told = ap (λ (o : Option (List ℕ)). units_in (unwrap_or o [])) (told-bytes id 0x001F props glance told (λ below none. out below))
 
 -- the content of a node that stands where the tree has a table
 pub content-table : (q : ℕ) (node : NodeRec) (whole : Option NodeRec) (object : Option Object) (other : Option NodeRec) (t : Tbl) → Some node ≡ content_of whole → StandsAt q whole object other

@@ -1,29 +1,12 @@
 -- A walk over the nodes of a tree finds the greatest index.
-use Rattle.std.proofs.Common.{◌≡◌, ℕ, zero, suc, ◌+◌, ◌*◌, ◌==◌, ◌||◌, ◌<◌, ◌≤◌, ◌⊎◌, ◌^◌, Bool, true, false, nat_lt, max, List, [], ◌∷◌, Option, None, Some, is_some, get_or, add-one, refl, sym, ◌∙◌, ap, inl, inr, arith}
+use Rattle.std.proofs.Common.{◌≡◌, ℕ, zero, suc, ◌+◌, ◌*◌, ◌==◌, ◌<◌, ◌≤◌, ◌⊎◌, ◌^◌, Bool, true, false, nat_lt, max, List, [], ◌∷◌, None, Some, get_or, add-one, refl, sym, ◌∙◌, ap, inl, inr, arith}
 use Rattle.std.proofs.lemmas.Bool.{and_parts, cases_Bool, cases_lt, cases_eq, eq-eqb, eqb-true, ltb-true}
 use Rattle.std.specs.List.{list_any}
 use Rattle.pst_base.specs.Ids.{index_of, kind_of, nid_of}
 use Rattle.pst_base.specs.declared.ids.Nid.{Nid}
-use Rattle.node_port.specs.Nodes.{Nodes, IsNext, node_at}
-use Rattle.node_port.specs.declared.node.NodeRec.{NodeRec}
-use Rattle.mail_objects.specs.declared.object.Object.{Object}
-use Rattle.mail_tree.specs.Tree.{Shown, StandsAt, Tree, object_at}
+use Rattle.mail_tree.specs.Tree.{Tree}
 use Rattle.mail_tree.specs.Ids.{greatest, is_taken, is_used, next_index}
 use Rattle.mail_draft.specs.Walks.{IsNextTaken, are_kinds}
-
-taken_at : (q : ℕ) (node other : Option NodeRec) (o : Option Object) → StandsAt q node o other → is_some o || is_some other ≡ is_some node
-taken_at q held other None stands = ap is_some (sym stands)
-taken_at q held other (Some o) stands = ap is_some (sym (stands.1).1)
-
--- where a node stands, an object or another node of the tree does
-pub taken_is : {holds : Nodes → Type 0} {last : List ℕ} (T : Tree) (s : Shown holds last T) (q : ℕ) → is_taken T q ≡ is_some (node_at s.nodes q)
-taken_is T s q = taken_at q (node_at s.nodes q) (node_at T.others q) (object_at T q) (s.at q)
-
--- the next node is the next of the tree
-pub next_taken : {holds : Nodes → Type 0} {last : List ℕ} (T : Tree) (s : Shown holds last T) (at : Nid) (next : Option Nid)
-    → IsNext s.nodes (Some at) next → IsNextTaken T at.bits next
-next_taken T s at None next = λ q after. taken_is T s q ∙ ap is_some (next q after)
-next_taken T s at (Some n) next = (next.0, taken_is T s n.bits ∙ next.1, λ q after before. taken_is T s q ∙ ap is_some (next.2 q after before))
 
 -- of the indexes of these kinds, this is the greatest of those of nodes up to an id and of the counter
 pub record Reaches (T : Tree) (kinds : List ℕ) (counter at n : ℕ) : Type 0 where

@@ -1,5 +1,5 @@
 //! What a command has changed so far.
-ghost use Rattle.std.specs.Prelude.{◌≡◌, true, None, Some, Option, IfOk};
+ghost use Rattle.std.specs.Prelude.{◌≡◌, true, Option, IfOk};
 ghost use Rattle.mail_draft.specs.Placed.{are_placed};
 
 use mail_objects::Object;

@@ -2,7 +2,6 @@
 ghost use Rattle.std.specs.Prelude.{◌≡◌, ◌<◌, ◌^◌, true, max, IfErr, IfOk, IfSome, Ok};
 ghost use Rattle.mail_tree.specs.Tree.{Shown, Tree};
 ghost use Rattle.mail_draft.specs.Answers.{IsCaused, Looks, Says};
-ghost use Rattle.mail_draft.specs.Drafts.{changed_of};
 ghost use Rattle.mail_tree.specs.Ids.{greatest, is_used, new_id, next_index};
 ghost use Rattle.mail_draft.specs.Walks.{GivesNext, are_kinds};
 

@@ -1,8 +1,8 @@
 //! Values of objects that the store reads and makes.
-ghost use Rattle.std.specs.Prelude.{◌≡◌, false, IfOk, IfSome, IsTrue, OnErr, OnOk, List, length, option_copied};
+ghost use Rattle.std.specs.Prelude.{◌≡◌, false, IfOk, IfSome, IsTrue, OnErr, OnOk, length, option_copied};
 ghost use Rattle.mapi_values.specs.Characters.{folded};
 ghost use Rattle.mapi_values.specs.Properties.{put};
-ghost use Rattle.mapi_values.specs.Values.{Val, fits};
+ghost use Rattle.mapi_values.specs.Values.{fits};
 ghost use Rattle.mail_tree.specs.Values.{bytes_of, is_read, name_of, number, number_of, text, text_of, time_value, truth, with_counts};
 
 use mapi_values::tags::{

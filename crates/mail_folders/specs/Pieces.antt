@@ -1,5 +1,5 @@
 -- The commands on folders, part by part.
-use Rattle.std.specs.Prelude.{ℕ, ◌||◌, ◌++◌, if◌then◌else◌, nat_eq, Bool, List, [], ◌∷◌, filter, Ok, false}
+use Rattle.std.specs.Prelude.{ℕ, ◌++◌, if◌then◌else◌, nat_eq, Bool, List, [], ◌∷◌, filter, Ok, false, ◌||◌}
 use Rattle.std.specs.Cmp.Lexicographic.{pointwise}
 use Rattle.mapi_values.specs.Characters.{folded}
 use Rattle.mapi_values.specs.Keyed.{drop_key, put_key}

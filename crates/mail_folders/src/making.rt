@@ -1,18 +1,16 @@
 //! `mkdir`
-ghost use Rattle.std.specs.Prelude.{◌≡◌, ◌≤◌, IfErr, IfOk, OnOk, Some};
+ghost use Rattle.std.specs.Prelude.{◌≡◌, IfErr, IfOk, Some};
 ghost use Rattle.mail_tree.specs.Flags.{AreFlags};
 ghost use Rattle.mail_tree.specs.Knowing.{Knows};
 ghost use Rattle.mail_tree.specs.Tree.{Shown, Tree, object_at};
 ghost use Rattle.mail_folders.specs.Pieces.{counted_folder};
 ghost use Rattle.mail_tree.specs.Folders.{made_folder, making_folder, unless_full, with_folder};
-ghost use Rattle.mail_tree.specs.Changing.{add_shown, associated, contents, hierarchy, nothing, refused_if, with_object};
-ghost use Rattle.mail_tree.specs.Ids.{is_spent};
-ghost use Rattle.command_text.specs.declared.reply.CommandRefusal.TheVariants.{Ids};
+ghost use Rattle.mail_tree.specs.Changing.{add_shown, associated, contents, hierarchy, nothing, with_object};
 ghost use Rattle.mail_tree.specs.Columns.{contents_table, hierarchy_table};
 ghost use Rattle.mail_tree.specs.Values.{folder_props};
 ghost use Rattle.mail_objects.specs.declared.object.Object.TheVariants.{Table};
 ghost use Rattle.mail_draft.specs.Drafts.{changed_of};
-ghost use Rattle.mail_draft.specs.Answers.{IsCalm, IsCaused, Looks, Says};
+ghost use Rattle.mail_draft.specs.Answers.{IsCaused, Looks, Says};
 ghost use Rattle.mail_draft.specs.Outcomes.{outcome_of};
 
 use crate::finding::plain_in;

@@ -1,5 +1,5 @@
 //! Names of folders, compared with their case folded.
-ghost use Rattle.std.specs.Prelude.{false, ◌≡◌, ℕ, map, filter, not, ◌==◌, IfErr, IfOk};
+ghost use Rattle.std.specs.Prelude.{false, ◌≡◌, map, filter, ◌==◌, IfErr, IfOk};
 ghost use Rattle.mapi_values.specs.Characters.{folded};
 ghost use Rattle.mail_tree.specs.Places.{children, is_child};
 ghost use Rattle.mail_tree.specs.Flags.{AreFlags};

@@ -4,7 +4,7 @@ use Rattle.command_text.specs.declared.reply.LastLine.{LastLine}
 use Rattle.command_text.specs.declared.reply.Limit.TheVariants.{Rows, Value as LongValue}
 use Rattle.command_text.specs.declared.reply.CommandRefusal.TheVariants.{Ids, Limit, Object as NoObject, Property as NoProperty}
 use Rattle.command_text.specs.declared.reply.CommandRefusal.{CommandRefusal}
-use Rattle.std.proofs.Common.{◌≡◌, ℕ, ◌%◌, ◌==◌, ◌||◌, Bool, true, false, List, Option, None, Some, IfOk, is_some, Ok, arith, refl, sym, subst, ap, ◌∙◌, inl, inr, not, [], ◌∷◌, ◌++◌, ◌≤◌, max, suc, if◌then◌else◌, Err}
+use Rattle.std.proofs.Common.{◌≡◌, ℕ, ◌%◌, ◌==◌, Bool, true, false, List, Option, None, Some, IfOk, is_some, Ok, arith, refl, sym, subst, ap, ◌∙◌, inl, inr, not, [], ◌∷◌, ◌++◌, ◌≤◌, max, suc, if◌then◌else◌, Err, ◌||◌}
 use Rattle.std.proofs.lemmas.Bool.{cases_Bool, cases_eq, eq-eqb, eqb-true, eqb-false, or_parts, ne_eqb, ltb-false}
 use Rattle.mapi_values.specs.Messages.{Mes, size}
 use Rattle.mapi_values.specs.Properties.{find, put, remove_id}

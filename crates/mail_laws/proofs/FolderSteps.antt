@@ -1,5 +1,5 @@
 -- The commands on folders leave a tree whole.
-use Rattle.std.proofs.Common.{◌≡◌, ℕ, ◌%◌, ◌/◌, ◌==◌, ◌||◌, ◌≤◌, ◌<◌, Bool, true, false, not, nat_eq, length, filter, map, List, [], ◌∷◌, Option, None, Some, IsSome, is_some, Ok, arith, refl, sym, subst, ap, ◌∙◌, ◌⊎◌, inl, inr, IfOk}
+use Rattle.std.proofs.Common.{◌≡◌, ℕ, ◌%◌, ◌/◌, ◌==◌, ◌≤◌, ◌<◌, Bool, true, false, not, nat_eq, length, filter, map, List, [], ◌∷◌, Option, None, Some, IsSome, is_some, Ok, arith, refl, sym, subst, ap, ◌∙◌, ◌⊎◌, inl, inr, IfOk, ◌||◌}
 use Rattle.std.specs.Cmp.Lexicographic.{pointwise}
 use Rattle.std.proofs.lemmas.Bool.{cases_Bool, eqb-true, eqb-false, eq-eqb, false≢true, not-false, or_left, or_parts, or_right}
 use Rattle.std.proofs.lemmas.Option.{same_Some, none-some}
@@ -179,9 +179,6 @@ dropped_folder E places T D parent q f n found plain no_matter =
 -- ids beside one folder
 pub beside_apart : (f k l : ℕ) → k < 32 → l < 32 → (k ≡ l → ⊥) → beside f k ≡ beside f l → ⊥
 beside_apart f k l a b other e = other (omega arith)
-
-is_beside : (f : ℕ) → f % 32 ≡ 2 → f ≡ beside f 2
-is_beside f e = omega arith
 
 -- a folder's own id is none of a table
 own_apart : (f g kind : ℕ) → f % 32 ≡ 2 → 13 ≤ kind → kind < 32 → f ≡ beside g kind → ⊥

@@ -2,7 +2,7 @@
 use Rattle.command_text.specs.declared.reply.LastLine.{LastLine}
 use Rattle.command_text.specs.declared.reply.Limit.TheVariants.{Rows}
 use Rattle.command_text.specs.declared.reply.CommandRefusal.{CommandRefusal}
-use Rattle.std.proofs.Common.{◌≡◌, ℕ, ◌%◌, ◌==◌, ◌||◌, Bool, true, false, List, [], Option, None, Some, IsSome, IfOk, is_some, arith, refl, sym, subst, ap, ◌∙◌, inl, inr, not, Ok}
+use Rattle.std.proofs.Common.{◌≡◌, ℕ, ◌%◌, ◌==◌, Bool, true, false, List, [], Option, None, Some, IsSome, IfOk, is_some, arith, refl, sym, subst, ap, ◌∙◌, inl, inr, not, Ok, ◌||◌}
 use Rattle.std.specs.FinMap as map
 use Rattle.std.specs.Ordering.{nat_cmp}
 use Rattle.std.proofs.lemmas.Bool.{cases_Bool, cases_eq, false≢true, or_parts}

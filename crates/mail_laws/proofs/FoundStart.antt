@@ -1,5 +1,5 @@
 -- An opening finds the tree of a new store.
-use Rattle.std.proofs.Common.{◌≡◌, ◌≤◌, ℕ, ◌==◌, ◌%◌, ◌&&◌, ◌||◌, Bool, true, false, Option, None, List, [], ◌∷◌, IsSome, is_some, Some, arith, refl, sym, subst, ap, ◌∙◌, inl, inr}
+use Rattle.std.proofs.Common.{◌≡◌, ◌≤◌, ℕ, ◌==◌, ◌%◌, ◌&&◌, Bool, true, false, Option, None, List, [], ◌∷◌, IsSome, is_some, Some, arith, refl, sym, subst, ap, ◌∙◌, inl, inr, ◌||◌}
 use Rattle.std.proofs.lemmas.Bool.{and_parts, cases_Bool, eq-eqb, eqb-true, false≢true, or_cases}
 use Rattle.std.proofs.lemmas.Option.{same_Some}
 use Rattle.std.specs.Cmp.{nat_cmp_total}

@@ -1,7 +1,7 @@
 -- Each id that a command gives lies behind the counter of its kind, which has its index then.
 use Rattle.command_text.specs.declared.reply.LastLine.{LastLine}
 use Rattle.command_text.specs.declared.reply.CommandRefusal.{CommandRefusal}
-use Rattle.std.proofs.Common.{◌≡◌, ℕ, suc, ◌%◌, ◌/◌, ◌<◌, ◌==◌, ◌||◌, false, max, not, filter, set, get_or, List, None, Some, is_some, IfOk, arith, refl, sym, subst, ap, ◌∙◌, inl, inr, Option}
+use Rattle.std.proofs.Common.{◌≡◌, ℕ, suc, ◌%◌, ◌/◌, ◌<◌, ◌==◌, false, max, not, filter, set, get_or, List, None, Some, is_some, IfOk, arith, refl, sym, subst, ap, ◌∙◌, inl, inr, Option, ◌||◌}
 use Rattle.std.proofs.lemmas.Bool.{cases_Bool}
 use Rattle.pst_base.specs.Ids.{index_of, nid_of}
 use Rattle.mapi_values.specs.Characters.{folded}

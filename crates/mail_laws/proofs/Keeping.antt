@@ -52,11 +52,6 @@ if_replying T (Err e) reason reply Q k = tt
 if_replying T (Ok D) None reply Q k = k
 if_replying T (Ok D) (Some refusal) reply Q k = if_then (λ u. Unit {0}) Q (within_limits T _ D) _ (if_any (within_limits T _ D)) (λ u v. tt)
 
--- what an answer is
-pub if_is : {A : Type 0} (a : Answer A) → IfOk a (λ x. a ≡ Ok x)
-if_is (Ok x) = refl
-if_is (Err e) = tt
-
 pub from_fine : {A : Type 0} (P : A → Type 0) (a : Answer A) → Fine a P → IfOk a P
 from_fine P (Ok x) h = h
 from_fine P (Err e) h = tt

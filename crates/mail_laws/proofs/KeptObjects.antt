@@ -1,5 +1,5 @@
 -- What the changes of a command leave of the objects that stood: what holds of them after each step.
-use Rattle.std.proofs.Common.{◌≡◌, ℕ, ◌%◌, ◌==◌, ◌||◌, Bool, true, false, List, Option, None, Some, IsSome, arith, refl, sym, subst, ap, ◌∙◌, inl, inr}
+use Rattle.std.proofs.Common.{◌≡◌, ℕ, ◌%◌, ◌==◌, Bool, true, false, List, Option, None, Some, IsSome, arith, refl, sym, subst, ap, ◌∙◌, inl, inr, ◌||◌}
 use Rattle.std.proofs.lemmas.Bool.{cases_eq, eq-eqb, ne_eqb, false≢true}
 use Rattle.std.proofs.lemmas.Option.{none-some, same_Some}
 use Rattle.std.specs.Cmp.{nat_cmp_total}

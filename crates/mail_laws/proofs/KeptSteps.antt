@@ -1,5 +1,5 @@
 -- Steps that leave what a command doesn't speak of as it was.
-use Rattle.std.proofs.Common.{◌≡◌, ℕ, ◌<◌, ◌==◌, ◌||◌, Bool, true, length, List, Some, IfOk, arith, refl, sym, ap, ◌∙◌, inl, inr, ◌%◌}
+use Rattle.std.proofs.Common.{◌≡◌, ℕ, ◌<◌, ◌==◌, Bool, true, length, List, Some, IfOk, arith, refl, sym, ap, ◌∙◌, inl, inr, ◌%◌, ◌||◌}
 use Rattle.std.specs.List.{list_any}
 use Rattle.std.proofs.lemmas.Bool.{cases_Bool, eqb-false, or_parts}
 use Rattle.std.proofs.lemmas.Option.{none-some}

@@ -3,7 +3,7 @@ use Rattle.command_text.specs.declared.reply.Reply.{Reply}
 use Rattle.command_text.specs.declared.reply.LastLine.{LastLine}
 use Rattle.command_text.specs.declared.reply.Limit.TheVariants.{Rows}
 use Rattle.command_text.specs.declared.reply.CommandRefusal.{CommandRefusal}
-use Rattle.std.proofs.Common.{◌≡◌, ℕ, ◌%◌, ◌==◌, true, false, nat_le, length, ◌||◌, List, Option, None, Some, IsSome, is_some, Ok, arith, refl, sym, subst, ap, ◌∙◌, inl, inr, Err, not, IfOk}
+use Rattle.std.proofs.Common.{◌≡◌, ℕ, ◌%◌, ◌==◌, true, false, nat_le, length, List, Option, None, Some, IsSome, is_some, Ok, arith, refl, sym, subst, ap, ◌∙◌, inl, inr, Err, not, IfOk, ◌||◌}
 use Rattle.std.proofs.lemmas.Bool.{cases_Bool, eqb-true}
 use Rattle.std.proofs.lemmas.Option.{none-some}
 use Rattle.pst_base.specs.Ids.{nid_of}

@@ -1,5 +1,5 @@
 -- What each command on folders makes of their places, and that it keeps the messages.
-use Rattle.std.proofs.Common.{◌≡◌, ℕ, ◌%◌, ◌==◌, ◌||◌, ◌<◌, Bool, true, false, List, [], ◌∷◌, Option, None, Some, IfOk, arith, refl, sym, ap, ◌∙◌, inl, inr}
+use Rattle.std.proofs.Common.{◌≡◌, ℕ, ◌%◌, ◌==◌, ◌<◌, Bool, true, false, List, [], ◌∷◌, Option, None, Some, IfOk, arith, refl, sym, ap, ◌∙◌, inl, inr, ◌||◌}
 use Rattle.std.proofs.lemmas.Bool.{cases_Bool, cases_eq, eqb-true}
 use Rattle.std.proofs.lemmas.Option.{none-some, same_Some}
 use Rattle.pst_base.specs.Ids.{nid_of}

@@ -1,7 +1,7 @@
 -- What a command puts is its new object, or stands in the tree already: so it can be compared with the tree.
 use Rattle.command_text.specs.declared.reply.LastLine.{LastLine}
 use Rattle.command_text.specs.declared.reply.CommandRefusal.{CommandRefusal}
-use Rattle.std.proofs.Common.{◌≡◌, ℕ, ◌==◌, ◌||◌, false, not, filter, List, None, Some, is_some, IfOk, refl, sym, subst, ap, ◌∙◌, inl, inr, Option}
+use Rattle.std.proofs.Common.{◌≡◌, ℕ, ◌==◌, false, not, filter, List, None, Some, is_some, IfOk, refl, sym, subst, ap, ◌∙◌, inl, inr, Option, ◌||◌}
 use Rattle.std.proofs.lemmas.Bool.{cases_Bool}
 use Rattle.mapi_values.specs.Characters.{folded}
 use Rattle.mapi_values.specs.Keyed.{drop_key, put_key}

@@ -1,5 +1,5 @@
 -- What each command leaves as it was, and which ids it gives.
-use Rattle.std.specs.Prelude.{◌≡◌, ◌⊎◌, ◌<◌, ℕ, ◌%◌, ◌==◌, ◌&&◌, ◌||◌, Bool, true, false, IfOk, IsSome, List, set, get_or, None, Some}
+use Rattle.std.specs.Prelude.{◌≡◌, ◌⊎◌, ◌<◌, ℕ, ◌%◌, ◌==◌, ◌&&◌, Bool, true, false, IfOk, IsSome, List, set, get_or, None, Some, ◌||◌}
 use Rattle.std.specs.FinMap as map
 use Rattle.pst_base.specs.Ids.{index_of}
 use Rattle.mapi_values.specs.Properties.{find}

@@ -3,8 +3,8 @@ use Rattle.std.proofs.Common.{◌≡◌, ℕ, None, Some, Result, Ok, Err, sym, 
 use Rattle.std.specs.Result.{IsErrAnd}
 use Rattle.mail_tree.specs.Changing.{Answer, ◌>>=◌}
 use Rattle.mail_draft.specs.declared.stop.Stop.{Stop}
-use Rattle.mail_draft.specs.Answers.{IsNoMatter, Says}
-use Rattle.mail_draft.proofs.Passes.{no_matter, stop_says}
+use Rattle.mail_draft.specs.Answers.{Says}
+use Rattle.mail_draft.proofs.Passes.{stop_says}
 
 -- the exit of a `?`
 pub exits : {A B C D : Type 0} (view : B → A) (view' : D → C) (answer : Answer A) (f : A → Answer C) (stop : Stop) (result : Result D Stop)
@@ -66,8 +66,3 @@ pub then_is : {A B C D : Type 0} (view : B → A) (view' : D → C) (answer : An
 then_is view view' (Ok x) f y result first then = subst (λ z. Says view' (f z) result) first (then (ap Ok (sym first)))
 then_is view view' (Err None) f y result first then = tt
 then_is view view' (Err (Some refusal)) f y result first then = absurd first
-
--- the exit of a `?` of what is no matter of the tree
-pub unrelated : {A D : Type 0} (view : D → A) (answer : Answer A) (stop : Stop) (result : Result D Stop) → IsNoMatter stop → IsErrAnd result (λ e. e ≡ stop) → Says view answer result
-unrelated view answer stop (Ok x) first is = absurd is
-unrelated view answer stop (Err e) first is = subst (λ z. Says view answer (Err z)) (sym is) (no_matter view answer stop first)

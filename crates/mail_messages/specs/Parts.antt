@@ -1,5 +1,5 @@
 -- Commands on messages, part by part.
-use Rattle.std.specs.Prelude.{ℕ, ◌==◌, ◌||◌, ◌++◌, List, length, map, nat_le, not, is_some, Ok, if◌then◌else◌}
+use Rattle.std.specs.Prelude.{ℕ, ◌==◌, ◌++◌, List, length, map, nat_le, not, is_some, Ok, if◌then◌else◌, ◌||◌}
 use Rattle.command_text.specs.declared.reply.CommandRefusal.TheVariants.{Limit, Property, Protected, Reserved}
 use Rattle.command_text.specs.declared.reply.Limit.TheVariants.{Rows}
 use Rattle.command_text.specs.declared.reply.DataLine.{DataLine}

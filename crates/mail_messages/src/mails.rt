@@ -2,7 +2,7 @@
 ghost use Rattle.std.specs.Prelude.{◌≡◌, ◌+◌, ◌++◌, IfOk, OnOk, Some, length};
 ghost use Rattle.mapi_values.specs.Properties.{put, remove_id};
 ghost use Rattle.mail_tree.specs.Changing.{with_object};
-ghost use Rattle.mail_tree.specs.Values.{bytes_of, finished, key_front, message_props, number, search_key, with_attachment_flag, with_flag, with_props};
+ghost use Rattle.mail_tree.specs.Values.{bytes_of, finished, key_front, message_props, search_key, with_attachment_flag, with_flag, with_props};
 ghost use Rattle.mail_tree.specs.Messages.{copy_of, plain_message};
 ghost use Rattle.mail_draft.specs.Drafts.{changed_of};
 ghost use Rattle.mail_objects.specs.declared.object.Object.TheVariants as objects;

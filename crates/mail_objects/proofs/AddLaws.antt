@@ -1,5 +1,5 @@
 -- Subnodes of attachments, put at the end one after the other.
-use Rattle.std.proofs.Common.{◌≡◌, ◌∙◌, ℕ, ◌+◌, ◌<◌, ◌≤◌, List, [], ◌∷◌, ◌++◌, length, get_or, drop, refl, sym, ap, subst, append_assoc}
+use Rattle.std.proofs.Common.{◌≡◌, ◌∙◌, ℕ, ◌+◌, ◌<◌, ◌≤◌, List, [], ◌∷◌, ◌++◌, length, get_or, drop, sym, ap, subst, append_assoc}
 use Rattle.std.proofs.lemmas.List.{append-nil, drop_all, drop_more}
 use Rattle.pst_base.specs.declared.subs.Sub.{Sub}
 use Rattle.mapi_values.specs.declared.part.Part.{Part}
@@ -8,9 +8,6 @@ use Rattle.mail_objects.specs.Writing.{AddsParts, AreParts, IsPart}
 -- with the subnodes of the other attachments, those so far are all
 abbrev pub AddsRest : List Sub → List Part → List Part → List Sub → Type 0
 AddsRest old parts others new = (more : List Sub) → AreParts others more → AddsParts old parts (new ++ more)
-
-pub adds-start : (old : List Sub) (parts : List Part) → AddsRest old parts parts old
-adds-start old parts = λ more are. (more, refl, are)
 
 pub adds-more : (old : List Sub) (parts : List Part) (i : ℕ) (new : List Sub) (part : Part) (sub : Sub) → i < length parts → part ≡ get_or parts i part → IsPart part sub
     → AddsRest old parts (drop i parts) new → AddsRest old parts (drop (i + 1) parts) (new ++ sub ∷ [])

@@ -142,16 +142,3 @@ below-stops nid node values rest (Refused fault) context lacks =
     (why, λ m. no-message nid node m fault why)
 
 -- what a reader of the subnodes gives up for
-
-pub recipients-stop : (rest : List Flat) (e : MemOr MessageFault) → Refuses (LacksTable (subnode rest 0x692)) e → Refuses (LacksBelow rest) e
-recipients-stop rest Memory lacks = tt
-recipients-stop rest (Refused fault) lacks = inl lacks
-
-pub attachments-stop : (rest : List Flat) (recipients : Option Tab) (e : MemOr MessageFault) → ShowsTable (subnode rest 0x692) recipients → Refuses (LacksTable (subnode rest 0x671)) e → Refuses (LacksBelow rest) e
-attachments-stop rest recipients Memory r lacks = tt
-attachments-stop rest recipients (Refused fault) r lacks = inr (recipients, r, inl lacks)
-
-pub parts-stop : (rest : List Flat) (recipients attachments : Option Tab) (e : MemOr MessageFault) → ShowsTable (subnode rest 0x692) recipients → ShowsTable (subnode rest 0x671) attachments
-    → Refuses (FirstLacks (without is_table false rest) (row_ids attachments)) e → Refuses (LacksBelow rest) e
-parts-stop rest recipients attachments Memory r a lacks = tt
-parts-stop rest recipients attachments (Refused fault) r a lacks = inr (recipients, r, inr (attachments, a, lacks))

@@ -1,5 +1,5 @@
 -- Tables and attachments in subnodes.
-use Rattle.std.proofs.Common.{◌≡◌, ◌∙◌, ℕ, ◌+◌, ◌<◌, ◌≤◌, List, [], ◌∷◌, ◌++◌, length, map, get_or, drop, Option, None, Some, refl, sym, ap, subst, append_assoc, inl, inr, arith}
+use Rattle.std.proofs.Common.{◌≡◌, ◌∙◌, ℕ, ◌+◌, ◌<◌, ◌≤◌, List, [], ◌∷◌, ◌++◌, length, map, get_or, drop, Option, None, Some, refl, sym, ap, subst, inl}
 use Rattle.std.proofs.lemmas.List.{append-nil, drop_all, drop_more}
 use Rattle.pst_base.specs.Flat.{Flat}
 use Rattle.mapi_values.specs.declared.part.Part.{Part}
@@ -29,14 +29,6 @@ ids_of rows = map (λ (r : ℕ × List Val). r.0) rows
 abbrev pub ShowsRest : List Flat → List (ℕ × List Val) → List (ℕ × List Val) → List Part → Type 0
 ShowsRest subs rows others parts = (more : List Part) → ShowsParts subs (ids_of others) more → ShowsParts subs (ids_of rows) (parts ++ more)
 
--- one attachment more
-pub parts-more : (subs : List Flat) (rows : List (ℕ × List Val)) (i : ℕ) (row : ℕ × List Val) (parts : List Part) (part : Part) → i < length rows → row ≡ get_or rows i row
-    → ShowsPart (subnode subs row.0) row.0 part → ShowsRest subs rows (drop i rows) parts → ShowsRest subs rows (drop (i + 1) rows) (parts ++ part ∷ [])
-parts-more subs rows i row parts part lt is shows so_far = λ more rest.
-    let front : drop i rows ≡ row ∷ drop (i + 1) rows = drop_more rows i row lt ∙ ap (λ (r : ℕ × List Val). r ∷ drop (i + 1) rows) (sym is) in
-    subst (λ (ps : List Part). ShowsParts subs (ids_of rows) ps) (sym (append_assoc parts (part ∷ []) more))
-    (so_far (part ∷ more) (subst (λ (rs : List (ℕ × List Val)). ShowsParts subs (ids_of rs) (part ∷ more)) (sym front) (shows, rest)))
-
 -- all of them
 pub parts-all : (subs : List Flat) (rows : List (ℕ × List Val)) (i : ℕ) (parts : List Part) → length rows ≤ i → ShowsRest subs rows (drop i rows) parts → ShowsParts subs (ids_of rows) parts
 parts-all subs rows i parts le so_far =
@@ -46,13 +38,6 @@ parts-all subs rows i parts le so_far =
 -- where the attachments of the other rows have a fault, it is that of all
 abbrev pub StopsRest : List Flat → List (ℕ × List Val) → List (ℕ × List Val) → Type 0
 StopsRest subs rows others = (fault : MessageFault) → FirstLacks subs (ids_of others) fault → FirstLacks subs (ids_of rows) fault
-
--- one attachment more that is well
-pub stops-more : (subs : List Flat) (rows : List (ℕ × List Val)) (i : ℕ) (row : ℕ × List Val) (part : Part) → i < length rows → row ≡ get_or rows i row
-    → ShowsPart (subnode subs row.0) row.0 part → StopsRest subs rows (drop i rows) → StopsRest subs rows (drop (i + 1) rows)
-stops-more subs rows i row part lt is shows so_far = λ fault lacks.
-    let front : drop i rows ≡ row ∷ drop (i + 1) rows = drop_more rows i row lt ∙ ap (λ (r : ℕ × List Val). r ∷ drop (i + 1) rows) (sym is) in
-    so_far fault (subst (λ (rs : List (ℕ × List Val)). FirstLacks subs (ids_of rs) fault) (sym front) (inr (part, shows, lacks)))
 
 -- the first that isn't
 pub stops-here : (subs : List Flat) (rows : List (ℕ × List Val)) (i : ℕ) (row : ℕ × List Val) (e : MemOr MessageFault) → i < length rows → row ≡ get_or rows i row

@@ -1,5 +1,5 @@
 -- The subnodes of a message's tables.
-use Rattle.std.specs.Prelude.{ℕ, ◌==◌, ◌||◌, Bool}
+use Rattle.std.specs.Prelude.{ℕ, ◌==◌, Bool, ◌||◌}
 use Rattle.mapi_values.specs.Messages.{nid_attachment_table, nid_recipient_table}
 
 -- the id is that of the table of recipients or of the table of attachments

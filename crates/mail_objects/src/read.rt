@@ -1,9 +1,9 @@
 //! Reading objects from nodes.
-ghost use Rattle.std.specs.Prelude.{◌≡◌, MatchOption, IfOk};
+ghost use Rattle.std.specs.Prelude.{MatchOption, IfOk};
 ghost use Rattle.mapi_values.specs.Messages.{Mes};
 ghost use Rattle.mail_objects.specs.Forms.{Ctx, Tbl};
 ghost use Rattle.pst_base.specs.declared.ids.Nid.{Nid};
-ghost use Rattle.mail_objects.specs.Objects.{ShowsBare, ShowsContext, ShowsMail, ShowsTable};
+ghost use Rattle.mail_objects.specs.Objects.{ShowsContext, ShowsMail, ShowsTable};
 
 use crate::context::Context;
 use crate::mail::Mail;

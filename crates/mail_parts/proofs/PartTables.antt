@@ -55,11 +55,6 @@ pub place_alike : {X Y : Type 0} (key : X → ℕ) (key' : Y → ℕ) (k : ℕ) 
 place_alike key key' k xs ys e (Ok i) all h = here_alike key key' k xs ys i e all h
 place_alike key key' k xs ys e (Err i) all h = gap_alike key key' k xs ys i e all h
 
--- among none nothing has a key
-pub none_alike : {X : Type 0} (key : X → ℕ) (k : ℕ) (xs : List X) → map key xs ≡ [] → (IsGap key k xs 0) × (keys_ascend key 0 xs ≡ true)
-none_alike key k [] none = (record { within = omega arith; below = λ j d lt. absurd (omega arith); above = λ j d le lt. absurd (omega arith) }, refl)
-none_alike key k (x ∷ xs) none = cc
-
 -- the rows that show attachments have their ids
 pub rows_named : (columns : List Column) (parts : List Part) → map part_id parts ≡ map (λ (r : ℕ × List Val). r.0) (map (part_row columns) parts)
 rows_named columns [] = refl
@@ -71,14 +66,6 @@ named_for parts None named = named
 named_for parts (Some t) named = elim (cases_Bool (has_columns t.columns attachment_tags)) [
   | inl has ↦ rw has named
   | inr lacks ↦ rw lacks (rows_named _ parts)
-]
-
--- and keeps what stood below it
-pub ascends_for : (parts : List Part) (t : Option Tab) → table_ascends t ≡ true → table_ascends (Some (attachments_for parts t)) ≡ true
-ascends_for parts None ascends = refl
-ascends_for parts (Some t) ascends = elim (cases_Bool (has_columns t.columns attachment_tags)) [
-  | inl has ↦ rw has ascends
-  | inr lacks ↦ rw lacks ascends
 ]
 
 -- the parts of a message that can be laid out, and a message of such parts
@@ -104,12 +91,6 @@ formed_from m f = and_from (ids_ascend 0 m.kept) _ f.kept (and_from (table_ascen
 pub rows_ascend : (t : Option Tab) (rows : Tab → List (ℕ × List Val)) → table_ascends t ≡ true → table_ascends (option_map (λ (u : Tab). record u { rows = rows u }) t) ≡ true
 rows_ascend None rows ascends = ascends
 rows_ascend (Some t) rows ascends = ascends
-
--- an attachment that is found has a row, and a table in which that stands
-pub has_table : (t : Option Tab) (parts : List Part) (k : ℕ) (part : Part) → AreNamed parts t → find_key part_id k parts ≡ Some part → IsSome t
-has_table (Some t) parts k part named found = refl
-has_table None [] k part named found = cc
-has_table None (p ∷ ps) k part named found = cc
 
 -- attachments of which one goes are named by the rows of which its row goes
 pub without_named : (t : Option Tab) (parts : List Part) (k : ℕ) → AreNamed parts t → AreNamed (drop_key part_id k parts) (option_map (λ (u : Tab). record u { rows = drop_row k u.rows }) t)

@@ -1,5 +1,5 @@
 //! The ids of new attachments.
-ghost use Rattle.std.specs.Prelude.{◌≡◌, ◌<◌, ◌≤◌, ◌^◌};
+ghost use Rattle.std.specs.Prelude.{◌≡◌, ◌<◌, ◌^◌};
 ghost use Rattle.mail_tree.specs.Parts.{greatest_kept, greatest_part, next_part, part_index};
 
 use mail_objects::Mail;

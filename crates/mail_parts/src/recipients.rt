@@ -6,7 +6,7 @@ ghost use Rattle.command_text.specs.declared.reply.LastLine.TheVariants as last;
 ghost use Rattle.mail_tree.specs.Knowing.{Knows};
 ghost use Rattle.mail_tree.specs.Tree.{Shown, Tree};
 ghost use Rattle.mail_tree.specs.Changing.{refused_if};
-ghost use Rattle.mail_tree.specs.Messages.{added_recipient, adding_recipient, removed_recipient, spent_row};
+ghost use Rattle.mail_tree.specs.Messages.{added_recipient, removed_recipient, spent_row};
 ghost use Rattle.mail_tree.specs.Parts.{has_recipient, is_full, new_row};
 ghost use Rattle.mail_draft.specs.Outcomes.{outcome_of};
 ghost use Rattle.mail_draft.specs.Answers.{IsCalm, IsCaused, Looks, Says};

@@ -4,7 +4,7 @@ ghost use Rattle.mapi_values.specs.Keyed.{put_key};
 ghost use Rattle.mapi_values.specs.Messages.{AreNamed, are_others, part_id};
 ghost use Rattle.mapi_values.specs.declared.part.Part.{Part};
 ghost use Rattle.mail_objects.specs.Message.{part_is_formed};
-ghost use Rattle.mail_tree.specs.Parts.{attachment_tags, attachments_for, is_wide, part_in, room_for, shown_anew, with_attachment, with_part, without_attachment};
+ghost use Rattle.mail_tree.specs.Parts.{attachment_tags, attachments_for, is_wide, part_in, room_for, shown_anew, with_part, without_attachment};
 
 use crate::part_places::{place, put_at};
 use column_layout::{completed, has_columns};

@@ -1,7 +1,6 @@
 //! Messages with other recipients.
 ghost use Rattle.std.specs.Prelude.{◌≡◌, ◌≤◌, ◌^◌, None, Some, IfOk, if◌then◌else◌};
-ghost use Rattle.mail_tree.specs.Changing.{shown_row};
-ghost use Rattle.mail_tree.specs.Parts.{has_recipient, is_spent_row, is_wide, new_row, next_row, recipient_props, recipient_tags, recipients_for, rows_of, with_recipient, without_recipient};
+ghost use Rattle.mail_tree.specs.Parts.{has_recipient, is_wide, new_row, next_row, recipient_props, recipient_tags, recipients_for, with_recipient, without_recipient};
 
 use column_layout::completed;
 use mail_draft::{put_number, put_text};

@@ -13,7 +13,7 @@ use crate::words::{Asked, Form, read_words};
 use call_forms::{Exit, Status, make, run_lines, say_info, say_nodes, serve_memory};
 use pst_base::{Ledger, Steps};
 use pst_outside::Outside;
-use std::alloc::{AllocError, Global};
+use std::alloc::Global;
 
 /// Does what was asked for.
 fn answer<W: Outside>(alloc: Global, world: &mut W, asked: Asked) -> Status

@@ -1,5 +1,5 @@
 -- What is known of objects after changes.
-use Rattle.std.proofs.Common.{◌≡◌, ◌∙◌, ◌==◌, ◌&&◌, ◌||◌, ◌++◌, ℕ, Bool, T, true, false, not, cond, if◌then◌else◌, List, [], ◌∷◌, Option, None, Some, is_some, map as list_map, length, arith, refl, sym, ap, subst}
+use Rattle.std.proofs.Common.{◌≡◌, ◌∙◌, ◌==◌, ◌&&◌, ◌++◌, ℕ, Bool, T, true, false, not, cond, if◌then◌else◌, List, [], ◌∷◌, Option, None, Some, is_some, map as list_map, length, arith, refl, sym, ap, subst, ◌||◌}
 use Rattle.std.proofs.lemmas.Bool.{eqb-true}
 use Rattle.std.proofs.lemmas.Option.{same_Some}
 use Rattle.std.specs.Ordering.{eq_by_cmp, nat_cmp}

@@ -1,5 +1,5 @@
 -- Trees that are whole but for some ids, and what an object that is put leaves of that.
-use Rattle.std.proofs.Common.{◌≡◌, ℕ, ◌≤◌, ◌%◌, ◌==◌, ◌||◌, true, List, Option, None, Some, IsSome, arith, refl, sym, subst, ap, ◌∙◌, ◌⊎◌, inl, inr}
+use Rattle.std.proofs.Common.{◌≡◌, ℕ, ◌≤◌, ◌%◌, ◌==◌, true, List, Option, None, Some, IsSome, arith, refl, sym, subst, ap, ◌∙◌, ◌⊎◌, inl, inr, ◌||◌}
 use Rattle.std.proofs.lemmas.Bool.{eqb-true, and_parts, or_cases, cases_eq, false≢true}
 use Rattle.mapi_values.specs.Keyed.{keys_ascend}
 use Rattle.mapi_values.specs.Messages.{Mes}

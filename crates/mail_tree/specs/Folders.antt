@@ -1,5 +1,5 @@
 -- The commands on folders: what each refuses, in its order, and what it changes.
-use Rattle.std.specs.Prelude.{ℕ, ◌==◌, ◌||◌, Bool, true, false, not, nat_eq, nat_le, List, [], ◌∷◌, ◌++◌, filter, length, set, Option, None, Some, Ok, Err, if◌then◌else◌}
+use Rattle.std.specs.Prelude.{ℕ, ◌==◌, Bool, true, false, not, nat_eq, nat_le, List, [], ◌∷◌, ◌++◌, filter, length, set, Option, None, Some, Ok, Err, if◌then◌else◌, ◌||◌}
 use Rattle.std.specs.Cmp.Lexicographic.{pointwise}
 use Rattle.pst_base.specs.declared.ids.Nid.{Nid}
 use Rattle.mapi_values.specs.Characters.{folded}

@@ -1,5 +1,5 @@
 -- The ids of new folders and messages.
-use Rattle.std.specs.Prelude.{ℕ, zero, suc, ◌||◌, Bool, max, min, nat_lt, List, [], ◌∷◌, get_or, if◌then◌else◌}
+use Rattle.std.specs.Prelude.{ℕ, zero, suc, Bool, max, min, nat_lt, List, [], ◌∷◌, get_or, if◌then◌else◌, ◌||◌}
 use Rattle.std.specs.Option.{is_some}
 use Rattle.std.specs.List.{list_any}
 use Rattle.pst_base.specs.Ids.{nid_of}

@@ -1,5 +1,5 @@
 -- The commands on messages: what each refuses, in its order, and what it changes.
-use Rattle.std.specs.Prelude.{ℕ, ◌==◌, ◌||◌, Bool, not, nat_lt, List, [], ◌++◌, length, map, Option, None, Some, Ok, if◌then◌else◌}
+use Rattle.std.specs.Prelude.{ℕ, ◌==◌, Bool, not, nat_lt, List, [], ◌++◌, length, map, Option, None, Some, Ok, if◌then◌else◌, ◌||◌}
 use Rattle.std.specs.Option.{option_map, option_and_then, is_some}
 use Rattle.pst_base.specs.Ids.{kind_of}
 use Rattle.node_port.specs.Nodes.{node_at}

@@ -1,5 +1,5 @@
 -- The tree of a new store.
-use Rattle.std.specs.Prelude.{◌≡◌, ℕ, ◌+◌, ◌/◌, ◌%◌, ◌==◌, ◌||◌, if◌then◌else◌, true, List, [], ◌∷◌, ◌++◌, codes, length, replicate, Option, None, Some}
+use Rattle.std.specs.Prelude.{◌≡◌, ℕ, ◌+◌, ◌/◌, ◌%◌, ◌==◌, if◌then◌else◌, true, List, [], ◌∷◌, ◌++◌, codes, length, replicate, Option, None, Some, ◌||◌}
 use Rattle.std.specs.List.{flat_map}
 use Rattle.std.specs.Char.{encode_utf8}
 use Rattle.std.specs.Ordering.{nat_cmp}

@@ -1,5 +1,5 @@
 -- Values of objects that the store reads and makes.
-use Rattle.std.specs.Prelude.{ℕ, ◌+◌, ◌-◌, ◌*◌, ◌/◌, ◌%◌, ◌==◌, ◌&&◌, ◌||◌, Bool, true, false, nat_le, nat_lt, List, [], ◌∷◌, ◌++◌, length, take, replicate, Option, None, Some, if◌then◌else◌}
+use Rattle.std.specs.Prelude.{ℕ, ◌+◌, ◌-◌, ◌*◌, ◌/◌, ◌%◌, ◌==◌, ◌&&◌, Bool, true, false, nat_le, nat_lt, List, [], ◌∷◌, ◌++◌, length, take, replicate, Option, None, Some, if◌then◌else◌, ◌||◌}
 use Rattle.std.specs.Option.{option_and_then, unwrap_or, is_some}
 use Rattle.byteorder.specs.Endian.{little_bytes}
 use Rattle.pst_base.specs.Fields.{number_at}

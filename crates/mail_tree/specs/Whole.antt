@@ -1,5 +1,5 @@
 -- A whole tree: its folders hang together, and each row of a folder or a message names one.
-use Rattle.std.specs.Prelude.{◌≡◌, ℕ, ◌%◌, ◌==◌, ◌&&◌, ◌||◌, Bool, true, IsSome, List, Option, None, Some, Ok, Err}
+use Rattle.std.specs.Prelude.{◌≡◌, ℕ, ◌%◌, ◌==◌, ◌&&◌, Bool, true, IsSome, List, Option, None, Some, Ok, Err, ◌||◌}
 use Rattle.mapi_values.specs.Keyed.{keys_ascend}
 use Rattle.mapi_values.specs.Messages.{Mes}
 use Rattle.mapi_values.specs.Tables.{find_row}

@@ -1,5 +1,5 @@
 //! What a store knows of its tree beside the nodes.
-ghost use Rattle.std.specs.Prelude.{◌≡◌, ◌==◌, ◌&&◌, ◌||◌, ℕ, [], Some, OnErr, OnOk, if◌then◌else◌, not};
+ghost use Rattle.std.specs.Prelude.{◌≡◌, ◌==◌, ◌&&◌, ℕ, [], Some, OnErr, OnOk, if◌then◌else◌, not, ◌||◌};
 
 use crate::note::Note;
 use crate::places::Places;

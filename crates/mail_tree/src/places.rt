@@ -1,5 +1,5 @@
 //! The folders of a store by their ids and parents.
-ghost use Rattle.std.specs.Prelude.{◌≡◌, ◌≤◌, ◌+◌, ◌-◌, ◌==◌, ◌&&◌, [], IfOk, None, OnErr, OnOk, IsTrue, length, nat_lt, option_copied, option_map, vec_len, if◌then◌else◌};
+ghost use Rattle.std.specs.Prelude.{◌≡◌, ◌≤◌, ◌+◌, ◌-◌, ◌==◌, ◌&&◌, [], IfOk, None, OnErr, OnOk, length, nat_lt, option_copied, option_map, vec_len, if◌then◌else◌};
 
 use mapi_values::{Keyed, drop_keyed, find_keyed, put_keyed};
 use pst_base::Nid;

@@ -1,6 +1,6 @@
 -- What is printed of units reads as the same units.
-use Rattle.std.proofs.Common.{◌≡◌, ℕ, ◌+◌, ◌-◌, ◌/◌, ◌%◌, ◌<◌, ◌≤◌, true, false, List, [], ◌∷◌, ◌++◌, refl, ap, sym, ◌∙◌, subst, inl, inr, arith, Some, append_assoc, append-nil, chars}
-use Rattle.std.specs.Prelude.{◌&&◌, ◌||◌, ◌==◌, nat_lt, IsTrue}
+use Rattle.std.proofs.Common.{◌≡◌, ℕ, ◌+◌, ◌-◌, ◌/◌, ◌%◌, ◌<◌, ◌≤◌, true, false, List, [], ◌∷◌, ◌++◌, refl, ap, sym, ◌∙◌, subst, inl, inr, arith, Some, append_assoc, append-nil, chars, ◌||◌}
+use Rattle.std.specs.Prelude.{◌&&◌, ◌==◌, nat_lt, IsTrue}
 use Rattle.std.specs.Char.{IsScalar, encode_utf8, digit_char, digit_value, is_digit}
 use Rattle.std.specs.Char.Escape.{encode_utf16, hex_digit_at}
 use Rattle.std.specs.Char.Utf16.{is_high_surrogate, is_low_surrogate, surrogate_pair_char}

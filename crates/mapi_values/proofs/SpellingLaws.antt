@@ -89,10 +89,6 @@ units_of-plain x (u ∷ a ∷ b ∷ []) apart = rw (ne_eqb x 92 apart) refl
 units_of-plain x (u ∷ a ∷ b ∷ c ∷ []) apart = rw (ne_eqb x 92 apart) refl
 units_of-plain x (u ∷ a ∷ b ∷ c ∷ d ∷ rest) apart = rw (ne_eqb x 92 apart) refl
 
-before-nil : (o : Option (List ℕ)) → before [] o ≡ o
-before-nil None = refl
-before-nil (Some us) = refl
-
 before-append : (us vs : List ℕ) (o : Option (List ℕ)) → before us (before vs o) ≡ before (us ++ vs) o
 before-append us vs None = refl
 before-append us vs (Some ws) = ap Some (sym (append_assoc us vs ws))
@@ -101,9 +97,6 @@ before-append us vs (Some ws) = ap Some (sym (append_assoc us vs ws))
 pub record IsUnderway (whole units rest : List ℕ) : Type 0 where
   pub utf8 : IsUtf8 rest
   pub same : before units (units_of (chars rest)) ≡ units_of (chars whole)
-
-pub underway_at_start : (whole units : List ℕ) → IsUtf8 whole → units ≡ [] → IsUnderway whole units whole
-underway_at_start whole units utf8 e = record { utf8 = utf8; same = rw e (before-nil _) }
 
 pub underway_past_plain : (whole units rest next new : List ℕ) (c : ℕ) → IsUnderway whole units rest → TakesFirst rest c new
     → (c ≡ 92 → ⊥) → next ≡ units ++ encode_utf16 c → IsUnderway whole next new
@@ -127,9 +120,6 @@ underway_past_escape whole units rest mid next new c u here takes is escape e = 
       ∙ (ap (λ o. before units (option_and_then (λ p. before (p.0 ∷ []) (units_of p.1)) o)) (sym escape.front)
       ∙ (sym (escapes units rest mid c takes is) ∙ here.same)));
 }
-
-before-None : (units : List ℕ) (o : Option (List ℕ)) → o ≡ None → before units o ≡ None
-before-None units o e = ap (before units) e
 
 pub underway_at_fault : (whole units rest mid : List ℕ) (c : ℕ) → IsUnderway whole units rest → TakesFirst rest c mid
     → c ≡ 92 → leading_escape (chars mid) ≡ None → units_of (chars whole) ≡ None

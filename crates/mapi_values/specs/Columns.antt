@@ -1,5 +1,5 @@
 -- The columns of a table, and how their cells lie in a row.
-use Rattle.std.specs.Prelude.{ℕ, ◌+◌, ◌*◌, ◌/◌, ◌==◌, ◌&&◌, ◌||◌, Bool, true, not, List, [], ◌∷◌, get_or, nat_le, nat_lt, Option, None, Some, if◌then◌else◌}
+use Rattle.std.specs.Prelude.{ℕ, ◌+◌, ◌*◌, ◌/◌, ◌==◌, ◌&&◌, Bool, true, not, List, [], ◌∷◌, get_or, nat_le, nat_lt, Option, None, Some, if◌then◌else◌, ◌||◌}
 use Rattle.std.specs.Option.{unwrap_or}
 use Rattle.std.specs.List.{list_all, list_any}
 use Rattle.mapi_values.specs.declared.column.Column.{Column}

@@ -1,5 +1,5 @@
 -- Messages, and the size that a message tells of itself.
-use Rattle.std.specs.Prelude.{◌≡◌, ℕ, ◌+◌, ◌==◌, ◌||◌, Bool, IsTrue, not, List, [], ◌∷◌, length, map, min, Option, None, Some, if◌then◌else◌}
+use Rattle.std.specs.Prelude.{◌≡◌, ℕ, ◌+◌, ◌==◌, Bool, IsTrue, not, List, [], ◌∷◌, length, map, min, Option, None, Some, if◌then◌else◌, ◌||◌}
 use Rattle.std.specs.List.{list_all, list_any}
 use Rattle.pst_base.specs.Flat.{Flat}
 use Rattle.mapi_values.specs.declared.part.Part.{Part}

@@ -1,5 +1,5 @@
 -- The value of one property.
-use Rattle.std.specs.Prelude.{ℕ, ◌==◌, ◌||◌, Bool, List, length, nat_lt, Option, None, Some, if◌then◌else◌}
+use Rattle.std.specs.Prelude.{ℕ, ◌==◌, Bool, List, length, nat_lt, Option, None, Some, if◌then◌else◌, ◌||◌}
 use Rattle.mapi_values.specs.Kinds.{ptyp_boolean, ptyp_error_code, ptyp_floating_32, ptyp_integer_16, ptyp_integer_32, ptyp_null, ptyp_unspecified}
 
 -- a property's id and kind, and the bytes of its value

@@ -1,5 +1,5 @@
 //! Units as text of one line: read with escapes, and printed in quotes.
-ghost use Rattle.std.specs.Prelude.{◌≡◌, ℕ, ◌<◌, ◌≤◌, [], ◌∷◌, ◌++◌, Some, IsTrue, IsUtf8, List, IfSome, MatchOption, OnOk, chars, length, string_bytes, None};
+ghost use Rattle.std.specs.Prelude.{◌≡◌, ℕ, ◌<◌, [], ◌++◌, Some, IsTrue, IsUtf8, List, IfSome, MatchOption, OnOk, chars, string_bytes, None};
 ghost use Rattle.std.specs.Bool.{OnFalse};
 ghost use Rattle.std.specs.Char.{digit_char};
 ghost use Rattle.std.specs.Str.Iter.{chars_rest};

@@ -1,5 +1,5 @@
 //! A table: columns, and rows that ascend strictly by id.
-ghost use Rattle.std.specs.Prelude.{◌≡◌, [], IfOk, IsTrue, OnErr, OnOk, is_some, length, option_copied};
+ghost use Rattle.std.specs.Prelude.{◌≡◌, [], IfOk, IsTrue, length, option_copied};
 
 use crate::column::Column;
 use crate::keyed::{Keyed, find_keyed};

@@ -1,5 +1,5 @@
 //! A text as UTF-16 units.
-ghost use Rattle.std.specs.Prelude.{◌≡◌, [], ◌↔◌, length, IfOk, IsTrue, OnOk, ◌++◌};
+ghost use Rattle.std.specs.Prelude.{◌≡◌, [], ◌↔◌, length, IfOk, IsTrue};
 ghost use Rattle.mapi_values.specs.Characters.{folded};
 
 use crate::characters::{push_folded, split_character};

@@ -1,17 +1,16 @@
 -- Names with one that was added are written and read again.
-use Rattle.std.proofs.Common.{◌≡◌, ℕ, suc, zero, ◌+◌, ◌*◌, ◌/◌, ◌%◌, ◌^◌, ◌<◌, ◌≤◌, ◌==◌, Bool, true, false, List, [], ◌∷◌, ◌++◌, length, map, take, drop, Option, None, Some, refl, sym, ap, ◌∙◌, subst, arith, inl, inr, if◌then◌else◌}
-use Rattle.std.specs.Prelude.{◌&&◌, ◌||◌, nat_le, nat_lt}
+use Rattle.std.proofs.Common.{◌≡◌, ℕ, suc, zero, ◌+◌, ◌*◌, ◌/◌, ◌%◌, ◌^◌, ◌<◌, ◌≤◌, ◌==◌, Bool, true, false, List, [], ◌∷◌, ◌++◌, length, take, drop, Option, Some, refl, subst, arith, inl, inr, if◌then◌else◌, ◌||◌}
+use Rattle.std.specs.Prelude.{nat_le, nat_lt}
 use Rattle.std.specs.List.{list_all}
 use Rattle.std.specs.Option.{is_some}
 use Rattle.std.specs.Simd.{first_chunks}
-use Rattle.std.proofs.lemmas.Bool.{and_from, and_parts, cases_Bool, eq-eqb, eqb-true, le-leb, lt-ltb, ltb-false, or_parts}
+use Rattle.std.proofs.lemmas.Bool.{and_from, and_parts, cases_Bool, eq-eqb, le-leb, lt-ltb, ltb-false, or_parts}
 use Rattle.std.proofs.lemmas.List.{length-drop, length-take-le}
 use Rattle.std.proofs.lemmas.Option.{none-some}
 use Rattle.mapi_values.specs.Values.{Val}
-use Rattle.named_props.specs.declared.entry.NameEntry.{NameEntry}
 use Rattle.named_props.specs.declared.names.Names.{Names}
-use Rattle.named_props.specs.Adding.{added, guid_index, index_in, is_full, lengthens_past, new_entry, next_index, with_guid}
-use Rattle.named_props.specs.Entries.{entries_of, fits_id, greatest_guid, greatest_index, guids_of, in_range}
+use Rattle.named_props.specs.Adding.{added, guid_index, index_in, is_full, lengthens_past, new_entry, next_index}
+use Rattle.named_props.specs.Entries.{entries_of, fits_id, greatest_guid, greatest_index, in_range}
 use Rattle.named_props.specs.Holding.{IsWritable, entry_stream, guid_stream, is_binary_if, is_bucket, is_form, is_stream, names_in, names_of, written}
 use Rattle.named_props.proofs.ListLaws.{have_length}
 use Rattle.named_props.proofs.RoomLaws.{room-entry, with_name-writable}

@@ -48,7 +48,3 @@ chunks-pieces f k (x ∷ xs) all =
     let front : take k (f x ++ flat_map f xs) ≡ f x = take_at (f x) (flat_map f xs) k len in
     let back : drop k (f x ++ flat_map f xs) ≡ flat_map f xs = drop_at (f x) (flat_map f xs) k len in
     rw (front, back) (ap (λ ys. f x ∷ ys) (chunks-pieces f k xs parts.1))
-
-pub length-first_chunks : (k n : ℕ) (xs : List ℕ) → length (first_chunks k n xs) ≡ n
-length-first_chunks k zero xs = refl
-length-first_chunks k (suc n) xs = omega (arith, length-first_chunks k n (drop k xs))

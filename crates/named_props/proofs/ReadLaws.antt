@@ -1,5 +1,5 @@
 -- Names that were read can be written.
-use Rattle.std.proofs.Common.{◌≡◌, ℕ, ◌/◌, ◌^◌, ◌<◌, ◌==◌, ◌||◌, Bool, true, false, List, length, map, Option, Some, None, refl, sym, ap, subst, get_or, arith, inl, inr}
+use Rattle.std.proofs.Common.{◌≡◌, ℕ, ◌/◌, ◌^◌, ◌<◌, ◌==◌, Bool, true, false, List, length, map, Option, Some, None, refl, sym, ap, subst, get_or, arith, inl, inr, ◌||◌}
 use Rattle.std.specs.Prelude.{nat_le, nat_lt, not}
 use Rattle.std.specs.List.{list_all}
 use Rattle.std.proofs.lemmas.Bool.{cases_Bool, eqb-true, lt-leb, ltb-true, or_cases, true≢false}

@@ -1,5 +1,5 @@
 -- What adding a name makes of the names.
-use Rattle.std.specs.Prelude.{◌≡◌, ℕ, ◌+◌, ◌*◌, ◌%◌, ◌^◌, ◌&&◌, ◌||◌, Bool, true, false, List, [], ◌∷◌, ◌++◌, bit_xor, length, max, nat_le, nat_lt, take, Option, None, Some, if◌then◌else◌}
+use Rattle.std.specs.Prelude.{◌≡◌, ℕ, ◌+◌, ◌*◌, ◌%◌, ◌^◌, ◌&&◌, Bool, true, false, List, [], ◌∷◌, ◌++◌, bit_xor, length, max, nat_le, nat_lt, take, Option, None, Some, if◌then◌else◌, ◌||◌}
 use Rattle.std.specs.List.{position}
 use Rattle.std.specs.Option.{is_none, is_some, option_map, unwrap_or}
 use Rattle.std.specs.Str.{bytes_eq}

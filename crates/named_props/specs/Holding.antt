@@ -1,5 +1,5 @@
 -- How the values of a node hold the names of properties.
-use Rattle.std.specs.Prelude.{ℕ, ◌*◌, ◌%◌, ◌^◌, ◌<◌, ◌==◌, ◌&&◌, ◌||◌, Bool, IsTrue, not, List, [], length, nat_le, Option, None, Some, if◌then◌else◌}
+use Rattle.std.specs.Prelude.{ℕ, ◌*◌, ◌%◌, ◌^◌, ◌<◌, ◌==◌, ◌&&◌, Bool, IsTrue, not, List, [], length, nat_le, Option, None, Some, if◌then◌else◌, ◌||◌}
 use Rattle.std.specs.List.{flat_map, list_all}
 use Rattle.mapi_values.specs.Kinds.{ptyp_binary}
 use Rattle.mapi_values.specs.Properties.{find, put, remove_id}

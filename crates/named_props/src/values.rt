@@ -1,5 +1,5 @@
 //! The values that hold names.
-ghost use Rattle.std.specs.Prelude.{◌≡◌, ◌||◌, ◌<◌, ◌^◌, length};
+ghost use Rattle.std.specs.Prelude.{◌≡◌, ◌<◌, ◌^◌, length, ◌||◌};
 ghost use Rattle.std.specs.List.{list_all};
 ghost use Rattle.named_props.specs.Holding.{binary, bytes_at, is_binary_if, is_bucket, is_stream};
 

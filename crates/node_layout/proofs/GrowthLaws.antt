@@ -1,5 +1,5 @@
 -- What makes a file longer is clear of all that stands in it.
-use Rattle.std.proofs.Common.{◌≡◌, ◌⊎◌, inl, inr, ℕ, zero, suc, ◌+◌, ◌*◌, ◌<◌, ◌≤◌, List, [], ◌∷◌, ◌++◌, length, arith}
+use Rattle.std.proofs.Common.{◌⊎◌, inl, inr, ℕ, zero, suc, ◌+◌, ◌*◌, ◌<◌, ◌≤◌, List, [], ◌∷◌, ◌++◌, length, arith}
 use Rattle.pst_base.specs.declared.places.Place.{Place}
 use Rattle.alloc_map.specs.Slots.{start_of}
 use Rattle.alloc_map.specs.Standing.{amap_places, standing}
@@ -8,11 +8,7 @@ use Rattle.file_layout.specs.Trees.{IsPlace}
 use Rattle.lays_kept.specs.declared.Piece.{Piece}
 use Rattle.lays_kept.specs.Kept.{Each, IsClear, HoldsEach}
 use Rattle.lays_kept.proofs.Places.{each_append}
-use Rattle.node_layout.specs.Growth.{region_end, end_for, Grows, AllGrow, EndsAt}
-
--- the new end holds all, and is the least
-pub end-least : (m : ℕ) → (m ≤ end_for m) × ((n : ℕ) → m ≤ region_end n → end_for m ≤ region_end n)
-end-least m = (omega arith, λ n le. omega (arith, le))
+use Rattle.node_layout.specs.Growth.{region_end, Grows, AllGrow, EndsAt}
 
 -- beyond all that ends at or before eof
 clear-before : (eof at n : ℕ) (growth : List Piece) → at + n ≤ eof → AllGrow eof growth → IsClear growth at n

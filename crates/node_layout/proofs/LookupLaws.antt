@@ -1,5 +1,5 @@
 -- What edits make of a list of entries, key by key.
-use Rattle.std.proofs.Common.{Bool, true, false, ◌≡◌, ◌∙◌, inl, inr, ℕ, ◌+◌, ◌<◌, ◌≤◌, eqb, List, [], ◌∷◌, ◌++◌, Option, Some, None, refl, sym, ap, subst, arith, if◌then◌else◌}
+use Rattle.std.proofs.Common.{Bool, ◌≡◌, ◌∙◌, inl, inr, ℕ, ◌+◌, ◌<◌, ◌≤◌, eqb, List, [], ◌∷◌, ◌++◌, Option, Some, None, refl, sym, ap, subst, arith, if◌then◌else◌}
 use Rattle.std.proofs.lemmas.Bool.{cases_lt, cases_eq, lt-ltb, le-ltb, eq-eqb, ne_eqb}
 use Rattle.tree_edit.specs.Edits.{under, over, given, edited, Keyed, AreEdits, entry_with, of_some, extra}
 use Rattle.tree_edit.proofs.PutLaws.{AreFrom, from-none, with-behind, with-skip}

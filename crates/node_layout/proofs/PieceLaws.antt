@@ -1,9 +1,8 @@
 -- Pieces whose places are covered once stand beside each other and beside all that stood.
-use Rattle.std.proofs.Common.{◌≡◌, ◌∙◌, inl, inr, ℕ, ◌≤◌, List, [], ◌∷◌, ◌++◌, length, drop, map, arith}
+use Rattle.std.proofs.Common.{◌≡◌, ◌∙◌, inl, inr, ℕ, List, [], ◌∷◌, ◌++◌, length, drop, map, arith}
 use Rattle.pst_base.specs.declared.places.Place.{Place}
 use Rattle.alloc_map.specs.Standing.{Covers, SomeCovers}
 use Rattle.alloc_map.specs.Covered.{IsTwice, Once}
-use Rattle.file_layout.specs.Trees.{IsPlace}
 use Rattle.lays_kept.specs.declared.Piece.{Piece}
 use Rattle.lays_kept.specs.Kept.{Each, IsClear, HoldsEach}
 use Rattle.lays_kept.proofs.Beside.{IsWhole, apart_slots}
@@ -80,7 +79,3 @@ pieces-stand file [] (p ∷ pieces) apart holds = (holds.1 apart.0, pieces-stand
 pub stand-behind : (header file : List ℕ) (pieces : List Piece) → length header ≡ 564 → Each IsWhole (map piece_place pieces) → EachStands file pieces → EachStands (header ++ drop 564 file) pieces
 stand-behind header file [] size all stands = tt
 stand-behind header file (p ∷ ps) size all stands = (behind header file p.at (length p.bytes) size (let a = (all.0).above in omega (arith, a)) ∙ stands.0, stand-behind header file ps size all.1 stands.1)
-
--- blocks and pages are whole places
-pub block-whole : (eof : ℕ) (p : Place) → IsPlace eof p → 64 ≤ p.len → IsWhole p
-block-whole eof p is some = record { above = is.above; start = is.start; whole = is.whole; some = some }

@@ -1,14 +1,10 @@
 -- How a file grows by whole regions.
-use Rattle.std.specs.Prelude.{◌≡◌, ◌≤◌, ◌<◌, ◌⊎◌, ℕ, ◌+◌, ◌-◌, ◌*◌, ◌/◌, List, [], ◌∷◌, length}
+use Rattle.std.specs.Prelude.{◌≡◌, ◌≤◌, ◌<◌, ◌⊎◌, ℕ, ◌+◌, ◌-◌, ◌*◌, List, [], ◌∷◌, length}
 use Rattle.lays_kept.specs.declared.Piece.{Piece}
 
 -- where so many regions end
 abbrev pub region_end : ℕ → ℕ
 region_end n = 17408 + 253952 * n
-
--- the least end of regions that isn't below a number
-abbrev pub end_for : ℕ → ℕ
-end_for m = region_end ((m - 17408 + 253951) / 253952)
 
 -- A piece that makes a file of eof bytes longer by a region, or up to its end: the last byte of one that ends past eof, or fixed pages of one that begins at or past it.
 pub record Grows (eof : ℕ) (p : Piece) : Type 0 where

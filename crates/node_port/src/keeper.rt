@@ -11,7 +11,7 @@ ghost use Rattle.node_port.specs.Stops.{KeepStops, KeepsPins, PrepareStops, Room
 use crate::node::{Changes, Counts, NodeRec};
 use pst_base::{Nid, Subs};
 use pst_outside::{Failed, Outside};
-use std::alloc::{AllocError, AllocFailed, Global};
+use std::alloc::{AllocError, Global};
 
 /// Why a reading of nodes stopped.
 #[derive(Clone, Copy, Debug, PartialEq, Eq, Drop)]

@@ -7,7 +7,7 @@ ghost use Rattle.node_port.specs.Slots.{kept, HasSlots, Keeps, SameNodes, IsNext
 
 use crate::node::NodeRec;
 use pst_base::Nid;
-use std::alloc::{AllocError, Global};
+use std::alloc::AllocError;
 use std::collections::BTreeMap;
 use std::ops::Bound;
 

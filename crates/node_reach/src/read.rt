@@ -1,5 +1,4 @@
 //! The blocks of a node, read.
-ghost use Rattle.std.specs.Prelude.{◌≡◌};
 ghost use Rattle.data_tree.specs.Source.{Later};
 ghost use Rattle.data_tree.specs.Stops.{Reads};
 ghost use Rattle.node_reach.specs.Reach.{node_keys_read};

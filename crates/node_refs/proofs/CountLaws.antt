@@ -1,5 +1,5 @@
 -- Counts of references, before and after edits.
-use Rattle.std.proofs.Common.{Bool, true, false, not, ◌≡◌, ◌∙◌, inl, inr, ℕ, ◌+◌, ◌^◌, ◌≤◌, eqb, ltb, List, [], ◌∷◌, ◌++◌, Option, Some, None, refl, sym, ap, arith, if◌then◌else◌}
+use Rattle.std.proofs.Common.{Bool, true, false, not, ◌≡◌, ◌∙◌, inl, inr, ℕ, ◌+◌, ◌^◌, ◌≤◌, eqb, List, [], ◌∷◌, ◌++◌, Option, Some, None, refl, sym, ap, arith, if◌then◌else◌}
 use Rattle.std.proofs.lemmas.Bool.{cases_lt, eq-eqb, ne_eqb, lt-ltb, le-ltb}
 use Rattle.btree_pages.specs.declared.entry.BlockEntry.{BlockEntry}
 use Rattle.btree_pages.specs.declared.entry.NodeEntry.{NodeEntry}
@@ -10,7 +10,7 @@ use Rattle.node_layout.specs.Lookups.{edit_at, or_old, Each, sum_of, AllIn}
 use Rattle.node_reach.specs.Reach.{node_keys}
 use Rattle.data_tree.specs.Keys.{count_of}
 use Rattle.node_refs.specs.Counts.{is_edit, sum_if, sum_put, is_edited, uses, AreRefs, taken, put, refs_after, FreesUnused, NoneUnused}
-use Rattle.node_layout.specs.Joined.{node_id, AreLeft, AllNeedOnly}
+use Rattle.node_layout.specs.Joined.{node_id, AllNeedOnly}
 use Rattle.node_layout.proofs.LookupLaws.{with-edited, edits-none, sum-append, sum-given}
 use Rattle.node_refs.proofs.ReachLaws.{needs-reached}
 
@@ -74,13 +74,6 @@ left-needs find eof es ds refs more some are is_some = go es (left-reach find es
     go : (xs : List NodeEntry) → Each (λ e. edit_at (node_id e) ds ≡ None → AllIn some (node_keys find e)) xs → Each (λ e. edit_at (node_id e) ds ≡ None → NeedsOnly find eof e some) xs
     go [] all = tt
     go (x ∷ xs) all = ((λ none. needs-reached find some eof x (all.0 none)), go xs all.1)
-
--- and the blocks that they need are left
-pub frees-left : (old : List BlockEntry) (ds : List (ℕ × Option BlockEntry)) (refs after : ℕ → ℕ) → FreesUnused old ds refs after → AreLeft old ds (λ key. ltb 0 (after key))
-frees-left old ds refs after frees key e is_some found = frees.kept key e (elim (cases_lt 0 (after key)) [ inl a ↦ a | inr a ↦ absurd (clash (sym is_some ∙ le-ltb 0 (after key) a)) ]) found
-  where
-    clash : ◌≡◌ {A = Bool} true false → ⊥
-    clash h = cc
 
 -- ---- the numbers after edits
 

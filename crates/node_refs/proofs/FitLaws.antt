@@ -1,19 +1,18 @@
 -- Blocks at places of their own are together no longer than the file.
-use Rattle.std.proofs.Common.{Bool, true, false, ◌≡◌, ◌⊎◌, inl, inr, ℕ, zero, suc, ◌+◌, ◌-◌, ◌*◌, ◌/◌, ◌<◌, ◌≤◌, eqb, leb, ltb, ◌&&◌, List, [], ◌∷◌, length, map, take, drop, Option, Some, None, refl, sym, ap, arith, if◌then◌else◌}
-use Rattle.std.proofs.lemmas.Bool.{cases_lt, cases_eq, eq-eqb, ne_eqb, leb-true, ltb-true, le-leb, lt-ltb, le-ltb, cases_Bool}
+use Rattle.std.proofs.Common.{false, ◌≡◌, ◌⊎◌, inl, inr, ℕ, zero, suc, ◌+◌, ◌-◌, ◌*◌, ◌/◌, ◌<◌, ◌≤◌, eqb, leb, List, [], ◌∷◌, length, map, take, drop, Option, Some, None, refl, sym, ap, arith, if◌then◌else◌}
+use Rattle.std.proofs.lemmas.Bool.{cases_lt, cases_eq, eq-eqb, ne_eqb, leb-true, le-leb, lt-ltb, le-ltb, cases_Bool}
 use Rattle.std.proofs.lemmas.List.{length-take}
 use Rattle.pst_base.specs.declared.ids.Bid.{Bid}
 use Rattle.pst_base.specs.Ids.{key_of}
 use Rattle.pst_base.specs.declared.places.Place.{Place}
 use Rattle.btree_pages.specs.declared.entry.BlockEntry.{BlockEntry}
 use Rattle.alloc_map.specs.Slots.{slot_of, slots_in}
-use Rattle.alloc_map.specs.Standing.{Covers, SomeCovers}
-use Rattle.alloc_map.specs.Covered.{IsTwice, Once}
+use Rattle.alloc_map.specs.Covered.{Once}
 use Rattle.file_layout.specs.Trees.{IsPlace}
 use Rattle.file_layout.specs.Nodes.{place_of}
 use Rattle.lays_kept.specs.Kept.{Each}
 use Rattle.alloc_map.specs.Tally.{one_at, tally}
-use Rattle.alloc_map.proofs.TallyLaws.{tally_some, tally_twice}
+use Rattle.alloc_map.proofs.TallyLaws.{tally_twice}
 use Rattle.data_tree.specs.Plan.{bytes_in, contents}
 use Rattle.file_blocks.specs.Blocks.{data_of, entry_key}
 use Rattle.tree_edit.specs.Edits.{entry_with, of_some}

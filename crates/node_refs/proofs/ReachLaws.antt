@@ -33,10 +33,6 @@ then-same : {X Y : Type 0} (r : Result X TreeStop) (f g : X → Result Y TreeSto
 then-same (Ok x) f g same = same x refl
 then-same (Err stop) f g same = refl
 
-if-same : {Y : Type 0} (b : Bool) (r s t u : Y) → (b ≡ true → r ≡ t) → (b ≡ false → s ≡ u) → (if b then r else s) ≡ (if b then t else u)
-if-same true r s t u one two = one refl
-if-same false r s t u one two = two refl
-
 module _ (find g : ℕ → Option (List ℕ)) where
   fetched-same : (bid : Bid) → g (key_of bid.bits) ≡ find (key_of bid.bits) → fetched g bid ≡ fetched find bid
   fetched-same bid is = ap (named bid) is

@@ -1,5 +1,5 @@
 //! What becomes of references.
-ghost use Rattle.std.specs.Prelude.{◌≡◌, ◌^◌, ℕ, List, Option, Some, None, true, nat_lt};
+ghost use Rattle.std.specs.Prelude.{◌≡◌, ◌^◌, ℕ, List, Option, Some, true, nat_lt};
 ghost use Rattle.btree_pages.specs.declared.entry.BlockEntry.{BlockEntry as BlockEntries};
 ghost use Rattle.btree_pages.specs.declared.entry.NodeEntry.{NodeEntry as NodeEntries};
 ghost use Rattle.file_blocks.specs.Blocks.{entry_key};

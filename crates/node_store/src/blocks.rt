@@ -1,5 +1,5 @@
 //! A file as a source of blocks that are found by the pages of its block tree.
-ghost use Rattle.std.specs.Prelude.{◌≡◌, ℕ};
+ghost use Rattle.std.specs.Prelude.{◌≡◌};
 
 use btree_pages::BlockEntry;
 use data_tree::BlockSource;
@@ -20,7 +20,7 @@ pub struct TreeBlocks<'a, W: Outside> {
 }
 
 impl<'a, W: Outside> BlockSource for TreeBlocks<'a, W> {
-    ghost use Rattle.std.specs.Prelude.{◌≡◌, ℕ};
+    ghost use Rattle.std.specs.Prelude.{◌≡◌};
     ghost use Rattle.pst_outside.specs.Calls.{Untouched};
     ghost use Rattle.node_store.specs.Told.{TellsBlocks};
 

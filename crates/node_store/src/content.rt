@@ -1,6 +1,5 @@
 //! The data and the subnodes of a node.
 ghost use Rattle.std.specs.Prelude.{◌≡◌, ℕ, List, Option, Ok, IfOk, IfErr};
-ghost use Rattle.pst_outside.specs.Calls.{Untouched};
 ghost use Rattle.file_layout.specs.Nodes.{node_at};
 ghost use Rattle.data_tree.specs.Tree.{blocks_of};
 ghost use Rattle.subnode_tree.specs.Subnodes.{subs_of};

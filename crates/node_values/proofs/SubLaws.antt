@@ -91,13 +91,6 @@ place-none nid from (s ∷ subs) h = elim (cases_Bool (s.nid.bits == nid)) [
   | inr f ↦ subnode-first nid s subs ∙ rw f (place-none nid (suc from) subs (rw f at h))
 ]
 
--- one subnode more at the front
-pub place-more : (nid i : ℕ) (subs : List Sub) (d : Sub) → i < length subs
-    → place_from nid i (drop i subs) ≡ (if (get_or subs i d).nid.bits == nid then Some i else place_from nid (i + 1) (drop (i + 1) subs))
-place-more nid i subs d h = rw (drop_more subs i d h)
-    (let next : suc i ≡ i + 1 = omega arith in
-    ap (λ (n : ℕ). if (get_or subs i d).nid.bits == nid then Some i else place_from nid n (drop (i + 1) subs)) next)
-
 without-gone : (test : ℕ → Bool) (fs gs : List Flat) → without test true (map one_deeper fs ++ gs) ≡ without test true gs
 without-gone test [] gs = refl
 without-gone test (f ∷ fs) gs = rw (ne_eqb (f.level + 1) 0 (λ e. omega arith)) (without-gone test fs gs)

@@ -1,5 +1,5 @@
 //! The bytes that ids name, and the blocks of those that stand in a subnode.
-ghost use Rattle.std.specs.Prelude.{◌≡◌, IfOk, option_copied};
+ghost use Rattle.std.specs.Prelude.{◌≡◌, IfOk};
 ghost use Rattle.std.specs.List.{concat};
 ghost use Rattle.pst_base.specs.Stops.{Finds};
 ghost use Rattle.heap_on_node.specs.Heap.{item};

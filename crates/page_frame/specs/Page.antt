@@ -1,5 +1,5 @@
 -- The frame of a page: 496 bytes of content and a trailer of 16.
-use Rattle.std.specs.Prelude.{◌≡◌, ◌==◌, ◌||◌, not, ℕ, List, [], ◌∷◌, ◌++◌, length, replicate, take, if◌then◌else◌, Result, Ok, Err}
+use Rattle.std.specs.Prelude.{◌≡◌, ◌==◌, not, ℕ, List, [], ◌∷◌, ◌++◌, length, replicate, take, if◌then◌else◌, Result, Ok, Err, ◌||◌}
 use Rattle.pst_base.specs.declared.ids.Bref.{Bref}
 use Rattle.pst_base.specs.declared.stops.PageFault.{PageFault}
 use Rattle.pst_base.specs.declared.stops.PageFault.TheVariants.{Kind, Crc, Sig, Bid}

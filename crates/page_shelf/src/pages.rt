@@ -1,5 +1,5 @@
 //! Pages in memory.
-ghost use Rattle.std.specs.Prelude.{◌≡◌, ◌≤◌, ◌*◌, ◌^◌, map, length};
+ghost use Rattle.std.specs.Prelude.{◌≤◌, ◌*◌, ◌^◌, map, length};
 ghost use Rattle.pst_base.specs.Ids.{key_of};
 ghost use Rattle.tree_edit.specs.Shapes.{RiseIn};
 ghost use Rattle.tree_edit.specs.Plans.{AreKeys, AreWritable, IsWritable, keys_of};

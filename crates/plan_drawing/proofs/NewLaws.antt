@@ -47,11 +47,6 @@ puts-edits next high (b ∷ bs) (e ∷ es) (p ∷ ps) apart most rise are =
     let rest = puts-edits (next + 4) high bs es ps (omega (arith, apart)) (omega (arith, most)) rise.1 are.1 in
     (omega (arith, same, low), omega (arith, same, lt, most), refl, edits-from (entry_key e + 1) (next + 4) high (puts_of es) (omega (arith, same, lt)) rest)
 
--- each new block has an entry under its key
-puts-none : (k low high : ℕ) (ds : List (ℕ × Option BlockEntry)) → k < low → AreEdits entry_key low high ds → edit_at k ds ≡ None
-puts-none k low high [] lt are = refl
-puts-none k low high (d ∷ ds) lt are = let a = are.0 in rw (ne_eqb d.0 k (λ h. absurd (omega (arith, h, a, lt)))) (puts-none k (d.0 + 1) high ds (omega (arith, a, lt)) are.3)
-
 here-first : (bytes : List ℕ) (ds : List (ℕ × Option BlockEntry)) (b : Bid × List ℕ) (e : BlockEntry) (p : Piece) → IsSealed b e p → take (length p.bytes) (drop p.at bytes) ≡ p.bytes → edit_at (key_of (b.0).bits) ds ≡ Some (Some e) → IsHere bytes ds b
 here-first bytes ds b e p is stands edit = record { entry = e; edit = edit; size = is.size; stands = sealed-data bytes b e p is stands }
 

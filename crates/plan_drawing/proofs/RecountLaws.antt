@@ -92,11 +92,6 @@ recounts-edits es next low high (c ∷ cs) rises = elim (cases_lt c.key next) [
   | inr le ↦ let a = rises.0 in rw (le-ltb c.key next le) (edits-lower entry_key low (c.key + 1) next (recounts es next cs) (omega (arith, a)) (recounts-edits es next (c.key + 1) high cs rises.1))
 ]
 
--- the change of a key below all is none
-change-none : (low high k : ℕ) (cs : List RefChange) → k < low → Rises key_in low high cs → change_of k cs ≡ None
-change-none low high k [] lt rises = refl
-change-none low high k (c ∷ cs) lt rises = let a = rises.0 in rw (ne_eqb c.key k (λ h. absurd (omega (arith, h, a, lt)))) (change-none (c.key + 1) high k cs (omega (arith, a, lt)) rises.1)
-
 edit-of-here : (o : Option BlockEntry) (c : RefChange) (k : ℕ) (rest : List (ℕ × Option BlockEntry)) → c.key ≡ k → edit_at k rest ≡ None → edit_at k (edit_of o c ++ rest) ≡ recount_by (Some c) o
 edit-of-here None c k rest same none = none
 edit-of-here (Some e) c k rest same none = rw (eq-eqb c.key k same) refl

@@ -5,12 +5,6 @@ use Rattle.std.specs.List.{All}
 use Rattle.pst_base.specs.declared.places.Place.{Place}
 use Rattle.node_layout.specs.Lookups.{Each as EachOf}
 
--- one more element of a list that follows another
-pub more-mapped : {X Y : Type 0} (f : X → Y) (xs : List X) (i : ℕ) (d : X) (ys zs : List Y) (y : Y) → i < length xs → ys ≡ map f (take i xs) → zs ≡ ys ++ y ∷ [] → y ≡ f (get_or xs i d) → zs ≡ map f (take (i + 1) xs)
-more-mapped {X} {Y} f xs i d ys zs y lt so_far items here =
-    items ∙ ap (λ (l : List Y). l ++ y ∷ []) so_far ∙ ap (λ (e : Y). map f (take i xs) ++ e ∷ []) here
-    ∙ sym (map-append f (take i xs) (get_or xs i d ∷ [])) ∙ ap (map f) (sym (take_more xs i d lt))
-
 -- the same where each element of one is made of the other's
 pub more-same : {X Y : Type 0} (f : Y → X) (xs : List X) (i : ℕ) (d : X) (ys zs : List Y) (y : Y) → i < length xs → map f ys ≡ take i xs → zs ≡ ys ++ y ∷ [] → f y ≡ get_or xs i d → map f zs ≡ take (i + 1) xs
 more-same {X} {Y} f xs i d ys zs y lt so_far items here =

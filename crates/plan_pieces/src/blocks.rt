@@ -1,7 +1,6 @@
 //! New blocks, sealed for their places.
 ghost use Rattle.std.specs.Prelude.{◌≡◌, ◌≤◌, ℕ, All, IfOk, length, map};
 ghost use Rattle.alloc_map.specs.Slots.{IsLaid, slots_in};
-ghost use Rattle.block_frame.specs.Size.{disk_size_of};
 ghost use Rattle.btree_pages.specs.declared.entry.BlockEntry.{BlockEntry as BlockEntries};
 ghost use Rattle.data_tree.specs.Plan.{AreSmall};
 ghost use Rattle.file_layout.specs.Nodes.{place_of};

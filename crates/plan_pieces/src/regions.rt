@@ -3,7 +3,7 @@ ghost use Rattle.std.specs.Prelude.{◌≡◌, ◌≤◌, ◌<◌, ◌-◌, ◌*
 ghost use Rattle.lays_kept.specs.declared.Piece.{Piece as Pieces};
 ghost use Rattle.node_layout.specs.Growth.{AllGrow, EndsAt, region_end};
 ghost use Rattle.node_layout.specs.Lookups.{sum_of};
-ghost use Rattle.plan_pieces.specs.Growth.{fixed_pages, further_pages, growth_of, last_byte, map_page, new_pages, regions_in};
+ghost use Rattle.plan_pieces.specs.Growth.{further_pages, growth_of, last_byte, map_page, new_pages, regions_in};
 
 use lays_kept::Piece;
 use page_frame::seal;

@@ -1,6 +1,6 @@
 -- What is written stays within the room that is asked for.
-use Rattle.std.proofs.Common.{◌≡◌, ◌≤◌, ◌<◌, ◌==◌, ◌&&◌, ◌+◌, ◌-◌, ◌*◌, ◌/◌, inl, inr, if◌then◌else◌, ℕ, zero, suc, Bool, true, false, not, List, [], ◌∷◌, length, map, drop, refl, sym, ap, ◌∙◌, arith}
-use Rattle.std.proofs.lemmas.Bool.{cases_Bool, cases_lt, le-leb, ltb-true}
+use Rattle.std.proofs.Common.{◌≡◌, ◌≤◌, ◌<◌, ◌==◌, ◌&&◌, ◌+◌, ◌-◌, ◌*◌, ◌/◌, inl, inr, if◌then◌else◌, ℕ, zero, suc, Bool, true, false, not, List, [], ◌∷◌, length, map, drop, refl, ap, ◌∙◌, arith}
+use Rattle.std.proofs.lemmas.Bool.{cases_Bool, cases_lt, le-leb}
 use Rattle.pst_base.specs.Flat.{Flat}
 use Rattle.node_port.specs.Stops.{subs_size}
 use Rattle.mapi_values.specs.Values.{Val}
@@ -8,7 +8,7 @@ use Rattle.write_limits.specs.Limits.{is_long}
 use Rattle.space_bound.specs.Space.{kept_space, long_blocks, props_space, values_blocks, values_bytes}
 use Rattle.heap_on_node.specs.Packing.{IsPacked, halves, spread}
 use Rattle.heap_on_node.proofs.BlockLaws.{blocks-halves, blocks-spread, halves-blocks}
-use Rattle.bth_tree.specs.Making.{Makes, chunks, items_above, items_made, per_item}
+use Rattle.bth_tree.specs.Making.{Makes, chunks, items_above, items_made}
 use Rattle.bth_tree.proofs.MakeLaws.{above-step}
 use Rattle.node_values.specs.Named.{pieces, pieces_of}
 use Rattle.node_values.specs.Subnodes.{without}

@@ -1,7 +1,7 @@
 -- The values of records, one after the other.
-use Rattle.std.proofs.Common.{◌≡◌, ℕ, suc, ◌+◌, ◌<◌, ◌||◌, true, List, [], ◌∷◌, ◌++◌, length, map, drop, get_or, Option, Some, None, refl, sym, ap, ◌∙◌, inl, inr, append_assoc}
+use Rattle.std.proofs.Common.{◌≡◌, ℕ, suc, ◌+◌, ◌<◌, true, List, [], ◌∷◌, ◌++◌, length, map, drop, get_or, Option, Some, None, refl, sym, ap, ◌∙◌, inl, inr, append_assoc}
 use Rattle.std.proofs.lemmas.Bool.{cases_Bool}
-use Rattle.std.proofs.lemmas.List.{append-nil, drop_more}
+use Rattle.std.proofs.lemmas.List.{drop_more}
 use Rattle.std.specs.Option.{option_and_then}
 use Rattle.std.proofs.lemmas.Bool.{and_from, and_parts}
 use Rattle.std.specs.Prelude.{nat_le, nat_lt, ◌^◌, ◌&&◌}
@@ -13,7 +13,7 @@ use Rattle.bth_tree.specs.Answers.{seen}
 use Rattle.bth_tree.specs.Records.{within}
 use Rattle.bth_tree.proofs.OptionLaws.{bind-some, none-some, some-injective}
 use Rattle.bth_tree.proofs.ReadLaws.{no_record}
-use Rattle.property_context.specs.Context.{fitting, is_named, names, of_field, value_of, values_of}
+use Rattle.property_context.specs.Context.{fitting, of_field, value_of, values_of}
 
 -- the values that were read, and those that a reading finds
 abbrev pub behind : List Val → Option (List Val) → Option (List Val)
@@ -45,16 +45,6 @@ pub values-none : (get : ℕ → Option (List ℕ)) (sub : ℕ → Option (List 
 values-none get sub i rs out h is =
     ap (λ (ws : List (ℕ × List ℕ)). behind out (values_of get sub ws)) (seen-more i rs h)
     ∙ ap (λ (o : Option Val). behind out (option_and_then (λ (w : Val). option_and_then (λ (vs : List Val). Some (w ∷ vs)) (values_of get sub (map seen (drop (i + 1) rs)))) o)) is
-
--- all values were read
-pub values-done : (out : List Val) (o : Option (List Val)) → behind out (Some []) ≡ behind [] o → o ≡ Some out
-values-done out None h = absurd (none-some (out ++ []) (sym h))
-values-done out (Some vs) h = let e : out ++ [] ≡ vs = cc in ap Some (sym e ∙ append-nil out)
-
--- one more record's name
-pub named-step : (nid i : ℕ) (rs : List Record) → i < length rs
-    → is_named (map seen (drop i rs)) nid ≡ (names nid (seen (get_or rs i no_record)) || is_named (map seen (drop (i + 1) rs)) nid)
-named-step nid i rs h = ap (λ (ws : List (ℕ × List ℕ)). is_named ws nid) (seen-more i rs h)
 
 -- a value's id and kind, and that its length is one of its kind
 pub record IsFitting (id kind : ℕ) (bytes : List ℕ) (v : Val) : Type 0 where

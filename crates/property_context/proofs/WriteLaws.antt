@@ -1,5 +1,5 @@
 -- Values put into a heap and into subnodes, and the records that name them.
-use Rattle.std.proofs.Common.{◌≡◌, ℕ, zero, suc, ◌+◌, ◌-◌, ◌*◌, ◌%◌, ◌^◌, ◌<◌, ◌≤◌, ◌==◌, ◌&&◌, ◌||◌, Bool, true, false, List, [], ◌∷◌, ◌++◌, length, map, take, drop, replicate, Option, Some, None, refl, sym, ap, ◌∙◌, inl, inr, if◌then◌else◌, append_assoc, subst, length-append, arith}
+use Rattle.std.proofs.Common.{◌≡◌, ℕ, zero, suc, ◌+◌, ◌-◌, ◌*◌, ◌%◌, ◌^◌, ◌<◌, ◌≤◌, ◌==◌, ◌&&◌, Bool, true, false, List, [], ◌∷◌, ◌++◌, length, map, take, drop, replicate, Option, Some, None, refl, sym, ap, ◌∙◌, inl, inr, if◌then◌else◌, append_assoc, subst, length-append, arith, ◌||◌}
 use Rattle.std.specs.Prelude.{nat_le, nat_lt}
 use Rattle.std.specs.List.{concat, list_any}
 use Rattle.std.specs.Option.{is_some, option_and_then, option_map}
@@ -309,19 +309,6 @@ plain-push (w ∷ vs) (s ∷ rs) v r h k = (h.0, plain-push vs rs v r h.1 k)
 bytes-push : (vs : List Val) (v : Val) → values_bytes (vs ++ v ∷ []) ≡ values_bytes vs + short_bytes v
 bytes-push [] v = omega arith
 bytes-push (w ∷ vs) v = omega (arith, bytes-push vs v)
-
-pub puts-start : (h : List (List (List ℕ))) (p : Placer) → PutsValues h h p p [] []
-puts-start h p = record {
-  added = [];
-  grows = grows-none h p 0;
-  bytes = refl;
-  reads = λ get sub k d. refl;
-  subnodes = λ nid. refl;
-  records = tt;
-  plain = tt;
-  count = refl;
-  spent = omega arith;
-}
 
 pub puts-step : (h h1 h2 : List (List (List ℕ))) (p p1 p2 : Placer) (vs : List Val) (rs : List (ℕ × List ℕ)) (v : Val) (r : ℕ × List ℕ) → PutsValues h h1 p p1 vs rs → PutsValue h1 h2 p1 p2 v r
     → PutsValues h h2 p p2 (vs ++ v ∷ []) (rs ++ r ∷ [])

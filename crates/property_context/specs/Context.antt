@@ -1,7 +1,6 @@
 -- The property context ([MS-PST] 2.3.3), as a reading of the items that get finds under heap ids and of the blocks that sub finds under the ids of subnodes.
-use Rattle.std.specs.Prelude.{ℕ, ◌≡◌, ◌%◌, ◌==◌, ◌||◌, if◌then◌else◌, Bool, false, List, [], ◌∷◌, length, take, drop, Option, Some, None, Result, Ok, Err}
-use Rattle.std.specs.Option.{is_some, option_and_then, option_map}
-use Rattle.std.specs.List.{concat}
+use Rattle.std.specs.Prelude.{ℕ, ◌≡◌, ◌%◌, ◌==◌, if◌then◌else◌, Bool, false, List, [], ◌∷◌, length, take, drop, Option, Some, None, Result, Ok, Err, ◌||◌}
+use Rattle.std.specs.Option.{is_some, option_and_then}
 use Rattle.pst_base.specs.Flat.{Flat}
 use Rattle.pst_base.specs.Fields.{number_at}
 use Rattle.pst_base.specs.declared.stops.MemOr.{MemOr}

@@ -65,9 +65,6 @@ unfolding after_bits
 after_bits-shifted zero a = let e : a * 1 ≡ a = omega arith in e
 after_bits-shifted (suc n) a = ap (after_bits n) (after_bit-shifted n a) ∙ after_bits-shifted n a
 
-pub after_bits-zero : (n : ℕ) → after_bits n 0 ≡ 0
-after_bits-zero n = let e : 0 * 2 ^ n ≡ 0 = omega arith in ap (after_bits n) (sym e) ∙ after_bits-shifted n 0
-
 pub after_bits-none : (c : ℕ) → after_bits 0 c ≡ c
 unfolding after_bits
 after_bits-none c = refl

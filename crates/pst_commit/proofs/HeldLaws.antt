@@ -34,12 +34,6 @@ covers_low eof slot p place covers =
     let ends = covers.ends in
     omega (arith, above, before, ends)
 
-some_low : (eof slot : ℕ) (ps : List Place) → Each (IsPlace eof) ps → SomeCovers ps slot → slot < 3968 * regions_to eof
-unfolding SomeCovers
-some_low eof slot [] places covers = absurd covers
-some_low eof slot (p ∷ ps) places (inl covers) = covers_low eof slot p places.0 covers
-some_low eof slot (p ∷ ps) places (inr covers) = some_low eof slot ps places.1 covers
-
 amap_high : (n slot : ℕ) → SomeCovers (amap_places n) slot → slot < 3968 * n
 unfolding SomeCovers amap_places
 amap_high zero slot covers = absurd covers

@@ -43,11 +43,6 @@ applied_now has after {old} {mid} {new} writes holds done = record {
   said = done.said ∙ writes.others.2;
 }
 
--- after it the disk stands for the new nodes
-pub applied_stands : {found header : List ℕ} {has after : List ℕ → Type 0} {N M : Nodes} {last next : List ℕ} {old new : Image} → Commits found has after header N last M next → IsApplied (λ file. has file × after file) header old new → Stands found new M next
-applied_stands {found} {header} {has} {after} {N} {M} {last} {next} {old} {new} commits is =
-    shut_stands is.shut (subst (λ f. FileStands found f M next) (sym is.main) (commits.makes is.mid is.file.0 is.file.1))
-
 -- the gate stays shut while Main is written
 pub closed_still : (old mid : World) {has : List ℕ → Type 0} → (old.tells → IsShut old.here.side) → (mid.tells → old.tells) → (mid.tells → Writes has old.here mid.here) → mid.tells → IsClosed mid.here.side
 closed_still old mid shut told content t = closed (subst IsShut (sym (content t).others.0) (shut (told t)))

@@ -1,6 +1,6 @@
 -- What pins tell, before and after a call of the keeper.
-use Rattle.std.proofs.Common.{◌≡◌, ◌∙◌, ℕ, eqb, if◌then◌else◌, Bool, true, false, List, [], ◌∷◌, ◌++◌, drop, Option, None, Some, Result, Ok, Err, refl, sym, ap, subst}
-use Rattle.std.specs.Prelude.{IfErr, IfOk, ◌==◌, ◌||◌}
+use Rattle.std.proofs.Common.{◌≡◌, ◌∙◌, ℕ, eqb, if◌then◌else◌, Bool, true, false, List, [], ◌∷◌, ◌++◌, drop, Option, None, Some, Result, Ok, Err, refl, sym, ap, subst, ◌||◌}
+use Rattle.std.specs.Prelude.{IfErr, IfOk, ◌==◌}
 use Rattle.std.specs.List.{list_any}
 use Rattle.std.specs.Option.{is_some, option_map}
 use Rattle.std.proofs.lemmas.Bool.{eqb-true, eqb-false}
@@ -112,11 +112,6 @@ held_other p q (pin ∷ held) other = by (held_other p q held other) (eqb (pin.0
     by rest true false e f = refl
     by rest false true e f = ap (λ (b : Bool). if b then Some pin else held_at q (held_without p held)) f
     by rest false false e f = ap (λ (b : Bool). if b then Some pin else held_at q (held_without p held)) f ∙ rest
-
--- one pin more is told behind the others
-pub opened_more : (pin : Pin) (used : List Bool) (held : List (Pin × List Bool)) → opened_of (held ++ (pin, used) ∷ []) ≡ opened_of held ++ (pin.number, used) ∷ []
-opened_more pin used [] = refl
-opened_more pin used (one ∷ held) = ap (λ (rest : List (ℕ × List Bool)). ((one.0).number, one.1) ∷ rest) (opened_more pin used held)
 
 -- of a number that no other has
 pub held_new : (pin : Pin) (used : List Bool) (held : List (Pin × List Bool)) → pin_at pin.number held ≡ None → held_at pin.number (held ++ (pin, used) ∷ []) ≡ Some (pin, used)

@@ -1,5 +1,5 @@
 -- Pieces that are written one after another.
-use Rattle.std.proofs.Common.{◌≡◌, ◌∙◌, ◌⊎◌, ℕ, zero, suc, ◌+◌, ◌<◌, ◌≤◌, List, [], ◌∷◌, ◌++◌, length, take, drop, get_or, refl, sym, ap, subst, arith}
+use Rattle.std.proofs.Common.{◌≡◌, ◌∙◌, ◌⊎◌, ℕ, zero, suc, ◌+◌, ◌<◌, ◌≤◌, List, [], ◌∷◌, ◌++◌, length, take, drop, get_or, sym, ap, subst, arith}
 use Rattle.std.proofs.lemmas.List.{take_more}
 use Rattle.pst_outside.specs.World.{Image, Torn, TornAt, after_write}
 use Rattle.pst_outside.specs.Calls.{raised}
@@ -29,13 +29,6 @@ pub writes_more : (ps : List Piece) (i : ℕ) (p : Piece) (first : List ℕ) (ol
 writes_more ps i p first old mid new lt is so_far torn = record {
   file = scatter_more ps i p first mid.main new.main lt is so_far.file torn.torn;
   others = (torn.others.0 ∙ so_far.others.0, torn.others.1 ∙ so_far.others.1, torn.others.2 ∙ so_far.others.2);
-}
-
--- before the first write
-pub writes_none : (ps : List Piece) (old : Image) → Writes (Scattered ps old.main) old old
-writes_none ps old = record {
-  file = record { longer = omega arith; same = λ at n within clear. refl };
-  others = (refl, refl, refl);
 }
 
 -- ---- how many bytes

@@ -1,5 +1,5 @@
 -- Trees of a file that are held beside those that its header names: what an earlier header named, while commits go on.
-use Rattle.std.specs.Prelude.{◌≡◌, ◌==◌, ◌*◌, ◌||◌, if◌then◌else◌, ℕ, Bool, List, [], ◌∷◌, map, length, Option, None, Some}
+use Rattle.std.specs.Prelude.{◌≡◌, ◌==◌, ◌*◌, if◌then◌else◌, ℕ, Bool, List, [], ◌∷◌, map, length, Option, None, Some, ◌||◌}
 use Rattle.std.specs.Option.{option_map}
 use Rattle.std.specs.List.{list_any}
 use Rattle.pst_base.specs.declared.ids.Bref.{Bref}

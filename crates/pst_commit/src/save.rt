@@ -1,5 +1,5 @@
 //! A save: the header that vouches for no maps, the maps, and the header that vouches for them.
-ghost use Rattle.std.specs.Prelude.{◌≡◌, ◌≤◌, ◌<◌, ◌+◌, ◌*◌, min, not, count_by, take, List, ℕ, IfOk, OnOk, OnErr};
+ghost use Rattle.std.specs.Prelude.{◌≡◌, ◌≤◌, ◌<◌, ◌+◌, ◌*◌, min, List, ℕ, IfOk, OnOk, OnErr};
 ghost use Rattle.pst_outside.specs.Calls.{Rose, NeverFall, LeavesOnly, Settled};
 ghost use Rattle.pst_header.specs.Format.{IsWritable};
 ghost use Rattle.alloc_map.specs.Slots.{regions_of};

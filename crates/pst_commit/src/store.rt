@@ -4,12 +4,12 @@ ghost use Rattle.node_port.specs.declared.node.NodeRec.{NodeRec as Rec};
 ghost use Rattle.pst_base.specs.declared.ids.Nid.{Nid as Id};
 ghost use Rattle.pst_header.specs.declared.header.Header.{Header as Head};
 ghost use Rattle.pst_header.specs.Format.{IsWritable};
-ghost use Rattle.node_port.specs.Nodes.{Nodes, ascend, content_of, IsNext, node_at};
+ghost use Rattle.node_port.specs.Nodes.{ascend, content_of, IsNext, node_at};
 ghost use Rattle.node_port.specs.Pins.{no_pins};
 ghost use Rattle.node_port.specs.Stops.{KeepStops, PrepareStops, RoomDecides, Tells};
 ghost use Rattle.lays_kept.specs.Saved.{LaysSame};
 ghost use Rattle.pst_commit.specs.declared.store.Pin.{Pin as Pins};
-ghost use Rattle.pst_commit.specs.Held.{held_at, held_without, opened_of, pin_at};
+ghost use Rattle.pst_commit.specs.Held.{held_without, opened_of, pin_at};
 ghost use Rattle.pst_commit.specs.Keeping.{Holds, IsKnowledge, LooksOn, PlansFor, ReadsAs, room_with};
 
 use alloc_map::Slots;

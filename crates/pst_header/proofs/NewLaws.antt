@@ -1,5 +1,5 @@
 -- What stands in the bytes of a new header.
-use Rattle.std.proofs.Common.{◌≡◌, ℕ, List, [], ◌∷◌, length, refl, ◌∙◌, ap}
+use Rattle.std.proofs.Common.{◌≡◌, ℕ, List, [], ◌∷◌, length, refl, ◌∙◌}
 use Rattle.pst_base.specs.Cells.{Cell, Fit, is_apart, value_at, written}
 use Rattle.pst_base.specs.Fields.{number_at}
 use Rattle.pst_base.proofs.CellLaws.{number_at-written}

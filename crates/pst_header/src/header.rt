@@ -1,5 +1,5 @@
 //! The header's fields, and why bytes are no header.
-use pst_base::{Bid, Bref};
+use pst_base::Bref;
 use thiserror::Error;
 
 /// The fields of the header ([MS-PST] 2.2.2.6), and all other bytes.

@@ -1,5 +1,5 @@
 -- Bytes of a part: spans of a list that a write leaves, and where the written bytes stand.
-use Rattle.std.proofs.Common.{◌≡◌, ◌⊎◌, ◌∙◌, inl, inr, ℕ, ◌+◌, ◌-◌, ◌<◌, ◌≤◌, max, min, List, [], ◌++◌, length, take, drop, get_or, replicate, refl, sym, ap, arith, ⊎_elim, length-append, length-drop, append_assoc}
+use Rattle.std.proofs.Common.{◌≡◌, ◌⊎◌, ◌∙◌, inr, ℕ, ◌+◌, ◌-◌, ◌<◌, ◌≤◌, max, min, List, [], ◌++◌, length, take, drop, get_or, replicate, refl, sym, ap, arith, ⊎_elim, length-append, length-drop, append_assoc}
 use Rattle.std.proofs.lemmas.List.{same_lists, get_or-take, get_or-drop, get_or_default, get_or_append_left, get_or-append_right, get_or-replicate, length-take, length-replicate, take_at, drop_at, take_all, drop_all, places, append-nil, take-take, drop-take, take-append-drop}
 use Rattle.std.proofs.lemmas.Bool.{cases_lt}
 use borrow.Rule.Slice.PartMut.{put_mid}
@@ -27,9 +27,6 @@ torn_span {at} {n} {d} {c} torn i m within apart =
 -- where the range lies within, the length stays
 pub torn_length : {at n : ℕ} {d c : List ℕ} → Torn at n d c → at + n ≤ length d → length c ≡ length d
 torn_length torn within = omega (arith, torn.no_shorter, torn.no_longer)
-
-pub torn_take : {at n : ℕ} {d c : List ℕ} → Torn at n d c → (m : ℕ) → m ≤ length d → m ≤ at → take m c ≡ take m d
-torn_take {at} {n} {d} {c} torn m within low = torn_span torn 0 m (omega arith) (inl (omega arith))
 
 pub torn_drop : {at n : ℕ} {d c : List ℕ} → Torn at n d c → (i : ℕ) → at + n ≤ i → i ≤ length d → drop i c ≡ drop i d
 torn_drop {at} {n} {d} {c} torn i high within =
@@ -85,12 +82,6 @@ module _ (old : List ℕ) (at : ℕ) (bytes : List ℕ) where
       ap (λ l. take (length bytes) (drop at l)) (append_assoc front bytes rest)
       ∙ ap (λ l. take (length bytes) l) (drop_at front (bytes ++ rest) at length-front)
       ∙ take_at bytes rest (length bytes) refl
-
--- a read that isn't cut short by the end gives all that was asked for
-pub full_read : (buf bytes : List ℕ) (n at m : ℕ) → m ≡ length buf → n ≤ length buf → at + m ≤ length bytes → take n buf ≡ take (length buf) (drop at bytes) → buf ≡ take m (drop at bytes)
-full_read buf bytes n at m asked within room read =
-    let all : n ≡ length buf = omega (arith, simp (length-take, length-drop) at (ap length read)) in
-    sym (take_all n buf (omega arith)) ∙ read ∙ ap (λ k. take k (drop at bytes)) (sym asked)
 
 -- a write into a list that was filled up with zeros first
 module _ (old : List ℕ) (at : ℕ) (bytes : List ℕ) where

@@ -10,7 +10,7 @@ use Rattle.pst_outside.specs.declared.outside.Part.TheVariants.{Main, Side, Copy
 use Rattle.pst_outside.specs.declared.crash.Pick.{Pick}
 use Rattle.pst_outside.specs.declared.crash.Pick.TheVariants.{Old, New, Junk}
 use Rattle.pst_outside.specs.World.{Image, content}
-use Rattle.pst_outside.specs.Replay.{PartState, Disk, part_of, change, InRanges, IsPartImage, IsImage, junk_range, junked, picked}
+use Rattle.pst_outside.specs.Replay.{PartState, Disk, part_of, InRanges, IsPartImage, IsImage, junk_range, junked, picked}
 use Rattle.pst_outside.proofs.Disks.{Sane, sane_part}
 
 pub junked-push : (bytes : List ℕ) (ranges : List Place) (range : Place) → junked bytes (ranges ++ range ∷ []) ≡ junk_range (junked bytes ranges) range
@@ -77,20 +77,3 @@ part_image Copy disk b sane image = (record { main = disk.main.now; side = disk.
 
 pub picked_image : (part : Part) (disk : Disk) (pick : Pick) (b : List ℕ) → Sane disk → b ≡ picked pick (part_of part disk) → (c : Image) × IsImage disk c × (content part c ≡ b)
 picked_image part disk pick b sane eq = part_image part disk b sane (subst (IsPartImage (part_of part disk)) (sym eq) (picked_is_image pick (part_of part disk) (sane_part part disk sane)))
-
--- a change of a part, seen from that part and from another
-pub changed_part : (part : Part) (f : PartState → PartState) (disk : Disk) → part_of part (change part f disk) ≡ f (part_of part disk)
-changed_part Main f disk = refl
-changed_part Side f disk = refl
-changed_part Copy f disk = refl
-
-pub other_part : (part its : Part) (f : PartState → PartState) (disk : Disk) → (its ≡ part → ⊥) → part_of part (change its f disk) ≡ part_of part disk
-other_part Main Main f disk apart = absurd (apart refl)
-other_part Main Side f disk apart = refl
-other_part Main Copy f disk apart = refl
-other_part Side Main f disk apart = refl
-other_part Side Side f disk apart = absurd (apart refl)
-other_part Side Copy f disk apart = refl
-other_part Copy Main f disk apart = refl
-other_part Copy Side f disk apart = refl
-other_part Copy Copy f disk apart = absurd (apart refl)

@@ -1,5 +1,5 @@
 //! What a crash may leave of a part: its events again from the start, and the outcome that is picked.
-ghost use Rattle.std.specs.Prelude.{◌≡◌, length, IfOk, OnOk};
+ghost use Rattle.std.specs.Prelude.{◌≡◌, IfOk, OnOk};
 ghost use Rattle.pst_outside.specs.Replay.{Disk, stable, part_of, part_after_write, part_after_loss, part_after_sync, step, replay, junk_range, junked, picked};
 ghost use Rattle.pst_outside.specs.Memory.{state_of};
 

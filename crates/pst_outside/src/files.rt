@@ -1,5 +1,5 @@
 //! The trusted edge: the runtime's files, its standard input and its standard output.
-ghost use Rattle.std.specs.Prelude.{◌≡◌, ◌≤◌, length, IfOk};
+ghost use Rattle.std.specs.Prelude.{◌≤◌, length, IfOk};
 
 use crate::memory::fault;
 use crate::{Failed, Outside, Part};

@@ -1,6 +1,6 @@
 //! What callers of every world need: to say a whole text, and to fill a whole buffer.
 ghost use Rattle.std.specs.Prelude.{◌≡◌, ◌≤◌, ◌+◌, ◌++◌, ℕ, length, take, drop, OnOk, OnErr};
-ghost use Rattle.pst_outside.specs.World.{Image, SameDisk, content};
+ghost use Rattle.pst_outside.specs.World.{SameDisk, content};
 ghost use Rattle.pst_outside.specs.Calls.{Rose, NeverFall, StaysButSaid, Follows, LeavesOnly, Settled, Untouched, SaysSome, filled};
 
 use crate::{Failed, Outside, Part};

@@ -1,7 +1,7 @@
 //! A world in memory that tells everything: what it holds and has said, and what a crash at each moment may leave.
-ghost use Rattle.std.specs.Prelude.{◌≡◌, ◌+◌, ◌-◌, ◌^◌, ◌≤◌, ◌++◌, ◌∷◌, [], ◌==◌, ◌||◌, min, ◌⊎◌, ℕ, List, length, take, drop, IfOk, OnOk, OnErr};
+ghost use Rattle.std.specs.Prelude.{◌≡◌, ◌+◌, ◌-◌, ◌^◌, ◌≤◌, ◌++◌, ◌∷◌, [], ◌==◌, min, ◌⊎◌, ℕ, List, length, take, drop, IfOk, OnOk, OnErr, ◌||◌};
 ghost use Rattle.std.specs.List.{list_any};
-ghost use Rattle.pst_outside.specs.World.{Image, World, content, after_write};
+ghost use Rattle.pst_outside.specs.World.{Image, content, after_write};
 ghost use Rattle.pst_outside.specs.Replay.{held, replay};
 ghost use Rattle.pst_outside.specs.Memory.{is_dead, start, bytes_of, image_of, with_content};
 ghost use Rattle.pst_outside.specs.declared.record.Event.TheVariants.{Said, Wrote, Lost};

@@ -1,5 +1,5 @@
 //! All devices as one object, so that what the disk holds and what has been said stand on one clock.
-ghost use Rattle.std.specs.Prelude.{◌≡◌, ◌≤◌, ◌<◌, ◌++◌, [], ℕ, length, take, drop, IfOk, OnOk, OnErr};
+ghost use Rattle.std.specs.Prelude.{◌≡◌, ◌≤◌, ◌<◌, ◌++◌, [], length, take, drop, IfOk, OnOk, OnErr};
 ghost use Rattle.pst_outside.specs.World.{Image, World, content, after_write, TornAt, SameDisk};
 ghost use Rattle.pst_outside.specs.Calls.{Rose, NeverFall, Stays, Untouched, StaysButInput, StaysButSaid, StaysButRange, NoMore, Follows, Elapses};
 

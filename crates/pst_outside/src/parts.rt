@@ -4,7 +4,6 @@ ghost use Rattle.pst_outside.specs.World.{after_write};
 ghost use Rattle.pst_outside.specs.Memory.{bytes_of, image_of, with_content};
 
 use crate::Part;
-use pst_base::Bytes;
 use std::alloc::{AllocError, Global};
 
 #[derive(Debug, Drop)]

@@ -5,7 +5,7 @@ use Rattle.std.proofs.lemmas.Bool.{eq-eqb}
 use Rattle.std.proofs.lemmas.List.{set_split, take-append-drop}
 use Rattle.std.proofs.Math.Seq.{drop-cons}
 use Rattle.ref_counts.specs.Tables.{Rises, IsAscending, entry_at, first, number_of, refs_in, HasKey, KeepsKeys, StandsAt, IsMissing}
-use Rattle.ref_counts.proofs.TableLaws.{tested, seat, at-append, none-above, none-below, rises-append, rises-lower, rises-past}
+use Rattle.ref_counts.proofs.TableLaws.{tested, seat, at-append, none-above, none-below, rises-append, rises-lower}
 
 -- the entry that a place has
 pub stands : (es : List (ℕ × ℕ)) (key at : ℕ) (d : ℕ × ℕ) → at < length es → (get_or es at d).0 ≡ key → key < 2 ^ 64 → Rises first 0 key (take at es) → Rises first key (2 ^ 64) (drop at es) → StandsAt es key at
@@ -21,15 +21,6 @@ stands es key at d within same small below above =
       below = below;
       above = subst (λ (k : ℕ). Rises first (k + 1) (2 ^ 64) (drop (suc at) es)) same rest.1;
     }
-
--- the key isn't there, where a higher one stands
-pub missing : (es : List (ℕ × ℕ)) (key at : ℕ) (d : ℕ × ℕ) → at < length es → ((get_or es at d).0 ≡ key → ⊥) → Rises first 0 key (take at es) → Rises first key (2 ^ 64) (drop at es) → IsMissing es key at
-missing es key at d within other below above =
-    let e : ℕ × ℕ = get_or es at d in
-    let cut : drop at es ≡ e ∷ drop (suc at) es = drop-cons es at d within in
-    let rest : Rises first key (2 ^ 64) (e ∷ drop (suc at) es) = subst (λ (xs : List (ℕ × ℕ)). Rises first key (2 ^ 64) xs) cut above in
-    let past : Rises first (key + 1) (2 ^ 64) (e ∷ drop (suc at) es) = rises-past first key (2 ^ 64) e (drop (suc at) es) rest other in
-    record { within = omega (arith, within); below = below; above = subst (λ (xs : List (ℕ × ℕ)). Rises first (key + 1) (2 ^ 64) xs) (sym cut) past }
 
 -- ---- a key that is there
 

@@ -74,15 +74,6 @@ module _ {E : Type 0} (key : E → ℕ) where
       passed k [] ys e ne = rw ne refl
       passed k (x ∷ xs) ys e ne = ap (λ (o : Option E). cond (eqb (key x) k) (Some x) o) (passed k xs ys e ne)
 
-  -- where the first key is no lower, and is another, the key isn't there
-  pub other-first : (k high : ℕ) (e : E) (es : List E) → Rises key k high (e ∷ es) → (key e ≡ k → ⊥) → entry_at key k (e ∷ es) ≡ None
-  other-first k high e es r other =
-      let here : k ≤ key e = r.0 in
-      rw (ne_eqb (key e) k other) (none-below (key e + 1) high k es r.1 (above k (key e) here other))
-    where
-      above : (a b : ℕ) → a ≤ b → (b ≡ a → ⊥) → a < b + 1
-      above a b le ne = omega (arith, le)
-
   -- the keys at places
   pub from-low : (low high : ℕ) (es : List E) (i : ℕ) (d : E) → Rises key low high es → i < length es → low ≤ key (get_or es i d)
   from-low low high [] i d r within = absurd (omega (arith, within))
@@ -133,16 +124,6 @@ module _ {E : Type 0} (key : E → ℕ) where
 
   pub rises-push : (low high : ℕ) (es : List E) (e : E) → Rises key low (key e) es → key e + 1 ≤ high → Rises key low high (es ++ e ∷ [])
   rises-push low high es e r less = rises-append low (key e) high es (e ∷ []) r (omega arith, less)
-
-  -- the next key on, where the first is another
-  pub rises-past : (k high : ℕ) (e : E) (es : List E) → Rises key k high (e ∷ es) → (key e ≡ k → ⊥) → Rises key (k + 1) high (e ∷ es)
-  rises-past k high e es r other = let here : k ≤ key e = r.0 in (past k (key e) here other, r.1)
-    where
-      past : (a b : ℕ) → a ≤ b → (b ≡ a → ⊥) → a + 1 ≤ b
-      past a b le ne = elim (cases_eq b a) as (λ v. a + 1 ≤ b) [ inl same ↦ absurd (ne same) | inr differ ↦ apart a b le differ ]
-        where
-          apart : (a b : ℕ) → a ≤ b → (b ≡ a → ⊥) → a + 1 ≤ b
-          apart a b le ne = omega (arith, le, ne)
 
   -- an entry that is found has the key
   pub found-key : (k : ℕ) (es : List E) (e : E) → entry_at key k es ≡ Some e → key e ≡ k

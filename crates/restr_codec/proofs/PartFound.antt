@@ -12,7 +12,7 @@ use Rattle.restr_codec.specs.Restr.{Restr, Restrs, not_of, content, property, co
 use Rattle.restr_codec.specs.Reading.{Part, Read, allows, bit_mask_read, by_code, code, code_in, comment_read, commented, compare_read, content_read, ended, exist_read, flags_of, group_read, grouped, leaf_by_code, leaf_read, level_of, next, not_read, number, part, property_read, relation_of, several, size_read, started, sub_object_read, table_of, tag, tagged, tagged_values, test_of, truth_of, whole}
 use Rattle.restr_codec.specs.Spelling.{are_allowed, are_tagged_values, flags_code, group_bytes, has_spelling, is_allowed, is_tag, is_tagged_value, level_code, relation_code, spelling, spelling_of_all, table_tag, tag_bytes, tag_of, tagged_bytes, test_code}
 use Rattle.restr_codec.proofs.FieldLaws as fields
-use Rattle.restr_codec.proofs.FieldLaws.{AreBytes, Field, Finds, byte_finds, code_finds, field, finds_if, finds_less, finds_next, flags_finds, level_finds, number_finds, relation_finds, table_finds, tag_finds, test_finds, truth_code, truth_finds}
+use Rattle.restr_codec.proofs.FieldLaws.{AreBytes, Field, Finds, byte_finds, code_finds, finds_if, finds_next, flags_finds, level_finds, number_finds, relation_finds, table_finds, tag_finds, test_finds, truth_code, truth_finds}
 use Rattle.restr_codec.proofs.ValueBack.{IsTagged, tagged_finds, tagged_values_find}
 
 -- the tag of a value that was read with just that tag

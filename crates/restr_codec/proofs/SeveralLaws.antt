@@ -1,5 +1,5 @@
 -- Several restrictions, or several values, one after the other.
-use Rattle.std.proofs.Common.{◌≡◌, ◌≤◌, ◌<◌, ◌∙◌, ℕ, suc, ◌+◌, ◌-◌, List, [], ◌∷◌, ◌++◌, Ok, Err, ap, sym, refl, arith, append-nil, append_assoc}
+use Rattle.std.proofs.Common.{◌≡◌, ◌≤◌, ◌<◌, ◌∙◌, ℕ, suc, ◌+◌, ◌-◌, List, [], ◌∷◌, ◌++◌, Ok, Err, ap, sym, refl, arith, append_assoc}
 use Rattle.pst_base.specs.declared.stops.MemOr.{MemOr}
 use Rattle.pst_base.specs.declared.stops.MemOr.TheVariants.{Memory, Refused}
 use Rattle.mapi_values.specs.Values.{Val}
@@ -28,13 +28,6 @@ with_those xs rest = next rest (λ p behind. Ok ((before xs p.0, p.1), behind))
 -- so many were read: what is said of those to come is said of all
 pub record SoFar (one : Part) (count left : ℕ) (bytes : List ℕ) (taken : ℕ) (xs : List Restr) (still : ℕ) (rest : List ℕ) : Type 0 where
   pub same : several one count left bytes ≡ with_those xs (several one (count - taken) still rest)
-
-with_none : (a : Read (Restrs × ℕ)) → a ≡ with_those [] a
-with_none (Ok p) = refl
-with_none (Err fault) = refl
-
-pub none_so_far : (one : Part) (count left : ℕ) (bytes : List ℕ) → SoFar one count left bytes 0 [] left bytes
-none_so_far one count left bytes = record { same = with_none (several one count left bytes) ∙ ap (λ n. with_those [] (several one n left bytes)) (omega arith) }
 
 with_one : (xs : List Restr) (x : Restr) (a : Read (Restrs × ℕ)) → with_those xs (next a (λ q behind. Ok ((more x q.0, q.1), behind))) ≡ with_those (xs ++ (x ∷ [])) a
 with_one xs x (Ok p) = ap (λ rs. Ok ((rs, p.0.1), p.1)) (sym (before_one xs x p.0.0))
@@ -78,13 +71,6 @@ with_values xs rest = next rest (λ vs behind. Ok (xs ++ vs, behind))
 pub record ValuesSoFar (count : ℕ) (bytes : List ℕ) (taken : ℕ) (xs : List Val) (rest : List ℕ) : Type 0 where
   pub same : tagged_values count bytes ≡ with_values xs (tagged_values (count - taken) rest)
 
-with_no_values : (a : Read (List Val)) → a ≡ with_values [] a
-with_no_values (Ok p) = refl
-with_no_values (Err fault) = refl
-
-pub no_values_so_far : (count : ℕ) (bytes : List ℕ) → ValuesSoFar count bytes 0 [] bytes
-no_values_so_far count bytes = record { same = with_no_values (tagged_values count bytes) ∙ ap (λ n. with_values [] (tagged_values n bytes)) (omega arith) }
-
 with_value : (xs : List Val) (x : Val) (a : Read (List Val)) → with_values xs (next a (λ vs behind. Ok (x ∷ vs, behind))) ≡ with_values (xs ++ (x ∷ [])) a
 with_value xs x (Ok p) = ap (λ vs. Ok (vs, p.1)) (sym (append_assoc xs (x ∷ []) p.0))
 with_value xs x (Err fault) = refl
@@ -100,11 +86,6 @@ one_more_value count bytes taken xs ys rest behind x lt so read e = record {
   where
     more_left : count - taken ≡ suc (count - (taken + 1))
     more_left = omega (arith, lt)
-
-pub all_values_so_far : (count : ℕ) (bytes : List ℕ) (taken : ℕ) (xs : List Val) (rest : List ℕ) → count ≤ taken → ValuesSoFar count bytes taken xs rest → tagged_values count bytes ≡ Ok (xs, rest)
-all_values_so_far count bytes taken xs rest past so =
-    let none_left : count - taken ≡ 0 = omega (arith, past) in
-    so.same ∙ ap (λ n. with_values xs (tagged_values n rest)) none_left ∙ ap (λ vs. Ok (vs, rest)) (append-nil xs)
 
 pub stops_at_value : {B C : Type 0} (view : B → Val) (view' : C → List Val) (count : ℕ) (bytes : List ℕ) (taken : ℕ) (xs : List Val) (rest : List ℕ) (e : MemOr Fault) → taken < count
     → ValuesSoFar count bytes taken xs rest → Reads view (Err e) (tagged OfValues rest) → Reads view' (Err e) (tagged_values count bytes)

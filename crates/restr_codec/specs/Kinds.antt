@@ -1,5 +1,5 @@
 -- Which kinds of values stand in restrictions, and how long these values are.
-use Rattle.std.specs.Prelude.{ℕ, ◌==◌, ◌||◌, Bool, true, length, is_some, Option, None, Some, if◌then◌else◌}
+use Rattle.std.specs.Prelude.{ℕ, ◌==◌, Bool, true, length, is_some, Option, None, Some, if◌then◌else◌, ◌||◌}
 use Rattle.mapi_values.specs.Kinds.{ptyp_binary, ptyp_boolean, ptyp_guid, ptyp_integer_16, ptyp_integer_32, ptyp_integer_64, ptyp_string, ptyp_time}
 use Rattle.mapi_values.specs.Values.{Val}
 use Rattle.restr_codec.specs.declared.restriction.Form.{Form}

@@ -1,6 +1,5 @@
 //! The restrictions within which no other one stands, without their first byte.
-ghost use Rattle.std.specs.Prelude.{◌≡◌};
-ghost use Rattle.restr_codec.specs.Reading.{Reads, bit_mask_read, compare_read, content_read, exist_read, number, property_read, size_read};
+ghost use Rattle.restr_codec.specs.Reading.{Reads, bit_mask_read, compare_read, content_read, exist_read, property_read, size_read};
 
 use crate::fields::{
     Read, Tags, read_flags, read_level, read_relation, read_tag, read_test, read_u32,

@@ -4,9 +4,9 @@ ghost use Rattle.pst_base.specs.Stops.{Gives};
 ghost use Rattle.restr_codec.specs.Forms.{restrs};
 ghost use Rattle.restr_codec.specs.Restr.{Restr};
 ghost use Rattle.restr_codec.specs.Spelling.{has_spelling, spelling};
-ghost use Rattle.restr_codec.specs.Reading.{Reads, by_code, code, code_in, comment_read, commented, group_read, grouped, leaf_by_code, leaf_read, not_read, part, reading, several, started, sub_object_read, whole};
+ghost use Rattle.restr_codec.specs.Reading.{Reads, by_code, code, code_in, comment_read, commented, group_read, grouped, leaf_by_code, not_read, part, reading, several, started, sub_object_read, whole};
 
-use crate::fields::{Fault, Read, read_table, read_truth, read_u8, read_u16, refuse};
+use crate::fields::{Read, read_table, read_truth, read_u8, read_u16, refuse};
 use crate::leaves::{
     read_bit_mask, read_compare, read_content, read_exist, read_property, read_size,
 };

@@ -132,7 +132,6 @@ impl Model for Restriction {
 
     ghost size = { count };
 
-    ghost use Rattle.std.proofs.Common.{arith};
     ghost use Rattle.restr_codec.specs.Falls.{falls};
 
     ghost size_decreases = { λ r h. falls r.form };

@@ -1,5 +1,5 @@
 //! The values in restrictions.
-ghost use Rattle.std.specs.Prelude.{◌≡◌, ◌+◌, ◌≤◌, IfOk, IfSome, length, option_map, true};
+ghost use Rattle.std.specs.Prelude.{◌≡◌, ◌+◌, ◌≤◌, IfOk, IfSome, length, true};
 ghost use Rattle.restr_codec.specs.Kinds.{is_content_kind, is_sound, is_value_kind, value_width};
 ghost use Rattle.restr_codec.specs.Reading.{Reads, Splits, binary_front, tagged, tagged_values, text_front, text_len, truth_front, value, value_front};
 

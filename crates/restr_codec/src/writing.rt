@@ -1,9 +1,8 @@
 //! Writing a restriction.
 ghost use Rattle.std.specs.Prelude.{◌≡◌, ◌≤◌, ◌++◌, ◌∷◌, IfOk, OnOk, length, true, false};
 ghost use Rattle.std.specs.List.{flat_map};
-ghost use Rattle.byteorder.specs.Endian.{little_bytes};
 ghost use Rattle.restr_codec.specs.Forms.{restrs};
-ghost use Rattle.restr_codec.specs.Restr.{bit_mask, compare, content, count, count_all, how_many, property, size_of};
+ghost use Rattle.restr_codec.specs.Restr.{bit_mask, compare, content, count, count_all, property, size_of};
 ghost use Rattle.restr_codec.specs.Spelling.{are_allowed, are_tagged_values, flags_code, has_spelling, is_allowed, is_tagged_value, group_bytes, kind_bytes, level_code, most_restrictions, relation_code, spelling, spelling_of_all, table_tag, tag_bytes, tagged_bytes, test_code};
 
 use crate::fields::tag_number;

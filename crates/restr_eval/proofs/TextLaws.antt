@@ -20,11 +20,6 @@ some_characters u (v ∷ us) e = elim (cases_Bool (is_high_surrogate u && is_low
   | inr f ↦ absurd (let e' = rw f at e in cc)
 ]
 
--- the only unit
-pub alone_first : (u : ℕ) (ch : Character) (rest : List ℕ) → characters (u ∷ []) ≡ ch ∷ characters rest → characters (u ∷ []) ≡ ch ∷ characters []
-unfolding characters
-alone_first u ch rest e = ap (λ c. c ∷ []) (first_same (lone u) ch [] (characters rest) e).0
-
 -- two units that are one character
 pub pair_first : (u v : ℕ) (us : List ℕ) (ch : Character) (rest : List ℕ) → characters (u ∷ v ∷ []) ≡ ch ∷ characters rest → length rest ≡ 0 → characters (u ∷ v ∷ us) ≡ ch ∷ characters us
 unfolding characters

@@ -3,7 +3,7 @@ ghost use Rattle.std.specs.Prelude.{◌≡◌, ◌≤◌, ◌+◌, length, map};
 ghost use Rattle.std.specs.List.{list_any};
 ghost use Rattle.restr_codec.specs.declared.restriction.SubTable.TheVariants.{Attachments, Recipients};
 ghost use Rattle.restr_codec.specs.Forms.{restrs};
-ghost use Rattle.restr_eval.specs.Eval.{all_hold, alone, asked, eval, rows_of, some_holds, subject, within};
+ghost use Rattle.restr_eval.specs.Eval.{all_hold, alone, asked, eval, rows_of, some_holds, subject};
 ghost use Rattle.restr_eval.specs.Reached.{reached, reached_in_all, reached_in_some, steps_among, work};
 
 use crate::leaves::{bits_pass, content_stands, pair_stands, property_stands, size_stands};

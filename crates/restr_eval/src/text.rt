@@ -1,5 +1,5 @@
 //! Text as the units that are compared, one at a time, so that it takes no memory.
-ghost use Rattle.std.specs.Prelude.{◌≡◌, ◌<◌, [], ◌∷◌, ◌++◌, length, MatchOption, ⊤};
+ghost use Rattle.std.specs.Prelude.{◌≡◌, ◌<◌, [], ◌∷◌, length, MatchOption, ⊤};
 ghost use Rattle.mapi_values.specs.Characters.{characters, is_nonspacing};
 ghost use Rattle.restr_eval.specs.Content.{ComparedUnits, NextUnit, compared_units, folded, rest_of};
 ghost use Rattle.restr_eval.specs.Orders.{FirstUnit, units_in};

@@ -1,5 +1,5 @@
 -- The lines of the messages that rows name.
-use Rattle.std.proofs.Common.{◌≡◌, ℕ, ◌+◌, ◌<◌, suc, List, [], ◌∷◌, ◌++◌, append_assoc, ap, sym, subst, ◌∙◌, map, length, get_or, drop, drop-cons, add-one, inl, inr, if◌then◌else◌, Option, None, Some, is_some, Result, Ok, Err, Bool, true, false, ◌||◌, ◌&&◌, refl}
+use Rattle.std.proofs.Common.{◌≡◌, ℕ, ◌+◌, ◌<◌, suc, List, [], ◌∷◌, ◌++◌, append_assoc, ap, sym, subst, ◌∙◌, map, length, get_or, drop, drop-cons, add-one, inl, inr, if◌then◌else◌, Option, None, Some, is_some, Result, Ok, Err, Bool, true, false, ◌&&◌, refl, ◌||◌}
 use Rattle.std.proofs.lemmas.Bool.{cases_Bool}
 use Rattle.std.proofs.lemmas.List.{append-nil}
 use Rattle.std.specs.Option.{is_none}

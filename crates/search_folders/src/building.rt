@@ -1,6 +1,5 @@
 //! How the list of a search is built.
-ghost use Rattle.std.specs.Prelude.{◌≡◌, true, [], IfErr, Ok};
-ghost use Rattle.node_values.specs.Subnodes.{ids_ascend};
+ghost use Rattle.std.specs.Prelude.{◌≡◌, [], IfErr, Ok};
 ghost use Rattle.mail_tree.specs.Tree.{Shown, Tree};
 ghost use Rattle.mail_draft.specs.Answers.{IsCalm, IsCaused, Looks, Says};
 ghost use Rattle.mail_draft.specs.Drafts.{changed_of};
@@ -12,7 +11,7 @@ use mail_draft::{Draft, Stop, contents, message_ids, table_at};
 use mail_folders::{message_in, table_in};
 use mail_objects::TableNode;
 use mail_searches::OwnSearch;
-use mail_tree::{FolderPlace, Places};
+use mail_tree::Places;
 use mapi_values::{Message, Table, put_row};
 use node_port::NodeReader;
 use pst_base::{Ledger, Nid, Steps};

@@ -6,7 +6,7 @@ ghost use Rattle.search_obj.specs.Flags.{are_allowed};
 ghost use Rattle.search_obj.specs.Objects.{Says as SaysCriteria};
 ghost use Rattle.search_obj.specs.Writing.{written};
 ghost use Rattle.mail_tree.specs.Changing.{known, nothing};
-ghost use Rattle.mail_tree.specs.Folders.{replied, replying};
+ghost use Rattle.mail_tree.specs.Folders.{replying};
 ghost use Rattle.mail_tree.specs.Knowing.{Knows};
 ghost use Rattle.mail_tree.specs.Settling.{with_context};
 ghost use Rattle.mail_tree.specs.Tree.{Shown, Tree};

@@ -1,5 +1,5 @@
 //! What a line of criteria gives.
-ghost use Rattle.std.specs.Prelude.{Option, ◌≡◌, ◌*◌, ◌<◌, ◌^◌, ◌||◌, not, map, length, Some, IfErr, IfOk, IsTrue};
+ghost use Rattle.std.specs.Prelude.{Option, ◌≡◌, ◌*◌, ◌<◌, ◌^◌, map, length, Some, IfErr, IfOk, IsTrue, ◌||◌};
 ghost use Rattle.std.specs.List.{list_all};
 ghost use Rattle.std.specs.Option.{ForSome, option_map};
 ghost use Rattle.pst_base.specs.Stops.{Finds};

@@ -1,5 +1,5 @@
 -- The nodes of a search leave a tree whole, but for what is said of its folder.
-use Rattle.std.proofs.Common.{◌≡◌, ℕ, ◌%◌, ◌==◌, ◌||◌, Bool, true, false, List, [], Option, Some, arith, refl, sym, subst, ap, ◌∙◌, inl, inr}
+use Rattle.std.proofs.Common.{◌≡◌, ℕ, ◌%◌, ◌==◌, Bool, true, false, List, [], Option, Some, arith, refl, sym, subst, ap, ◌∙◌, inl, inr, ◌||◌}
 use Rattle.std.proofs.lemmas.Bool.{eq-eqb, false≢true, or_right, cases_eq}
 use Rattle.std.proofs.lemmas.Option.{same_Some}
 use Rattle.mapi_values.specs.Keyed.{keys_ascend, put_key}

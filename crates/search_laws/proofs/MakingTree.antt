@@ -19,7 +19,7 @@ use Rattle.mail_tree.specs.Whole.{AreWhole, Fine, HasRow}
 use Rattle.mail_tree.proofs.FineLaws.{after_test, cases_Option, fine_then, fine_weaker}
 use Rattle.mail_tree.proofs.KindsOfPuts.{beside_kind}
 use Rattle.mail_tree.proofs.Nearly.{AreNearly, plain_id, table_of, nearly}
-use Rattle.mail_tree.proofs.Settles.{each_message, fine_settled, folders_of}
+use Rattle.mail_tree.proofs.Settles.{each_message, folders_of}
 use Rattle.mail_laws.proofs.FolderSteps.{RowsChange, added_folder, children_of, fine_named}
 use Rattle.mail_laws.proofs.FoundSteps.{kind_apart}
 use Rattle.mail_laws.proofs.MessageSteps.{Before, fine_unless_full}
@@ -77,11 +77,6 @@ module _ (T : Tree) (w : Before T) (s parent : ℕ) (q : FolderPlace) (name : Li
       let nodes = search_nodes T s parent name three in
       whole_search T.places (now_at T D) s parent q r.0.nearly_whole three found plain r.1
       (new_values parent name, r.0.others s (kind_apart s parent 13 (omega arith) (λ e. omega arith)) ∙ nodes.values, refl))
-
-  -- and so when its parent was settled
-  pub steps_whole : Fine (steps T s parent name) (λ D. AreWhole (with_place T.places s parent) (now_at T D))
-  steps_whole = fine_then _ _ (add_shown T (hierarchy parent) s (folder_props name) (with_search s parent name nothing)) (settled T (with_place T.places s parent) parent) listed_whole
-      (λ D v. fine_settled T (with_place T.places s parent) parent q D v parent_still plain)
 
 -- what holds after the steps of a new search, where an index is left, holds after `mksearch`
 pub fine_making : (T : Tree) (parent : ℕ) (name : List ℕ) (index : ℕ) (Q : Outcome → Type 0) → Before T

@@ -1,5 +1,5 @@
 -- What an object of criteria that gets other values leaves of a tree.
-use Rattle.std.proofs.Common.{◌≡◌, ◌∙◌, ℕ, ◌%◌, ◌==◌, ◌||◌, ◌&&◌, Bool, true, false, cond, List, filter, length, Option, None, Some, is_some, refl, sym, subst, ap, inl, inr, arith, if◌then◌else◌}
+use Rattle.std.proofs.Common.{◌≡◌, ◌∙◌, ℕ, ◌%◌, ◌==◌, ◌&&◌, Bool, true, false, cond, List, filter, length, Option, None, Some, is_some, refl, sym, subst, ap, inl, inr, arith, if◌then◌else◌, ◌||◌}
 use Rattle.std.specs.Cmp.{nat_cmp_total}
 use Rattle.std.specs.Ordering.{nat_cmp}
 use Rattle.std.specs.FinMap as map

@@ -1,5 +1,5 @@
 -- What a search lists, as a list and by each message.
-use Rattle.std.proofs.Common.{◌≡◌, ◌∙◌, ℕ, suc, ◌<◌, ◌≤◌, ◌==◌, ◌||◌, ◌&&◌, Bool, T, true, false, cond, List, [], ◌∷◌, filter, map, Option, None, Some, ap, sym, refl, subst, inl, inr, arith, if◌then◌else◌}
+use Rattle.std.proofs.Common.{◌≡◌, ◌∙◌, ℕ, suc, ◌<◌, ◌≤◌, ◌==◌, ◌&&◌, Bool, T, true, false, cond, List, [], ◌∷◌, filter, map, Option, None, Some, ap, sym, refl, subst, inl, inr, arith, if◌then◌else◌, ◌||◌}
 use Rattle.std.specs.Prelude.{nat_le, nat_lt}
 use Rattle.std.specs.Option.{is_some}
 use Rattle.std.proofs.lemmas.Bool.{eqb-true, eq-eqb, cases_Bool, ne_eqb, false≢true, leb-true, ltb-true, and_parts, le-leb}

@@ -1,5 +1,5 @@
 -- What follows in the lists of searches can be compared with the tree where what came before can.
-use Rattle.std.proofs.Common.{ℕ, ◌||◌, Bool, true, false, List, [], ◌∷◌, Some, IfOk, Ok, Err, inl, inr}
+use Rattle.std.proofs.Common.{ℕ, Bool, true, false, List, [], ◌∷◌, Some, IfOk, Ok, Err, inl, inr, ◌||◌}
 use Rattle.std.proofs.lemmas.Bool.{cases_Bool}
 use Rattle.mapi_values.specs.Values.{Val}
 use Rattle.command_text.specs.declared.command.Command.{Command}

@@ -1,5 +1,5 @@
 -- What the tables of searches show after a command.
-use Rattle.std.specs.Prelude.{◌≡◌, ℕ, ◌%◌, ◌||◌, ◌&&◌, ◌==◌, Bool, true, false, not, IfOk, IsSome, List, [], ◌∷◌, filter, length, Option, None, Some, if◌then◌else◌}
+use Rattle.std.specs.Prelude.{◌≡◌, ℕ, ◌%◌, ◌&&◌, ◌==◌, Bool, true, false, not, IfOk, IsSome, List, [], ◌∷◌, filter, length, Option, None, Some, if◌then◌else◌, ◌||◌}
 use Rattle.std.specs.List.{list_any}
 use Rattle.std.specs.Option.{is_some}
 use Rattle.mapi_values.specs.Keyed.{keys_ascend}

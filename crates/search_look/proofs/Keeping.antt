@@ -1,24 +1,15 @@
 -- Stops, from one call to the next.
-use Rattle.std.proofs.Common.{◌≡◌, ℕ, Bool, List, Option, None, Some, Result, Ok, Err, IfErr, arith, refl, sym, subst}
-use Rattle.std.specs.Option.{is_some}
+use Rattle.std.proofs.Common.{◌≡◌, ℕ, Bool, List, Result, Ok, Err, IfErr, arith, sym, subst}
 use Rattle.std.specs.Result.{IsErrAnd}
 use Rattle.pst_outside.specs.World.{World}
-use Rattle.node_port.specs.Nodes.{Nodes, content_of}
+use Rattle.node_port.specs.Nodes.{Nodes}
 use Rattle.node_port.specs.Stops.{Room}
 use Rattle.node_port.specs.declared.keeper.KeepStop.TheVariants as keep
-use Rattle.node_port.specs.declared.node.NodeRec.{NodeRec}
 use Rattle.tree_look.specs.Walk.{Looks}
-use Rattle.search_look.specs.Looking.{Finds, IsCalm, IsKept, IsNever, Refuses}
+use Rattle.search_look.specs.Looking.{Finds, IsKept, IsNever, Refuses}
 use Rattle.search_look.specs.declared.stops.SearchRefusal.{SearchRefusal}
 use Rattle.search_look.specs.declared.stops.SearchStop.{SearchStop}
 use Rattle.search_look.specs.declared.stops.SearchStop.TheVariants.{Refused, Kept}
-
--- a stop with which no call of the keeper has to do
-pub calm_kept : (disk : Bool) (before after : ℕ) (held : Nodes → Type 0) (e : SearchStop) → IsCalm e → IsKept disk before after held e
-calm_kept disk before after held (Refused refusal) calm = tt
-calm_kept disk before after held (Kept keep.Fault) calm = absurd calm
-calm_kept disk before after held (Kept (keep.Changed ib stored computed)) calm = absurd calm
-calm_kept disk before after held (Kept keep.Memory) calm = tt
 
 -- a stop of a call after others
 pub kept_later : {h h' : Nodes → Type 0} {l l' : List ℕ} {r r' : Room} {a b : World} (disk : Bool) (after : ℕ) (e : SearchStop) → Looks h h' l l' r r' a b → IsKept disk b.disk_faults after h' e → IsKept disk a.disk_faults after h e
@@ -40,11 +31,6 @@ finds_on P Q e (Err x) h refuses = subst (Refuses Q) (sym h) refuses
 pub refuses_as : (P Q : SearchRefusal → Type 0) (e : SearchStop) → ((refusal : SearchRefusal) → P refusal → Q refusal) → Refuses P e → Refuses Q e
 refuses_as P Q (Refused refusal) so wrong = so refusal wrong
 refuses_as P Q (Kept stop) so wrong = tt
-
--- a node is there with its content
-pub content_there : (node : Option NodeRec) → is_some (content_of node) ≡ is_some node
-content_there None = refl
-content_there (Some node) = refl
 
 -- a call that refuses nothing stopped
 pub never_on : {A : Type 0} (P : A → Type 0) (Q : SearchRefusal → Type 0) (e : SearchStop) (result : Result A SearchStop) → IsErrAnd result (λ x. x ≡ e) → Refuses IsNever e → Finds P Q result

@@ -105,21 +105,6 @@ all_parts N places own searches part = record {
 left_after : (p : FolderPlace) (rest : List FolderPlace) (g : ℕ) → (g ≡ p.nid.bits → ⊥) → IsSome (find_place g (p ∷ rest)) → IsSome (find_place g rest)
 left_after p rest g other left = elim (cases_Bool (p.nid.bits == g)) [ inl t ↦ absurd (other (sym (eqb-true p.nid.bits g t))) | inr t ↦ rw t at left ]
 
--- a folder that is no search of the store's own
-pub pass_part : (N : Nodes) (places rest : List FolderPlace) (p : FolderPlace) (own : List ℕ) (searches : List Search) → (IsSearchIn places p.nid.bits → IsOwnIn N p.nid.bits → ⊥) → ArePart N places (p ∷ rest) own searches → ArePart N places rest own searches
-pass_part N places rest p own searches foreign part = record {
-  own_ascend = part.own_ascend;
-  ascend = part.ascend;
-  among = part.among;
-  are_own = part.are_own;
-  all = λ g is own'. ⊎_elim inl (λ left. elim (cases_eq g p.nid.bits) [
-    | inl same ↦ absurd (foreign (subst (IsSearchIn places) same is) (subst (IsOwnIn N) same own'))
-    | inr other ↦ inr (left_after p rest g other left)
-  ]) (part.all g is own');
-  criteria = part.criteria;
-  tables = part.tables;
-}
-
 -- one that is
 put_part : (N : Nodes) (places rest : List FolderPlace) (p : FolderPlace) (own : List ℕ) (searches : List Search) (k : Crit) → IsSearchIn places p.nid.bits → FoundAt N places p.nid.bits (Some k) → ArePart N places (p ∷ rest) own searches
     → ArePart N places rest (with_id p.nid.bits own) (with_set p.nid.bits k.set searches)

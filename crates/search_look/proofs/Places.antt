@@ -70,25 +70,3 @@ list_fault N places flags folder nid list k asked (refusals.Stale f) known searc
       own_in N folder.bits list k at told,
       (is.1.0, (list, at, is.1.1), ⊎_elim (λ u. inl (has_stray N places flags is.1.0 known u)) (λ u. inr ((told.0, k, told.1, told.2, unasked k.set (sym asks ∙ u.0)), u.1)) is.1.2),
     )
-
--- what is wrong with its criteria object
-pub criteria_fault : (N : Nodes) (places : List FolderPlace) (f : ℕ) (refusal : SearchRefusal) → IsSearchIn places f → IsSome (node_at N (results f)) → LacksCriteriaAt N f refusal → HasSearchFault N places refusal
-criteria_fault N places f (refusals.Node q fault) search there is = absurd is.4
-criteria_fault N places f (refusals.Criteria q) search there is =
-    let lacks = is.4.1 in
-    let q_is : q.bits ≡ criteria_node f = ap (λ (n : Nid). n.bits) is.4.0 ∙ is.2 in
-    (f, search, (there, (is.1, lacks.0, is.3, lacks.1, lacks.2)), q_is, (lacks.0, (is.1, ap (node_at N) q_is ∙ is.3, lacks.1), lacks.3))
-criteria_fault N places f (refusals.Stale g) search there is = absurd is.4
-
--- a folder whose list isn't there is none of the store's own
-pub no_list : (N : Nodes) (f : ℕ) → node_at N (results f) ≡ None → IsOwnIn N f → ⊥
-no_list N f none own = not_some (node_at N (results f)) none own.0
-
--- nor is one whose criteria object tells nothing
-pub not_told : (N : Nodes) (f : ℕ) → TellsOwnAt N f None → IsOwnIn N f → ⊥
-not_told N f told own = told own.1.0 own.1.2 (own.1.1, own.1.3, own.1.4)
-
--- what a node tells is told at its id
-pub tells_at : (N : Nodes) (f : ℕ) (node : NodeRec) (told : Option Crit) → node_at N (criteria_node f) ≡ Some node → TellsOwn node told → TellsOwnAt N f told
-tells_at N f node None at tells = λ other is mark. tells (subst HasMark (same_Some other node (sym is ∙ at)) mark)
-tells_at N f node (Some k) at tells = (tells.0, (node, at, tells.1), tells.2)

@@ -1,5 +1,5 @@
 //! The look at the search folders of a tree.
-ghost use Rattle.std.specs.Prelude.{◌≡◌, ◌%◌, ◌<◌, ℕ, List, ◌∷◌, IfErr, IsSome, OnOk};
+ghost use Rattle.std.specs.Prelude.{◌≡◌, ◌%◌, ◌<◌, List, ◌∷◌, IfErr, IsSome, OnOk};
 ghost use Rattle.std.specs.Option.{is_some};
 ghost use Rattle.pst_base.specs.Ids.{index_of, nid_of};
 ghost use Rattle.mapi_values.specs.Keyed.{put_key};

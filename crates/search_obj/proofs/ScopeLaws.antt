@@ -1,5 +1,5 @@
 -- Sets of folders, and which of them are in a scope.
-use Rattle.std.proofs.Common.{◌≡◌, ℕ, suc, ◌<◌, ◌==◌, ◌&&◌, ◌||◌, Bool, true, false, List, [], ◌∷◌, ◌++◌, length, map, take, reverse, get_or, refl, sym, ap, subst, ◌∙◌, inl, inr}
+use Rattle.std.proofs.Common.{◌≡◌, ℕ, suc, ◌<◌, ◌==◌, ◌&&◌, Bool, true, false, List, [], ◌∷◌, ◌++◌, length, map, take, reverse, get_or, refl, sym, ap, subst, ◌∙◌, inl, inr, ◌||◌}
 use Rattle.std.specs.Prelude.{not}
 use Rattle.std.specs.List.{list_any}
 use Rattle.std.specs.Option.{is_some}
@@ -20,10 +20,6 @@ member_put m ms f =
       | inl t ↦ rw t (ap is_some (find_put_same member_id f m ms (eqb-true (member_id m) f t)))
       | inr n ↦ rw n (ap is_some (find_put_other member_id f m ms (λ e. true≢false (sym (eq-eqb (member_id m) f e) ∙ n))))
     ]
-
-or_false : (b : Bool) → (b || false) ≡ b
-or_false true = refl
-or_false false = refl
 
 or_swap : (a b : Bool) → (a || b) ≡ (b || a)
 or_swap true true = refl

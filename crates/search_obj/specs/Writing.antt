@@ -1,5 +1,5 @@
 -- The values of a criteria object with its criteria.
-use Rattle.std.specs.Prelude.{ℕ, ◌^◌, ◌==◌, ◌||◌, Bool, true, nat_lt, List, Option, None, Some}
+use Rattle.std.specs.Prelude.{ℕ, ◌^◌, ◌==◌, Bool, true, nat_lt, List, Option, None, Some, ◌||◌}
 use Rattle.std.specs.List.{flat_map, list_all}
 use Rattle.byteorder.specs.Endian.{little_bytes}
 use Rattle.mapi_values.specs.Properties.{put, remove_id}

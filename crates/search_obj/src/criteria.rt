@@ -1,10 +1,8 @@
 //! The criteria of a search.
-ghost use Rattle.std.specs.Prelude.{◌≡◌, IfOk};
 
 use crate::flags::SearchFlags;
 use pst_base::Nid;
 use restr_codec::Restriction;
-use std::alloc::{AllocError, Global};
 use std::marker::Model;
 
 /// Which form the criteria object of a search has.

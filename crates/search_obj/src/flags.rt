@@ -1,5 +1,5 @@
 //! The flags of a search ([MS-OXCFOLD] 2.2.1.4.1).
-ghost use Rattle.std.specs.Prelude.{◌≡◌, ◌<◌, ◌^◌};
+ghost use Rattle.std.specs.Prelude.{◌≡◌, ◌<◌};
 ghost use Rattle.search_obj.specs.Flags.{are_allowed, flags_in, flags_of, has_bit, number_of_flags, one_if, state_of};
 
 /// How a search is done. The flags of indices are kept and change nothing.

@@ -1,5 +1,5 @@
 //! What follows of the definitions on searches.
-ghost use Rattle.std.specs.Prelude.{◌≡◌, ◌&&◌, ◌||◌, ℕ, List, Some, false, true};
+ghost use Rattle.std.specs.Prelude.{◌≡◌, ◌&&◌, ℕ, List, Some, false, true, ◌||◌};
 ghost use Rattle.mapi_values.specs.Values.{Val};
 ghost use Rattle.search_obj.specs.declared.flags.SearchFlags.{SearchFlags};
 ghost use Rattle.search_obj.specs.Flags.{are_allowed, flags_of, number_of_flags};

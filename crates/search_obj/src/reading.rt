@@ -4,12 +4,11 @@ ghost use Rattle.std.specs.Option.{option_map};
 ghost use Rattle.restr_codec.specs.Spelling.{has_spelling, spelling};
 ghost use Rattle.pst_base.specs.Stops.{Finds};
 ghost use Rattle.search_obj.specs.Crits.{CritSet, IsSound, IsSoundSet, suits};
-ghost use Rattle.search_obj.specs.Flags.{are_allowed};
 ghost use Rattle.search_obj.specs.Objects.{SaysIfSet, SaysSet, bytes_at, number_in, search_restriction};
 ghost use Rattle.search_obj.specs.Found.{StopsAtFault, Tells, builds_found, crit_found, flags_found, restriction_found, scope_found, set_found, version_found, version_marked};
 
 use crate::criteria::{Criteria, CriteriaSet, Version};
-use crate::flags::{SearchFlags, SearchState};
+use crate::flags::SearchFlags;
 use crate::values::{
     FIRST_MARK, SEARCH_BUILDS, SEARCH_FLAGS, SEARCH_MARK, SEARCH_RESTRICTION, SEARCH_SCOPE,
     SECOND_MARK, bytes_at, lacks, lacks_criteria, number_with,

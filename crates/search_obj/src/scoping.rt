@@ -1,5 +1,5 @@
 //! The folders that a search is about.
-ghost use Rattle.std.specs.Prelude.{◌≡◌, ◌&&◌, ◌||◌, ℕ, IfOk, IsTrue, map};
+ghost use Rattle.std.specs.Prelude.{◌≡◌, ◌&&◌, ℕ, IfOk, IsTrue, map, ◌||◌};
 ghost use Rattle.mapi_values.specs.Keyed.{keys_ascend};
 ghost use Rattle.search_obj.specs.Scope.{ids_of_pair, in_scope, is_among, is_member, member_id};
 

@@ -1,6 +1,6 @@
 //! The values of a criteria object.
-ghost use Rattle.std.specs.Prelude.{◌≡◌, ◌<◌, ◌^◌, IfSome, IsTrue, length, option_copied};
-ghost use Rattle.mapi_values.specs.Values.{Val, fits};
+ghost use Rattle.std.specs.Prelude.{◌≡◌, ◌<◌, IfSome, IsTrue, length, option_copied};
+ghost use Rattle.mapi_values.specs.Values.{fits};
 ghost use Rattle.search_obj.specs.Objects.{bytes_at, lacks, lacks_criteria, mark, number_with};
 
 use crate::criteria::Version;

@@ -1,5 +1,5 @@
 //! Writing criteria.
-ghost use Rattle.std.specs.Prelude.{◌≡◌, ◌<◌, ◌^◌, IfOk, IsTrue, OnOk, Some, ℕ, false, length, map};
+ghost use Rattle.std.specs.Prelude.{◌≡◌, ◌<◌, IfOk, IsTrue, OnOk, Some, ℕ, false, length, map};
 ghost use Rattle.std.specs.List.{list_all};
 ghost use Rattle.mapi_values.specs.Properties.{find, put};
 ghost use Rattle.mapi_values.specs.Values.{fits};

@@ -1,5 +1,5 @@
 -- Searches that are settled leave the tree in order.
-use Rattle.std.proofs.Common.{◌≡◌, ℕ, ◌%◌, ◌||◌, Bool, true, false, List, [], ◌∷◌, Some, IsSome, IfOk, Ok, Err, None, subst, sym, ◌∙◌, inl, inr, arith, refl, if◌then◌else◌}
+use Rattle.std.proofs.Common.{◌≡◌, ℕ, ◌%◌, Bool, true, false, List, [], ◌∷◌, Some, IsSome, IfOk, Ok, Err, None, subst, sym, ◌∙◌, inl, inr, arith, refl, if◌then◌else◌, ◌||◌}
 use Rattle.std.proofs.lemmas.Bool.{cases_Bool}
 use Rattle.mapi_values.specs.Keyed.{keys_ascend}
 use Rattle.mapi_values.specs.Tables.{drop_row}

@@ -1,5 +1,5 @@
 -- What a node tells of the message that it is, and what was put there.
-use Rattle.std.proofs.Common.{◌≡◌, ◌∙◌, ℕ, ◌||◌, ◌&&◌, not, Bool, true, false, [], Option, None, Some, Result, Ok, Err, refl, sym, ap, if◌then◌else◌}
+use Rattle.std.proofs.Common.{◌≡◌, ◌∙◌, ℕ, ◌&&◌, not, Bool, true, false, [], Option, None, Some, Result, Ok, Err, refl, sym, ap, if◌then◌else◌, ◌||◌}
 use Rattle.std.specs.Option.{is_some, is_none}
 use Rattle.std.specs.FinMap as map
 use Rattle.mapi_values.specs.Messages.{Mes}

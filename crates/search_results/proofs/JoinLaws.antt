@@ -44,11 +44,6 @@ module _ {A B D : Type 0} (view : D → List B) (f : A → Answer (List B)) wher
       → Says {A = List B} {B = List B} (λ b. b) (f (get_or xs i d)) (Err stop) → Says view (joined f (drop i xs) >>= λ more. Ok (out ++ more)) (Err stop)
   joined_stops xs i d out stop h first = rw (drop-cons xs i d) (stop_says view view _ _ stop (stop_says (λ b. b) view (f (get_or xs i d)) _ stop first))
 
--- nothing is joined yet
-pub joined_none : {B D : Type 0} (view : D → List B) (answer : Answer (List B)) (result : Result D Stop) → Says view (answer >>= λ more. Ok ([] ++ more)) result → Says view answer result
-joined_none view (Ok more) result h = h
-joined_none view (Err e) result h = h
-
 -- all is joined
 pub joined_all : {A B D : Type 0} (view : D → List B) (f : A → Answer (List B)) (xs : List A) (i : ℕ) (out : D) → length xs ≤ i → Says view (joined f (drop i xs) >>= λ more. Ok (view out ++ more)) (Ok out)
 joined_all view f xs i out past = rw (drop_all i xs past) (sym (append-nil (view out)))

@@ -6,7 +6,7 @@ ghost use Rattle.mail_tree.specs.Step.{outcome as outcome_in_tree};
 ghost use Rattle.mail_tree.specs.Tree.{Shown, Tree};
 ghost use Rattle.mail_draft.specs.Answers.{IsCaused, Looks, Says};
 ghost use Rattle.mail_draft.specs.Outcomes.{outcome_of, places_after};
-ghost use Rattle.mail_searches.specs.Asking.{places_around, work_of};
+ghost use Rattle.mail_searches.specs.Asking.{work_of};
 ghost use Rattle.mail_searches.specs.Relisting.{Touch, around};
 ghost use Rattle.mail_searches.specs.Step.{concluded, if_within};
 ghost use Rattle.mail_searches.specs.Touching.{touched};

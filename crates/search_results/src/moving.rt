@@ -1,5 +1,5 @@
 //! The messages within a folder that moves.
-ghost use Rattle.std.specs.Prelude.{◌≡◌, IfErr, IfOk};
+ghost use Rattle.std.specs.Prelude.{◌≡◌, IfErr};
 ghost use Rattle.mail_tree.specs.Places.{is_plain};
 ghost use Rattle.mail_tree.specs.Tree.{Shown, Tree};
 ghost use Rattle.mail_draft.specs.Answers.{IsCaused, Looks, Says};

@@ -1,5 +1,5 @@
 //! The rows of a search's list after messages were touched.
-ghost use Rattle.std.specs.Prelude.{◌≡◌, length, IfOk, OnOk};
+ghost use Rattle.std.specs.Prelude.{◌≡◌, IfOk, OnOk};
 ghost use Rattle.std.specs.List.{list_any};
 ghost use Rattle.mail_searches.specs.Relisting.{by_delta, is_gone, props_of, takes_row};
 ghost use Rattle.search_results.specs.Following.{drop_gone, relisted_by, with_list, without_gone};
@@ -9,7 +9,6 @@ use live_search::Delta;
 use mail_objects::TableNode;
 use mail_searches::relist;
 use mapi_values::{Props, Table, drop_row};
-use pst_base::Nid;
 use std::alloc::{AllocError, Global};
 
 /// Whether a message is there no more.

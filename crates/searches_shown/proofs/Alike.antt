@@ -1,5 +1,5 @@
 -- Trees that differ at the ids of nodes of searches alone.
-use Rattle.std.proofs.Common.{◌≡◌, inl, inr, ◌∙◌, ℕ, ◌%◌, ◌==◌, ◌||◌, Bool, true, false, List, Option, None, Some, IsSome, is_some, arith, refl, sym, subst, ap}
+use Rattle.std.proofs.Common.{◌≡◌, inl, inr, ◌∙◌, ℕ, ◌%◌, ◌==◌, Bool, true, false, List, Option, None, Some, IsSome, is_some, arith, refl, sym, subst, ap, ◌||◌}
 use Rattle.std.proofs.lemmas.Bool.{false≢true}
 use Rattle.mapi_values.specs.Keyed.{keys_ascend}
 use Rattle.mail_objects.specs.Forms.{Tbl}

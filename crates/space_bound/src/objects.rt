@@ -1,5 +1,5 @@
 //! The room for objects.
-ghost use Rattle.std.specs.Prelude.{◌≡◌, ◌+◌, ◌^◌, ◌≤◌, length, min};
+ghost use Rattle.std.specs.Prelude.{◌≡◌, ◌^◌, min};
 ghost use Rattle.space_bound.specs.Space.{message_space, option_space, parts_space, props_space, table_space};
 
 use crate::sums::{add, kept_space};

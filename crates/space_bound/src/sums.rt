@@ -1,5 +1,5 @@
 //! Sums that end at 2^60.
-ghost use Rattle.std.specs.Prelude.{◌≡◌, ◌+◌, ◌^◌, ◌≤◌, length, min};
+ghost use Rattle.std.specs.Prelude.{◌≡◌, ◌+◌, ◌^◌, ◌≤◌, min};
 ghost use Rattle.space_bound.specs.Space.{kept_space};
 
 use pst_base::Subs;

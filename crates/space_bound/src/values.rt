@@ -1,5 +1,5 @@
 //! The bytes and the blocks of values.
-ghost use Rattle.std.specs.Prelude.{ℕ, ◌≡◌, ◌+◌, ◌/◌, ◌^◌, ◌≤◌, length, min};
+ghost use Rattle.std.specs.Prelude.{ℕ, ◌≡◌, ◌+◌, ◌/◌, ◌^◌, ◌≤◌, min};
 ghost use Rattle.space_bound.specs.Space.{cells_blocks, long_blocks, rows_space, short_bytes, values_blocks, values_bytes};
 
 use crate::sums::add;

@@ -1,8 +1,8 @@
 -- What carrying out a command comes to.
-use Rattle.std.proofs.Common.{◌≡◌, ◌⊎◌, inl, inr, ◌∙◌, ℕ, ◌≤◌, Bool, false, List, Option, None, Some, Result, Ok, Err, IfErr, refl, sym, subst, ap, arith}
+use Rattle.std.proofs.Common.{◌≡◌, ◌⊎◌, inl, inr, ◌∙◌, ℕ, ◌≤◌, Bool, false, List, Option, None, Some, Result, Ok, Err, refl, sym, subst, ap, arith}
 use Rattle.std.specs.FinMap as map
 use Rattle.pst_outside.specs.World.{Image, SameDisk, World}
-use Rattle.pst_outside.specs.Calls.{LeavesOnly, NeverFall, Rose, Settled, Untouched}
+use Rattle.pst_outside.specs.Calls.{LeavesOnly, Rose, Settled, Untouched}
 use Rattle.pst_outside.proofs.Moments.{continues, quiet, started, stays_settled, weaker}
 use Rattle.command_text.specs.declared.command.Command.{Command}
 use Rattle.command_text.specs.declared.command.Command.TheVariants.{Save}
@@ -12,10 +12,9 @@ use Rattle.command_text.specs.declared.reply.Reply.{Reply}
 use Rattle.command_text.specs.Replies.{last_text, last_words, text}
 use Rattle.line_server.specs.declared.spoken.Spoken.{Spoken}
 use Rattle.line_server.specs.Spoken.{no_memory_text, spoken_text}
-use Rattle.line_server.specs.Worlds.{Quiet}
 use Rattle.node_port.specs.Nodes.{Nodes}
 use Rattle.node_port.specs.Stops.{Room}
-use Rattle.mail_draft.specs.Answers.{Looks, IsCaused as IsCausedStop}
+use Rattle.mail_draft.specs.Answers.{Looks}
 use Rattle.mail_draft.specs.declared.stop.Stop.{Stop}
 use Rattle.mail_draft.specs.declared.stop.Stop.TheVariants as stops
 use Rattle.mail_store.specs.Planning.{Alters, ChangesNodes, SameKnown, StandsFor}
@@ -33,7 +32,7 @@ use Rattle.search_folders.specs.Comings.{KnowsSearches}
 use Rattle.search_order.specs.Order.{InOrder}
 use Rattle.search_laws.proofs.Joining.{stays_in_order}
 use Rattle.search_store.specs.Planning.{PlansComing}
-use Rattle.store_session.specs.Carrying.{CarriesOut, ComesTo, Has, IsCaused, Leaves, StandsOrdered}
+use Rattle.store_session.specs.Carrying.{CarriesOut, ComesTo, Has, Leaves, StandsOrdered}
 use Rattle.store_session.specs.Disks.{Commits, Effects, Moves, is_save}
 use Rattle.store_session.specs.Run.{CommandAnswers, Suffices, refused}
 use Rattle.store_session.specs.declared.carrying.StoreStop.{StoreStop}
@@ -142,12 +141,6 @@ module _ (room : Room) (tidy : Bool) (X : Searching) (c : Command) (order : InOr
   pub made_order : (o : Coming) → outcome X c ≡ Ok o → InOrder tidy (after X o)
   made_order o e = subst (λ x. Fine x (λ p. InOrder tidy (after X p))) e (stays_in_order tidy X c order)
 
--- the cause of a plan's stop
-pub stop_caused : (disk : Bool) (v w : World) (stop : Stop) (result : Result Spoken StoreStop) → ComesTo stop result → IsCausedStop disk v.disk_faults w.disk_faults stop → IfErr result (IsCaused disk v w)
-stop_caused disk v w stop (Ok spoken) is cause = tt
-stop_caused disk v w stop (Err Disk) is cause = subst (IsCausedStop disk v.disk_faults w.disk_faults) is cause
-stop_caused disk v w stop (Err (Changed ib stored computed)) is cause = tt
-
 -- the trees for which a disk stands are in order where both are
 ordered : (tidy : Bool) (stands : Image → Nodes → List ℕ → Type 0) (X Y : Searching) (c : Image) → InOrder tidy X → InOrder tidy Y → StandsFor (stands c) X.tree ⊎ StandsFor (stands c) Y.tree → StandsOrdered tidy stands c X ⊎ StandsOrdered tidy stands c Y
 ordered tidy stands X Y c x y (inl is) = inl (is, x)
@@ -166,22 +159,6 @@ save_leaves tidy stands {old} {new} X order leaves =
 
 pub rose_later : (a b c : ℕ) → a ≤ b → Rose b c → Rose a c
 rose_later a b c le rose = omega (arith, le, rose)
-
--- what only looks is quiet
-pub quiet_look : {v w : World} → Untouched v w → Quiet v w
-quiet_look same = record { counts = same.counts; told = same.stays.told; input = same.stays.input }
-
--- and so is what changes the disk behind it
-pub quiet_then : {v m w : World} → Untouched v m → NeverFall m w → (w.tells → m.tells) → (w.tells → w.input ≡ m.input) → Quiet v w
-quiet_then same counts told input = record {
-  counts = record { in_faults = omega (arith, same.counts.in_faults, counts.in_faults); out_faults = omega (arith, same.counts.out_faults, counts.out_faults); disk_faults = omega (arith, same.counts.disk_faults, counts.disk_faults) };
-  told = λ t. same.stays.told (told t);
-  input = λ t. input t ∙ same.stays.input (told t);
-}
-
--- where nothing is done
-pub quiet_here : (v : World) → Quiet v v
-quiet_here v = record { counts = record { in_faults = omega arith; out_faults = omega arith; disk_faults = omega arith }; told = λ t. t; input = λ t. refl }
 
 -- a command that writes nothing needs no room
 quiet_suffices : (room : Room) (X : Searching) (o : Coming) → outcome X Save ≡ Ok o → o.outcome.changed.objects ≡ map.empty → Suffices room X Save

@@ -1,13 +1,12 @@
 -- What a stop within turns leaves.
 use Rattle.std.proofs.Common.{◌≡◌, ◌∙◌, ◌⊎◌, inl, inr, ℕ, suc, ◌+◌, List, [], ◌∷◌, ◌++◌, length, take, refl, sym, ap, subst, arith, append_assoc}
 use Rattle.std.proofs.lemmas.List.{append-nil, take_at}
-use Rattle.std.specs.List.{concat}
 use Rattle.pst_outside.specs.World.{Image, SameDisk, World}
 use Rattle.pst_outside.specs.Calls.{LeavesOnly, SaysSome, Settled}
 use Rattle.pst_outside.proofs.Moments.{continues, says_settled, weaker}
 use Rattle.mail_searches.specs.Searching.{Searching}
 use Rattle.store_session.specs.Carrying.{Leaves}
-use Rattle.store_session.specs.Turns.{IsReached, StoreTurn, replies_of, texts, tree_after}
+use Rattle.store_session.specs.Turns.{IsReached, StoreTurn, texts, tree_after}
 
 pub texts_more : (turns more : List StoreTurn) → texts (turns ++ more) ≡ texts turns ++ texts more
 texts_more [] more = refl
@@ -101,8 +100,3 @@ reached_then stands first start turns turn {old} {mid} {new} run said step =
       said = is.said ∙ (ap (λ s. s ++ take is.count (texts is.done)) (said told) ∙ (append_assoc first (texts turns) (take is.count (texts is.done))
           ∙ ap (λ l. first ++ l) (sym (ap (take (length (texts turns) + is.count)) (texts_more turns is.done) ∙ take_over (texts turns) (texts is.done) is.count))));
     })
-
--- the replies as one text
-pub texts_concat : (turns : List StoreTurn) → texts turns ≡ concat (replies_of turns)
-texts_concat [] = refl
-texts_concat (t ∷ ts) = ap (λ l. t.said ++ l) (texts_concat ts)

@@ -1,6 +1,5 @@
 -- The ids of the data blocks of subnodes, at one subnode more.
-use Rattle.std.proofs.Common.{◌≡◌, ℕ, ◌+◌, ◌<◌, ◌≤◌, List, [], ◌∷◌, length, drop, get_or, Option, Result, Ok, Err, ap, ◌∙◌}
-use Rattle.std.proofs.lemmas.List.{drop_all}
+use Rattle.std.proofs.Common.{◌≡◌, ℕ, ◌+◌, ◌<◌, List, [], ◌∷◌, length, drop, get_or, Option, Result, Ok, Err, ap, ◌∙◌}
 use Rattle.pst_base.specs.declared.ids.Bid.{Bid}
 use Rattle.data_tree.specs.declared.source.TreeStop.{TreeStop}
 use Rattle.data_tree.specs.Tree.{and_then}
@@ -27,6 +26,3 @@ bids-next find es here i d h e = bids-is find es i d h ∙ ap (after_entry find 
 pub bids-stop : (find : Finder) (es : List SubEntry) (i : ℕ) (d : SubEntry) (fault : TreeStop) → i < length es → entry_bids find (get_or es i d) ≡ Err fault → bids_each find (drop i es) ≡ Err fault
 unfolding after_entry
 bids-stop find es i d fault h e = bids-is find es i d h ∙ ap (after_entry find (drop (i + 1) es)) e
-
-pub bids-end : (find : Finder) (es : List SubEntry) (i : ℕ) → length es ≤ i → bids_each find (drop i es) ≡ Ok []
-bids-end find es i h = ap (bids_each find) (drop_all i es h)

@@ -129,11 +129,6 @@ pub all-may : (low next : ℕ) (keep : Keep) → low ≤ next → Each (MayKeep 
 all-may low next [] h may = tt
 all-may low next (own ∷ keep) h may = (may-above low next own h may.0, all-may low next keep h may.1)
 
--- the first of some
-pub first-at : (rest front : Keep) (d : List (Option Bid)) → 1 ≤ length rest → front ≡ take 1 rest → get_or front 0 d ≡ first_list rest
-first-at [] front d some is = absurd (omega arith)
-first-at (own ∷ rest) front d some is = ap (λ (l : Keep). get_or l 0 d) is
-
 pub first-may : (next : ℕ) (rest : Keep) → Each (MayKeep next) rest → MayKeep next (first_list rest)
 first-may next [] may = tt
 first-may next (own ∷ rest) may = may.0

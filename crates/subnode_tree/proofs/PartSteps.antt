@@ -1,10 +1,8 @@
 -- The reading of the blocks that a block of level 1 lists, at one more.
-use Rattle.std.proofs.Common.{◌≡◌, ℕ, ◌+◌, ◌<◌, ◌≤◌, List, [], ◌++◌, length, drop, get_or, Option, Result, Ok, Err, ap, ◌∙◌}
-use Rattle.std.proofs.lemmas.List.{drop_all}
+use Rattle.std.proofs.Common.{◌≡◌, ℕ, ◌+◌, ◌<◌, List, ◌++◌, length, drop, get_or, Option, Result, Ok, Err, ap, ◌∙◌}
 use Rattle.data_tree.specs.declared.source.TreeStop.{TreeStop}
 use Rattle.data_tree.specs.Tree.{and_then}
 use Rattle.data_tree.proofs.ListingLaws.{drop-here}
-use Rattle.data_tree.proofs.Steps.{before}
 use Rattle.subnode_tree.specs.declared.blocks.SubEntry.{SubEntry}
 use Rattle.subnode_tree.specs.declared.blocks.Listed.{Listed}
 use Rattle.subnode_tree.specs.Subnodes.{part_of, parts_of}
@@ -20,15 +18,7 @@ parts-is : (find : Finder) (level : ℕ) (all : List Listed) (i : ℕ) (d : List
 unfolding after_part
 parts-is find level all i d h = ap (parts_of find level) (drop-here all i d h)
 
-pub parts-next : (find : Finder) (level : ℕ) (all : List Listed) (here : List SubEntry) (i : ℕ) (d : Listed) → i < length all → part_of find level (get_or all i d) ≡ Ok here
-    → parts_of find level (drop i all) ≡ before here (parts_of find level (drop (i + 1) all))
-unfolding after_part
-parts-next find level all here i d h e = parts-is find level all i d h ∙ ap (after_part find level (drop (i + 1) all)) e
-
 pub parts-stop : (find : Finder) (level : ℕ) (all : List Listed) (i : ℕ) (d : Listed) (fault : TreeStop) → i < length all → part_of find level (get_or all i d) ≡ Err fault
     → parts_of find level (drop i all) ≡ Err fault
 unfolding after_part
 parts-stop find level all i d fault h e = parts-is find level all i d h ∙ ap (after_part find level (drop (i + 1) all)) e
-
-pub parts-end : (find : Finder) (level : ℕ) (all : List Listed) (i : ℕ) → length all ≤ i → parts_of find level (drop i all) ≡ Ok []
-parts-end find level all i h = ap (parts_of find level) (drop_all i all h)

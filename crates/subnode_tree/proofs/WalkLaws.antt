@@ -1,7 +1,6 @@
 -- The walk of all subnodes gives all keys that they reach.
-use Rattle.std.proofs.Common.{false, ◌≡◌, ◌∙◌, ℕ, zero, suc, ◌+◌, ◌-◌, ◌/◌, ◌<◌, ◌≤◌, inl, inr, eqb, List, [], ◌∷◌, ◌++◌, length, drop, get_or, map, Option, Some, None, Result, Ok, Err, refl, sym, ap, subst, append_assoc, append-nil}
+use Rattle.std.proofs.Common.{false, ◌≡◌, ◌∙◌, ℕ, zero, suc, ◌+◌, ◌-◌, ◌/◌, ◌<◌, inl, inr, eqb, List, [], ◌∷◌, ◌++◌, length, drop, get_or, map, Option, Some, None, Result, Ok, Err, refl, sym, ap, subst, append_assoc, append-nil}
 use Rattle.std.proofs.lemmas.Bool.{cases_Bool, cases_eq, ne_eqb}
-use Rattle.std.proofs.lemmas.List.{drop_all}
 use Rattle.pst_base.specs.declared.ids.Bid.{Bid}
 use Rattle.pst_base.specs.Ids.{key_of}
 use Rattle.data_tree.specs.declared.source.TreeStop.{TreeStop}
@@ -202,6 +201,3 @@ keys-next find es here i d h e = ap (entries_keys_read find) (drop-here es i d h
 pub keys-stop : (find : ℕ → Option (List ℕ)) (es : List SubEntry) (i : ℕ) (d : SubEntry) (fault : TreeStop) → i < length es → entry_keys_read find (get_or es i d) ≡ Err fault → entries_keys_read find (drop i es) ≡ Err fault
 unfolding after_keys
 keys-stop find es i d fault h e = ap (entries_keys_read find) (drop-here es i d h) ∙ ap (after_keys find (drop (i + 1) es)) e
-
-pub keys-end : (find : ℕ → Option (List ℕ)) (es : List SubEntry) (i : ℕ) → length es ≤ i → entries_keys_read find (drop i es) ≡ Ok []
-keys-end find es i h = ap (entries_keys_read find) (drop_all i es h)

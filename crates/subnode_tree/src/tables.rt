@@ -1,6 +1,6 @@
 //! The blocks that are to list subnodes ([MS-PST] 2.2.2.8.3.3.1 and 2.2.2.8.3.3.2).
-ghost use Rattle.std.specs.Prelude.{◌≡◌, ◌≤◌, ◌+◌, ◌*◌, ◌^◌, length, map, IfOk};
-ghost use Rattle.data_tree.specs.Plan.{cut, numbered};
+ghost use Rattle.std.specs.Prelude.{◌≡◌, ◌≤◌, ◌+◌, ◌*◌, ◌^◌, length, IfOk};
+ghost use Rattle.data_tree.specs.Plan.{cut};
 ghost use Rattle.subnode_tree.specs.Tables.{Fits, inner, leaf, leaves, listed_as, tables, top};
 
 use crate::blocks::Listed;

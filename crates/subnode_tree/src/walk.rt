@@ -1,5 +1,5 @@
 //! The subnodes of a node at all levels.
-ghost use Rattle.std.specs.Prelude.{◌≡◌, ◌≤◌, length, IfOk};
+ghost use Rattle.std.specs.Prelude.{◌≤◌, length, IfOk};
 ghost use Rattle.data_tree.specs.Source.{Later};
 ghost use Rattle.data_tree.specs.Stops.{Reads};
 ghost use Rattle.subnode_tree.specs.Subnodes.{tree_from, tree_of};

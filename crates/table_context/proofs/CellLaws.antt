@@ -151,10 +151,6 @@ columns-have all before (c ∷ cs) e =
       | inr f ↦ rw f (has-there bs c cs)
     ]
 
-all-true : (columns : List Column) → list_all (λ (c : Column). true) columns ≡ true
-all-true [] = refl
-all-true (c ∷ cs) = all-true cs
-
 all-both : (p q : Column → Bool) (columns : List Column) → list_all p columns ≡ true → list_all q columns ≡ true → list_all (λ (c : Column). p c && q c) columns ≡ true
 all-both p q [] a b = refl
 all-both p q (c ∷ cs) a b =

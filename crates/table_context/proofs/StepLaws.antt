@@ -1,8 +1,6 @@
 -- Lists that are found one by one.
-use Rattle.std.proofs.Common.{◌≡◌, ◌∙◌, List, [], ◌∷◌, ◌++◌, Option, Some, None, refl, sym, ap, append_assoc}
-use Rattle.std.proofs.lemmas.List.{append-nil}
+use Rattle.std.proofs.Common.{◌≡◌, List, [], ◌∷◌, ◌++◌, Option, Some, None, refl, ap, append_assoc}
 use Rattle.std.specs.Option.{option_and_then}
-use Rattle.bth_tree.proofs.OptionLaws.{none-some}
 
 -- what was found so far, and what a reading finds
 abbrev pub before : {X : Type 0} → List X → Option (List X) → Option (List X)
@@ -12,17 +10,6 @@ before out o = option_and_then (λ more. Some (out ++ more)) o
 abbrev pub first : {X : Type 0} → X → Option (List X) → Option (List X)
 first x o = option_and_then (λ xs. Some (x ∷ xs)) o
 
-pub before-none : {X : Type 0} (out : List X) (o : Option (List X)) → before out o ≡ None → o ≡ None
-before-none out None h = refl
-before-none out (Some more) h = absurd (none-some (out ++ more) (sym h))
-
-pub before-nil : {X : Type 0} (o : Option (List X)) → before [] o ≡ o
-before-nil None = refl
-before-nil (Some more) = refl
-
 pub before-step : {X : Type 0} (out : List X) (x : X) (o : Option (List X)) → before (out ++ x ∷ []) o ≡ before out (first x o)
 before-step out x None = refl
 before-step out x (Some more) = ap Some (append_assoc out (x ∷ []) more)
-
-pub before-done : {X : Type 0} (out : List X) (o : Option (List X)) → before out (Some []) ≡ o → o ≡ Some out
-before-done out o h = sym h ∙ ap Some (append-nil out)

@@ -1,12 +1,11 @@
 //! The values in the cells of a row.
-ghost use Rattle.std.specs.Prelude.{◌≡◌, ◌≤◌, ◌<◌, ◌+◌, ◌*◌, ◌/◌, ◌++◌, ℕ, length, take, drop, IfOk, OnOk, true};
+ghost use Rattle.std.specs.Prelude.{◌≡◌, ◌≤◌, ◌<◌, ◌+◌, ◌/◌, length, true};
 ghost use Rattle.std.specs.List.{list_all};
 ghost use Rattle.pst_base.specs.Stops.{Finds};
 ghost use Rattle.heap_on_node.specs.Heap.{item};
 ghost use Rattle.mapi_values.specs.Columns.{cell_width, in_cell, lies};
 ghost use Rattle.mapi_values.specs.Properties.{ascend_from};
-ghost use Rattle.mapi_values.specs.Values.{Val, fits};
-ghost use Rattle.node_values.specs.Named.{named};
+ghost use Rattle.mapi_values.specs.Values.{fits};
 ghost use Rattle.table_context.specs.Rows.{cell_of, cells_of, content, has_cell, is_set, value_in};
 ghost use Rattle.node_values.specs.Subnodes.{data_of};
 
@@ -15,7 +14,7 @@ use mapi_values::tags::ID_LTP_ROW_ID;
 use mapi_values::{Column, Tag, Value, fits, fixed_width};
 use node_values::{Absent, Finder, named_bytes};
 use pst_base::{Bytes, MemOr, part, u32_at};
-use std::alloc::{AllocError, Global};
+use std::alloc::Global;
 
 /// Whether an existence bit is set, in a row whose existence bits begin at `from`.
 #[tactic(auto, unfolding(crate::specs::Rows::is_set))]

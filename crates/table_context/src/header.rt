@@ -1,7 +1,7 @@
 //! The root item of a table.
-ghost use Rattle.std.specs.Prelude.{◌≡◌, ◌≤◌, ◌+◌, ◌*◌, ◌==◌, ◌&&◌, if◌then◌else◌, Some, None, IfOk, true, length, get_or, nat_le};
+ghost use Rattle.std.specs.Prelude.{◌≡◌, ◌≤◌, ◌+◌, ◌*◌, ◌==◌, ◌&&◌, IfOk, length, get_or, nat_le};
 ghost use Rattle.pst_base.specs.Stops.{Finds};
-ghost use Rattle.table_context.specs.Header.{column_at, columns_at, columns_of, ends_in, has_form, names_index, size_in};
+ghost use Rattle.table_context.specs.Header.{column_at, columns_at, columns_of, ends_in, has_form, names_index};
 ghost use Rattle.mapi_values.specs.Columns.{is_layout};
 
 use crate::read::TABLE_CONTEXT;

@@ -1,11 +1,11 @@
 //! The subnodes that a table doesn't use.
-ghost use Rattle.std.specs.Prelude.{◌≡◌, ◌≤◌, ◌<◌, ◌+◌, ◌/◌, ◌++◌, ℕ, [], ◌∷◌, length, take, drop, map, All, IfOk, OnOk, true};
-ghost use Rattle.std.specs.List.{flat_map, list_all};
+ghost use Rattle.std.specs.Prelude.{◌≡◌, ◌<◌, ◌+◌, ◌++◌, ℕ, length, map, All, IfOk, OnOk, true};
+ghost use Rattle.std.specs.List.{list_all};
 ghost use Rattle.std.specs.Ordering.{nat_cmp};
 ghost use Rattle.std.specs.BTreeSet.{contains as has_key};
-ghost use Rattle.mapi_values.specs.Columns.{in_cell, lies};
+ghost use Rattle.mapi_values.specs.Columns.{lies};
 ghost use Rattle.table_context.specs.Answers.{raw_seen};
-ghost use Rattle.table_context.specs.Rows.{cell_names, names, row_names, subnode, used};
+ghost use Rattle.table_context.specs.Rows.{cell_names, row_names, subnode, used};
 ghost use Rattle.table_context.specs.Rows.{is_among, others};
 
 use crate::cells::has_cell;

@@ -1,12 +1,10 @@
 //! Reading a table.
-ghost use Rattle.std.specs.Prelude.{◌≡◌, ◌≤◌, ◌^◌, ℕ, List, Some, length, map, All, true};
-ghost use Rattle.pst_base.specs.Flat.{Flat};
+ghost use Rattle.std.specs.Prelude.{◌≡◌, ◌≤◌, ◌^◌, Some, length, map, All, true};
 ghost use Rattle.pst_base.specs.Stops.{Finds};
 ghost use Rattle.heap_on_node.specs.Heap.{item};
 ghost use Rattle.bth_tree.specs.Answers.{IsRecord, seen};
 ghost use Rattle.bth_tree.specs.Records.{within};
-ghost use Rattle.mapi_values.specs.Tables.{Tab};
-ghost use Rattle.table_context.specs.Context.{IsTableContext, Lacks, ReadsTc, table_in, table_of};
+ghost use Rattle.table_context.specs.Context.{ReadsTc, table_in, table_of};
 ghost use Rattle.table_context.specs.Header.{columns_of};
 ghost use Rattle.table_context.specs.declared.fault.TcFault.{TcFault};
 

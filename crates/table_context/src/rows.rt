@@ -1,7 +1,6 @@
 //! The rows that a row index names.
-ghost use Rattle.std.specs.Prelude.{◌≡◌, ◌≤◌, ◌<◌, ◌+◌, ◌*◌, ◌/◌, ◌%◌, ◌++◌, ℕ, length, take, drop, map, All, IfOk, OnOk, true, option_copied};
+ghost use Rattle.std.specs.Prelude.{◌≡◌, ◌≤◌, ◌<◌, ◌+◌, ◌*◌, ◌/◌, ◌%◌, length, map, All, IfOk, true, option_copied};
 ghost use Rattle.std.specs.List.{list_all};
-ghost use Rattle.byteorder.specs.Endian.{little_number};
 ghost use Rattle.pst_base.specs.Stops.{Finds};
 ghost use Rattle.heap_on_node.specs.Heap.{item};
 ghost use Rattle.bth_tree.specs.Answers.{IsRecord, seen};
@@ -18,7 +17,7 @@ use mapi_values::tags::PID_TAG_LTP_ROW_ID;
 use mapi_values::{Column, Props, has_column};
 use node_values::{Absent, Finder};
 use pst_base::{MemOr, part, u32_at};
-use std::alloc::{AllocError, Global};
+use std::alloc::Global;
 
 /// The id of a row, and its bytes.
 #[derive(Clone, Copy, Debug)]

@@ -162,9 +162,6 @@ sub-row get sub size hnid n blocks y e h p = rw (ne_eqb (hnid % 32) 0 (λ z. abs
 load-item : (n size : ℕ) → n * size ≤ 3580 → matrix_load n size ≡ 2 * (n * size) + 4
 load-item n size few = rw (le-ltb 3580 (n * size) few) refl
 
-blocks-item : (n size : ℕ) → n * size ≤ 3580 → matrix_blocks n size ≡ 0
-blocks-item n size few = rw (le-ltb 3580 (n * size) few) refl
-
 load-sub : (n size : ℕ) → 3580 < n * size → matrix_load n size ≡ 0
 load-sub n size many = rw (lt-ltb 3580 (n * size) many) refl
 

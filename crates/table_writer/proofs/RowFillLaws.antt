@@ -18,7 +18,6 @@ use Rattle.table_writer.specs.Making.{Grows, IsMade, get_of, sub_of}
 use Rattle.table_context.specs.Rows.{cells_of, row_names, shows_id}
 use Rattle.table_context.proofs.LayoutLaws.{all-at}
 use Rattle.table_writer.proofs.FillLaws.{grows-more}
-use Rattle.table_writer.proofs.ColumnFillLaws.{grows-none}
 
 pub cells-rest : (cells : List Val) (j : ℕ) → cells_bytes (drop j cells) ≤ cells_bytes cells
 cells-rest [] zero = omega arith
@@ -31,21 +30,6 @@ long-rest [] zero = omega arith
 long-rest [] (suc j) = omega arith
 long-rest (v ∷ vs) zero = omega arith
 long-rest (v ∷ vs) (suc j) = omega (arith, long-rest vs j)
-
-pub filling-start : (made : Made) (third n : ℕ) (columns : List Column) (id : ℕ) (cells : List Val) (front : List ℕ) (marks : List Bool) → IsMade made
-    → Filled made third n columns id cells (length columns) (length cells) front marks → Filling made made third n columns id cells (length columns) (length cells) front marks
-filling-start made third n columns id cells front marks m f =
-    let none : row_names third (drop (length columns) columns) (front ++ bits n 0 marks) ≡ [] = ap (λ (cs : List Column). row_names third cs (front ++ bits n 0 marks)) (drop_all (length columns) columns (omega arith)) in
-    record {
-      inside = omega arith;
-      filled = f;
-      made = m;
-      grows = subst (λ (ids : List ℕ). Grows made made ids) (sym none) (grows-none made);
-      weighs = omega arith;
-      count = omega arith;
-      loads = omega arith;
-      blocks = omega arith;
-    }
 
 pub filling-step : (old mid new : Made) (third n : ℕ) (columns : List Column) (id : ℕ) (cells : List Val) (i j next : ℕ) (front there : List ℕ) (marks now_marks : List Bool)
     → Filling old mid third n columns id cells (i + 1) j front marks → IsMade new → Steps mid new third n columns id cells i j next front there marks now_marks

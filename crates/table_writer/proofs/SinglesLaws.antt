@@ -1,8 +1,7 @@
 -- Values of one byte, each of which has one item.
-use Rattle.std.proofs.Common.{◌≡◌, ◌∙◌, ◌≢◌, ◌<◌, ◌==◌, ◌+◌, ◌∷◌, [], ℕ, zero, suc, List, length, get_or, set, replicate, Option, Some, refl, sym, ap, inl, inr, arith}
-use Rattle.std.proofs.lemmas.Bool.{cases_Bool, cases_lt, eq-eqb, eqb-false, eqb-true, ne_eqb}
-use Rattle.std.proofs.lemmas.List.{get_or-replicate, get_or-set_other, get_or-set_same, get_or_past, length-replicate, length-set}
-use Rattle.bth_tree.specs.Making.{Keeps}
+use Rattle.std.proofs.Common.{◌≡◌, ◌∙◌, ◌≢◌, ◌<◌, ◌+◌, ◌∷◌, [], ℕ, zero, suc, List, length, get_or, set, replicate, Option, Some, refl, ap, inl, inr, arith}
+use Rattle.std.proofs.lemmas.Bool.{cases_lt, eq-eqb, ne_eqb}
+use Rattle.std.proofs.lemmas.List.{get_or-replicate, get_or_past, length-replicate}
 use Rattle.heap_on_node.specs.Packing.{Adds, IsPacked, item_in}
 use Rattle.heap_on_node.proofs.PackingLaws.{kept-by_adds}
 use Rattle.node_port.specs.Stops.{subs_size}
@@ -17,11 +16,6 @@ use Rattle.table_writer.specs.Woven.{all_woven}
 use Rattle.table_writer.proofs.MakingLaws.{grows-along, subnode-none}
 use Rattle.table_writer.proofs.PackLaws.{adds-weigh, valid-hid}
 
--- at first no byte has an item
-pub missing-all : (n : ℕ) → missing (replicate n 0) ≡ n
-missing-all zero = refl
-missing-all (suc n) = omega (arith, missing-all n)
-
 zero-at : (n k : ℕ) → get_or (replicate {A = ℕ} n 0) k 0 ≡ 0
 zero-at n k = elim (cases_lt k n) [
   | inl low ↦ get_or-replicate {A = ℕ} n k 0 0 low
@@ -32,26 +26,6 @@ pub singles-none : (get : ℕ → Option (List ℕ)) (singles : List ℕ) → si
 singles-none get singles e = record {
   count = ap length e ∙ length-replicate {A = ℕ} 256 0;
   named = λ byte some. absurd (some (ap (λ (hids : List ℕ). get_or hids byte 0) e ∙ zero-at 256 byte));
-}
-
-pub singles-kept : (get get2 : ℕ → Option (List ℕ)) (singles : List ℕ) → Keeps get get2 → AreSingles get singles → AreSingles get2 singles
-singles-kept get get2 singles keeps a = record {
-  count = a.count;
-  named = λ byte some. keeps (get_or singles byte 0) (byte ∷ []) (a.named byte some);
-}
-
--- a byte gets its item
-pub singles-set : (get : ℕ → Option (List ℕ)) (singles : List ℕ) (byte hid : ℕ) → byte < 256 → AreSingles get singles → get hid ≡ Some (byte ∷ []) → AreSingles get (set singles byte hid)
-singles-set get singles byte hid lt a here = record {
-  count = length-set singles byte hid ∙ a.count;
-  named = λ b some. elim (cases_Bool (byte == b)) [
-    | inl t ↦
-        let e : byte ≡ b = eqb-true byte b t in
-        ap (λ (n : ℕ). get (get_or (set singles byte hid) n 0)) (sym e) ∙ ap get (get_or-set_same singles byte hid 0 (omega (arith, lt, a.count))) ∙ here ∙ ap (λ (n : ℕ). Some (n ∷ [])) e
-    | inr f ↦
-        let other : get_or (set singles byte hid) b 0 ≡ get_or singles b 0 = get_or-set_other singles byte b hid 0 (λ z. eqb-false byte b f (sym z)) in
-        ap get other ∙ a.named b (λ z. some (other ∙ z))
-  ];
 }
 
 pub missing-set : (hids : List ℕ) (byte hid : ℕ) → byte < length hids → get_or hids byte 0 ≡ 0 → (hid ≡ 0 → ⊥) → missing (set hids byte hid) + 1 ≡ missing hids

@@ -17,10 +17,6 @@ use Rattle.table_writer.specs.Making.{Grows, IsMade, get_of, load, sub_blocks, s
 use Rattle.table_context.specs.Rows.{piece, row_in, row_names, row_of, subnode}
 use Rattle.table_writer.specs.Woven.{all_woven}
 
--- the bytes have this size
-abbrev pub HasLength : ℕ → List ℕ → Type 0
-HasLength size b = length b ≡ size
-
 -- the bytes of each row read as that row
 abbrev pub AreRows : (ℕ → Option (List ℕ)) → (ℕ → Option (List (List ℕ))) → ℕ → List Column → List (ℕ × List Val) → List (List ℕ) → Type 0
 AreRows get sub third columns [] [] = Unit {0}

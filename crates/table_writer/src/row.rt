@@ -1,6 +1,5 @@
 //! Making the bytes of a row.
-ghost use Rattle.std.specs.Prelude.{◌≡◌, ◌≤◌, ◌<◌, ◌+◌, ◌-◌, ◌*◌, ◌/◌, ◌^◌, ◌++◌, ℕ, List, length, set, map, IfOk, OnOk, true, false, get_or, replicate};
-ghost use Rattle.std.specs.List.{concat};
+ghost use Rattle.std.specs.Prelude.{◌≡◌, ◌≤◌, ◌<◌, ◌+◌, ◌-◌, ◌*◌, ◌^◌, ◌++◌, length, IfOk, OnOk, true, false, get_or, replicate};
 ghost use Rattle.pst_base.specs.Fields.{replaced};
 ghost use Rattle.mapi_values.specs.Columns.{cell_width, is_layout, suits_cell};
 ghost use Rattle.mapi_values.specs.Tables.{cells_suit};

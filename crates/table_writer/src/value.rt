@@ -1,14 +1,13 @@
 //! Putting a value where a cell can name it.
-ghost use Rattle.std.specs.Prelude.{◌≡◌, ◌≤◌, ◌<◌, ◌+◌, ◌^◌, ◌++◌, ◌∷◌, [], ℕ, List, length, IfOk};
-ghost use Rattle.std.specs.List.{concat};
-ghost use Rattle.heap_on_node.specs.Packing.{Adds, IsPacked};
+ghost use Rattle.std.specs.Prelude.{◌≡◌, ◌≤◌, ◌<◌, ◌^◌, ◌∷◌, [], length, IfOk};
+ghost use Rattle.heap_on_node.specs.Packing.{Adds};
 ghost use Rattle.table_writer.specs.Making.{IsMade, PutsValue};
-ghost use Rattle.table_writer.specs.Woven.{IsWoven, Weaves, all_woven};
+ghost use Rattle.table_writer.specs.Woven.{Weaves, all_woven};
 
 use crate::woven::Woven;
 use heap_on_node::HeapMaker;
 use node_values::cut;
-use pst_base::{Blocks, Bytes};
+use pst_base::Blocks;
 use std::alloc::{AllocError, Global};
 
 /// What is made of a table so far: its heap, for each byte the id of the item that has just this byte or 0, and the subnodes.

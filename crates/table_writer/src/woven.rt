@@ -1,5 +1,5 @@
 //! New subnodes among those that are kept.
-ghost use Rattle.std.specs.Prelude.{◌≡◌, ◌≤◌, ◌<◌, ◌+◌, ◌*◌, ◌^◌, ◌++◌, ℕ, List, length, IfOk, true};
+ghost use Rattle.std.specs.Prelude.{◌≡◌, ◌<◌, ◌+◌, ◌*◌, ◌^◌, length, IfOk, true};
 ghost use Rattle.pst_base.specs.Subs.{flattened};
 ghost use Rattle.pst_base.specs.declared.subs.Sub.{Sub};
 ghost use Rattle.mapi_values.specs.Keyed.{keys_ascend};

@@ -1,5 +1,5 @@
 //! Writing a table.
-ghost use Rattle.std.specs.Prelude.{◌≡◌, ◌≤◌, ◌<◌, ◌+◌, ◌-◌, ◌*◌, ◌/◌, ◌^◌, ◌++◌, ◌∷◌, [], ℕ, List, length, get_or, take, replicate, IfOk, OnOk, true, Some};
+ghost use Rattle.std.specs.Prelude.{◌≡◌, ◌≤◌, ◌<◌, ◌+◌, ◌-◌, ◌*◌, ◌/◌, ◌^◌, ◌++◌, ◌∷◌, [], ℕ, length, get_or, replicate, IfOk, OnOk, true, Some};
 ghost use Rattle.std.specs.List.{concat, list_all};
 ghost use Rattle.bth_tree.specs.Making.{AreRecords};
 ghost use Rattle.heap_on_node.specs.Packing.{IsPacked, IsPlain, PacksTight};

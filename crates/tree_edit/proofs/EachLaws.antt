@@ -8,9 +8,6 @@ use Rattle.tree_edit.specs.Shapes.{Shape, IsTree}
 use Rattle.tree_edit.specs.Steps.{Replaces}
 use Rattle.tree_edit.proofs.PlanLaws.{tree-kept}
 
-zero-first : (a b : ℕ) → a ≡ b → 0 + a ≡ b
-zero-first a b e = omega arith
-
 sums-start : (a b : ℕ) → a ≡ b → a + 0 ≡ b
 sums-start a b e = omega arith
 

@@ -1,8 +1,8 @@
 -- A leaf's entries, one by one.
-use Rattle.std.proofs.Common.{◌≡◌, ℕ, zero, suc, ◌+◌, ◌^◌, ◌≤◌, ◌<◌, List, [], ◌∷◌, ◌++◌, map, length, drop, get_or, refl, sym, ap, subst, ◌∙◌, arith, append_assoc, Option}
+use Rattle.std.proofs.Common.{◌≡◌, ℕ, zero, suc, ◌+◌, ◌^◌, ◌≤◌, ◌<◌, List, [], ◌∷◌, ◌++◌, map, length, drop, get_or, refl, sym, ap, subst, ◌∙◌, arith, append_assoc}
 use Rattle.std.proofs.lemmas.Bool.{lt-ltb, le-ltb}
 use Rattle.tree_edit.specs.Shapes.{RiseIn}
-use Rattle.tree_edit.specs.Edits.{under, over, given, edited}
+use Rattle.tree_edit.specs.Edits.{under, over}
 use Rattle.tree_edit.proofs.ShapeLaws.{rise-widen}
 use Rattle.tree_edit.proofs.EditLaws.{AreOver, rise-over, under-none, over-all}
 
@@ -70,13 +70,3 @@ pub rest-step : {A : Type 0} (f : List ℕ → A) (bs : List (List ℕ)) (i : �
 rest-step {A} f bs i x inside is out new e =
     let here : drop i (map f bs) ≡ x ∷ drop (i + 1) (map f bs) = drop-here f bs i [] inside ∙ ap (λ (y : A). y ∷ drop (i + 1) (map f bs)) (sym is) in
     ap (λ (l : List A). l ++ drop (i + 1) (map f bs)) e ∙ append_assoc out (x ∷ []) (drop (i + 1) (map f bs)) ∙ ap (λ (l : List A). out ++ l) (sym here)
-
--- one edit more
-pub edit-step : {A : Type 0} (key : A → ℕ) (out next last xs ys all : List A) (d : ℕ × Option A) (ds es : List (ℕ × Option A)) → out ++ edited key xs es ≡ all → es ≡ d ∷ ds
-    → next ≡ out ++ under key d.0 xs → ys ≡ over key d.0 xs → last ≡ next ++ given d.1 → last ++ edited key ys ds ≡ all
-edit-step key out next last xs ys all d ds es so_far is one over two =
-    ap (λ (l : List _). l ++ edited key ys ds) (two ∙ ap (λ (l : List _). l ++ given d.1) one ∙ append_assoc out (under key d.0 xs) (given d.1))
-    ∙ append_assoc out (under key d.0 xs ++ given d.1) (edited key ys ds)
-    ∙ ap (λ (l : List _). out ++ l) (append_assoc (under key d.0 xs) (given d.1) (edited key ys ds) ∙ ap (λ (l : List _). under key d.0 xs ++ (given d.1 ++ edited key l ds)) over)
-    ∙ ap (λ (l : List (ℕ × Option _)). out ++ edited key xs l) (sym is)
-    ∙ so_far

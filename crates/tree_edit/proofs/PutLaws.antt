@@ -124,12 +124,3 @@ puts-parts key f low m high xs ys (x ∷ cs) ds a b c d =
     let here = with-behind key x.0 xs ys (from-none key x.0 ys (from-less key (x.0 + 1) m ys (omega (arith, y)) b)) in
     let rest = puts-parts key f (x.0 + 1) m high xs ys cs ds a b c.3 d in
     rw here (omega (arith, rest))
-
--- no more than there are edits
-pub puts-few : {E : Type 0} (key : E → ℕ) (es : List E) (ds : List (ℕ × Option E)) → puts key es ds ≤ length ds
-puts-few key es [] = omega arith
-puts-few {E} key es (d ∷ ds) = let h = puts-few key es ds in let one = some-one d.1 in omega (arith, h, one)
-  where
-    some-one : (o : Option E) → of_some (λ e. 1) o ≤ 1
-    some-one None = omega arith
-    some-one (Some e) = omega arith

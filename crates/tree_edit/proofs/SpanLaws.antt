@@ -1,7 +1,7 @@
 -- The keys of a page, one by one.
 use Rattle.std.proofs.Common.{true, false, ◌≡◌, ℕ, suc, ◌+◌, ◌<◌, ◌≤◌, ltb, leb, ◌&&◌, List, [], ◌∷◌, length, drop, get_or, Ok, refl, sym, ap, ◌∙◌, arith}
 use Rattle.std.proofs.lemmas.Bool.{le-leb, lt-leb, leb-true, ltb-true, and_parts}
-use Rattle.std.proofs.lemmas.List.{drop_all, get_or-map, length-map}
+use Rattle.std.proofs.lemmas.List.{get_or-map, length-map}
 use Rattle.std.proofs.Math.Seq.{drop-cons}
 use Rattle.btree_pages.specs.Pages.{Page, keys, key_in, ascend, rise_above, page_of, page_with}
 use Rattle.tree_edit.specs.Shapes.{RiseIn}
@@ -31,11 +31,6 @@ pub span-high : (rule : ℕ → ℕ) (entries : List (List ℕ)) (i low high key
 span-high rule entries i low high key h here above over =
     ap (in_span low high) (keys_here rule entries i h ∙ ap (λ (k : ℕ). k ∷ drop (i + 1) (keys rule entries)) (sym here))
     ∙ rw (le-leb low key above, lt-leb key high over) refl
-
-pub span-end : (rule : ℕ → ℕ) (entries : List (List ℕ)) (i low high : ℕ) → length entries ≤ i → in_span low high (drop i (keys rule entries)) ≡ true
-span-end rule entries i low high h =
-    let len : length (keys rule entries) ≡ length entries = length-map entries (key_in rule) in
-    ap (in_span low high) (drop_all i (keys rule entries) (omega (arith, len)))
 
 -- keys that ascend and lie in a span rise in it
 rise-above : (k low high : ℕ) (ks : List ℕ) → rise_above k ks ≡ true → in_span low high ks ≡ true → RiseIn (k + 1) (high + 1) ks

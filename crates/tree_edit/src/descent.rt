@@ -1,5 +1,5 @@
 //! The pages below a root after edits.
-ghost use Rattle.std.specs.Prelude.{◌≡◌, ◌≤◌, ◌<◌, ◌+◌, ◌*◌, ◌^◌, ◌∷◌, [], ℕ, List, Option, suc, map, drop, take, length, IfOk, IfErr};
+ghost use Rattle.std.specs.Prelude.{◌≡◌, ◌≤◌, ◌<◌, ◌+◌, ◌*◌, ◌^◌, ℕ, List, Option, suc, map, drop, take, length, IfOk, IfErr};
 ghost use Rattle.pst_base.specs.declared.ids.Bref.{Bref as Brefs};
 ghost use Rattle.btree_pages.specs.Pages.{keys};
 ghost use Rattle.tree_edit.specs.Shapes.{RiseIn, AreBelow, IsTree};

@@ -1,5 +1,5 @@
 //! Lists of edits.
-ghost use Rattle.std.specs.Prelude.{◌≡◌, ◌^◌, IsTrue, ◌↔◌};
+ghost use Rattle.std.specs.Prelude.{◌^◌, IsTrue, ◌↔◌};
 ghost use Rattle.tree_edit.specs.Edits.{AreEdits, Keyed};
 
 use btree_pages::Entry;

@@ -1,5 +1,5 @@
 //! What pages of one level come to, joined until it is packed into new pages.
-ghost use Rattle.std.specs.Prelude.{◌≡◌, ◌⊎◌, ◌≤◌, ◌<◌, ◌^◌, ◌++◌, [], true, false, Some, None, length, map, IfOk, IfSome, OnOk};
+ghost use Rattle.std.specs.Prelude.{◌≡◌, ◌⊎◌, ◌≤◌, ◌<◌, ◌^◌, ◌++◌, [], true, false, Some, None, map, IfOk, IfSome, OnOk};
 ghost use Rattle.tree_edit.specs.Joins.{Makes, Moves, Settles, kept_child, size_of};
 ghost use Rattle.tree_edit.specs.Plans.{AreKeys, AreWritable, keys_of};
 ghost use Rattle.tree_edit.specs.Shapes.{RiseIn};

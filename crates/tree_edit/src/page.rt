@@ -1,5 +1,5 @@
 //! One page of the file, in its place in a tree.
-ghost use Rattle.std.specs.Prelude.{◌≡◌, ◌≤◌, ◌<◌, ◌+◌, ◌*◌, ◌-◌, [], Ok, length, drop, map, slice_index_or, IfSome, IfNone};
+ghost use Rattle.std.specs.Prelude.{◌≡◌, ◌≤◌, ◌<◌, ◌+◌, ◌*◌, ◌-◌, [], Ok, length, slice_index_or, IfSome, IfNone};
 ghost use Rattle.btree_pages.specs.Pages.{Page, keys, key_in, page_of, size_at};
 ghost use Rattle.tree_edit.specs.Shapes.{RiseIn};
 ghost use Rattle.tree_edit.specs.Pages.{in_span, child_in};

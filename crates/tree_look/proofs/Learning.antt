@@ -39,10 +39,6 @@ learns-name N f n name old new keeps reached named = λ seen q note known. ⊎_e
     (n, subst (IsReached N n) (sym here.1) reached, subst (λ k. IsNamedAs N k name) (sym here.1) named))
     (keeps q)
 
--- what was known of messages stays so
-pub stays-named : (f : ℕ) (name : List ℕ) (old new : FlagList) → KeepsName f name old new → StaysKnown old new
-stays-named f name old new keeps m was = ⊎_elim (λ same. (was.0, ap unread_told same ∙ was.1)) (λ here. absurd (none-some was.0 (sym here.0 ∙ was.1))) (keeps m)
-
 -- and of all that these folders list
 pub known-still : (N : Nodes) (places : List FolderPlace) (old new : FlagList) → StaysKnown old new → AreKnown N places old → AreKnown N places new
 known-still N places old new stays known f m at lists = stays m (known f m at lists)

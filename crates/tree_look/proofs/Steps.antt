@@ -1,5 +1,5 @@
 -- Steps of the walk.
-use Rattle.std.proofs.Common.{◌≡◌, ◌⊎◌, inl, inr, ⊎_elim, ◌∙◌, ℕ, zero, suc, ◌%◌, ◌==◌, ◌<◌, ◌≤◌, ◌+◌, Bool, true, false, not, List, [], ◌∷◌, length, map, get_or, Option, None, Some, IsSome, arith, refl, sym, subst, ap}
+use Rattle.std.proofs.Common.{◌≡◌, ◌⊎◌, inl, inr, ⊎_elim, ◌∙◌, ℕ, zero, suc, ◌%◌, ◌==◌, ◌<◌, ◌≤◌, ◌+◌, true, false, List, [], ◌∷◌, length, map, get_or, Option, None, Some, IsSome, arith, refl, sym, subst, ap}
 use Rattle.std.specs.Prelude.{nat_le}
 use Rattle.std.proofs.lemmas.Bool.{and_parts, cases_Bool, cases_eq, cases_lt, eqb-true, eq-eqb, leb-true}
 use Rattle.std.proofs.lemmas.Option.{none-some, same_Some}
@@ -165,9 +165,6 @@ pub record ToChild (N : Nodes) (f : ℕ) (at0 places : List FolderPlace) (ids : 
   pub news : (g : ℕ) (p : FolderPlace) → find_place g places ≡ Some p
       → (find_place g at0 ≡ Some p) ⊎ (((j : ℕ) × (j < i) × (id_at ids j ≡ g)) × (p.parent.bits ≡ f)) ⊎ (find_place p.parent.bits at0 ≡ None)
   pub lists : (j : ℕ) → j < i → IsListed N places f (id_at ids j)
-
-pub first_child : {N : Nodes} {f n : ℕ} {at0 : List FolderPlace} {ids : List Nid} → Begins N f n at0 ids → ToChild N f at0 at0 ids 0
-first_child begins = record { part = begins.part; kept = λ g p e. e; closed = λ g p e plain. inl e; news = λ g p e. inl e; lists = λ j lt. absurd (omega (arith, lt)) }
 
 pub comes_next : {N : Nodes} {f n : ℕ} {at0 : List FolderPlace} {ids : List Nid} (i : ℕ) → Begins N f n at0 ids → i < length ids → Comes N (Some (nid f)) (suc n) (id_at ids i)
 comes_next {N} {f} {n} {at0} {ids} i begins h =
@@ -369,13 +366,3 @@ plain_follows N above n row Foreign places new last ids i k e tables begin so_fa
   where
     never : false ≡ true → ⊥
     never e = cc
-
--- a test and its turn
-pub turned : (b : Bool) {x y : Bool} → y ≡ x → not y ≡ not b → x ≡ b
-turned b {x} {y} same test = sym same ∙ cases y b test
-  where
-    cases : (y b : Bool) → not y ≡ not b → y ≡ b
-    cases true true e = refl
-    cases false false e = refl
-    cases true false e = cc
-    cases false true e = cc

@@ -1,10 +1,10 @@
 //! The walk from the root down.
-ghost use Rattle.std.specs.Prelude.{◌≡◌, ◌+◌, ℕ, List, IfErr, IfOk, OnOk, [], Ok};
+ghost use Rattle.std.specs.Prelude.{◌≡◌, ◌+◌, ℕ, List, IfErr, IfOk, OnOk, Ok};
 ghost use Rattle.mail_tree.specs.Places.{is_plain_sort};
 ghost use Rattle.mail_tree.specs.declared.places.FolderPlace.{FolderPlace as Stands};
 ghost use Rattle.node_port.specs.Nodes.{Nodes};
 ghost use Rattle.tree_look.specs.Faults.{Finds};
-ghost use Rattle.mail_tree.specs.Standing.{HasTree, names_sort};
+ghost use Rattle.mail_tree.specs.Standing.{HasTree};
 ghost use Rattle.tree_look.specs.declared.stops.LookRefusal.{LookRefusal as Refusal};
 ghost use Rattle.tree_look.specs.declared.stops.LookStop.TheVariants.{Refused};
 ghost use Rattle.tree_look.specs.Seeing.{AreKnown, AreListed, Learns};

@@ -1,9 +1,8 @@
 -- Where the first entry from a key on is.
-use Rattle.std.proofs.Common.{Bool, true, false, ◌≡◌, ℕ, zero, suc, ◌+◌, ◌-◌, ◌^◌, ◌≤◌, ◌<◌, leb, if◌then◌else◌, List, [], ◌∷◌, ◌++◌, map, length, drop, take, get_or, refl, sym, ap, subst, ◌∙◌, arith, Option, Some, None, Ok, Err, inl, inr, take-append-drop, length-drop}
+use Rattle.std.proofs.Common.{Bool, true, false, ◌≡◌, ℕ, zero, suc, ◌+◌, ◌-◌, ◌^◌, ◌≤◌, ◌<◌, leb, if◌then◌else◌, List, [], ◌∷◌, ◌++◌, map, length, drop, take, get_or, refl, sym, ap, subst, ◌∙◌, arith, Option, Some, None, Ok, inl, inr, take-append-drop, length-drop}
 use Rattle.std.proofs.lemmas.Bool.{le-leb, lt-leb}
 use Rattle.std.proofs.lemmas.List.{drop_all, length-map}
 use Rattle.pst_base.specs.declared.ids.Bref.{Bref}
-use Rattle.pst_base.specs.declared.stops.PageFault.{PageFault}
 use Rattle.pst_base.specs.declared.stops.MemOr.{MemOr}
 use Rattle.pst_base.specs.declared.stops.MemOr.TheVariants.{Memory, Refused}
 use Rattle.pst_base.specs.declared.stops.SourceStop.{SourceStop}
@@ -12,8 +11,8 @@ use Rattle.pst_base.specs.Fields.{number_at}
 use Rattle.btree_pages.specs.Entries.{inner_of}
 use Rattle.btree_pages.specs.Pages.{Page, keys, page_of}
 use Rattle.tree_edit.specs.Shapes.{Shape, leaf, inner, RiseIn, heads, up_to, OneThen, AreBelow, HasLeaf, HasInner, IsTree, IsRootOf, IsWhole}
-use Rattle.tree_edit.specs.Pages.{child_in, shape_of, seen, shown, shapes}
-use Rattle.tree_edit.specs.Source.{Source, Rose, Later, SourceStops}
+use Rattle.tree_edit.specs.Pages.{child_in, shape_of, shown, shapes}
+use Rattle.tree_edit.specs.Source.{Source, Rose, Later}
 use Rattle.tree_edit.proofs.ShapeLaws.{tree-rise, below-rise, below-part, Parted, rise-part, map-join}
 use Rattle.tree_edit.proofs.EditLaws.{AreUnder, rise-under}
 use Rattle.tree_edit.proofs.MergeLaws.{drop-here}
@@ -24,11 +23,10 @@ use Rattle.tree_search.specs.Search.{first_from, IsAny, IsTop, StopsIn, IsStart}
 -- ---- lists
 
 -- Where the first entry from a key on is.
-use Rattle.std.proofs.Common.{Bool, true, false, ◌≡◌, ℕ, zero, suc, ◌+◌, ◌-◌, ◌^◌, ◌≤◌, ◌<◌, leb, if◌then◌else◌, List, [], ◌∷◌, ◌++◌, map, length, drop, take, get_or, refl, sym, ap, subst, ◌∙◌, arith, Option, Some, None, Ok, Err, inl, inr, take-append-drop}
+use Rattle.std.proofs.Common.{Bool, true, false, ◌≡◌, ℕ, zero, suc, ◌+◌, ◌-◌, ◌^◌, ◌≤◌, ◌<◌, leb, if◌then◌else◌, List, [], ◌∷◌, ◌++◌, map, length, drop, take, get_or, refl, sym, ap, subst, ◌∙◌, arith, Option, Some, None, Ok, inl, inr, take-append-drop}
 use Rattle.std.proofs.lemmas.Bool.{le-leb, lt-leb}
 use Rattle.std.proofs.lemmas.List.{drop_all, length-map}
 use Rattle.pst_base.specs.declared.ids.Bref.{Bref}
-use Rattle.pst_base.specs.declared.stops.PageFault.{PageFault}
 use Rattle.pst_base.specs.declared.stops.MemOr.{MemOr}
 use Rattle.pst_base.specs.declared.stops.MemOr.TheVariants.{Memory, Refused}
 use Rattle.pst_base.specs.declared.stops.SourceStop.{SourceStop}
@@ -37,8 +35,8 @@ use Rattle.pst_base.specs.Fields.{number_at}
 use Rattle.btree_pages.specs.Entries.{inner_of}
 use Rattle.btree_pages.specs.Pages.{Page, keys, page_of}
 use Rattle.tree_edit.specs.Shapes.{Shape, leaf, inner, RiseIn, heads, up_to, OneThen, AreBelow, HasLeaf, HasInner, IsTree, IsRootOf, IsWhole}
-use Rattle.tree_edit.specs.Pages.{child_in, shape_of, seen, shown, shapes}
-use Rattle.tree_edit.specs.Source.{Source, Rose, Later, SourceStops}
+use Rattle.tree_edit.specs.Pages.{child_in, shape_of, shown, shapes}
+use Rattle.tree_edit.specs.Source.{Source, Rose, Later}
 use Rattle.tree_edit.proofs.ShapeLaws.{tree-rise, below-rise, below-part, Parted, rise-part, map-join}
 use Rattle.tree_edit.proofs.EditLaws.{AreUnder, rise-under}
 use Rattle.tree_edit.proofs.MergeLaws.{drop-here}
@@ -93,20 +91,6 @@ started key low lo hi start xs rises (inr at) = started-at key low lo hi start x
 
 module _ {E : Type 0} (rule : ℕ → ℕ) (size : ℕ) (entry_of : List ℕ → E) (key : E → ℕ) (law : (b : List ℕ) → key (entry_of b) ≡ rule (number_at 8 0 b)) (find : Bref → Option (List ℕ)) (at : Bref) (body : List ℕ)
     (found : find at ≡ Some body) (most : ℕ) (es : List E) (t : IsTop (shapes rule size entry_of find) key most at es) where
-  -- it is a page
-  pub top-reads : (fault : PageFault) → page_of rule size body ≡ Err fault → ⊥
-  top-reads fault e = go t.level t.tree
-    where
-      none : shapes rule size entry_of find at ≡ None
-      none = ap (shown rule size entry_of) found ∙ ap (seen rule entry_of) e
-
-      clash : (s : Shape E) → shapes rule size entry_of find at ≡ Some s → ⊥
-      clash s is = let two : ◌≡◌ {A = Option (Shape E)} None (Some s) = sym none ∙ is in cc
-
-      go : (n : ℕ) → IsAny (shapes rule size entry_of find) key n t.least t.low t.high at es t.pages → ⊥
-      go zero l = clash _ l.shown
-      go (suc n) l = clash _ l.shown
-
   module _ (page : Page) (reads : page_of rule size body ≡ Ok page) where
     pub top-level : page.level ≡ t.level
     top-level = go t.level t.tree
@@ -204,12 +188,6 @@ root-top {E} find key root es ps whole = record { level = whole.level; low_enoug
 
 rose-before : (a b c : ℕ) → a ≤ b → Rose b c → Rose a c
 rose-before a b c h r = omega (arith, h, r)
-
--- a stop of the source after some calls
-pub source-stops : {A : Type 0} (old mid new : Source A) (Whole : (Bref → Option (List ℕ)) → Type 0) → Later old mid → (stop : MemOr SourceStop) → SourceStops mid new stop → StopsIn old new Whole stop
-source-stops old mid new Whole first Memory stops = tt
-source-stops old mid new Whole first (Refused Failed) stops = rose-before old.fails mid.fails new.fails first.fails stops
-source-stops old mid new Whole first (Refused (Changed ib stored computed)) stops = λ find told is. stops.1 find (first.told find told)
 
 -- a stop below, after some calls
 pub below-stops : {A : Type 0} (old mid new : Source A) (Whole Part : (Bref → Option (List ℕ)) → Type 0) → Later old mid → ((find : Bref → Option (List ℕ)) → old.holds find → Whole find → Part find)

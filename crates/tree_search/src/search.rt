@@ -1,5 +1,5 @@
 //! The way down to the first entry from a key on.
-ghost use Rattle.std.specs.Prelude.{◌≡◌, ◌≤◌, ℕ, List, Option, map, drop, IfOk, IfErr};
+ghost use Rattle.std.specs.Prelude.{◌≡◌, ℕ, List, Option, map, drop, IfOk, IfErr};
 ghost use Rattle.pst_base.specs.declared.ids.Bref.{Bref as Brefs};
 ghost use Rattle.btree_pages.specs.Pages.{keys};
 ghost use Rattle.tree_edit.specs.Shapes.{IsWhole};

@@ -1,5 +1,5 @@
 -- A tree that an opening finds is the one that its nodes show.
-use Rattle.std.proofs.Common.{◌≡◌, ◌⊎◌, inl, inr, ◌∙◌, ℕ, ◌==◌, ◌||◌, true, List, [], ◌∷◌, Option, None, Some, IsSome, is_some, arith, refl, sym, subst, ap}
+use Rattle.std.proofs.Common.{◌≡◌, ◌⊎◌, inl, inr, ◌∙◌, ℕ, ◌==◌, true, List, [], ◌∷◌, Option, None, Some, IsSome, is_some, arith, refl, sym, subst, ap, ◌||◌}
 use Rattle.std.proofs.lemmas.Bool.{cases_Bool, eqb-true, false≢true}
 use Rattle.std.proofs.lemmas.Option.{none-some, same_Some}
 use Rattle.mapi_values.specs.Messages.{Mes}

@@ -1,5 +1,5 @@
 -- The tree that is made from nodes.
-use Rattle.std.proofs.Common.{◌≡◌, ◌⊎◌, inl, inr, ◌∙◌, ℕ, ◌%◌, ◌==◌, ◌||◌, ◌≤◌, ◌<◌, true, List, Option, None, Some, IsSome, is_some, arith, refl, sym, subst, ap}
+use Rattle.std.proofs.Common.{◌≡◌, ◌⊎◌, inl, inr, ◌∙◌, ℕ, ◌%◌, ◌==◌, ◌≤◌, ◌<◌, true, List, Option, None, Some, IsSome, is_some, arith, refl, sym, subst, ap, ◌||◌}
 use Rattle.std.proofs.lemmas.Bool.{eqb-true, false≢true, or_cases}
 use Rattle.mapi_values.specs.Messages.{Mes}
 use Rattle.mail_objects.specs.Forms.{Ctx, Tbl}
@@ -14,7 +14,7 @@ use Rattle.mail_tree.specs.Found.{BelongsAt, IsFound, named_sort}
 use Rattle.mail_tree.specs.Ids.{is_taken}
 use Rattle.mail_tree.specs.Places.{ROOT, find_place, is_plain}
 use Rattle.mail_tree.specs.Standing.{HasContext, HasMail, HasTable, HasTree, ListsMessage, names_sort}
-use Rattle.mail_tree.specs.Tree.{Shown, StandsAt, Tree, object_at}
+use Rattle.mail_tree.specs.Tree.{StandsAt, Tree, object_at}
 use Rattle.mail_tree.specs.Whole.{AreWhole, HasNoStray, HasRow, IsWhole, fits_id}
 use Rattle.mail_tree.proofs.FineLaws.{cases_Option}
 use Rattle.mail_tree.proofs.KindsOfPuts.{beside_kind, low}
@@ -217,9 +217,3 @@ module _ (N : Nodes) (places : List FolderPlace) (last : List ℕ) (h : HasTree 
 pub shows_tree : (N : Nodes) (places : List FolderPlace) (last : List ℕ) → HasTree N places → (T : Tree) × (T.places ≡ places) × (T.last ≡ last) × Shows N T × IsWhole T × IsFound T
 shows_tree N places last h =
     (tree N places last h, refl, refl, shows N places last h, record { objects = are_whole N places last h; no_stray = no_stray N places last h }, is_found N places last h)
-
--- a keeper that holds nodes that have a tree shows one
-pub shown_tree : (holds : Nodes → Type 0) (N : Nodes) (places : List FolderPlace) (last : List ℕ) → holds N → HasTree N places → (T : Tree) × Shown holds last T × (T.places ≡ places) × IsWhole T × IsFound T
-shown_tree holds N places last held h =
-    let s = shows_tree N places last h in
-    (s.0, record { nodes = N; held = held; at = s.3.at; counters = s.2 }, s.1, s.4, s.5)

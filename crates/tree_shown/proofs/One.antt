@@ -1,5 +1,5 @@
 -- Nodes show at most one tree.
-use Rattle.std.proofs.Common.{◌≡◌, ◌⊎◌, inl, inr, ◌∙◌, ℕ, zero, suc, ◌%◌, List, Option, None, Some, IsSome, is_some, arith, refl, sym, subst, ap}
+use Rattle.std.proofs.Common.{◌≡◌, inl, inr, ◌∙◌, ℕ, zero, suc, ◌%◌, List, Option, None, Some, IsSome, is_some, arith, refl, sym, subst, ap}
 use Rattle.std.proofs.lemmas.Bool.{false≢true}
 use Rattle.std.proofs.lemmas.Option.{same_Some}
 use Rattle.std.specs.Cmp.{nat_cmp_total}

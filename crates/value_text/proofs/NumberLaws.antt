@@ -32,11 +32,6 @@ from-answer bs (Err e) h all =
 pub from-parse : {E : Type 0} (bs : List ℕ) (r : Result ℕ E) → ParsesUnsigned 64 10 bs r → list_all is_ascii_digit bs ≡ true → result_ok r ≡ magnitude bs
 from-parse bs r h all = from-answer bs r (parse_digits own 64 bs r h all) all
 
--- a text with another byte than digits writes no number
-pub no-digits : (bs : List ℕ) → list_all is_ascii_digit bs ≡ false → None ≡ magnitude bs
-unfolding magnitude
-no-digits bs f = rw f (elim (cases_Bool (nat_lt 0 (length bs))) [ inl t ↦ rw t refl | inr f1 ↦ rw f1 refl ])
-
 -- a text that doesn't begin with a minus
 pub no-minus : (bs : List ℕ) → ((rest : List ℕ) → bs ≡ 45 ∷ rest → ⊥) → starts_with_minus bs ≡ false
 no-minus [] h = refl

@@ -1,5 +1,5 @@
 -- What a text says as a value of a kind, and how a value is printed.
-use Rattle.std.specs.Prelude.{ℕ, ◌%◌, ◌==◌, ◌&&◌, ◌||◌, Bool, true, List, chars, length, Option, None, Some, option_map, option_and_then, if◌then◌else◌}
+use Rattle.std.specs.Prelude.{ℕ, ◌%◌, ◌==◌, ◌&&◌, Bool, List, chars, length, Option, None, Some, option_map, option_and_then, if◌then◌else◌, ◌||◌}
 use Rattle.mapi_values.specs.Spelling.{quoted, units_of}
 use Rattle.mapi_values.specs.Values.{Val, fits}
 use Rattle.value_text.specs.Hex.{hex_bytes, hex_text}

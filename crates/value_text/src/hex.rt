@@ -1,6 +1,6 @@
 //! Bytes as hex digits.
-ghost use Rattle.std.specs.Prelude.{◌≡◌, ◌++◌, ◌<◌, ◌∷◌, [], OnOk, string_bytes, None, Some, MatchOption, length};
-ghost use Rattle.std.specs.Char.{digit_char, digit_value, is_digit};
+ghost use Rattle.std.specs.Prelude.{◌≡◌, ◌++◌, ◌<◌, [], OnOk, string_bytes, None, Some};
+ghost use Rattle.std.specs.Char.{digit_char};
 ghost use Rattle.std.specs.List.{flat_map};
 ghost use Rattle.pst_base.specs.Stops.{Finds};
 ghost use Rattle.value_text.specs.Hex.{byte_digits, hex_bytes, hex_pairs, hex_text, pair_value};

@@ -1,5 +1,5 @@
 //! A value printed as text.
-ghost use Rattle.std.specs.Prelude.{◌≡◌, ◌∷◌, [], ◌≤◌, ◌++◌, IfOk, OnOk, length, string_bytes};
+ghost use Rattle.std.specs.Prelude.{◌≡◌, ◌∷◌, [], ◌≤◌, ◌++◌, IfOk, OnOk, string_bytes};
 ghost use Rattle.std.specs.Bool.{OnTrue};
 ghost use Rattle.mapi_values.specs.Spelling.{quoted};
 ghost use Rattle.value_text.specs.Forms.{is_whole_number, printed, value_text};

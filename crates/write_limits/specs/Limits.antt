@@ -1,5 +1,5 @@
 -- Limits on what a command writes: on the tables, and on the subnodes directly in a node.
-use Rattle.std.specs.Prelude.{ℕ, ◌+◌, ◌*◌, ◌==◌, ◌&&◌, ◌||◌, Bool, true, List, [], ◌∷◌, length, get_or, nat_le, nat_lt, Option, None, Some, if◌then◌else◌}
+use Rattle.std.specs.Prelude.{ℕ, ◌+◌, ◌*◌, ◌==◌, ◌&&◌, Bool, true, List, [], ◌∷◌, length, get_or, nat_le, nat_lt, Option, None, Some, if◌then◌else◌, ◌||◌}
 use Rattle.std.specs.Option.{is_some}
 use Rattle.std.specs.List.{list_all}
 use Rattle.pst_base.specs.Flat.{Flat}

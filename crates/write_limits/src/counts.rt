@@ -1,6 +1,5 @@
 //! Sums over values and rows. A sum of 2^32 or more is only known to be one.
-ghost use Rattle.std.specs.Prelude.{◌≡◌, ◌+◌, ◌^◌, ◌≤◌, length, min};
-ghost use Rattle.pst_base.specs.Flat.{Flat};
+ghost use Rattle.std.specs.Prelude.{◌≡◌, ◌+◌, ◌^◌, ◌≤◌, min};
 ghost use Rattle.write_limits.specs.Limits.{cells_bytes, direct, heap_bytes, long_cells, long_value, long_values, rows_bytes};
 
 use mapi_values::{Props, Value, fixed_width};

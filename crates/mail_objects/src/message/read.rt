@@ -1,7 +1,7 @@
 //! Reading a message.
-ghost use Rattle.std.specs.Prelude.{◌≡◌, false, map, option_copied, IfOk};
+ghost use Rattle.std.specs.Prelude.{◌≡◌, false, map, option_copied};
 ghost use Rattle.std.specs.Option.{option_map};
-ghost use Rattle.mapi_values.specs.Messages.{is_own, row_ids};
+ghost use Rattle.mapi_values.specs.Messages.{row_ids};
 ghost use Rattle.node_values.specs.Subnodes.{contents, subnode, without};
 ghost use Rattle.property_context.specs.Context.{IsPropertyContext};
 ghost use Rattle.mail_objects.specs.Answers.{Reads, ShowsBelow, context_fault, table_fault};
