@@ -376,6 +376,18 @@ def other_programs():
     return s.bytes({2: 0x404, 3: 0x4000, 4: 0x10001, 8: 0x8000})
 
 
+def deep_folders():
+    """A chain of 65 folders, each in the one before it; their empty tables are one block each."""
+    chain = [0x8022] + [0x8082 + 32 * at for at in range(64)]
+    parents = [0x122] + chain[:-1]
+    folders = {**FOLDERS, **{nid: ("A", parent) for nid, parent in zip(chain, parents)}}
+    s = laid({}, {}, folders=folders)
+    for nid in chain[1:]:
+        for table_of in (12, 13):
+            s.nodes[nid + table_of] = s.nodes[chain[0] + table_of]
+    return s.bytes({2: 0x403 + len(chain), 3: 0x4000, 4: 0x10000, 8: 0x8000})
+
+
 def many_values():
     """A message with more values than a command may give one."""
     props = {(0x001A, 0x1F): text("A"), (0x0E07, 3): u32(0), (0x0E08, 3): u32(0), **{(0x4000 + at, 3): u32(0) for at in range(1_005)}}
@@ -407,6 +419,7 @@ if __name__ == "__main__":
         ("other_programs.pst", other_programs()),
         ("many_values.pst", many_values()),
         ("large_attachment.pst", large_attachment()),
+        ("deep_folders.pst", deep_folders()),
     ):
         with open(f"{sys.argv[1]}/{name}", "wb") as file:
             file.write(made)
