@@ -23,19 +23,34 @@ def told():
     return counts[-1] if counts else ran.stdout.strip().splitlines()[-1]
 
 
-for path in sorted(glob.glob(f"crates/{crate}/must-fail/*.edit") + glob.glob(f"crates/{crate}/edits/*.edit")):
+def wrong(path):
+    """The sources that an edit changes, by their paths: as they are, and with its wrong body."""
+    sources = {}
     with open(path) as it:
-        lines = it.read().splitlines()
-    part = {kind: [line[len(kind) :] for line in lines if line.startswith(kind)] for kind in ("file: ", "old: ", "new: ")}
-    source = f"crates/{crate}/{part['file: '][0]}"
-    with open(source) as it:
-        right = it.read()
-    wrong = right
-    for old, new in zip(part["old: "], part["new: "]):
-        wrong = wrong.replace(old, new)
-    with open(source, "w") as it:
-        it.write(wrong)
+        for line in it.read().splitlines():
+            if line.startswith("file: "):
+                source = f"crates/{crate}/{line[6:]}"
+                if source not in sources:
+                    with open(source) as of:
+                        sources[source] = [of.read()] * 2
+            elif line.startswith("old: "):
+                old = line[5:]
+            elif line.startswith("new: "):
+                if sources[source][1].count(old) != 1:
+                    sys.exit(f"{path}: this doesn't stand once in {source}: {old}")
+                sources[source] = sources[source][0], sources[source][1].replace(old, line[5:])
+    return sources
+
+
+def write(sources, which):
+    for source, texts in sources.items():
+        with open(source, "w") as it:
+            it.write(texts[which])
+
+
+for path in sorted(glob.glob(f"crates/{crate}/must-fail/*.edit") + glob.glob(f"crates/{crate}/edits/*.edit")):
+    sources = wrong(path)
+    write(sources, 1)
     print(f"{os.path.basename(path)[:-5]}: {told()}", flush=True)
-    with open(source, "w") as it:
-        it.write(right)
+    write(sources, 0)
 PYTHON
