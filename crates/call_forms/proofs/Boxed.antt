@@ -24,7 +24,7 @@ use Rattle.mail_searches.specs.Step.{after, outcome, stepped}
 use Rattle.search_folders.specs.Comings.{KnowsSearches}
 use Rattle.search_laws.proofs.Joining.{stays_in_order}
 use Rattle.search_laws.proofs.Setting.{starts_in_order}
-use Rattle.search_order.specs.Order.{InOrder}
+use Rattle.search_lists.specs.Order.{InOrder}
 use Rattle.search_store.specs.Planning.{PlansComing}
 use Rattle.search_store.specs.declared.store.SearchStore.{SearchStore}
 use Rattle.mail_tree.specs.Changing.{Answer, Changed as Changes}

@@ -11,7 +11,7 @@ use Rattle.mail_tree.specs.Whole.{Fine}
 use Rattle.mail_searches.specs.Criteria.{Coming}
 use Rattle.mail_searches.specs.Searching.{Searching, StartsSearching}
 use Rattle.mail_searches.specs.Step.{after, outcome, stepped}
-use Rattle.search_order.specs.Order.{InOrder}
+use Rattle.search_lists.specs.Order.{InOrder}
 use Rattle.search_laws.proofs.Joining.{stays_in_order}
 use Rattle.search_laws.proofs.Setting.{starts_in_order}
 use Rattle.call_forms.specs.Boxes.{AllInOrder, NAME}

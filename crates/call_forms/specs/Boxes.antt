@@ -6,7 +6,7 @@ use Rattle.command_text.specs.declared.reply.CommandRefusal.TheVariants.{Full}
 use Rattle.node_port.specs.Slots.{Keeps}
 use Rattle.node_port.specs.declared.map_keeper.MapKeeper.{MapKeeper}
 use Rattle.mail_searches.specs.Searching.{Searching, StartsSearching}
-use Rattle.search_order.specs.Order.{InOrder}
+use Rattle.search_lists.specs.Order.{InOrder}
 use Rattle.search_store.specs.Planning.{StoresSearches}
 use Rattle.search_store.specs.declared.store.SearchStore.{SearchStore}
 use Rattle.line_server.specs.Lines.{Piece}

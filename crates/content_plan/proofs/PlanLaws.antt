@@ -20,8 +20,8 @@ use Rattle.node_layout.proofs.LookupLaws.{edits-none}
 use Rattle.node_port.specs.declared.node.NodeRec.{NodeRec}
 use Rattle.node_port.specs.Nodes.{ascend}
 use Rattle.node_port.specs.Stops.{size}
-use Rattle.node_refs.specs.Counts as refs
-use Rattle.node_refs.specs.Counts.{is_edit, sum_put, uses}
+use Rattle.node_layout.specs.Counts as refs
+use Rattle.node_layout.specs.Counts.{is_edit, sum_put, uses}
 use Rattle.tree_edit.specs.Edits.{AreEdits, entry_with}
 use Rattle.tree_edit.specs.Shapes.{RiseIn}
 use Rattle.content_plan.specs.Keep.{kept_list, kept_subs}

@@ -14,7 +14,7 @@ use Rattle.file_layout.specs.Nodes.{NodeMap, Lays, blocks_in, nodes_in}
 use Rattle.node_layout.specs.Joined.{AreChanged, node_id}
 use Rattle.node_port.specs.declared.node.NodeRec.{NodeRec}
 use Rattle.node_port.specs.Stops.{size}
-use Rattle.node_refs.specs.Counts as refs
+use Rattle.node_layout.specs.Counts as refs
 use Rattle.subnode_tree.specs.Keys.{sub_keys}
 use Rattle.subnode_tree.specs.Plan.{AreAmong, SubsNameKept, SubsReadKept}
 use Rattle.tree_edit.specs.Edits.{AreEdits, entry_with}

@@ -42,9 +42,9 @@ use Rattle.node_layout.proofs.NodeLaws.{still-found}
 use Rattle.node_layout.proofs.PlannedLaws.{planned-beside}
 use Rattle.node_layout.proofs.SealedLaws.{all-sealed}
 use Rattle.node_layout.proofs.WrittenLaws.{pages-shown}
-use Rattle.node_refs.specs.Counts.{put}
-use Rattle.node_refs.proofs.CountLaws.{left-needs}
-use Rattle.node_refs.proofs.FitLaws.{data-fit}
+use Rattle.node_layout.specs.Counts.{put}
+use Rattle.node_layout.proofs.CountLaws.{left-needs}
+use Rattle.node_layout.proofs.FitLaws.{data-fit}
 use Rattle.tree_edit.specs.Edits.{AreEdits, edited, entry_with}
 use Rattle.ref_counts.specs.declared.table.RefChange.{RefChange}
 use Rattle.ref_counts.specs.Changes.{AreRefChanges, IsRefChange, change_of, number_after, number_by}

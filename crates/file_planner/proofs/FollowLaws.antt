@@ -23,7 +23,7 @@ use Rattle.node_layout.specs.Lookups.{edit_at, or_old}
 use Rattle.node_layout.specs.Sealed.{AreSealed}
 use Rattle.node_layout.proofs.LookupLaws.{with-edited}
 use Rattle.node_layout.proofs.NodeLaws.{found-edited}
-use Rattle.node_refs.specs.Counts.{AreRefs, NoneUnused}
+use Rattle.node_layout.specs.Counts.{AreRefs, NoneUnused}
 use Rattle.tree_edit.specs.Edits.{AreEdits, edited, entry_with}
 use Rattle.ref_counts.specs.declared.table.RefChange.{RefChange}
 use Rattle.ref_counts.specs.Changes.{change_of, number_by}

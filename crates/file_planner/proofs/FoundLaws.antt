@@ -14,7 +14,7 @@ use Rattle.file_scan.specs.Found.{IsFound}
 use Rattle.file_scan.specs.declared.scan.FoundFile.{FoundFile}
 use Rattle.node_layout.specs.Lookups.{sum_of}
 use Rattle.node_reach.specs.Reach.{node_keys, uses_of}
-use Rattle.node_refs.specs.Counts.{uses}
+use Rattle.node_layout.specs.Counts.{uses}
 use Rattle.ref_counts.specs.Tables.{refs_in}
 use Rattle.plan_placing.specs.Known.{IsKnownBy}
 use Rattle.file_planner.specs.declared.planner.FilePlanner.{FilePlanner}

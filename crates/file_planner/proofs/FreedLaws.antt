@@ -12,7 +12,7 @@ use Rattle.tree_edit.specs.Edits.{AreEdits, entry_with, of_some}
 use Rattle.tree_edit.specs.Shapes.{IsWhole, IsRootOf, IsTree, RiseIn, Shape}
 use Rattle.tree_edit.proofs.ShapeLaws.{below-rise, tree-rise}
 use Rattle.node_layout.specs.Lookups.{sum_of}
-use Rattle.node_refs.specs.Counts.{sum_put}
+use Rattle.node_layout.specs.Counts.{sum_put}
 use Rattle.ref_counts.specs.declared.table.RefChange.{RefChange}
 use Rattle.plan_drawing.specs.Recounts.{edit_of, left_places, place_left, puts_of, recounted, recounts, with_refs}
 use Rattle.plan_drawing.proofs.NewLaws.{sum_olds}

@@ -39,8 +39,8 @@ use Rattle.node_layout.proofs.NodeLaws.{found-edited}
 use Rattle.node_layout.proofs.PieceLaws.{pieces-apart, pieces-stand, stand-behind}
 use Rattle.node_layout.proofs.PlannedLaws.{planned-has}
 use Rattle.node_layout.proofs.TreeLaws.{tree-changed}
-use Rattle.node_refs.specs.Counts.{AreRefs, put, refs_after, taken as taken_in}
-use Rattle.node_refs.proofs.AfterLaws.{refs-kept}
+use Rattle.node_layout.specs.Counts.{AreRefs, put, refs_after, taken as taken_in}
+use Rattle.node_layout.proofs.AfterLaws.{refs-kept}
 use Rattle.tree_edit.specs.declared.plan.PlanPage.{PlanPage}
 use Rattle.tree_edit.specs.Edits.{edited, entry_with}
 use Rattle.tree_edit.specs.Plans.{IsPlan, tally as times}

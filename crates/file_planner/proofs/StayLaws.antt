@@ -12,7 +12,7 @@ use Rattle.file_scan.proofs.ScanLaws.{whole-once}
 use Rattle.lays_kept.specs.Kept.{SameAt}
 use Rattle.lays_kept.specs.Saved.{LaysSame}
 use Rattle.lays_kept.proofs.Kept.{each_back, found_kept}
-use Rattle.node_refs.specs.Counts.{AreRefs}
+use Rattle.node_layout.specs.Counts.{AreRefs}
 use Rattle.ref_counts.specs.Tables.{refs_in}
 use Rattle.ref_counts.specs.Changes.{HasRoomFor}
 use Rattle.plan_drawing.specs.declared.effects.PlanEffects.{PlanEffects}

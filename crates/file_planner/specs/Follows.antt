@@ -10,7 +10,7 @@ use Rattle.lays_kept.specs.Renewed.{LeadsTo}
 use Rattle.node_port.specs.declared.node.NodeRec.{NodeRec}
 use Rattle.node_layout.specs.Joined.{node_id}
 use Rattle.node_layout.specs.Lookups.{sum_of}
-use Rattle.node_refs.specs.Counts.{NoneUnused, uses}
+use Rattle.node_layout.specs.Counts.{NoneUnused, uses}
 use Rattle.tree_edit.specs.Edits.{entry_with}
 use Rattle.content_plan.specs.Plan.{NamesOver}
 use Rattle.content_plan.specs.Told.{content_at}

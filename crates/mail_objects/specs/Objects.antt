@@ -9,7 +9,7 @@ use Rattle.node_values.specs.Subnodes.{ids_ascend}
 use Rattle.table_context.specs.Context.{IsTableContext}
 use Rattle.mail_objects.specs.Message.{ShowsMessage, is_formed}
 use Rattle.write_limits.specs.Limits.{props_fit, table_fits, message_fits}
-use Rattle.space_bound.specs.Space.{kept_space, message_space, props_space, table_space}
+use Rattle.write_limits.specs.Space.{kept_space, message_space, props_space, table_space}
 use Rattle.mail_objects.specs.Forms.{Ctx, Tbl}
 use Rattle.mail_objects.specs.declared.object.Object.{Object}
 use Rattle.mail_objects.specs.declared.object.Object.TheVariants.{Context, Table, Message, Bare}

@@ -1,6 +1,6 @@
 //! Writing objects as nodes.
 ghost use Rattle.std.specs.Prelude.{◌≡◌, ◌+◌, ◌≤◌, ℕ, true, IfOk};
-ghost use Rattle.space_bound.specs.Space.{kept_space, props_space, table_space};
+ghost use Rattle.write_limits.specs.Space.{kept_space, props_space, table_space};
 ghost use Rattle.write_limits.specs.Limits.{props_fit, table_fits};
 ghost use Rattle.mail_objects.specs.Objects.{ShowsBare, ShowsContext, ShowsObject, ShowsTable, node_size, object_fits, object_space, stands_at};
 

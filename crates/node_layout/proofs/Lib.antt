@@ -8,3 +8,8 @@ pub mod WrittenLaws
 pub mod SealedLaws
 pub mod GrowthLaws
 pub mod DataLaws
+pub mod ReachLaws
+pub mod FoundLaws
+pub mod CountLaws
+pub mod AfterLaws
+pub mod FitLaws

@@ -7,3 +7,4 @@ pub mod Commit
 pub mod Written
 pub mod Sealed
 pub mod Growth
+pub mod Counts

@@ -19,7 +19,7 @@ use Rattle.node_layout.specs.Pieces.{EachStands}
 use Rattle.node_layout.specs.Sealed.{AreSealed, IsSealed}
 use Rattle.node_layout.proofs.LookupLaws.{sum-append, sum-given}
 use Rattle.node_layout.proofs.SealedLaws.{sealed-data}
-use Rattle.node_refs.specs.Counts.{sum_put}
+use Rattle.node_layout.specs.Counts.{sum_put}
 use Rattle.plan_drawing.specs.Recounts.{puts_of}
 use Rattle.plan_drawing.proofs.RecountLaws.{edit-back}
 

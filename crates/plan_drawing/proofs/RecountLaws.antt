@@ -9,7 +9,7 @@ use Rattle.tree_edit.specs.Edits.{AreEdits, Keyed, entry_with, extra, of_some}
 use Rattle.node_layout.specs.Joined.{AreLeft, Recounts}
 use Rattle.node_layout.specs.Lookups.{Each, EachPut, IsPut, edit_at, or_old, sum_of}
 use Rattle.node_layout.proofs.LookupLaws.{edits-none}
-use Rattle.node_refs.specs.Counts.{sum_put}
+use Rattle.node_layout.specs.Counts.{sum_put}
 use Rattle.ref_counts.specs.declared.table.RefChange.{RefChange}
 use Rattle.ref_counts.specs.Changes.{change_of, key_in, number_by}
 use Rattle.ref_counts.specs.Tables.{Rises}

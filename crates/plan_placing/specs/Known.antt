@@ -6,7 +6,7 @@ use Rattle.file_blocks.specs.Blocks.{found_in}
 use Rattle.file_layout.specs.Nodes.{NodeMap, Lays, blocks_in, nodes_in, places_of}
 use Rattle.file_layout.specs.Numbers.{next_block, next_page}
 use Rattle.file_layout.specs.Trees.{Found}
-use Rattle.node_refs.specs.Counts.{AreRefs}
+use Rattle.node_layout.specs.Counts.{AreRefs}
 
 -- The used slots, the numbers of references, the number of pages and the next numbers are those of a file with these trees.
 pub record IsKnownBy (header : Header) (file : List ℕ) (blocks nodes : Found) (slots : List Bool) (counts : ℕ → ℕ) (many block page : ℕ) : Type 0 where

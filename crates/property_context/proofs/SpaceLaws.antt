@@ -5,7 +5,7 @@ use Rattle.pst_base.specs.Flat.{Flat}
 use Rattle.node_port.specs.Stops.{subs_size}
 use Rattle.mapi_values.specs.Values.{Val}
 use Rattle.write_limits.specs.Limits.{is_long}
-use Rattle.space_bound.specs.Space.{kept_space, long_blocks, props_space, values_blocks, values_bytes}
+use Rattle.write_limits.specs.Space.{kept_space, long_blocks, props_space, values_blocks, values_bytes}
 use Rattle.heap_on_node.specs.Packing.{IsPacked, halves, spread}
 use Rattle.heap_on_node.proofs.BlockLaws.{blocks-halves, blocks-spread, halves-blocks}
 use Rattle.bth_tree.specs.Making.{Makes, chunks, items_above, items_made}

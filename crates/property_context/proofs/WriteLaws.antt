@@ -26,7 +26,7 @@ use Rattle.bth_tree.proofs.MakeLaws.{bth-kept}
 use Rattle.heap_on_node.specs.Heap.{IsHeap, item}
 use Rattle.bth_tree.proofs.OptionLaws.{none-some, some-injective}
 use Rattle.bth_tree.proofs.MakeLaws.{AreRecords-push, item_in-zero}
-use Rattle.space_bound.specs.Space.{short_bytes, values_bytes}
+use Rattle.write_limits.specs.Space.{short_bytes, values_bytes}
 use Rattle.property_context.specs.declared.placing.Placer.{Placer}
 use Rattle.property_context.specs.Context.{IsPropertyContext, fitting, is_named, names, of_field, value_of, values_of}
 use Rattle.node_values.specs.Subnodes.{data_of, without}

@@ -9,7 +9,7 @@ use Rattle.heap_on_node.specs.Packing.{item_in, spread}
 use Rattle.bth_tree.specs.Tree.{bth}
 use Rattle.bth_tree.specs.Making.{AreRecords, Keeps}
 use Rattle.node_values.specs.Named.{KeepsData, named}
-use Rattle.space_bound.specs.Space.{short_bytes, values_bytes}
+use Rattle.write_limits.specs.Space.{short_bytes, values_bytes}
 use Rattle.property_context.specs.declared.placing.Placer.{Placer}
 use Rattle.property_context.specs.Context.{is_named, names, value_of, values_of}
 use Rattle.property_context.specs.Placing.{Placing, is_id, long_bytes, placed_data, span}

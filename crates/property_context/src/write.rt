@@ -5,7 +5,7 @@ ghost use Rattle.pst_base.specs.Flat.{Flat};
 ghost use Rattle.heap_on_node.specs.Packing.{IsPacked, IsPlain, PacksTight};
 ghost use Rattle.mapi_values.specs.Properties.{ascend_from};
 ghost use Rattle.node_port.specs.Stops.{subs_size};
-ghost use Rattle.space_bound.specs.Space.{kept_space, props_space};
+ghost use Rattle.write_limits.specs.Space.{kept_space, props_space};
 ghost use Rattle.write_limits.specs.Limits.{long_values, props_fit};
 ghost use Rattle.property_context.specs.Context.{IsPropertyContext};
 ghost use Rattle.node_values.specs.Subnodes.{ids_ascend};

@@ -45,10 +45,10 @@ use Rattle.search_lists.proofs.NamedLaws.{named_then}
 use Rattle.search_lists.proofs.PlainLaws.{plain_commands_stay}
 use Rattle.search_lists.proofs.SettleLaws.{each}
 use Rattle.search_lists.proofs.TouchLaws.{touches_all}
-use Rattle.search_order.specs.Keeps.{IsThere, KeepsOrder, with_changes}
-use Rattle.search_order.specs.Order.{InOrder}
-use Rattle.search_order.proofs.AfterOrder.{settling_keeps_order}
-use Rattle.search_order.proofs.ResultSteps.{if_given, none_stray}
+use Rattle.search_lists.specs.Keeps.{IsThere, KeepsOrder, with_changes}
+use Rattle.search_lists.specs.Order.{InOrder}
+use Rattle.search_lists.proofs.AfterOrder.{settling_keeps_order}
+use Rattle.search_lists.proofs.ResultSteps.{if_given, none_stray}
 use Rattle.search_laws.specs.Laws.{StaysInOrder}
 use Rattle.search_laws.proofs.Making.{makes_in_order}
 use Rattle.search_laws.proofs.Marked.{marks_still}

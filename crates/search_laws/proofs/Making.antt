@@ -22,8 +22,8 @@ use Rattle.mail_searches.specs.Criteria.{Coming, made_search, making_search_in, 
 use Rattle.mail_searches.specs.Searches.{updates}
 use Rattle.mail_searches.specs.Searching.{Searching, is_own}
 use Rattle.mail_searches.specs.Step.{after}
-use Rattle.search_order.specs.Order.{AreMarked, InOrder}
-use Rattle.search_order.proofs.ResultSteps.{if_given}
+use Rattle.search_lists.specs.Order.{AreMarked, InOrder}
+use Rattle.search_lists.proofs.ResultSteps.{if_given}
 use Rattle.search_laws.specs.Laws.{MakesInOrder}
 use Rattle.search_laws.proofs.Marked.{marks_stay, none_beside}
 use Rattle.search_laws.proofs.MakingLists.{lists_there}

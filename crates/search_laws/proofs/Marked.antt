@@ -15,8 +15,8 @@ use Rattle.mail_searches.specs.Criteria.{Coming}
 use Rattle.mail_searches.specs.Searches.{Search, criteria_node, results, updates}
 use Rattle.mail_searches.specs.Searching.{Searching, is_own}
 use Rattle.mail_searches.specs.Step.{after}
-use Rattle.search_order.specs.Order.{AreMarked, AreOwn}
-use Rattle.search_order.proofs.AfterOrder.{other_after}
+use Rattle.search_lists.specs.Order.{AreMarked, AreOwn}
+use Rattle.search_lists.proofs.AfterOrder.{other_after}
 
 -- the other nodes after a command are some of those before
 others_then : (T : Tree) (o : Outcome) (q : ℕ) → (node_at (tree.after T o).others q ≡ None) ⊎ (node_at (tree.after T o).others q ≡ node_at T.others q)

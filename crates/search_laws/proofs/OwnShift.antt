@@ -20,7 +20,7 @@ use Rattle.mail_searches.specs.Criteria.{Coming}
 use Rattle.mail_searches.specs.Searches.{criteria_node, results}
 use Rattle.mail_searches.specs.Searching.{IsOfSearch, Searching, is_own}
 use Rattle.mail_searches.specs.Step.{after}
-use Rattle.search_order.specs.Order.{InOrder}
+use Rattle.search_lists.specs.Order.{InOrder}
 use Rattle.search_laws.proofs.AfterFound.{found_then, whole_then}
 use Rattle.search_laws.proofs.Marked.{marks_still}
 use Rattle.search_laws.proofs.OwnStays.{Follows, all_fresh, searches_stay}

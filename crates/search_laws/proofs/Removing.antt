@@ -25,8 +25,8 @@ use Rattle.mail_searches.specs.Moving.{removed_search, removing_search, without_
 use Rattle.mail_searches.specs.Searches.{criteria_node, find_search, results, search_id}
 use Rattle.mail_searches.specs.Searching.{IsOfSearch, Searching, is_own}
 use Rattle.mail_searches.specs.Step.{after}
-use Rattle.search_order.specs.Order.{InOrder}
-use Rattle.search_order.proofs.ResultSteps.{if_given}
+use Rattle.search_lists.specs.Order.{InOrder}
+use Rattle.search_lists.proofs.ResultSteps.{if_given}
 use Rattle.search_laws.specs.Laws.{RemovesInOrder}
 use Rattle.search_laws.proofs.AfterFound.{found_then, whole_then}
 use Rattle.search_laws.proofs.Marked.{marks_stay}

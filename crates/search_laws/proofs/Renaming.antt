@@ -35,8 +35,8 @@ use Rattle.mail_searches.specs.Criteria.{staying}
 use Rattle.mail_searches.specs.Moving.{renamed_search}
 use Rattle.mail_searches.specs.Searching.{IsOfSearch, Searching, is_own}
 use Rattle.mail_searches.specs.Step.{after}
-use Rattle.search_order.specs.Order.{InOrder}
-use Rattle.search_order.proofs.ResultSteps.{if_given}
+use Rattle.search_lists.specs.Order.{InOrder}
+use Rattle.search_lists.proofs.ResultSteps.{if_given}
 use Rattle.search_laws.specs.Laws.{RenamesInOrder}
 use Rattle.search_laws.proofs.OwnShift.{Shifts, finds_before, in_order, same_searches}
 use Rattle.search_laws.proofs.OwnSteps.{IsQuietId, counted_before, no_hierarchy, shown_before, fine_with, if_four, no_root, now_before, place_of}

@@ -1,5 +1,5 @@
 -- `criteria` leaves all in order, and a new store is in order.
-use Rattle.search_order.proofs.AfterOrder.{results_keep_order}
+use Rattle.search_lists.proofs.AfterOrder.{results_keep_order}
 use Rattle.search_laws.specs.Laws.{SetsInOrder, StartsInOrder}
 use Rattle.search_laws.proofs.SettingStart.{starts_so}
 use Rattle.search_laws.proofs.SettingSteps.{sets_keeping}

@@ -10,7 +10,7 @@ use Rattle.mail_searches.specs.Searching.{AllFresh, AreSearches, IsOfSearch, Sea
 use Rattle.mail_tree.specs.Found.{IsFound, IsFoundBeside}
 use Rattle.mail_tree.specs.Places.{find_place}
 use Rattle.mail_tree.specs.Tree.{Tree}
-use Rattle.search_order.specs.Order.{AreMarked, InOrder}
+use Rattle.search_lists.specs.Order.{AreMarked, InOrder}
 use Rattle.search_laws.specs.Laws.{StartsInOrder}
 use Rattle.search_laws.proofs.OwnSteps.{place_of}
 

@@ -47,8 +47,8 @@ use Rattle.mail_searches.specs.Searches.{IsFresh, Search, ShowsCriteria, criteri
 use Rattle.mail_searches.specs.Searching.{AllFresh, AreSearches, Each, IsOfSearch, Searching, is_own}
 use Rattle.mail_searches.specs.Step.{after}
 use Rattle.search_lists.proofs.ListLaws.{are-rows, rows-are}
-use Rattle.search_order.specs.Keeps.{IsThere, KeepsOrder, ResultsKeepOrder}
-use Rattle.search_order.specs.Order.{InOrder}
+use Rattle.search_lists.specs.Keeps.{IsThere, KeepsOrder, ResultsKeepOrder}
+use Rattle.search_lists.specs.Order.{InOrder}
 use Rattle.search_laws.specs.Laws.{SetsInOrder}
 use Rattle.search_laws.proofs.Marked.{marks_still}
 use Rattle.search_laws.proofs.SettingLists.{AreBuilt, each-found, rows_built}

@@ -7,7 +7,7 @@ use Rattle.mail_searches.specs.Criteria.{given_criteria, made_search, staying}
 use Rattle.mail_searches.specs.Moving.{moved_search, removed_search, renamed_search}
 use Rattle.mail_searches.specs.Searching.{Searching, StartsSearching, is_own}
 use Rattle.mail_searches.specs.Step.{after, outcome}
-use Rattle.search_order.specs.Order.{InOrder, IsSound}
+use Rattle.search_lists.specs.Order.{InOrder, IsSound}
 
 -- a new search leaves all in order
 abbrev pub MakesInOrder : Type 0

@@ -14,3 +14,8 @@ pub mod ApartLaws
 pub mod NamedLaws
 pub mod PlainLaws
 pub mod StoodLists
+pub mod Quiet
+pub mod ListSteps
+pub mod ResultSteps
+pub mod SettleSteps
+pub mod AfterOrder

@@ -9,7 +9,7 @@ use Rattle.mail_tree.specs.Places.{find_place, is_plain}
 use Rattle.mail_tree.specs.Standing.{HasContext, HasTable, ListsMessage}
 use Rattle.mail_searches.specs.Searches.{Search, ShowsCriteria, criteria_node, find_search, results, search_id}
 use Rattle.mail_searches.specs.Searching.{is_own}
-use Rattle.search_order.specs.Order.{AreOwn}
+use Rattle.search_lists.specs.Order.{AreOwn}
 
 -- a search folder stands at one of these places
 abbrev pub IsSearchIn : List FolderPlace → ℕ → Type 0

@@ -24,7 +24,7 @@ use Rattle.mail_searches.specs.Searches.{criteria_node, criteria_of, results}
 use Rattle.mail_searches.specs.Searching.{IsOfSearch, Searching, is_own}
 use Rattle.node_port.specs.Nodes.{Nodes, node_at}
 use Rattle.search_look.specs.Having.{HasSearches, IsMessageIn, IsOwnIn, IsSearchIn}
-use Rattle.search_order.specs.Order.{AreOwn}
+use Rattle.search_lists.specs.Order.{AreOwn}
 use Rattle.searches_shown.specs.Showing.{ShowsSearches}
 use Rattle.searches_shown.proofs.Alike.{is_beside, no_beside, node_of, other_node}
 

@@ -22,7 +22,7 @@ use Rattle.node_port.specs.Nodes.{Nodes, node_at}
 use Rattle.node_port.specs.declared.node.NodeRec.{NodeRec}
 use Rattle.pst_base.specs.declared.ids.Nid.{Nid}
 use Rattle.search_look.specs.Having.{HasSearches, IsMessageIn}
-use Rattle.search_order.specs.Order.{AreMarked}
+use Rattle.search_lists.specs.Order.{AreMarked}
 use Rattle.tree_shown.specs.Shows.{IsOwned, Shows}
 use Rattle.tree_shown.proofs.Gather.{Gathered, gather}
 use Rattle.tree_shown.proofs.Ids.{IsIn, Lists, each, either, like, nothing, one}

@@ -5,7 +5,7 @@ use Rattle.mail_tree.specs.Found.{IsFoundBeside}
 use Rattle.mail_tree.specs.Tree.{StandsAt, object_at}
 use Rattle.mail_tree.specs.Whole.{IsWhole}
 use Rattle.mail_searches.specs.Searching.{AllFresh, AreSearches, IsOfSearch, Searching}
-use Rattle.search_order.specs.Order.{AreMarked}
+use Rattle.search_lists.specs.Order.{AreMarked}
 
 -- The nodes show the tree with its searches, whatever these list.
 pub record ShowsSearches (N : Nodes) (X : Searching) : Type 0 where

@@ -29,7 +29,7 @@ use Rattle.mail_searches.specs.Searching.{Searching}
 use Rattle.mail_searches.specs.Step.{after, outcome, stepped}
 use Rattle.mail_searches.specs.declared.known.KnownSearches.{KnownSearches}
 use Rattle.search_folders.specs.Comings.{KnowsSearches}
-use Rattle.search_order.specs.Order.{InOrder}
+use Rattle.search_lists.specs.Order.{InOrder}
 use Rattle.search_laws.proofs.Joining.{stays_in_order}
 use Rattle.search_store.specs.Planning.{PlansComing}
 use Rattle.store_session.specs.Carrying.{CarriesOut, ComesTo, Has, Leaves, StandsOrdered}

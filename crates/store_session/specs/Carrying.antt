@@ -12,7 +12,7 @@ use Rattle.mail_searches.specs.Searching.{Searching}
 use Rattle.mail_searches.specs.declared.known.KnownSearches.{KnownSearches}
 pub use Rattle.mail_store.specs.Planning.{StandsFor}
 use Rattle.mail_tree.specs.declared.known.Known.{Known}
-pub use Rattle.search_order.specs.Order.{InOrder}
+pub use Rattle.search_lists.specs.Order.{InOrder}
 use Rattle.search_store.specs.Planning.{StoresSearches}
 use Rattle.store_session.specs.Run.{refused}
 use Rattle.store_session.specs.declared.carrying.StoreStop.{StoreStop}

@@ -13,7 +13,7 @@ use Rattle.mapi_values.specs.declared.column.Column.{Column}
 use Rattle.mapi_values.specs.Columns.{all_apart, cell_width, has_column, in_cell, is_apart, is_column, is_placed, lies, suits_cell}
 use Rattle.mapi_values.specs.Tables.{value_suits}
 use Rattle.mapi_values.specs.Values.{Val, fits, value_fits}
-use Rattle.space_bound.specs.Space.{values_blocks, values_bytes}
+use Rattle.write_limits.specs.Space.{values_blocks, values_bytes}
 use Rattle.write_limits.specs.Limits.{cells_bytes, long_values}
 use Rattle.table_writer.specs.declared.value.Made.{Made}
 use Rattle.table_writer.specs.Bits.{bits}

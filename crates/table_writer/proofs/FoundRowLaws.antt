@@ -22,7 +22,7 @@ use Rattle.node_values.proofs.SubLaws.{without-same}
 use Rattle.table_context.specs.Rows.{cell_of, cells_of, content, has_cell, row_names, row_of, shows_id, value_in}
 use Rattle.table_context.specs.Rows.{is_among}
 use Rattle.table_writer.specs.Woven.{all_woven}
-use Rattle.space_bound.specs.Space.{cells_blocks, values_blocks, values_bytes}
+use Rattle.write_limits.specs.Space.{cells_blocks, values_blocks, values_bytes}
 use Rattle.table_writer.specs.Writing.{AreRows, FillsRows, HaveLength, cells_short}
 use Rattle.table_context.proofs.StepLaws.{first}
 use Rattle.table_writer.proofs.FillLaws.{grows-more}

@@ -10,7 +10,7 @@ use Rattle.pst_base.proofs.Numbers.{number_at-same}
 use Rattle.mapi_values.specs.Columns.{in_cell, suits_cell}
 use Rattle.mapi_values.specs.Values.{Val}
 use Rattle.write_limits.specs.Limits.{heap_bytes, long_value}
-use Rattle.space_bound.specs.Space.{long_blocks, short_bytes}
+use Rattle.write_limits.specs.Space.{long_blocks, short_bytes}
 use Rattle.table_writer.specs.declared.value.Made.{Made}
 use Rattle.table_writer.specs.Bits.{bits, digit, octet}
 use Rattle.table_writer.specs.Making.{Grows, PutsCell, PutsValue, cost, get_of, in_heap, in_subnode, sub_of, subnodes}

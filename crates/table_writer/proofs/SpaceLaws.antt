@@ -11,7 +11,7 @@ use Rattle.node_port.specs.Stops.{subs_size}
 use Rattle.pst_base.specs.Flat.{Flat}
 use Rattle.pst_base.specs.Subs.{flattened}
 use Rattle.pst_base.specs.declared.subs.Sub.{Sub}
-use Rattle.space_bound.specs.Space.{cells_blocks, kept_space, rows_space, table_space}
+use Rattle.write_limits.specs.Space.{cells_blocks, kept_space, rows_space, table_space}
 use Rattle.table_writer.specs.declared.value.Made.{Made}
 use Rattle.table_writer.specs.Making.{load, sub_blocks}
 use Rattle.table_writer.specs.Woven.{all_woven}

@@ -10,7 +10,7 @@ use Rattle.mapi_values.specs.Values.{Val}
 use Rattle.write_limits.specs.Limits.{cells_bytes, long_values}
 use Rattle.table_writer.specs.declared.value.Made.{Made}
 use Rattle.table_writer.specs.Bits.{bits}
-use Rattle.space_bound.specs.Space.{values_blocks, values_bytes}
+use Rattle.write_limits.specs.Space.{values_blocks, values_bytes}
 use Rattle.table_writer.specs.Making.{Grows, IsMade, get_of, load, sub_blocks, sub_of, weight}
 use Rattle.table_context.specs.Rows.{cells_of, row_names, shows_id}
 use Rattle.table_writer.specs.Woven.{all_woven}

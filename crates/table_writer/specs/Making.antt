@@ -7,7 +7,7 @@ use Rattle.pst_base.specs.Fields.{replaced}
 use Rattle.mapi_values.specs.Columns.{cell_width, in_cell}
 use Rattle.mapi_values.specs.Values.{Val}
 use Rattle.node_port.specs.Stops.{subs_size}
-use Rattle.space_bound.specs.Space.{long_blocks, short_bytes}
+use Rattle.write_limits.specs.Space.{long_blocks, short_bytes}
 use Rattle.write_limits.specs.Limits.{heap_bytes, long_value}
 use Rattle.table_writer.specs.declared.value.Made.{Made}
 use Rattle.node_values.specs.Named.{KeepsData, named}

@@ -12,7 +12,7 @@ use Rattle.mapi_values.specs.Values.{Val}
 use Rattle.write_limits.specs.Limits.{long_cells, rows_bytes}
 use Rattle.table_writer.specs.declared.value.Made.{Made}
 use Rattle.table_context.specs.Header.{columns_of, ends_in, index_in, matrix_in, names_index}
-use Rattle.space_bound.specs.Space.{cells_blocks, values_bytes}
+use Rattle.write_limits.specs.Space.{cells_blocks, values_bytes}
 use Rattle.table_writer.specs.Making.{Grows, IsMade, get_of, load, sub_blocks, sub_of, weight}
 use Rattle.table_context.specs.Rows.{piece, row_in, row_names, row_of, subnode}
 use Rattle.table_writer.specs.Woven.{all_woven}

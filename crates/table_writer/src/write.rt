@@ -7,7 +7,7 @@ ghost use Rattle.mapi_values.specs.Columns.{is_layout};
 ghost use Rattle.mapi_values.specs.Keyed.{keys_ascend};
 ghost use Rattle.mapi_values.specs.Tables.{row_suits};
 ghost use Rattle.node_port.specs.Stops.{subs_size};
-ghost use Rattle.space_bound.specs.Space.{table_space};
+ghost use Rattle.write_limits.specs.Space.{table_space};
 ghost use Rattle.write_limits.specs.Limits.{long_cells, rows_bytes, table_fits};
 ghost use Rattle.table_context.specs.Context.{IsTableContext};
 ghost use Rattle.table_writer.specs.Writing.{ColumnFits, EndsFit, column_bytes, front_of};

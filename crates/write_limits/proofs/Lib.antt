@@ -1,1 +1,2 @@
 pub mod DirectLaws
+pub mod KeptLaws

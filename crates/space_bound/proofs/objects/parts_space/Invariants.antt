@@ -1,7 +1,0 @@
-use Rattle.std.proofs.Common.{◌≡◌, ◌+◌, ◌^◌, ◌≤◌, min, drop}
-use Rattle.space_bound.specs.Space.{parts_space}
-use Rattle.space_bound.proofs.objects.parts_space.Given as goal
-
--- with what is left, the total is that of all
-abbrev pub invariant-loop-part : goal.invariant-loop-part
-invariant-loop-part l = (l.total ≤ 2 ^ 60) × (min (l.total + parts_space (drop l.part-index l.parts)) (2 ^ 60) ≡ min (parts_space l.parts) (2 ^ 60))

@@ -1,7 +1,0 @@
-use Rattle.std.proofs.Common.{◌≡◌, ◌+◌, ◌^◌, ◌≤◌, min, drop}
-use Rattle.space_bound.specs.Space.{rows_space}
-use Rattle.space_bound.proofs.values.rows_bytes.Given as goal
-
--- with what is left, the total is that of all
-abbrev pub invariant-loop-row : goal.invariant-loop-row
-invariant-loop-row l = (l.total ≤ 2 ^ 100) × (min (l.total + rows_space l.size (drop l.row-index l.rows)) (2 ^ 100) ≡ min (rows_space l.size l.rows) (2 ^ 100))
