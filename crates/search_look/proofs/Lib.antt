@@ -3,3 +3,8 @@ pub mod Keeping
 pub mod Parts
 pub mod Places
 pub mod Excludes
+pub mod Alike
+pub mod Without
+pub mod Has
+pub mod Made
+pub mod One

@@ -1,3 +1,4 @@
 pub mod Having
 pub mod Faults
 pub mod Looking
+pub mod Showing

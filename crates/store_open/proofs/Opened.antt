@@ -19,7 +19,7 @@ use Rattle.tree_look.specs.Seeing.{AreListed}
 use Rattle.tree_look.specs.declared.stops.LookStop.{LookStop}
 use Rattle.tree_look.specs.declared.stops.LookStop.TheVariants as looks
 use Rattle.tree_look.proofs.Excludes as folders
-use Rattle.tree_shown.proofs.One.{one_places}
+use Rattle.tree_look.proofs.One.{one_places}
 use Rattle.mail_searches.specs.Searches.{IsFresh, Search, find_search, runs}
 use Rattle.mail_searches.specs.Searching.{AllFresh, AreSearches, Each, Searching}
 use Rattle.mail_searches.specs.declared.known.KnownSearches.{KnownSearches}
@@ -31,11 +31,11 @@ use Rattle.search_look.specs.declared.stops.SearchRefusal.TheVariants as refusal
 use Rattle.search_look.specs.declared.stops.SearchStop.{SearchStop}
 use Rattle.search_look.specs.declared.stops.SearchStop.TheVariants as look
 use Rattle.search_look.proofs.Excludes as searches
-use Rattle.searches_shown.specs.Showing.{ShowsFresh, ShowsSearches}
-use Rattle.searches_shown.proofs.Has.{has_searches}
-use Rattle.searches_shown.proofs.Made.{shows_searches}
-use Rattle.searches_shown.proofs.One.{one_searching}
-use Rattle.searches_shown.proofs.Without.{has_tree, search_flags}
+use Rattle.search_look.specs.Showing.{ShowsFresh, ShowsSearches}
+use Rattle.search_look.proofs.Has.{has_searches}
+use Rattle.search_look.proofs.Made.{shows_searches}
+use Rattle.search_look.proofs.One.{one_searching}
+use Rattle.search_look.proofs.Without.{has_tree, search_flags}
 use Rattle.list_check.specs.Checking.{TellsStale}
 use Rattle.store_open.specs.Opening.{IsSearchRefused, KnowsTree, StopsTree}
 use Rattle.store_open.specs.Stops.{of_check, of_look, of_searches}

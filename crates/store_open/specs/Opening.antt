@@ -12,7 +12,7 @@ use Rattle.search_folders.specs.Comings.{KnowsSearches}
 use Rattle.search_look.specs.Faults.{HasSearchFault}
 use Rattle.search_look.specs.declared.stops.SearchRefusal.{SearchRefusal}
 use Rattle.search_look.specs.declared.stops.SearchRefusal.TheVariants as searches
-pub use Rattle.searches_shown.specs.Showing.{ShowsFresh, ShowsSearches}
+pub use Rattle.search_look.specs.Showing.{ShowsFresh, ShowsSearches}
 use Rattle.store_open.specs.declared.open.OpenedTree.{OpenedTree}
 use Rattle.store_open.specs.declared.stops.TreeRefusal.{TreeRefusal}
 use Rattle.store_open.specs.declared.stops.TreeRefusal.TheVariants.{Folders, Searches}

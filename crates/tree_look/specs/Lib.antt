@@ -3,3 +3,4 @@ pub mod Faults
 pub mod Walk
 pub mod Stops
 pub mod Seeing
+pub mod Shows

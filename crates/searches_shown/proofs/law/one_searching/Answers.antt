@@ -1,5 +1,0 @@
-use Rattle.searches_shown.proofs.One.{one_searching}
-use Rattle.searches_shown.proofs.law.one_searching.Goals as goal
-
-pub returns : goal.returns
-returns c = one_searching

@@ -1,5 +1,0 @@
-use Rattle.searches_shown.proofs.Without.{search_flags}
-use Rattle.searches_shown.proofs.law.search_flags.Goals as goal
-
-pub returns : goal.returns
-returns c = search_flags
