@@ -1,7 +1,7 @@
 #!/bin/sh
 # Says of each edit of a crate, in must-fail/ and in edits/, whether the rows or cases of a program notice its wrong body: which stand in the gate alone because the prover refuses them, and which would be found out without it.
 # Works on a copy, and proves nothing: the program runs as `rt try` runs it.
-[ $# -gt 1 ] || { echo "usage: bench/noticed.sh CRATE PROGRAM [FILE..]   (tree_rows, base_rows, keeper_rows or cases; all its files if none is named)" >&2; exit 2; }
+[ $# -gt 1 ] || { echo "usage: bench/noticed.sh CRATE PROGRAM [FILE..]   (base_rows, file_rows or cases; all its files if none is named)" >&2; exit 2; }
 top=$(cd "$(dirname "$0")/.." && pwd) || exit 1
 copy=$(mktemp -d) || exit 1
 trap 'rm -rf "$copy"' EXIT

@@ -1,7 +1,7 @@
 use Rattle.std.proofs.Common.{◌≡◌, ◌≤◌, ◌*◌, length}
 use Rattle.std.specs.List.{All}
 use Rattle.data_tree.specs.Plan.{bytes_in}
-use Rattle.tree_rows.proofs.lists.content.Given as goal
+use Rattle.file_rows.proofs.lists.content.Given as goal
 
 abbrev pub invariant-loop-i : goal.invariant-loop-i
 invariant-loop-i l = record {

@@ -4,7 +4,7 @@ use Rattle.pst_base.specs.declared.subs.Sub.{Sub}
 use Rattle.pst_base.specs.Flat.{Flat}
 use Rattle.subnode_tree.specs.Plan.{IsForm}
 use Rattle.subnode_tree.proofs.MadeLaws.{Made, form-made, form-none, made-none, made-push, none-shallow, sub-fits}
-use Rattle.tree_rows.proofs.subnodes.flat.Goals as goal
+use Rattle.file_rows.proofs.subnodes.flat.Goals as goal
 
 pub loop-i-init : goal.loop-i-init
 loop-i-init c =

@@ -5,7 +5,7 @@ use Rattle.pst_base.specs.Subs.{flattened, one_deeper}
 use Rattle.subnode_tree.specs.Plan.{IsForm}
 use Rattle.subnode_tree.proofs.FormLaws.{own}
 use Rattle.subnode_tree.proofs.MadeLaws.{form-made, form-none, made-one, none-shallow, sub-fits}
-use Rattle.tree_rows.proofs.subnodes.single.Goals as goal
+use Rattle.file_rows.proofs.subnodes.single.Goals as goal
 
 pub returns-clause-form : goal.returns-clause-form
 returns-clause-form c =

@@ -1,7 +1,7 @@
 use Rattle.std.proofs.Common.{◌≡◌, ◌≤◌, length, arith}
 use Rattle.std.proofs.lemmas.List.{length_push}
 use Rattle.data_tree.proofs.PlanSteps.{small-push, bytes_in-push}
-use Rattle.tree_rows.proofs.lists.content.Goals as goal
+use Rattle.file_rows.proofs.lists.content.Goals as goal
 
 pub loop-i-preserved : goal.loop-i-preserved
 loop-i-preserved c =

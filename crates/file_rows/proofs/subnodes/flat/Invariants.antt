@@ -1,6 +1,6 @@
 use Rattle.std.proofs.Common.{◌≡◌, ◌+◌, ◌*◌, length}
 use Rattle.subnode_tree.proofs.MadeLaws.{Made}
-use Rattle.tree_rows.proofs.subnodes.flat.Given as goal
+use Rattle.file_rows.proofs.subnodes.flat.Given as goal
 
 abbrev pub invariant-loop-i : goal.invariant-loop-i
 invariant-loop-i l = record {
