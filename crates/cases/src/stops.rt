@@ -3,11 +3,20 @@ ghost use Rattle.std.specs.Prelude.{◌≤◌, length};
 
 use crate::running::{Start, call};
 use case_lines::{BadStop, Case, CaseWorld, begun, outcomes};
+use pst_base::Bytes;
 use pst_outside::{FailPlan, Part};
 use std::alloc::{AllocError, Global};
 
 /// How many calls of the disk a case may have that is cut off at each.
 const MOST_CALLS: u64 = 100_000;
+
+/// An outcome of a crash that was looked at.
+#[derive(Drop)]
+struct Seen {
+    main: Bytes,
+    side: Bytes,
+    said: Vec<u8>,
+}
 
 /// What a session over two files says to the lines by which a case looks at them.
 fn look(alloc: Global, case: &Case, main: &[u8], side: &[u8]) -> Result<Vec<u8>, AllocError> {
@@ -60,24 +69,43 @@ fn looks_between(alloc: Global, case: &Case, words: &str) -> Result<Vec<Vec<u8>>
     Ok(looks)
 }
 
-/// The first outcome of a crash at the moment at which a world is that isn't what some lines leave, among them each whose reply had begun.
+/// What was said of the same two files where they were looked at before, or else what is said now. Most calls of a disk leave what the one before left.
+fn look_once(
+    alloc: Global,
+    case: &Case,
+    main: &[u8],
+    side: &[u8],
+    before: &[Seen],
+) -> Result<Vec<u8>, AllocError> {
+    let known = before.iter().find(|it| it.main.as_slice() == main && it.side.as_slice() == side);
+    match known {
+        Some(it) => Vec::from_slice(alloc, it.said.as_slice()),
+        None => look(alloc, case, main, side),
+    }
+}
+
+/// Whether this is what some of the case's lines leave, at least so many.
+fn is_whole(looks: &[Vec<u8>], least: usize, said: &[u8]) -> bool {
+    looks.iter().skip(least).any(|look| look.as_slice() == said)
+}
+
+/// The first outcome of a crash at the moment at which a world is that isn't what some lines leave, among them each whose reply had begun. Those that are it are added to what was seen.
 fn bad_outcome(
     alloc: Global,
     case: &Case,
     looks: &[Vec<u8>],
     w: &CaseWorld,
     call: u64,
+    before: &[Seen],
+    seen: &mut Vec<Seen>,
 ) -> Result<Option<BadStop>, AllocError> {
     let least = begun(w.world.said());
     let sides = outcomes(alloc, w, Part::Side)?;
     for main in &outcomes(alloc, w, Part::Main)? {
         for side in &sides {
-            let said = look(alloc, case, main.bytes.as_slice(), side.bytes.as_slice())?;
-            let is_whole = looks
-                .iter()
-                .skip(least)
-                .any(|look| look.as_slice() == said.as_slice());
-            if !is_whole {
+            let (main_bytes, side_bytes) = (main.bytes.as_slice(), side.bytes.as_slice());
+            let said = look_once(alloc, case, main_bytes, side_bytes, before)?;
+            if !is_whole(looks, least, said.as_slice()) {
                 return Ok(Some(BadStop {
                     call,
                     main: main.pick,
@@ -85,6 +113,11 @@ fn bad_outcome(
                     said,
                 }));
             }
+            seen.push(Seen {
+                main: Bytes::from_slice(alloc, main_bytes)?,
+                side: Bytes::from_slice(alloc, side_bytes)?,
+                said,
+            })?;
         }
     }
     Ok(None)
@@ -112,12 +145,23 @@ fn stopped_at(
 /// The first stop of a case that leaves what no whole lines leave; `None` where there is none.
 pub fn bad_stop(alloc: Global, case: &Case, words: &str) -> Result<Option<BadStop>, AllocError> {
     let looks = looks_between(alloc, case, words)?;
+    let mut before = Vec::new(alloc);
     for number in 0..MOST_CALLS {
         let w = stopped_at(alloc, case, words, number)?;
-        let bad = bad_outcome(alloc, case, looks.as_slice(), &w, number)?;
+        let mut seen = Vec::new(alloc);
+        let bad = bad_outcome(
+            alloc,
+            case,
+            looks.as_slice(),
+            &w,
+            number,
+            before.as_slice(),
+            &mut seen,
+        )?;
         if bad.is_some() || w.disk_faults == 0 {
             return Ok(bad);
         }
+        before = seen;
     }
     Ok(None)
 }
