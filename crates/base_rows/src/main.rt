@@ -28,7 +28,25 @@ use test_lines::{Answerer, Trouble, Words, play_all};
 /// The crates of the base, of heaps and contexts, and of the objects that no store is needed for.
 struct Base;
 
-/// Adds the answer to a row on heaps, contexts, messages or searches.
+/// Adds the answer to a row on searches, on replies or on crashes.
+fn push_search_answer(
+    alloc: Global,
+    text: &mut String,
+    kind: &str,
+    words: &mut Words,
+) -> Result<(), Trouble> {
+    match kind {
+        "flags" => searches::ask_flags(text, words),
+        "criteria" => searches::ask_criteria(alloc, text, words),
+        "change" => searches::ask_change(alloc, text, words),
+        "scope" => searches::ask_scope(alloc, text, words),
+        "reply" => replies::ask_reply(alloc, text, words),
+        "crash" => crashes::ask_crash(alloc, text, words),
+        _ => Err(Trouble::Spelling),
+    }
+}
+
+/// Adds the answer to a row on heaps, contexts, messages or restrictions, or to one of those on searches.
 fn push_object_answer(
     alloc: Global,
     text: &mut String,
@@ -44,13 +62,26 @@ fn push_object_answer(
         "restriction" => restrictions::ask_restriction(alloc, text, words),
         "holds" => restrictions::ask_holds(alloc, text, words),
         "touch" => restrictions::ask_touch(alloc, text, words),
-        "flags" => searches::ask_flags(text, words),
-        "criteria" => searches::ask_criteria(alloc, text, words),
-        "change" => searches::ask_change(alloc, text, words),
-        "scope" => searches::ask_scope(alloc, text, words),
-        "reply" => replies::ask_reply(alloc, text, words),
-        "crash" => crashes::ask_crash(alloc, text, words),
-        _ => Err(Trouble::Spelling),
+        _ => push_search_answer(alloc, text, kind, words),
+    }
+}
+
+/// Adds the answer to a row on layouts, limits or names, or to one of those on objects.
+fn push_layout_answer(
+    alloc: Global,
+    text: &mut String,
+    kind: &str,
+    words: &mut Words,
+) -> Result<(), Trouble> {
+    match kind {
+        "props" => objects::ask_props(alloc, text, words),
+        "layout" => objects::ask_layout(alloc, text, words),
+        "mirror" => objects::ask_mirror(alloc, text, words),
+        "size" => objects::ask_size(alloc, text, words),
+        "props-fit" => limits::ask_props_fit(alloc, text, words),
+        "message-fits" => limits::ask_message_fits(alloc, text, words),
+        "names" => names::ask_names(alloc, text, words),
+        _ => push_object_answer(alloc, text, kind, words),
     }
 }
 
@@ -71,14 +102,7 @@ fn push_answer(
         "strip" => text::ask_fold(alloc, text, words, true),
         "value" => text::ask_value(alloc, text, words),
         "print" => text::ask_print(alloc, text, words),
-        "props" => objects::ask_props(alloc, text, words),
-        "layout" => objects::ask_layout(alloc, text, words),
-        "mirror" => objects::ask_mirror(alloc, text, words),
-        "size" => objects::ask_size(alloc, text, words),
-        "props-fit" => limits::ask_props_fit(alloc, text, words),
-        "message-fits" => limits::ask_message_fits(alloc, text, words),
-        "names" => names::ask_names(alloc, text, words),
-        _ => push_object_answer(alloc, text, kind, words),
+        _ => push_layout_answer(alloc, text, kind, words),
     }
 }
 
