@@ -10,4 +10,4 @@ mod empty_file_test;
 #[cfg(test)]
 mod plan_pieces_test;
 #[cfg(test)]
-mod pst_outside_test;
+mod file_world_test;

@@ -5,7 +5,6 @@
 #![tactic(auto)]
 
 mod crash;
-mod files;
 mod helpers;
 mod input;
 mod memory;
@@ -15,8 +14,7 @@ mod record;
 mod sure;
 
 pub use crash::Pick;
-pub use files::FileWorld;
 pub use helpers::{read_part, say_all};
-pub use memory::{FailPlan, MemWorld};
+pub use memory::{FailPlan, MemWorld, fault};
 pub use outside::{Failed, Outside, Part};
 pub use sure::SureWorld;

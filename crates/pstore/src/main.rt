@@ -5,7 +5,7 @@ ghost use Rattle.std.specs.Prelude.{◌≡◌};
 
 use mail_session::{ChangedAt, Exit, run};
 use pst_base::{Ledger, Steps};
-use pst_outside::FileWorld;
+use file_world::FileWorld;
 use std::alloc::AllocError;
 use std::env;
 use std::io::{self, ErrorKind};

@@ -9,7 +9,8 @@ use file_laying::lay_nodes;
 use file_planner::FilePlanner;
 use node_port::{Changes, Counts, Keeper, NodeRec};
 use pst_base::{Blocks, Bytes, Nid, Subs};
-use pst_outside::{FailPlan, FileWorld, MemWorld, Outside};
+use file_world::FileWorld;
+use pst_outside::{FailPlan, MemWorld, Outside};
 use std::alloc::{AllocError, Global};
 
 /// How many bytes a node has.

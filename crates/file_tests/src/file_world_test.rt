@@ -1,4 +1,5 @@
 //! The world over a real file.
+use file_world::FileWorld;
 use pst_outside::*;
 use std::fs;
 use std::test::Fail;

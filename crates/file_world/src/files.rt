@@ -1,8 +1,8 @@
 //! The trusted edge: the runtime's files, its standard input and its standard output.
 ghost use Rattle.std.specs.Prelude.{◌≤◌, length, IfOk};
 
-use crate::memory::fault;
-use crate::{Failed, Outside, Part};
+
+use pst_outside::{Failed, Outside, Part, fault};
 use std::alloc::AllocError;
 use std::fs::{File, Files, OpenFile, OpenOptions};
 use std::io::{self, ErrorKind, Input, Print, Read};
