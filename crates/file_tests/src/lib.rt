@@ -8,6 +8,6 @@ mod content_plan_test;
 #[cfg(test)]
 mod empty_file_test;
 #[cfg(test)]
-mod plan_pieces_test;
-#[cfg(test)]
 mod file_world_test;
+#[cfg(test)]
+mod plan_pieces_test;

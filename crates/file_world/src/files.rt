@@ -1,7 +1,6 @@
 //! The trusted edge: the runtime's files, its standard input and its standard output.
 ghost use Rattle.std.specs.Prelude.{◌≤◌, length, IfOk};
 
-
 use pst_outside::{Failed, Outside, Part, fault};
 use std::alloc::AllocError;
 use std::fs::{File, Files, OpenFile, OpenOptions};

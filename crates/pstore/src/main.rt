@@ -3,9 +3,9 @@
 
 ghost use Rattle.std.specs.Prelude.{◌≡◌};
 
+use file_world::FileWorld;
 use mail_session::{ChangedAt, Exit, run};
 use pst_base::{Ledger, Steps};
-use file_world::FileWorld;
 use std::alloc::AllocError;
 use std::env;
 use std::io::{self, ErrorKind};

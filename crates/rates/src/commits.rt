@@ -7,9 +7,9 @@ ghost use Rattle.std.specs.Prelude.{◌≡◌, IfOk};
 use crate::numbers::number_or;
 use file_laying::lay_nodes;
 use file_planner::FilePlanner;
+use file_world::FileWorld;
 use node_port::{Changes, Counts, Keeper, NodeRec};
 use pst_base::{Blocks, Bytes, Nid, Subs};
-use file_world::FileWorld;
 use pst_outside::{FailPlan, MemWorld, Outside};
 use std::alloc::{AllocError, Global};
 
