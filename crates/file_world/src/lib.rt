@@ -1,9 +1,15 @@
 //! The trusted edge: input, output and the disk as the system has them.
 //!
 //! Promises: `FileWorld` keeps the contract of `Outside` over its counts of faults, which is all that it tells.
-//! Leaves to others: everything else. That the system does what the disk model says is tested, not proved.
+//! Leaves to others: what the bytes mean. That the system does what the disk model says is tested, not proved.
 #![tactic(auto)]
 
-mod files;
+mod disk;
+mod front;
+mod part;
+mod trouble;
+mod world;
 
-pub use files::FileWorld;
+pub use part::Access;
+pub use trouble::{Cause, Device, Trouble};
+pub use world::FileWorld;
