@@ -1,5 +1,5 @@
 //! The world over a real file.
-use file_world::FileWorld;
+use file_world::{Access, FileWorld, Trouble};
 use pst_outside::*;
 use std::fs;
 use std::test::Fail;
@@ -60,7 +60,7 @@ fn clear(rt: &HostRuntime) -> Result<(), Fail> {
 #[test]
 fn a_file_is_made_at_its_first_write(rt: HostRuntime) -> Result<(), Fail> {
     let main = String::from_str(rt.alloc(), MAIN)?;
-    let mut w = FileWorld::new(&rt, main, None)?;
+    let mut w = FileWorld::new(&rt, main, None, Access::Write)?;
     assert!(rt; stays_unmade(&rt, &mut w)?);
     assert!(rt; is_written(&mut w));
     assert!(rt; has_side(&rt)?);
@@ -70,7 +70,61 @@ fn a_file_is_made_at_its_first_write(rt: HostRuntime) -> Result<(), Fail> {
 #[test]
 fn a_folder_is_no_file(rt: HostRuntime) -> Result<(), Fail> {
     let folder = String::from_str(rt.alloc(), ".")?;
-    let mut w = FileWorld::new(&rt, folder, None)?;
+    let mut w = FileWorld::new(&rt, folder, None, Access::Write)?;
     assert!(rt; fails(&mut w));
+    Ok(())
+}
+
+const SHARED: &str = "shared_test.pst";
+
+/// A world over the file that several worlds are over.
+fn shared<'r>(rt: &'r HostRuntime, access: Access) -> Result<FileWorld<&'r HostRuntime>, Fail> {
+    let main = String::from_str(rt.alloc(), SHARED)?;
+    Ok(FileWorld::new(rt, main, None, access)?)
+}
+
+/// Whether the world can't touch its file, since another has its lock.
+fn is_kept_out(w: &mut FileWorld<&HostRuntime>) -> bool {
+    let has_failed = w.len(Part::Main).is_err() && w.write_at(Part::Main, 0, b"y").is_err();
+    match w.cause() {
+        Some(cause) => has_failed && matches!(&cause.trouble, Trouble::Busy),
+        None => false,
+    }
+}
+
+/// Whether the world reads the byte of its file, and neither writes nor makes anything.
+fn only_reads(w: &mut FileWorld<&HostRuntime>) -> bool {
+    w.len(Part::Main) == Ok(1)
+        && w.write_at(Part::Main, 0, b"y").is_err()
+        && w.write_at(Part::Side, 0, b"y").is_err()
+}
+
+/// Whether a world that has written keeps out a second writer and a reader.
+fn one_writes(rt: &HostRuntime) -> Result<bool, Fail> {
+    let mut one = shared(rt, Access::Write)?;
+    let has_written = one.write_at(Part::Main, 0, b"x").is_ok();
+    Ok(
+        has_written
+            && is_kept_out(&mut shared(rt, Access::Write)?)
+            && is_kept_out(&mut shared(rt, Access::Read)?),
+    )
+}
+
+/// Whether two worlds that read keep out a writer alone.
+fn two_read(rt: &HostRuntime) -> Result<bool, Fail> {
+    let mut one = shared(rt, Access::Read)?;
+    Ok(
+        only_reads(&mut one)
+            && only_reads(&mut shared(rt, Access::Read)?)
+            && is_kept_out(&mut shared(rt, Access::Write)?),
+    )
+}
+
+#[test]
+fn one_writes_or_some_read(rt: HostRuntime) -> Result<(), Fail> {
+    assert!(rt; one_writes(&rt)?);
+    assert!(rt; two_read(&rt)?);
+    assert!(rt; !fs::exists(&rt, "shared_test.pst.gate")?);
+    fs::remove_file(&rt, SHARED)?;
     Ok(())
 }

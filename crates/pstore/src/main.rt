@@ -1,93 +1,85 @@
-//! `pstore`: the words of the command line over the files that they name. All that it does is in `mail_session::run`; here stand the texts on standard error.
+//! `pstore`: the words of the command line over the files that they name. All that it does is in `mail_session::run`; here stand what `run` asks of the system, `refused busy` where another session is at work on the file, and the texts on standard error.
 #![tactic(auto)]
+
+mod report;
+mod words;
 
 ghost use Rattle.std.specs.Prelude.{◌≡◌};
 
-use file_world::FileWorld;
-use mail_session::{ChangedAt, Exit, run};
+use crate::report::{report, report_status};
+use crate::words::{words, world};
+use file_world::{FileWorld, Trouble};
+use mail_session::{Exit, run};
 use pst_base::{Ledger, Steps};
-use std::alloc::AllocError;
-use std::env;
-use std::io::{self, ErrorKind};
+use pst_outside::{Failed, say_all};
+use std::io::ErrorKind;
 use std::marker::Brand;
 use std::process::ExitCode;
-use std::rt::Env;
 use std::sync::ledger::Blank;
 
-/// How a call ends whose words or whose world find no memory.
-const NO_MEMORY: Exit = Exit {
-    status: 7,
-    changed: None,
-};
+/// The status where the words or the world find no memory.
+const NO_MEMORY: u8 = 7;
 
-/// How a call ends whose words aren't text.
-const NO_WORDS: Exit = Exit {
-    status: 2,
-    changed: None,
-};
+/// The status where the words aren't text.
+const NO_WORDS: u8 = 2;
 
-/// The words of the command line, without the program's name.
-fn words(rt: &(impl Env + AllocGlobal)) -> io::Result<Vec<String>> {
-    let mut words = Vec::new(rt.alloc());
-    for word in env::args(rt)?.skip(1) {
-        words.push(word)?;
-    }
-    Ok(words)
-}
-
-/// The world over the file that the second word names.
-fn world(rt: HostRuntime, words: &[String]) -> Result<FileWorld<HostRuntime>, AllocError> {
-    let name = match words.get(1) {
-        Some(name) => name.clone()?,
-        None => String::new(rt.alloc()),
+/// The exit where another session holds the lock of the file, which then failed at its first call: a refusal.
+fn refuse_busy(world: &mut FileWorld<HostRuntime>) -> Exit {
+    let status = match say_all(world, b"refused busy\n") {
+        Ok(()) => 3,
+        Err(Failed) => 6,
     };
-    FileWorld::new(rt, name, None)
+    Exit {
+        status,
+        changed: None,
+    }
 }
 
-fn run_over<L: Ledger>(rt: HostRuntime, words: &[String], blank: Blank) -> Exit
+/// Whether another session holds the lock of the file. That shows before anything is said.
+fn is_busy(world: &FileWorld<HostRuntime>) -> bool {
+    match world.cause() {
+        Some(cause) => matches!(&cause.trouble, Trouble::Busy) && world.front().is_empty(),
+        None => false,
+    }
+}
+
+fn run_over<L: Ledger>(
+    rt: &HostRuntime,
+    words: &[String],
+    world: &mut FileWorld<HostRuntime>,
+    blank: Blank,
+) -> Exit
     requires name { blank.name ≡ L.name }
     requires parts { blank.parts ≡ L.parts }
     requires some { blank.parts ≡ 1 }
 {
-    let alloc = rt.alloc();
     let (book, share) = blank.open::<L>();
     let mut steps = Steps::new(book, share);
-    match world(rt, words) {
-        Ok(mut world) => run(alloc, words, &mut world, &mut steps),
-        Err(AllocError) => NO_MEMORY,
+    let exit = run(rt.alloc(), words, world, &mut steps);
+    if is_busy(world) {
+        refuse_busy(world)
+    } else {
+        exit
     }
 }
 
-/// The text of a status.
-fn report(rt: &impl Eprint, exit: Exit) -> io::Result<()> {
-    match exit.status {
-        2 => eprintln!(rt; "words"),
-        4 => eprintln!(rt; "disk"),
-        5 => eprintln!(rt; "input"),
-        6 => eprintln!(rt; "output"),
-        7 => eprintln!(rt; "memory"),
-        8 => eprintln!(rt; "lines"),
-        9 => report_change(rt, exit.changed),
-        _ => Ok(()),
-    }
-}
-
-fn report_change(rt: &impl Eprint, changed: Option<ChangedAt>) -> io::Result<()> {
-    match changed {
-        Some(at) => eprintln!(rt;
-            "changed 0x{:x} 0x{:x} 0x{:x}",
-            at.ib, at.stored, at.computed
-        ),
-        None => Ok(()),
-    }
+/// Does what the words ask for, and answers with the status.
+fn serve(rt: HostRuntime, words: &[String]) -> u8 {
+    let Ok(mut world) = world(rt, words) else {
+        let _ = report_status(&rt, NO_MEMORY);
+        return NO_MEMORY;
+    };
+    let exit = run_over::<Brand>(&rt, words, &mut world, Blank::new(1));
+    let _ = report(&rt, words, &mut world, exit);
+    exit.status
 }
 
 fn main(rt: HostRuntime) -> ExitCode {
-    let exit = match words(&rt) {
-        Ok(words) => run_over::<Brand>(rt, words.as_slice(), Blank::new(1)),
+    let status = match words(&rt) {
+        Ok(words) => return ExitCode::from(serve(rt, words.as_slice())),
         Err(error) if error.kind() == ErrorKind::OutOfMemory => NO_MEMORY,
         Err(_) => NO_WORDS,
     };
-    let _ = report(&rt, exit);
-    ExitCode::from(exit.status)
+    let _ = report_status(&rt, status);
+    ExitCode::from(status)
 }

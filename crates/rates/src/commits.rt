@@ -7,7 +7,7 @@ ghost use Rattle.std.specs.Prelude.{◌≡◌, IfOk};
 use crate::numbers::number_or;
 use file_laying::lay_nodes;
 use file_planner::FilePlanner;
-use file_world::FileWorld;
+use file_world::{Access, FileWorld};
 use node_port::{Changes, Counts, Keeper, NodeRec};
 use pst_base::{Blocks, Bytes, Nid, Subs};
 use pst_outside::{FailPlan, MemWorld, Outside};
@@ -112,6 +112,6 @@ pub(crate) fn over_file(
     let nodes = u64::from(number_or(words, 0, 2));
     let count = u64::from(number_or(words, 1, 3));
     let alloc = rt.alloc();
-    let mut world = FileWorld::new(rt, file.clone()?, None)?;
+    let mut world = FileWorld::new(rt, file.clone()?, None, Access::Write)?;
     commits(alloc, &mut world, nodes, count)
 }

@@ -1,4 +1,4 @@
-use Rattle.pstore.proofs.main.Given as goal
+use Rattle.pstore.proofs.serve.Given as goal
 
 -- the ledger of the steps is the one that is opened here
 abbrev pub ghosts-run_over : goal.ghosts-run_over
