@@ -21,7 +21,7 @@ use Rattle.search_obj.specs.declared.reading.CriteriaFault.{CriteriaFault}
 use Rattle.search_obj.specs.declared.values.TheConstants.{FIRST_MARK, SECOND_MARK}
 use Rattle.search_obj.specs.Flags.{are_allowed, flags_of, number_of_flags}
 use Rattle.search_obj.specs.Crits.{Crit, CritSet, IsSoundIfSet, IsSoundSet, suits}
-use Rattle.search_obj.specs.Objects.{IsFaulty, IsForeign, IsMarked, Says, SaysBuilds, SaysIfSet, SaysSet, bytes_at, ids_in, lacks, lacks_criteria, mark, number_in, number_with, of_kind, search_builds, search_flags, search_mark, search_restriction, search_scope}
+use Rattle.search_obj.specs.Objects.{IsFaulty, IsForeign, IsMarked, Says, SaysBuilds, SaysIfSet, SaysSet, bytes_at, ids_in, lacks, lacks_criteria, mark, mark_at, number_in, number_with, of_kind, search_builds, search_flags, search_restriction, search_scope}
 use Rattle.search_obj.specs.Found.{StopsAtFault, builds_found, crit_found, flags_found, if_positive, restriction_found, scope_found, set_found, set_with, version_found, version_marked}
 use Rattle.search_obj.proofs.FlagLaws.{flags_of-Some, flags_of-number}
 
@@ -57,7 +57,7 @@ marked_at (Some b) v is = ap Some (mark_of b v is)
 
 pub marked_found : (vs : List Val) (v : Version) → version_found vs ≡ Some v → IsMarked vs v
 unfolding version_found
-marked_found vs v is = marked_at (bytes_at search_mark vs) v is
+marked_found vs v is = marked_at (mark_at vs) v is
 
 pub foreign_found : (vs : List Val) → version_found vs ≡ None → IsForeign vs
 foreign_found vs is = λ v m. let back = version_back vs v m in let gone : None ≡ Some v = sym is ∙ back in cc

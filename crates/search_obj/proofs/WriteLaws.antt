@@ -19,7 +19,7 @@ use Rattle.search_obj.specs.declared.criteria.Version.{Version}
 use Rattle.search_obj.specs.declared.criteria.Version.TheVariants.{First, Second}
 use Rattle.search_obj.specs.Flags.{number_of_flags, one_if}
 use Rattle.search_obj.specs.Crits.{Crit, CritSet, IsSound, IsSoundIfSet, IsSoundSet, suits}
-use Rattle.search_obj.specs.Objects.{Says, SaysBuilds, SaysIfSet, SaysSet, bytes_at, ids_in, lacks, lacks_criteria, mark, number_in, of_kind, search_builds, search_flags, search_mark, search_restriction, search_scope}
+use Rattle.search_obj.specs.Objects.{Says, SaysBuilds, SaysIfSet, SaysSet, bytes_at, ids_in, lacks, lacks_criteria, mark, number_in, of_kind, search_builds, search_flags, search_mark, search_restriction, search_scope, text_bytes}
 use Rattle.search_obj.specs.Writing.{are_ids, id_bytes, is_criteria_id, is_id, number_value, value_of, with_builds, with_set, written}
 use Rattle.search_obj.proofs.PropLaws.{find_drop_other, find_drop_same, find_put_other, find_put_same}
 
@@ -146,11 +146,16 @@ said_written : (b : List ℕ) (version : Version) (set : Option CritSet) (vs : L
 said_written b version None vs props sound suit ids = none_written b version vs props
 said_written b version (Some s) vs props sound suit ids = set_written b version s vs props sound suit ids
 
+-- a mark has whole units
+whole : (v : Version) → text_bytes (mark v) ≡ mark v
+whole First = refl
+whole Second = refl
+
 -- criteria that are written are said
 pub says_written : (c : Crit) (vs : List Val) → IsProps vs → IsSound c → are_ids c.set ≡ true → Says (written c vs) c
 unfolding written
 says_written c vs props sound ids = record {
-  marked = at_put search_mark (mark c.version) (with_set c.version c.set vs);
+  marked = ap (option_map text_bytes) (at_put search_mark (mark c.version) (with_set c.version c.set vs)) ∙ ap Some (whole c.version);
   set = said_written (mark c.version) c.version c.set vs props sound.set sound.suits ids;
   sound = sound;
 }

@@ -13,7 +13,7 @@ use Rattle.search_obj.specs.declared.flags.SearchFlags.{SearchFlags}
 use Rattle.search_obj.specs.declared.values.TheConstants.{FIRST_MARK, SECOND_MARK}
 use Rattle.search_obj.specs.Flags.{flags_of}
 use Rattle.search_obj.specs.Crits.{Crit, CritSet, suits}
-use Rattle.search_obj.specs.Objects.{IsForeign, IsFaulty, Says, bytes_at, ids_in, lacks, lacks_criteria, number_with, search_builds, search_flags, search_mark, search_restriction, search_scope}
+use Rattle.search_obj.specs.Objects.{IsForeign, IsFaulty, Says, bytes_at, ids_in, lacks, lacks_criteria, mark_at, number_with, search_builds, search_flags, search_restriction, search_scope}
 
 -- the version with this mark
 abbrev pub version_marked : List ℕ → Option Version
@@ -21,7 +21,7 @@ version_marked bytes = if bytes_eq bytes FIRST_MARK then Some First else if byte
 
 -- the version of the object, if it is one of this program
 unfoldable pub version_found : List Val → Option Version
-version_found vs = option_and_then version_marked (bytes_at search_mark vs)
+version_found vs = option_and_then version_marked (mark_at vs)
 
 -- the flags
 unfoldable pub flags_found : List Val → Option SearchFlags

@@ -1,5 +1,5 @@
 -- What the criteria object of a search says.
-use Rattle.std.specs.Prelude.{◌≡◌, ℕ, ◌/◌, ◌%◌, ◌==◌, ◌&&◌, Bool, true, List, length, map, Option, None, Some, if◌then◌else◌}
+use Rattle.std.specs.Prelude.{◌≡◌, ℕ, ◌/◌, ◌%◌, ◌-◌, ◌==◌, ◌&&◌, Bool, true, List, length, map, take, Option, None, Some, if◌then◌else◌}
 use Rattle.std.specs.Option.{is_none, option_and_then, option_map}
 use Rattle.std.specs.Simd.{first_chunks}
 use Rattle.pst_base.specs.Fields.{number_at}
@@ -88,9 +88,17 @@ abbrev pub SaysIfSet : List Val → Version → Option CritSet → Type 0
 SaysIfSet vs version None = lacks_criteria vs ≡ true
 SaysIfSet vs version (Some s) = SaysSet vs version s
 
+-- the bytes of a text's whole units: an odd last byte is no part of it
+abbrev pub text_bytes : List ℕ → List ℕ
+text_bytes bytes = take (length bytes - length bytes % 2) bytes
+
+-- the text that marks an object, where one does
+abbrev pub mark_at : List Val → Option (List ℕ)
+mark_at vs = option_map text_bytes (bytes_at search_mark vs)
+
 -- the values are those of an object of a version
 abbrev pub IsMarked : List Val → Version → Type 0
-IsMarked vs version = bytes_at search_mark vs ≡ Some (mark version)
+IsMarked vs version = mark_at vs ≡ Some (mark version)
 
 -- the values are those of the object of a search with these criteria
 pub record Says (vs : List Val) (c : Crit) : Type 0 where

@@ -4,7 +4,7 @@ ghost use Rattle.std.specs.Option.{option_map};
 ghost use Rattle.restr_codec.specs.Spelling.{has_spelling, spelling};
 ghost use Rattle.pst_base.specs.Stops.{Finds};
 ghost use Rattle.search_obj.specs.Crits.{CritSet, IsSound, IsSoundSet, suits};
-ghost use Rattle.search_obj.specs.Objects.{SaysIfSet, SaysSet, bytes_at, number_in, search_restriction};
+ghost use Rattle.search_obj.specs.Objects.{SaysIfSet, SaysSet, bytes_at, number_in, search_restriction, text_bytes};
 ghost use Rattle.search_obj.specs.Found.{StopsAtFault, Tells, builds_found, crit_found, flags_found, restriction_found, scope_found, set_found, version_found, version_marked};
 
 use crate::criteria::{Criteria, CriteriaSet, Version};
@@ -35,13 +35,20 @@ fn version_marked(bytes: &[u8]) -> Option<Version>
     }
 }
 
+/// The bytes of a text's whole units: an odd last byte is no part of it.
+fn text_bytes(bytes: &[u8]) -> &[u8]
+    ensures { result.now ≡ text_bytes bytes.now }
+{
+    &bytes[..bytes.len() - bytes.len() % 2]
+}
+
 /// The version of an object, if it is one of this program.
 #[tactic(auto, unfolding(crate::specs::Found::version_found))]
 fn version_at(props: &Props) -> Option<Version>
     ensures { result ≡ version_found props.now }
 {
     let bytes = bytes_at(props, SEARCH_MARK)?;
-    version_marked(bytes)
+    version_marked(text_bytes(bytes))
 }
 
 /// The flags, if a search may have them.
