@@ -43,10 +43,10 @@ for streams in i o e io ie oe ioe; do
     for word in info nodes look; do
         cp plain.pst a.pst && cp plain.pst.gate a.pst.gate
         status=$(closed $streams $word a.pst)
-        case $word$streams in
-            look*i*o*) check "$word with $streams closed" "$status" 5 6 ;;
-            look*i*) check "$word with $streams closed" "$status" 5 ;;
-            *o*) check "$word with $streams closed" "$status" 6 ;;
+        case $word:$streams in
+            look:*i*o*) check "$word with $streams closed" "$status" 5 6 ;;
+            look:*i*) check "$word with $streams closed" "$status" 5 ;;
+            *:*o*) check "$word with $streams closed" "$status" 6 ;;
             *) check "$word with $streams closed" "$status" 0 ;;
         esac
         cmp -s plain.pst a.pst && cmp -s plain.pst.gate a.pst.gate
