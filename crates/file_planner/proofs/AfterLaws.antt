@@ -143,7 +143,7 @@ true≢false : ◌≡◌ {A = Bool} true false → ⊥
 true≢false h = cc
 
 -- they have no slot of the others, nor of a fixed page
-taken-free : (ps qs : List Place) (used mid : List Bool) → length used ≡ 3968 * 8192 → IsCovered (occupied ps 8192) used → Taken used mid qs → AllLaid 8192 qs → (slot : ℕ) → SomeCovers qs slot → SomeCovers (occupied ps 8192) slot → ⊥
+pub taken-free : (ps qs : List Place) (used mid : List Bool) → length used ≡ 3968 * 8192 → IsCovered (occupied ps 8192) used → Taken used mid qs → AllLaid 8192 qs → (slot : ℕ) → SomeCovers qs slot → SomeCovers (occupied ps 8192) slot → ⊥
 taken-free ps qs used mid size covered taken laid slot own other =
     let low : slot < 3968 * 8192 = laid-low 8192 qs slot laid own in
     let on = (covered slot (subst (λ (n : ℕ). slot < n) (sym size) low)).1 other in

@@ -45,9 +45,10 @@ use Rattle.file_planner.specs.Becomes.{IsMade}
 use Rattle.file_planner.specs.Cost.{IsWithin}
 use Rattle.file_planner.specs.Holding.{IsHolding, IsOver}
 use Rattle.file_planner.specs.Knowing.{AreCached, Knows, KnowsAfter, cells_of, placing, spent}
-use Rattle.file_planner.proofs.CostLaws.{drawn-within}
+use Rattle.file_planner.proofs.CostLaws
 use Rattle.file_planner.proofs.DrawnLaws
 use Rattle.file_planner.proofs.FollowLaws
+use Rattle.file_planner.proofs.GrownLaws
 use Rattle.file_planner.proofs.KnownLaws
 use Rattle.file_planner.proofs.OverLaws.{keep-each, over-own, over-pin}
 
@@ -87,7 +88,11 @@ comes p found file N old stands own cs pieces sealed next e up known holding low
           (planned-commits found file N old.indexes stands next sealed d.growth (DrawnLaws.drawn_pieces is known over low d) (blocks_drawn d) (nodes_drawn d) cs up (DrawnLaws.planned is known over low d) (DrawnLaws.next-header is known over low d) (DrawnLaws.has-room is known over low d)
           (λ bytes long kept stood. DrawnLaws.shows is known over low d bytes kept stood));
       read = d.read;
-      cost = drawn-within is stands.read d;
+      cost = λ mid scattered each.
+          let writes : Scattered all file mid = subst (λ (ps : List Piece). Scattered ps file mid) are scattered in
+          let holds : HoldsEach mid all = subst (HoldsEach mid) are each in
+          let later = lays-renewed (renews mid writes holds) in
+          CostLaws.drawn-within is known over low page_low d stands.long mid writes holds later.1 up stands.read (KnownLaws.has is known over low page_low d stands.long mid writes holds).read;
       known = λ mid scattered each.
           let writes : Scattered all file mid = subst (λ (ps : List Piece). Scattered ps file mid) are scattered in
           let holds : HoldsEach mid all = subst (HoldsEach mid) are each in
@@ -120,6 +125,7 @@ comes p found file N old stands own cs pieces sealed next e up known holding low
             blocks = d.block_places;
             pages = d.first_places ++ d.last_places;
             used = p.slots;
+            size = known.size;
             covered = known.used;
             all = placing p;
             with_held = holding.with_held;
@@ -128,14 +134,20 @@ comes p found file N old stands own cs pieces sealed next e up known holding low
             now = (d.placed).now;
             place_pages = (d.placed).least_pages;
             end = d.end;
+            grown = GrownLaws.grown is known over low d mid holds;
             unmapped = d.unmapped;
             map_page = d.map_page;
             unique = d.unique;
+            kept = d.kept;
             next_block = let a = d.next_block in let b = known.next_block in omega (arith, a, b, block_count);
             next_page = let a = d.next_page in let b = known.next_page in omega (arith, a, b, page_count);
             n = later.0;
             now_lays = later.1;
             follows = FollowLaws.follows is known over low page_low d stands.long mid writes holds later.1 up;
+            own_block = (KnownLaws.numbers-now is known over low page_low d stands.long mid writes holds later.1).0;
+            own_page = (KnownLaws.numbers-now is known over low page_low d stands.long mid writes holds later.1).1;
+            new_blocks = KnownLaws.new-blocks is known over low page_low d stands.long mid writes holds later.1;
+            renewed = KnownLaws.pages-renewed is known over low page_low d stands.long mid writes holds later.1;
           };
       keeps = λ mid scattered each.
           let writes : Scattered all file mid = subst (λ (ps : List Piece). Scattered ps file mid) are scattered in

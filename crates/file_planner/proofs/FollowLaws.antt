@@ -1,5 +1,5 @@
 -- What stays of a file's nodes and blocks, and what goes.
-use Rattle.std.proofs.Common.{Bool, true, false, ◌≡◌, ◌∙◌, ◌⊎◌, inl, inr, ℕ, ◌+◌, ◌^◌, ◌<◌, ◌≤◌, eqb, leb, List, [], ◌∷◌, ◌++◌, length, drop, Option, Some, None, refl, sym, ap, subst, arith, if◌then◌else◌}
+use Rattle.std.proofs.Common.{Bool, true, false, ◌≡◌, ◌∙◌, ◌⊎◌, inl, inr, ℕ, min, ◌+◌, ◌^◌, ◌<◌, ◌≤◌, eqb, leb, List, [], ◌∷◌, ◌++◌, length, drop, Option, Some, None, refl, sym, ap, subst, arith, if◌then◌else◌}
 use Rattle.std.proofs.lemmas.Bool.{and_parts, cases_eq, cases_lt, eq-eqb, leb-true, ne_eqb}
 use Rattle.pst_base.specs.declared.ids.Bid.{Bid}
 use Rattle.pst_base.specs.declared.ids.Nid.{Nid}
@@ -164,6 +164,16 @@ recount-stays (Some c) b e h = by (eqb c.after 0) h
     by true h = absurd (none-some h)
     by false h = (ap (λ (x : BlockEntry). x.at) (sym (some-same h)), ap (λ (x : BlockEntry). x.cb) (sym (some-same h)))
 
+-- and the count of its number of references, where this changes
+recount-counted : (c : Option RefChange) (b e : BlockEntry) (before was now : ℕ) → or_old (recount_by c (Some b)) (Some b) ≡ Some e → before ≡ was → number_by c before ≡ now
+    → ((was ≡ now) × (e.refs ≡ b.refs)) ⊎ (e.refs ≡ min (now + 1) 0xffff)
+recount-counted None b e before was now h same number = inl (sym same ∙ number, ap (λ (x : BlockEntry). x.refs) (sym (some-same h)))
+recount-counted (Some c) b e before was now h same number = by (eqb c.after 0) h
+  where
+    by : (none : Bool) → (if none then None else Some (with_refs b c.after)) ≡ Some e → ((was ≡ now) × (e.refs ≡ b.refs)) ⊎ (e.refs ≡ min (now + 1) 0xffff)
+    by true h = absurd (none-some h)
+    by false h = inr (ap (λ (x : BlockEntry). x.refs) (sym (some-same h)) ∙ ap (λ (n : ℕ). min (n + 1) 0xffff) number)
+
 -- an entry that is there after a change of its number to 0 was there, and had no change
 recount-unused : (c : Option RefChange) (o : Option BlockEntry) (before : ℕ) (e : BlockEntry) → or_old (recount_by c o) o ≡ Some e → number_by c before ≡ 0 → (before ≡ 0) × ((f : BlockEntry) × (o ≡ Some f))
 recount-unused None o before e h none = (none, (e, h))
@@ -243,11 +253,19 @@ module _ {header : Header} {file : List ℕ} {m : NodeMap} (is : Lays header fil
       let lt = DrawnLaws.old-below is known over low d k b was in
       recount-stays (change_of k changes) b x (ap (λ (o : Option BlockEntry). or_old (recount_by (change_of k changes) o) o) (sym was) ∙ sym (old-after k lt) ∙ there)
 
-  refs-now : AreRefs (found_in bytes (blocks_in now.blocks)) (nodes_in now.nodes) (λ k. number_by (change_of k changes) (counts k))
+  pub refs-now : AreRefs (found_in bytes (blocks_in now.blocks)) (nodes_in now.nodes) (λ k. number_by (change_of k changes) (counts k))
   refs-now =
       subst (λ (f : Found). AreRefs (found_in bytes (blocks_in f)) (nodes_in now.nodes) (λ k. number_by (change_of k changes) (counts k))) (sym same-blocks)
       (subst (λ (f : Found). AreRefs (found_in bytes (blocks_in (KnownLaws.bs is known over low page_low d long mid writes holds).found)) (nodes_in f) (λ k. number_by (change_of k changes) (counts k))) (sym same-nodes)
       (KnownLaws.refs-now is known over low page_low d long mid writes holds))
+
+  counted : (k : ℕ) (b x : BlockEntry) → entry_with entry_key k old ≡ Some b → entry_with entry_key k (blocks_in now.blocks) ≡ Some x
+      → ((references (found_in file old) (nodes_in is.nodes) k ≡ references (found_in bytes (blocks_in now.blocks)) (nodes_in now.nodes) k) × (x.refs ≡ b.refs))
+      ⊎ (x.refs ≡ min (references (found_in bytes (blocks_in now.blocks)) (nodes_in now.nodes) k + 1) 0xffff)
+  counted k b x was there =
+      let lt = DrawnLaws.old-below is known over low d k b was in
+      recount-counted (change_of k changes) b x (counts k) (references (found_in file old) (nodes_in is.nodes) k) (references (found_in bytes (blocks_in now.blocks)) (nodes_in now.nodes) k)
+      (ap (λ (o : Option BlockEntry). or_old (recount_by (change_of k changes) o) o) (sym was) ∙ sym (old-after k lt) ∙ there) (known.refs k) (refs-now k)
 
   freed : NoneUnused old (blocks_in now.blocks) (references (found_in file old) (nodes_in is.nodes)) (references (found_in bytes (blocks_in now.blocks)) (nodes_in now.nodes))
   freed k x there unused = elim (cases_lt k block) [
@@ -275,4 +293,4 @@ module _ {header : Header} {file : List ℕ} {m : NodeMap} (is : Lays header fil
           omega (arith, put, after, number)
 
   pub follows : Follows is now
-  follows = record { nodes = nodes; stay = stay; freed = freed }
+  follows = record { nodes = nodes; stay = stay; counted = counted; freed = freed }

@@ -43,7 +43,7 @@ use Rattle.node_layout.specs.Counts.{AreRefs, put, refs_after, taken as taken_in
 use Rattle.node_layout.proofs.AfterLaws.{refs-kept}
 use Rattle.tree_edit.specs.declared.plan.PlanPage.{PlanPage}
 use Rattle.tree_edit.specs.Edits.{edited, entry_with}
-use Rattle.tree_edit.specs.Plans.{IsPlan, tally as times}
+use Rattle.tree_edit.specs.Plans.{IsPlan, names, tally as times}
 use Rattle.tree_edit.specs.Shapes.{RiseIn}
 use Rattle.tree_edit.proofs.PlanLaws.{tally-join}
 use Rattle.ref_counts.specs.Changes.{change_of, number_after, number_by}
@@ -59,6 +59,8 @@ use Rattle.plan_drawing.proofs.NewLaws.{next-is, next-known, sum-exact}
 use Rattle.plan_drawing.proofs.RecountLaws.{each-with, put-sum-append, puts-append, sum-places}
 use Rattle.file_planner.proofs.AfterLaws.{slots-after, tame-standing}
 use Rattle.file_planner.proofs.DrawnLaws
+use Rattle.file_planner.specs.New.{AreNewBlocks, AreRenewed, entries_from, new_pages}
+use Rattle.file_planner.proofs.NewLaws.{both-renewed, changed-renewed, edited-from, keys-below, names-new, pages-append, sealed-new}
 use Rattle.file_planner.proofs.FreedLaws.{left-tame, olds-append, puts-olds, puts-sum, recounts-sum, tame-back, tame-both, tame-front, whole-rise}
 use Rattle.file_planner.proofs.PageLaws.{RefBelow, changed-below, page-is, page-known, pages-count}
 use Rattle.file_planner.proofs.PlacedLaws.{laid-places, standing-once}
@@ -169,7 +171,7 @@ module _ {header : Header} {file : List ℕ} {m : NodeMap} (is : Lays header fil
       stand-behind sealed mid (DrawnLaws.drawn_pieces is known over low d) d.size room.wholes
       (pieces-stand mid d.growth (DrawnLaws.drawn_pieces is known over low d) (pieces-apart (DrawnLaws.drawn_pieces is known over low d) (standing (places_of is.blocks is.nodes) (regions_to next.eof)) room.wholes room.once) holds)
 
-  page-kept : EachPlace (SameAt file bytes) (map page_place (is.blocks.pages ++ is.nodes.pages))
+  pub page-kept : EachPlace (SameAt file bytes) (map page_place (is.blocks.pages ++ is.nodes.pages))
   page-kept = each_front (SameAt file bytes) (map page_place (is.blocks.pages ++ is.nodes.pages)) (map place_of (blocks_in is.blocks)) has.kept
 
   pub bs : IsChangedTree block_of entry_key (block_tree file header.eof) bytes next.eof is.blocks d.block_pages d.block_freed d.block_top (named page d.first_places) (DrawnLaws.block_edits is known over low d)
@@ -261,6 +263,12 @@ module _ {header : Header} {file : List ℕ} {m : NodeMap} (is : Lays header fil
   tame-old : AllTame (places_of is.blocks is.nodes)
   tame-old = tame-standing (places_of is.blocks is.nodes) (laid-places is) (standing-once is)
 
+  block-kept : IsPlan (shapes_in block_of (block_tree file header.eof)) entry_key d.block_pages d.block_freed d.block_top (edited entry_key (blocks_in is.blocks) (DrawnLaws.block_edits is known over low d)) is.blocks.pages
+  block-kept = ((d.block_tree).plans).plan (blocks_in is.blocks) is.blocks.pages (shaped-root block_of entry_key (block_tree file header.eof) key-block_of header.bbt is.blocks is.block_pages)
+
+  node-kept : IsPlan (shapes_in node_of (node_tree file header.eof)) node_id d.node_pages d.node_freed d.node_top (edited node_id (nodes_in is.nodes) d.edits) is.nodes.pages
+  node-kept = ((d.node_tree).plans).plan (nodes_in is.nodes) is.nodes.pages (shaped-root node_of node_id (node_tree file header.eof) key-node_of header.nbt is.nodes is.node_pages)
+
   tame-freed : AllTame freed_places
   tame-freed =
       let pages_tame : AllTame (map page_place (is.blocks.pages ++ is.nodes.pages)) = tame-front (map page_place (is.blocks.pages ++ is.nodes.pages)) (map place_of (blocks_in is.blocks)) tame-old in
@@ -273,12 +281,6 @@ module _ {header : Header} {file : List ℕ} {m : NodeMap} (is : Lays header fil
       let c = (block-kept).counted ib in
       let f = (node-kept).counted ib in
       omega (arith, a, b, c, f)) pages_tame)
-    where
-      block-kept : IsPlan (shapes_in block_of (block_tree file header.eof)) entry_key d.block_pages d.block_freed d.block_top (edited entry_key (blocks_in is.blocks) (DrawnLaws.block_edits is known over low d)) is.blocks.pages
-      block-kept = ((d.block_tree).plans).plan (blocks_in is.blocks) is.blocks.pages (shaped-root block_of entry_key (block_tree file header.eof) key-block_of header.bbt is.blocks is.block_pages)
-
-      node-kept : IsPlan (shapes_in node_of (node_tree file header.eof)) node_id d.node_pages d.node_freed d.node_top (edited node_id (nodes_in is.nodes) d.edits) is.nodes.pages
-      node-kept = ((d.node_tree).plans).plan (nodes_in is.nodes) is.nodes.pages (shaped-root node_of node_id (node_tree file header.eof) key-node_of header.nbt is.nodes is.node_pages)
 
   pub slots-now : {n : NodeMap} (now : Lays next bytes n) → (later : List Bool) × Taken later own.0 e.freed.items × IsCovered (occupied (places_of bs.found ns.found) 8192) later
   slots-now now =
@@ -325,6 +327,48 @@ module _ {header : Header} {file : List ℕ} {m : NodeMap} (is : Lays header fil
       let is_next = d.next_page in
       let high = d.page_high in
       d.page_after ∙ is_next ∙ page-is next (bs.found.pages ++ ns.found.pages) end is_next (omega (arith, is_next, high)) (each-both (RefBelow end) bs.found.pages ns.found.pages one two)
+
+  -- both next numbers are those of the header
+  pub numbers-now : {n : NodeMap} (now : Lays next bytes n) → (next.next_block ≡ next_block next (blocks_in now.blocks)) × (next.next_page ≡ next_page next (now.blocks.pages ++ now.nodes.pages))
+  numbers-now now =
+      let bt = block-tree-is now in
+      let nt = node-tree-is now in (
+        sym d.block_after ∙ blocks-now ∙ ap (λ (f : Found). next_block next (blocks_in f)) (sym bt),
+        sym d.page_after ∙ page-now ∙ ap (λ (f : Found). next_page next (f.pages ++ ns.found.pages)) (sym bt) ∙ ap (λ (f : Found). next_page next (now.blocks.pages ++ f.pages)) (sym nt),
+      )
+
+  -- the entries of any reading from the next number on are the new ones
+  pub new-entries : {n : NodeMap} (now : Lays next bytes n) → entries_from block (blocks_in now.blocks) ≡ d.entries
+  new-entries now =
+      ap (λ (f : Found). entries_from block (blocks_in f)) (block-tree-is now) ∙ ap (entries_from block) bs.entries
+      ∙ edited-from block 0 (2 ^ 64) (blocks_in is.blocks) d.entries (recounts (blocks_in is.blocks) block e.refs.items) (keys-below block (blocks_in is.blocks) (next-known header (blocks_in is.blocks) block known.next_block low).3)
+      (DrawnLaws.old-edits is known over low d) (DrawnLaws.new-edits is known over low d)
+
+  -- and so are its blocks
+  pub new-blocks : {n : NodeMap} (now : Lays next bytes n) → AreNewBlocks (next_block header (blocks_in is.blocks)) d.block_places (entries_from (next_block header (blocks_in is.blocks)) (blocks_in now.blocks))
+  new-blocks now =
+      let from = new-entries now in
+      let placed : AreNewBlocks block d.block_places d.entries = subst (λ (ps : List Place). AreNewBlocks block ps d.entries) d.of_entries (sealed-new block d.blocks d.entries d.block_pieces (d.sketch).rise d.sealed_blocks) in
+      subst (λ (k : ℕ). AreNewBlocks k d.block_places (entries_from k (blocks_in now.blocks))) known.next_block (subst (AreNewBlocks block d.block_places) (sym from) placed)
+
+  -- and its pages those that are kept and the new ones
+  pub pages-renewed : {n : NodeMap} (now : Lays next bytes n) → AreRenewed (is.blocks.pages ++ is.nodes.pages) (new_pages (next_page header (is.blocks.pages ++ is.nodes.pages)) (d.first_places ++ d.last_places)) (now.blocks.pages ++ now.nodes.pages)
+  pages-renewed now =
+      let first : ℕ = page + length d.block_pages in
+      let one = changed-renewed bs header.bbt is.block_pages (pages_front (SameAt file bytes) is.blocks.pages is.nodes.pages page-kept) has.block_pages (λ ib. let a = block-kept.counted ib in omega (arith, a)) in
+      let two = changed-renewed ns header.nbt is.node_pages (pages_back (SameAt file bytes) is.blocks.pages is.nodes.pages page-kept) has.node_pages (λ ib. let a = node-kept.counted ib in omega (arith, a)) in
+      let both = both-renewed (names (named page d.first_places) 0 d.block_pages) (names (named first d.last_places) 0 d.node_pages) is.blocks.pages is.nodes.pages bs.found.pages ns.found.pages one two in
+      let count : length d.first_places ≡ length d.block_pages = (d.block_tree).count in
+      let new : names (named page d.first_places) 0 d.block_pages ++ names (named first d.last_places) 0 d.node_pages ≡ new_pages page (d.first_places ++ d.last_places) =
+      ap (λ (l : List Bref). l ++ names (named first d.last_places) 0 d.node_pages) (names-new page d.first_places d.block_pages count)
+      ∙ ap (λ (l : List Bref). new_pages page d.first_places ++ l) (names-new first d.last_places d.node_pages (d.node_tree).count)
+      ∙ ap (λ (k : ℕ). new_pages page d.first_places ++ new_pages (page + k) d.last_places) (sym count)
+      ∙ sym (pages-append page d.first_places d.last_places) in
+      let there : bs.found.pages ++ ns.found.pages ≡ now.blocks.pages ++ now.nodes.pages =
+      ap (λ (f : Found). f.pages ++ ns.found.pages) (sym (block-tree-is now)) ∙ ap (λ (f : Found). now.blocks.pages ++ f.pages) (sym (node-tree-is now)) in
+      subst (λ (k : ℕ). AreRenewed (is.blocks.pages ++ is.nodes.pages) (new_pages k (d.first_places ++ d.last_places)) (now.blocks.pages ++ now.nodes.pages)) known.next_page
+      (subst (AreRenewed (is.blocks.pages ++ is.nodes.pages) (new_pages page (d.first_places ++ d.last_places))) there
+      (subst (λ (l : List Bref). AreRenewed (is.blocks.pages ++ is.nodes.pages) l (bs.found.pages ++ ns.found.pages)) new both))
 
   -- what the planner knows then is right for any reading of the file
   pub known-now : {n : NodeMap} (now : Lays next bytes n) (later : List Bool) → Taken later own.0 e.freed.items → IsCovered (occupied (places_of bs.found ns.found) 8192) later

@@ -3,12 +3,14 @@ pub mod HoldingLaws
 pub mod OverLaws
 pub mod AfterLaws
 pub mod PageLaws
+pub mod NewLaws
 pub mod PlacedLaws
 pub mod DrawnLaws
 pub mod FreedLaws
-pub mod CostLaws
 pub mod KnownLaws
 pub mod FollowLaws
+pub mod CostLaws
+pub mod GrownLaws
 pub mod ComesLaws
 pub mod RoomLaws
 pub mod OldLaws

@@ -1,5 +1,5 @@
 -- The pages of a tree after edits: how many there are, and their ids.
-use Rattle.std.proofs.Common.{Bool, true, false, ◌≡◌, inl, inr, ℕ, zero, suc, ◌+◌, ◌^◌, ◌<◌, ◌≤◌, eqb, List, [], ◌∷◌, ◌++◌, length, map, take, drop, Option, Some, None, Result, Ok, Err, refl, sym, ap, subst, arith, if◌then◌else◌, length-append}
+use Rattle.std.proofs.Common.{Bool, true, false, ◌≡◌, ◌∙◌, inl, inr, ℕ, zero, suc, ◌+◌, ◌^◌, ◌<◌, ◌≤◌, eqb, List, [], ◌∷◌, ◌++◌, length, map, take, drop, Option, Some, None, Result, Ok, Err, refl, sym, ap, subst, arith, if◌then◌else◌, length-append}
 use Rattle.std.proofs.lemmas.Bool.{cases_eq, eq-eqb, ne_eqb}
 use Rattle.pst_base.specs.declared.ids.Bref.{Bref}
 use Rattle.pst_base.specs.declared.places.Place.{Place}
@@ -92,6 +92,25 @@ shown-id {E} entry_of t at s is = by_body (body_at t at) refl is
     by_body : (b : Option (List ℕ)) → body_at t at ≡ b → shown t.rule t.leaf entry_of b ≡ Some s → HasId t.file at
     by_body None e h = absurd (none-some h)
     by_body (Some body) e h = by_place (is_placed t.eof at.ib) body e
+
+-- pages whose bytes stay keep their ids
+ids-stay : (file new : List ℕ) (ps : List Bref) → Each (HasId file) ps → EachPlace (SameAt file new) (map page_place ps) → Each (HasId new) ps
+ids-stay file new [] ids same = tt
+ids-stay file new (p ∷ ps) ids same = (ap (number_at 8 504) same.0 ∙ ids.0, ids-stay file new ps ids.1 same.1)
+
+-- and each page of a plan has the id of its name
+names-ids : {E : Type 0} (entry_of : List ℕ → E) (t : FileTree) (name : ℕ → Bref) (from : ℕ) (pages : List (PlanPage E)) → AreShown (shapes_in entry_of t) name from pages → Each (HasId t.file) (names name from pages)
+names-ids entry_of t name from [] shown = tt
+names-ids entry_of t name from (p ∷ pages) shown = (shown-id entry_of t (name from) (shape_in name p) shown.0, names-ids entry_of t name (from + 1) pages shown.1)
+
+-- of a tree after edits: the pages that were there and those that are new, and all that are there now
+pub changed-ids : {E : Type 0} {entry_of : List ℕ → E} {key : E → ℕ} {t : FileTree} {new : List ℕ} {more : ℕ} {old : Found} {pages : List (PlanPage E)} {freed : List Bref} {top : Child} {name : ℕ → Bref} {ds : List (ℕ × Option E)}
+    → (is : IsChangedTree entry_of key t new more old pages freed top name ds) → (root : Bref) → IsFileWhole t root old → EachPlace (SameAt t.file new) (page_places old)
+    → AreShown (shapes_in entry_of (moved t new more)) name 0 pages → Each (HasId new) (old.pages ++ names name 0 pages) × Each (HasId new) (is.found).pages
+changed-ids {E} {entry_of} {key} {t} {new} {more} {old} {pages} {freed} {top} {name} {ds} is root whole same shown = (
+  each-append (HasId new) old.pages (names name 0 pages) (ids-stay t.file new old.pages (tree-ids t whole.level (root_seat root) old whole.tree) same) (names-ids entry_of (moved t new more) name 0 pages shown),
+  tree-ids (moved t new more) (is.tree).level (root_seat (resolve name top)) is.found (is.tree).tree,
+)
 
 -- ---- ids below a number
 

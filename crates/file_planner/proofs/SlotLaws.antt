@@ -61,7 +61,7 @@ IsFixed slot = slot < 3968 * (slot / 3968) + fixed_slots (slot / 3968)
 region-of : (r slot : ℕ) → 3968 * r ≤ slot → slot < 3968 * r + 3968 → slot / 3968 ≡ r
 region-of r slot low high = omega (arith, low, high)
 
-fixed-here : (r slot : ℕ) → 3968 * r ≤ slot → slot < 3968 * r + fixed_slots r → IsFixed slot
+pub fixed-here : (r slot : ℕ) → 3968 * r ≤ slot → slot < 3968 * r + fixed_slots r → IsFixed slot
 fixed-here r slot low high =
     let small = fixed_slots_small r in
     let same : slot / 3968 ≡ r = region-of r slot low (omega (arith, high, small)) in

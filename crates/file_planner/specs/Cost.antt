@@ -1,43 +1,62 @@
--- How many bytes a plan writes.
-use Rattle.std.specs.Prelude.{◌≡◌, ◌⊎◌, ◌<◌, ◌≤◌, ◌+◌, ◌-◌, ◌*◌, ◌^◌, ℕ, List, length, take, Option, Ok}
-use Rattle.pst_base.specs.declared.ids.Bid.{Bid}
+-- How many bytes a commit writes, by what it changes of a file.
+use Rattle.std.specs.Prelude.{◌≡◌, ◌⊎◌, ◌<◌, ◌≤◌, ◌+◌, ◌-◌, ◌*◌, ◌^◌, ◌++◌, ℕ, List, length, take, Option, Ok}
+use Rattle.pst_base.specs.declared.ids.Bref.{Bref}
 use Rattle.pst_base.specs.declared.ids.Nid.{Nid}
 use Rattle.pst_header.specs.declared.header.Header.{Header}
 use Rattle.pst_header.specs.Format.{reading}
-use Rattle.btree_pages.specs.declared.entry.NodeEntry.{NodeEntry}
 use Rattle.btree_pages.specs.Entries.{block_of, node_of}
-use Rattle.file_blocks.specs.Blocks.{entry_key}
-use Rattle.file_layout.specs.Nodes.{NodeMap, Lays, block_tree, blocks_in, node_tree}
+use Rattle.file_blocks.specs.Blocks.{entry_key, found_in}
+use Rattle.file_layout.specs.Nodes.{NodeMap, Lays, block_tree, blocks_in, node_tree, nodes_in}
+use Rattle.file_layout.specs.Numbers.{next_block, next_page}
 use Rattle.file_pages.specs.InFile.{IsShapedRoot}
 use Rattle.node_layout.specs.Joined.{node_id}
+use Rattle.node_layout.specs.Lookups.{Each}
 use Rattle.node_port.specs.declared.node.NodeRec.{NodeRec}
+use Rattle.node_port.specs.Stops.{size}
 use Rattle.plan_pieces.specs.Growth.{regions_in}
-use Rattle.ref_counts.specs.declared.table.RefChange.{RefChange}
-use Rattle.plan_drawing.specs.Drawn.{IsSketch}
-use Rattle.plan_drawing.specs.Recounts.{recounts}
+use Rattle.tree_edit.specs.Shapes.{RiseIn}
+use Rattle.file_planner.specs.Follows.{references}
+use Rattle.file_planner.specs.New.{entries_from}
 
--- so many keys of a tree whose root has this level change that it may pass level 7, and then is written anew
+-- so many keys of a tree whose root has this level change that it may pass level 7
 abbrev pub MayPass : ℕ → ℕ → Type 0
 MayPass level keys = 20 ^ (7 - (level - 1)) < 20 + keys
 
--- What a plan of changes writes of a file under its new header, but for the header itself and the gate: its new blocks, which are at most one and a half times the data blocks, nodes and subnodes of the changes (`sketch.few`), two pages for each key that changes at each level of both trees and two more, and what makes the file longer, region by region. More is written only where a tree may pass level 7.
-pub record IsWithin (file : List ℕ) (next : Header) (cs : List (Nid × Option NodeRec)) (bytes : ℕ) : Type 0 where
-  pub header : Header
-  pub read : reading (take 564 file) ≡ Ok header
+-- A tree that may pass level 7 was written anew: each of its pages has a number from a limit on, and they are so many.
+pub record IsRewritten (level keys limit : ℕ) (now : List Bref) (pages : ℕ) : Type 0 where
+  pub many : MayPass level keys
+  pub new : Each (λ (at : Bref). limit ≤ (at.bid).bits) now
+  pub count : pages ≡ length now
+
+-- so many pages of a tree are new: at most two for each key that changes at each level and at two more, unless the tree was written anew
+abbrev pub AreFewPages : ℕ → ℕ → ℕ → List Bref → ℕ → Type 0
+AreFewPages level keys limit now pages = (pages ≤ (2 * (level + 2)) * keys) ⊎ IsRewritten level keys limit now pages
+
+-- What a commit of changes of nodes writes, but for the header and the gate: its new blocks, which are at most one and a half times the data blocks, nodes and subnodes of the changes; the new pages of both trees; and what makes the file longer, region by region. The keys of the block tree that change are those of the new blocks and of the old ones whose numbers of references change; those of the node tree, which are at most as many as the changes.
+pub record IsWithin (old new : List ℕ) (cs : List (Nid × Option NodeRec)) (bytes : ℕ) : Type 0 where
+  pub before : Header
+  pub was : reading (take 564 old) ≡ Ok before
   pub m : NodeMap
-  pub lays : Lays header file m
+  pub lays : Lays before old m
+  pub after : Header
+  pub is : reading (take 564 new) ≡ Ok after
+  pub n : NodeMap
+  pub now_lays : Lays after new n
   -- both trees before, by levels
-  pub of_blocks : IsShapedRoot block_of entry_key (block_tree file header.eof) header.bbt lays.blocks
-  pub of_nodes : IsShapedRoot node_of node_id (node_tree file header.eof) header.nbt lays.nodes
-  -- what is to be written: the new blocks, the edits of nodes' entries, and the numbers of references that change
-  pub counts : ℕ → ℕ
-  pub block : ℕ
-  pub edits : List (ℕ × Option NodeEntry)
-  pub blocks : List (Bid × List ℕ)
-  pub refs : List RefChange
-  pub sketch : IsSketch lays counts block cs edits blocks refs
-  -- how many keys of the block tree change
-  pub keys : ℕ
-  pub keys_are : keys ≡ length (recounts (blocks_in lays.blocks) block refs) + length blocks
-  pub within : (bytes ≤ 8192 * length blocks + 1024 * ((of_nodes.level + of_blocks.level) + 4) * (keys + length edits) + 1537 * (regions_in next.eof - regions_in header.eof))
-      ⊎ (MayPass of_blocks.level keys ⊎ MayPass of_nodes.level (length edits))
+  pub of_blocks : IsShapedRoot block_of entry_key (block_tree old before.eof) before.bbt lays.blocks
+  pub of_nodes : IsShapedRoot node_of node_id (node_tree old before.eof) before.nbt lays.nodes
+  -- the old blocks whose numbers of references change
+  pub recounted : List ℕ
+  pub ascend : RiseIn 0 (2 ^ 64) recounted
+  pub differ : Each (λ (k : ℕ). references (found_in old (blocks_in lays.blocks)) (nodes_in lays.nodes) k ≡ references (found_in new (blocks_in now_lays.blocks)) (nodes_in now_lays.nodes) k → ⊥) recounted
+  -- the new blocks
+  pub blocks : ℕ
+  pub blocks_are : blocks ≡ length (entries_from (next_block before (blocks_in lays.blocks)) (blocks_in now_lays.blocks))
+  pub few : 2 * blocks ≤ 3 * size cs
+  -- the new pages of each tree
+  pub block_pages : ℕ
+  pub few_blocks : AreFewPages of_blocks.level (length recounted + blocks) (next_page before (lays.blocks.pages ++ lays.nodes.pages)) now_lays.blocks.pages block_pages
+  pub node_pages : ℕ
+  pub few_nodes : AreFewPages of_nodes.level (length cs) (next_page before (lays.blocks.pages ++ lays.nodes.pages)) now_lays.nodes.pages node_pages
+  pub pages_are : after.next_page ≡ next_page before (lays.blocks.pages ++ lays.nodes.pages) + (block_pages + node_pages)
+  pub within : bytes ≤ 8192 * blocks + 512 * (block_pages + node_pages) + 1537 * (regions_in after.eof - regions_in before.eof)

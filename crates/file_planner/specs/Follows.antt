@@ -1,5 +1,5 @@
 -- What of a file's nodes and blocks stays after a commit, and what goes.
-use Rattle.std.specs.Prelude.{◌≡◌, ◌⊎◌, ℕ, List, Option, Some}
+use Rattle.std.specs.Prelude.{◌≡◌, ◌⊎◌, ◌+◌, min, ℕ, List, Option, Some}
 use Rattle.pst_header.specs.declared.header.Header.{Header}
 use Rattle.btree_pages.specs.declared.entry.BlockEntry.{BlockEntry}
 use Rattle.btree_pages.specs.declared.entry.NodeEntry.{NodeEntry}
@@ -31,5 +31,9 @@ pub record Follows {before after : Header} {old new : List ℕ} {m n : NodeMap} 
       ⊎ IsPutOver (found_in old (blocks_in was.blocks)) (found_in new (blocks_in is.blocks)) before.eof after.eof (next_block before (blocks_in was.blocks)) (entry_with node_id k (nodes_in was.nodes)) e
   -- a block that stays has its place and its size
   pub stay : (k : ℕ) (b e : BlockEntry) → entry_with entry_key k (blocks_in was.blocks) ≡ Some b → entry_with entry_key k (blocks_in is.blocks) ≡ Some e → (e.at ≡ b.at) × (e.cb ≡ b.cb)
+  -- and the count that it had, or where its number of references changes that number with one more, up to the greatest of 16 bits
+  pub counted : (k : ℕ) (b e : BlockEntry) → entry_with entry_key k (blocks_in was.blocks) ≡ Some b → entry_with entry_key k (blocks_in is.blocks) ≡ Some e
+      → ((references (found_in old (blocks_in was.blocks)) (nodes_in was.nodes) k ≡ references (found_in new (blocks_in is.blocks)) (nodes_in is.nodes) k) × (e.refs ≡ b.refs))
+      ⊎ (e.refs ≡ min (references (found_in new (blocks_in is.blocks)) (nodes_in is.nodes) k + 1) 0xffff)
   -- a block that no node reaches is there only where it was there, and no node reached it
   pub freed : NoneUnused (blocks_in was.blocks) (blocks_in is.blocks) (references (found_in old (blocks_in was.blocks)) (nodes_in was.nodes)) (references (found_in new (blocks_in is.blocks)) (nodes_in is.nodes))

@@ -37,7 +37,7 @@ use Rattle.plan_drawing.specs.declared.effects.PlanEffects.{PlanEffects}
 use Rattle.plan_drawing.specs.Freed.{all_behind}
 use Rattle.plan_drawing.specs.Recounts.{left_places, puts_of, recounts}
 use Rattle.lays_kept.specs.Stands.{last_map}
-use Rattle.plan_pieces.specs.Growth.{regions_in}
+use Rattle.plan_pieces.specs.Growth.{growth_of, regions_in}
 use Rattle.node_layout.specs.Lookups.{sum_of}
 
 -- ---- what is known before anything has a place
@@ -102,6 +102,7 @@ pub record IsDrawn {header : Header} {file : List ℕ} {m : NodeMap} (is : Lays 
   -- where all that stands
   pub placed : ArePlaced slots block_places (first_places ++ last_places)
   pub growth : List Piece
+  pub growth_is : growth ≡ growth_of header.eof next.eof
   pub grows : AllGrow header.eof growth
   pub ends : header.eof < next.eof → EndsAt next.eof growth
   pub growth_few : sum_of (λ (p : Piece). length p.bytes) growth ≤ 1537 * (regions_in next.eof - regions_in header.eof)
@@ -114,6 +115,7 @@ pub record IsDrawn {header : Header} {file : List ℕ} {m : NodeMap} (is : Lays 
   pub unmapped : next.maps ≡ 0
   pub map_page : next.amap_last ≡ last_map next.eof
   pub unique : next.unique ≡ (header.unique + 1) % 2 ^ 32
+  pub kept : next.kept ≡ header.kept
   pub bbt : next.bbt ≡ resolve (named page first_places) block_top
   pub nbt : next.nbt ≡ resolve (named (page + length block_pages) last_places) node_top
   pub next_block : next.next_block ≡ block + 4 * length blocks

@@ -17,7 +17,7 @@ use Rattle.node_layout.specs.Sealed.{AreSealed}
 use Rattle.node_layout.specs.Written.{AreWritten}
 use Rattle.node_port.specs.declared.node.NodeRec.{NodeRec}
 use Rattle.tree_edit.specs.Plans.{resolve}
-use Rattle.plan_pieces.specs.Growth.{regions_in}
+use Rattle.plan_pieces.specs.Growth.{growth_of, regions_in}
 use Rattle.plan_pieces.specs.Names.{named}
 use Rattle.node_layout.specs.Lookups.{sum_of}
 use Rattle.ref_counts.specs.declared.table.RefChange.{RefChange}
@@ -53,6 +53,7 @@ pub record AreWrittenOut (eof page : ℕ) (trees : Trees) (pages blocks : List P
   pub last_written : AreWritten node_key 32 node_of 0x81 (named (page + length trees.blocks.pages.items) last_places) 0 trees.nodes.pages.items last_pieces
   pub last_placed : map piece_place last_pieces ≡ last_places
   pub growth : List Piece
+  pub growth_is : growth ≡ growth_of eof end
   pub grows : AllGrow eof growth
   pub ends : eof < end → EndsAt end growth
   pub growth_few : sum_of (λ (p : Piece). length p.bytes) growth ≤ 1537 * (regions_in end - regions_in eof)

@@ -238,6 +238,7 @@ fn next_header(header: &Header, last: &[u32; 32], next: Numbers, made: &Pieces) 
     ensures eof { result.eof ≡ made.now.end }
     ensures maps { result.maps ≡ 0 }
     ensures unique { result.unique ≡ (header.now.unique + 1) % 2 ^ 32 }
+    ensures kept { result.kept ≡ header.now.kept }
     ensures bbt { result.bbt ≡ made.now.bbt }
     ensures nbt { result.nbt ≡ made.now.nbt }
     ensures block { result.next_block ≡ next.block }

@@ -74,7 +74,7 @@ keeps_now knows found sealed rest header new N shut main size read stands known 
     }
 
 -- after a commit the keeper has the nodes after
-pub next_keeps : {after : Header → List ℕ → Type 0} {becomes : List ℕ → List ℕ → Type 0} {costs : List ℕ → Header → List (Nid × Option NodeRec) → ℕ → Type 0} {held : List (Pin × List Bool)} {found sealed : List ℕ} {before header : Header} {pieces : List Piece} {cs : List (Nid × Option NodeRec)} {old new : Image} {N : Nodes} (knows : Header → List ℕ → Type 0)
+pub next_keeps : {after : Header → List ℕ → Type 0} {becomes : List ℕ → List ℕ → Type 0} {costs : List ℕ → List ℕ → List (Nid × Option NodeRec) → ℕ → Type 0} {held : List (Pin × List Bool)} {found sealed : List ℕ} {before header : Header} {pieces : List Piece} {cs : List (Nid × Option NodeRec)} {old new : Image} {N : Nodes} (knows : Header → List ℕ → Type 0)
     → Comes after becomes costs held found before old.main pieces sealed header cs N → length sealed ≡ 564 → ((file : List ℕ) → after header file → knows header file)
     → IsApplied (λ mid. Scattered pieces old.main mid × HoldsEach mid pieces) sealed old new → Keeps knows found header new (changed N cs)
 next_keeps {after} {becomes} {costs} {held} {found} {sealed} {before} {header} {pieces} {cs} {old} {new} {N} knows comes size adopts is =
@@ -82,7 +82,7 @@ next_keeps {after} {becomes} {costs} {held} {found} {sealed} {before} {header} {
     (adopts (sealed ++ drop 564 is.mid) (comes.known is.mid is.file.0 is.file.1))
 
 -- and its file is what the plan makes of the one before
-pub next_becomes : {after : Header → List ℕ → Type 0} {becomes : List ℕ → List ℕ → Type 0} {costs : List ℕ → Header → List (Nid × Option NodeRec) → ℕ → Type 0} {held : List (Pin × List Bool)} {found sealed : List ℕ} {before header : Header} {pieces : List Piece} {cs : List (Nid × Option NodeRec)} {old new : Image} {N : Nodes}
+pub next_becomes : {after : Header → List ℕ → Type 0} {becomes : List ℕ → List ℕ → Type 0} {costs : List ℕ → List ℕ → List (Nid × Option NodeRec) → ℕ → Type 0} {held : List (Pin × List Bool)} {found sealed : List ℕ} {before header : Header} {pieces : List Piece} {cs : List (Nid × Option NodeRec)} {old new : Image} {N : Nodes}
     → IsShut old.side → Comes after becomes costs held found before old.main pieces sealed header cs N → IsApplied (λ mid. Scattered pieces old.main mid × HoldsEach mid pieces) sealed old new → becomes (file_of old) (file_of new)
 next_becomes {after} {becomes} {costs} {held} {found} {sealed} {before} {header} {pieces} {cs} {old} {new} {N} shut comes is =
     subst (λ f. becomes f (file_of new)) (sym (shut_file old.main old.side shut))

@@ -192,7 +192,7 @@ new_pinned {knows} {used} {opened} {cells} {header} v right found N number held 
 -- ---- a commit
 
 -- a pin tells the same after a commit that keeps the trees of each
-pub next_pinned : {after : Header → List ℕ → Type 0} {becomes : List ℕ → List ℕ → Type 0} {costs : List ℕ → Header → List (Nid × Option NodeRec) → ℕ → Type 0} {held : List (Pin × List Bool)} {found sealed : List ℕ} {before header : Header} {pieces : List Piece} {cs : List (Nid × Option NodeRec)} {old new : Image} {N : Nodes}
+pub next_pinned : {after : Header → List ℕ → Type 0} {becomes : List ℕ → List ℕ → Type 0} {costs : List ℕ → List ℕ → List (Nid × Option NodeRec) → ℕ → Type 0} {held : List (Pin × List Bool)} {found sealed : List ℕ} {before header : Header} {pieces : List Piece} {cs : List (Nid × Option NodeRec)} {old new : Image} {N : Nodes}
     → IsShut old.side → Comes after becomes costs held found before old.main pieces sealed header cs N → IsApplied (λ mid. Scattered pieces old.main mid × HoldsEach mid pieces) sealed old new
     → (p : ℕ) (M : Nodes) → StandsAt before (file_of old) (held_at p held) M → StandsAt header (file_of new) (held_at p held) M
 next_pinned {after} {becomes} {costs} {held} {found} {sealed} {before} {header} {pieces} {cs} {old} {new} {N} shut comes is p M stands =

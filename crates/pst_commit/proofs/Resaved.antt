@@ -52,12 +52,13 @@ trees_then one two = record {
 }
 
 -- both headers name the same trees, and the second vouches for the maps
-pub is_saved : {knows : Header → List ℕ → Type 0} {found : List ℕ} {header mid next : Header} {old new : Image} {N : Nodes} → Keeps knows found header old N → SameTrees header mid → SameTrees mid next → Rests found next new N → HasMaps next (file_of new) → IsSaved old new
-is_saved {knows} {found} {header} {mid} {next} {old} {new} {N} held one two rests maps = record {
+pub is_saved : {knows : Header → List ℕ → Type 0} {found : List ℕ} {header mid next : Header} {old new : Image} {N : Nodes} → Keeps knows found header old N → SameTrees header mid → SameTrees mid next → mid.kept ≡ header.kept → next.kept ≡ mid.kept → Rests found next new N → HasMaps next (file_of new) → IsSaved old new
+is_saved {knows} {found} {header} {mid} {next} {old} {new} {N} held one two kept_one kept_two rests maps = record {
   before = header;
   was = (held.stands).file.read ∙ ap Ok held.own;
   after = next;
   is = (rests.stands).file.read ∙ ap Ok rests.own;
   trees = trees_then one two;
+  kept = kept_two ∙ kept_one;
   maps = maps;
 }

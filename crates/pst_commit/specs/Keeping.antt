@@ -93,17 +93,17 @@ pub record LooksOn (knows knows' : Header → List ℕ → Type 0) (header : Hea
 
 -- ---- a plan
 
--- A plan for a file of these nodes: it can be committed, its header is this one, it comes to the changed nodes and the header's counters, it makes of the file what is said of plans, the trees of each pin stay, and its pieces have as many bytes as is said.
-pub record Comes (knows : Header → List ℕ → Type 0) (becomes : List ℕ → List ℕ → Type 0) (costs : List ℕ → Header → List (Nid × Option NodeRec) → ℕ → Type 0) (held : List (Pin × List Bool)) (found : List ℕ) (old : Header) (bytes : List ℕ) (pieces : List Piece) (sealed : List ℕ) (header : Header) (cs : List (Nid × Option NodeRec)) (N : Nodes) : Type 0 where
+-- A plan for a file of these nodes: it can be committed, its header is this one, it comes to the changed nodes and the header's counters, it makes of the file what is said of plans, the trees of each pin stay, and its pieces have as many bytes as is said of both files.
+pub record Comes (knows : Header → List ℕ → Type 0) (becomes : List ℕ → List ℕ → Type 0) (costs : List ℕ → List ℕ → List (Nid × Option NodeRec) → ℕ → Type 0) (held : List (Pin × List Bool)) (found : List ℕ) (old : Header) (bytes : List ℕ) (pieces : List Piece) (sealed : List ℕ) (header : Header) (cs : List (Nid × Option NodeRec)) (N : Nodes) : Type 0 where
   pub plan : IsPlan found bytes pieces sealed N old.indexes (changed N cs) header.indexes
   pub read : reading sealed ≡ Ok header
   pub known : (mid : List ℕ) → Scattered pieces bytes mid → HoldsEach mid pieces → knows header (sealed ++ drop 564 mid)
   pub made : (mid : List ℕ) → Scattered pieces bytes mid → HoldsEach mid pieces → becomes bytes (sealed ++ drop 564 mid)
   pub keeps : (mid : List ℕ) → Scattered pieces bytes mid → HoldsEach mid pieces → KeepsEach old header bytes (sealed ++ drop 564 mid) held
-  pub cost : costs bytes header cs (bytes_in pieces)
+  pub cost : (mid : List ℕ) → Scattered pieces bytes mid → HoldsEach mid pieces → costs bytes (sealed ++ drop 564 mid) cs (bytes_in pieces)
 
 -- whatever nodes a world's file stands for under the old header, the plan is one for it; `before` is known of the file, and `after` will be
-abbrev pub PlansFor : (before after : Header → List ℕ → Type 0) → (List ℕ → List ℕ → Type 0) → (List ℕ → Header → List (Nid × Option NodeRec) → ℕ → Type 0) → List (Pin × List Bool) → List ℕ → Header → World → List Piece → List ℕ → Header → List (Nid × Option NodeRec) → Type 0
+abbrev pub PlansFor : (before after : Header → List ℕ → Type 0) → (List ℕ → List ℕ → Type 0) → (List ℕ → List ℕ → List (Nid × Option NodeRec) → ℕ → Type 0) → List (Pin × List Bool) → List ℕ → Header → World → List Piece → List ℕ → Header → List (Nid × Option NodeRec) → Type 0
 PlansFor before after becomes costs held found old world pieces sealed header cs = (N : Nodes) → Holds before found old world N → Comes after becomes costs held found old (file_of world.here) pieces sealed header cs N
 
 -- ---- a save
@@ -119,11 +119,12 @@ pub record CanSave (found : List ℕ) (header : Header) (end : ℕ) (world : Wor
   pub rests : world.tells → Rests found header world.here N
   pub regions : end ≡ region_end (regions_to header.eof)
 
--- A save has left the trees and numbers as they were, under a header that vouches for the maps, which are right.
+-- A save has left the trees and numbers as they were, and the header's bytes that no field has, under a header that vouches for the maps, which are right.
 pub record IsSaved (old new : Image) : Type 0 where
   pub before : Header
   pub was : reading (take 564 (file_of old)) ≡ Ok before
   pub after : Header
   pub is : reading (take 564 (file_of new)) ≡ Ok after
   pub trees : SameTrees before after
+  pub kept : after.kept ≡ before.kept
   pub maps : HasMaps after (file_of new)

@@ -55,6 +55,7 @@ fn without_maps(header: &Header, end: u64) -> Header
     requires { IsWritable header.now }
     ensures writable { IsWritable result }
     ensures trees { SameTrees header.now result }
+    ensures kept { result.kept ≡ header.now.kept }
     ensures maps { result.maps ≡ 0 }
     ensures eof { result.eof ≡ end }
 {
@@ -71,6 +72,7 @@ fn with_maps(header: &Header, free: u64) -> Header
     requires { IsWritable header.now }
     ensures writable { IsWritable result }
     ensures trees { SameTrees header.now result }
+    ensures kept { result.kept ≡ header.now.kept }
     ensures maps { result.maps ≡ 2 }
     ensures eof { result.eof ≡ header.now.eof }
     ensures free { result.amap_free ≡ free }
@@ -116,6 +118,7 @@ fn put_unmapped<W: Outside>(w: &mut W, header: &Header, end: u64) -> Result<Head
     ensures shut { ((W.view w.old).tells → IsShut (W.view w.old).here.side) → OnOk result ((W.view w.new).tells → IsShut (W.view w.new).here.side) }
     ensures writable { IfOk result IsWritable }
     ensures trees { IfOk result (SameTrees header.now) }
+    ensures kept { IfOk result (λ next. next.kept ≡ header.now.kept) }
     ensures maps { IfOk result (λ next. next.maps ≡ 0) }
     ensures eof { IfOk result (λ next. next.eof ≡ end) }
     ensures keeps { (found : List ℕ) (N : Nodes) → CanSave found header.now end (W.view w.old) N → IfOk result (λ next. CanSave found next end (W.view w.new) N × ((W.view w.new).tells → LaysSame header.now next (file_of (W.view w.old).here) (file_of (W.view w.new).here) × LeavesTrees header.now next (file_of (W.view w.old).here) (file_of (W.view w.new).here))) }
@@ -141,6 +144,7 @@ pub(crate) fn unmap<W: Outside>(w: &mut W, header: &Header, end: u64) -> Result<
     ensures shut { ((W.view w.old).tells → IsShut (W.view w.old).here.side) → OnOk result ((W.view w.new).tells → IsShut (W.view w.new).here.side) }
     ensures writable { IfOk result IsWritable }
     ensures trees { IfOk result (SameTrees header.now) }
+    ensures kept { IfOk result (λ next. next.kept ≡ header.now.kept) }
     ensures maps { IfOk result (λ next. next.maps ≡ 0) }
     ensures eof { IfOk result (λ next. next.eof ≡ end) }
     ensures keeps { (found : List ℕ) (N : Nodes) → CanSave found header.now end (W.view w.old) N → IfOk result (λ next. CanSave found next end (W.view w.new) N × ((W.view w.new).tells → LaysSame header.now next (file_of (W.view w.old).here) (file_of (W.view w.new).here) × LeavesTrees header.now next (file_of (W.view w.old).here) (file_of (W.view w.new).here))) }
@@ -193,6 +197,7 @@ pub(crate) fn save_maps<W: Outside>(
     ensures shut { ((W.view w.old).tells → IsShut (W.view w.old).here.side) → OnOk result ((W.view w.new).tells → IsShut (W.view w.new).here.side) }
     ensures writable { IfOk result IsWritable }
     ensures trees { IfOk result (SameTrees header.now) }
+    ensures kept { IfOk result (λ next. next.kept ≡ header.now.kept) }
     ensures keeps { (found : List ℕ) (N : Nodes) → header.now.maps ≡ 0 → header.now.eof ≡ region_end regions → CanSave found header.now (region_end regions) (W.view w.old) N → ((W.view w.old).tells → UsesJust header.now (file_of (W.view w.old).here) slots.now)
         → IfOk result (λ next. CanSave found next (region_end regions) (W.view w.new) N × ((W.view w.new).tells → LaysSame header.now next (file_of (W.view w.old).here) (file_of (W.view w.new).here) × HasMaps next (file_of (W.view w.new).here) × LeavesTrees header.now next (file_of (W.view w.old).here) (file_of (W.view w.new).here))) }
     // A crash at any moment leaves the same nodes.

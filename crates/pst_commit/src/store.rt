@@ -56,8 +56,8 @@ pub trait NodeStore<W: Outside> {
     /// What a plan makes of a file beside its nodes and these pins: the header's numbers, the blocks that are freed, and the places that are taken.
     ghost becomes: { List (ℕ × List Bool) → List ℕ → List ℕ → Type 0 };
 
-    /// How many bytes the pieces of a plan have that makes these changes of a file, under the header that it gets.
-    ghost costs: { List ℕ → Head → List (Id × Option Rec) → ℕ → Type 0 };
+    /// How many bytes the pieces of a plan have that makes these changes of the one file and so the other.
+    ghost costs: { List ℕ → List ℕ → List (Id × Option Rec) → ℕ → Type 0 };
 
     /// The slots that the file uses.
     ghost used: { Self → List Bool };

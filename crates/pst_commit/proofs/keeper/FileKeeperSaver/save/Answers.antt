@@ -148,7 +148,7 @@ returns-clause-saved g c = λ N held shut told.
     let last = c.in_ok-self.ensures.keeps k.found N none reach next_can uses in
     let before : mid.tells = c.save_maps.ensures.told told in
     let laid : LaysSame unmapped next (file_of mid.here) (file_of new.here) = (last.1 told).0 in
-    is_saved held.1 c.in_ok-unmapped.ensures.trees c.in_ok-self.ensures.trees (last.0.rests told) (last.1 told).1
+    is_saved held.1 c.in_ok-unmapped.ensures.trees c.in_ok-self.ensures.trees c.in_ok-unmapped.ensures.kept c.in_ok-self.ensures.kept (last.0.rests told) (last.1 told).1
 
 pub returns-clause-rests : goal.returns-clause-rests
 returns-clause-rests g c = λ settled shut.
