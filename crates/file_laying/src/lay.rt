@@ -64,7 +64,7 @@ fn put_nodes<W: Outside, S: FoundStore<W> + Drop>(
     ensures no_pins { IfOk result (λ k. pins_of k.given (S.held k.store) ≡ no_pins) }
     ensures made { OnOk result ((W.view w.new).tells → S.becomes [] (file_of (W.view w.old).here) (file_of (W.view w.new).here)) }
     ensures rests { Settled (W.view w.old) → OnOk result (Settled (W.view w.new) × ((W.view w.new).tells → IsShut (W.view w.new).here.side)) }
-    ensures said { Settled (W.view w.old) → OnOk result ((W.view w.new).tells → (W.view w.new).here.said ≡ (W.view w.old).here.said) }
+    ensures said { Settled (W.view w.old) → (W.view w.new).tells → (W.view w.new).here.said ≡ (W.view w.old).here.said }
     ensures plan { IfErr result (λ stop. (W.view w.new).tells → StopsPlan (W.view w.new).here changes.room changes.nodes.items stop) }
     ensures some { result ≡ Err LayingStop.NotEmpty → ⊥ }
     ensures fault { result ≡ Err LayingStop.Fault → Rose (W.view w.old).disk_faults (W.view w.new).disk_faults }
@@ -107,7 +107,7 @@ pub fn lay_nodes<W: Outside, S: FoundStore<W> + Drop>(
     ensures no_pins { IfOk result (λ k. pins_of k.given (S.held k.store) ≡ no_pins) }
     ensures made { OnOk result ((W.view w.new).tells → IsLaidOver (S.becomes []) (W.view w.new).here) }
     ensures rests { Settled (W.view w.old) → OnOk result (Settled (W.view w.new) × ((W.view w.new).tells → IsShut (W.view w.new).here.side)) }
-    ensures said { Settled (W.view w.old) → OnOk result ((W.view w.new).tells → (W.view w.new).here.said ≡ (W.view w.old).here.said) }
+    ensures said { Settled (W.view w.old) → (W.view w.new).tells → (W.view w.new).here.said ≡ (W.view w.old).here.said }
     ensures empty { OnOk result ((W.view w.old).tells → IsVacant (W.view w.old).here) }
     ensures plan { IfErr result (λ stop. (W.view w.new).tells → StopsPlan (W.view w.new).here changes.room changes.nodes.items stop) }
     ensures not_empty { result ≡ Err LayingStop.NotEmpty → Untouched (W.view w.old) (W.view w.new) × ((W.view w.new).tells → HasBytes (W.view w.new).here) }

@@ -1,13 +1,22 @@
--- What the files of a new store stand for.
-use Rattle.std.proofs.Common.{◌≡◌, ◌∙◌, ℕ, true, List, [], inr, refl, sym, subst}
+-- What the files of a new store stand for, and what a stop before that says.
+use Rattle.std.proofs.Common.{◌≡◌, ◌∙◌, ℕ, true, List, [], Option, inr, refl, sym, subst}
 use Rattle.pst_outside.specs.World.{Image}
+use Rattle.pst_base.specs.declared.ids.Nid.{Nid}
 use Rattle.node_port.specs.Nodes.{Nodes, node_at}
+use Rattle.node_port.specs.declared.node.NodeRec.{NodeRec}
+use Rattle.node_port.specs.declared.keeper.PrepareStop.{PrepareStop}
+use Rattle.node_port.specs.declared.keeper.PrepareStop.TheVariants as prepare
+use Rattle.file_laying.specs.Laying.{StopsPlan}
+use Rattle.file_laying.specs.declared.lay.LayingStop.{LayingStop}
+use Rattle.file_laying.specs.declared.lay.LayingStop.TheVariants as laying
 use Rattle.lays_kept.specs.Stands.{Stands}
 use Rattle.mail_searches.specs.Searching.{Searching, StartsSearching}
 use Rattle.search_laws.proofs.Setting.{starts_in_order}
 use Rattle.mail_tree.specs.Start.{IsStart, start_last}
 use Rattle.mail_tree.specs.Tree.{StandsAt, Tree, object_at}
 use Rattle.file_session.specs.FileRun.{ReadsAs, front_of}
+use Rattle.file_session.specs.Stops.{LacksRoom, of_laying, of_plan}
+use Rattle.file_session.specs.declared.make.FileMade.{FileMade}
 
 -- what stands under a header stands under it as the one that is found next
 pub own_front : (bytes : List ℕ) (image : Image) (N : Nodes) (last next : List ℕ) → last ≡ next → Stands bytes image N last → Stands (front_of image) image N next
@@ -36,3 +45,22 @@ made_reads name image N last T start at same stands =
       starts,
       (record { nodes = N; held = subst (λ l. Stands (front_of image) image N l) (same ∙ sym start.counters) stands; at = at; counters = refl }, starts_in_order name X starts),
     )
+
+-- ---- stops
+
+lacks_plan : (image : Image) (room : ℕ) (cs : List (Nid × Option NodeRec)) (stop : PrepareStop) → StopsPlan image room cs (laying.Unplanned stop) → LacksRoom image (of_plan stop)
+lacks_plan image room cs prepare.Fault is = tt
+lacks_plan image room cs (prepare.Changed ib stored computed) is = tt
+lacks_plan image room cs prepare.Memory is = tt
+lacks_plan image room cs (prepare.Full free need) is = (is.0, is.1, is.2, is.4)
+lacks_plan image room cs prepare.IdsSpent is = is
+
+-- what a stop of the laying of a file says of the one that was laid
+pub lacks_laying : (image : Image) (room : ℕ) (cs : List (Nid × Option NodeRec)) (stop : LayingStop) (end : FileMade) → end ≡ of_laying stop → StopsPlan image room cs stop → LacksRoom image end
+lacks_laying image room cs stop end same is = subst (LacksRoom image) (sym same) (by stop is)
+  where
+    by : (s : LayingStop) → StopsPlan image room cs s → LacksRoom image (of_laying s)
+    by laying.NotEmpty h = tt
+    by laying.Fault h = tt
+    by laying.Memory h = tt
+    by (laying.Unplanned plan) h = lacks_plan image room cs plan h

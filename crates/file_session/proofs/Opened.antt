@@ -1,6 +1,5 @@
 -- From the opening to the end of a session over a file.
-use Rattle.std.proofs.Common.{◌≡◌, ◌∙◌, ℕ, Bool, true, false, List, [], ◌++◌, take, refl, sym, ap, subst, inl, inr}
-use Rattle.std.proofs.lemmas.List.{append-nil}
+use Rattle.std.proofs.Common.{◌≡◌, ◌∙◌, ℕ, Bool, true, false, List, ◌++◌, refl, sym, ap, subst, inl, inr}
 use Rattle.pst_outside.specs.World.{Image, World}
 use Rattle.pst_outside.specs.Calls.{LeavesOnly, Settled, Untouched}
 use Rattle.pst_outside.proofs.Moments.{continues, weaker}
@@ -11,15 +10,17 @@ use Rattle.node_port.specs.Nodes.{Nodes}
 use Rattle.pst_commit.specs.Commit.{LeavesNodes}
 use Rattle.pst_commit.specs.Keeping.{Holds}
 use Rattle.mail_searches.specs.Searching.{Searching}
+use Rattle.file_open.proofs.Files.{same_spent}
 use Rattle.file_open.proofs.Keepers.{laid_stands}
-use Rattle.file_open.specs.Opening.{IsFileRefused, IsOpened, OpenedTree, ReadsFresh, StopsOpening}
+use Rattle.file_open.specs.Opening.{IsFileRefused, IsOpened, LaysNodes, OpenedTree, ReadsFresh, StopsOpening}
 use Rattle.file_open.specs.declared.stops.FileRefusal.{FileRefusal}
 use Rattle.file_open.specs.declared.stops.FileStop.{FileStop}
 use Rattle.file_open.specs.declared.stops.FileStop.TheVariants as stops
 use Rattle.store_session.specs.Carrying.{Has, InOrder, StandsFor}
 use Rattle.store_session.specs.Disks.{Effects}
 use Rattle.store_session.specs.Session.{StoreSessionEnds}
-use Rattle.store_session.specs.Turns.{IsReached, StoreTurn, texts}
+use Rattle.store_session.specs.Turns.{IsReached, SaysTurns, StoreTurn, texts}
+use Rattle.store_session.proofs.Reached.{reached_before}
 use Rattle.store_session.specs.declared.session.SessionEnd.{SessionEnd}
 use Rattle.store_session.specs.declared.session.SessionEnd.TheVariants.{Disk, Changed, Memory}
 use Rattle.file_session.specs.FileRun.{EndsOpened, EndsUnopened, ReadsAs, file_effects, front_of}
@@ -36,14 +37,7 @@ module _ (effects : Effects) (stands : Image → Searching → Type 0) (rests : 
     (opening : LeavesOnly first mid (λ c. (c.said ≡ first.here.said) × stands c X)) where
   -- before the first line
   at_start : (turns : List StoreTurn) (c : Image) → (c.said ≡ first.here.said) × stands c X → IsReached stands first.here.said X turns c
-  at_start turns c is = record {
-    done = [];
-    left = turns;
-    are = refl;
-    tree = is.1;
-    count = 0;
-    said = is.0 ∙ sym (append-nil first.here.said);
-  }
+  at_start turns c is = reached_before stands first.here.said X turns c is.0 is.1
 
   pub session_behind : StoreSessionEnds effects stands rests opened mid now X end → StoreSessionEnds effects stands rests opened first now X end
   session_behind s =
@@ -66,7 +60,7 @@ module _ (effects : Effects) (stands : Image → Searching → Type 0) (rests : 
         in_hand = s.in_hand;
         stand = s.stand;
         disk_is = s.disk_is;
-        front = λ t. let f = s.front t in (f.0, f.1 ∙ ap (λ l. l ++ take f.0 (texts s.turns)) (said (told t)));
+        front = λ t. subst (λ l. SaysTurns l s.turns now.here.said) (said (told t)) (s.front t);
         whole = λ no t. s.whole no t ∙ ap (λ l. l ++ texts s.turns) (said (told t));
         images = continues begins s.images (λ c t is. subst (λ l. IsReached stands l X (s.turns ++ s.last) c) (said (told t)) is);
         ends_as = s.ends_as;
@@ -94,16 +88,34 @@ Leaving first mid = (found : List ℕ) (N : Nodes) (last : List ℕ) → (first.
 
 -- ---- an opening that gave a keeper
 
+-- where some tree is read with numbers left, so is the one that was opened
+fresh_start : {knows : Header → List ℕ → Type 0} {bytes : List ℕ} {header : Header} {image : Image} {mid : World} {tree : OpenedTree} (o : IsOpened knows bytes header image mid tree) → ((X : Searching) × ReadsFresh image X) → ReadsFresh image o.tree.tree
+fresh_start {image = image} o fresh =
+    let laid : LaysNodes image o.nodes o.tree.tree.tree.last = record {
+      header = o.laid.header;
+      opened = o.laid.opened;
+      m = o.laid.m;
+      lays = o.laid.lays;
+      those = o.laid.those;
+      counters = o.laid.counters ∙ sym o.tree.counters;
+    } in
+    let other = fresh.1.reads in
+    record {
+      reads = record { nodes = o.nodes; laid = laid; shows = o.tree.shows };
+      left = same_spent image o.nodes other.nodes o.tree.tree.tree.last fresh.0.tree.last laid other.laid ∙ fresh.1.left;
+    }
+
 pub ends_opened : (knows : Header → List ℕ → Type 0) (becomes : List ℕ → List ℕ → Type 0) (bytes : List ℕ) (header : Header) (tree : OpenedTree) (first mid now : World) (end : SessionEnd)
     → IsOpened knows bytes header first.here mid tree
+    → ((X : Searching) × ReadsFresh first.here X)
     → now.tells → (now.tells → mid.tells)
     → (mid.tells → mid.input ≡ first.input) → SameStore first.here mid.here
-    → Settled mid → (mid.tells → IsShut mid.here.side)
-    → Leaving first mid
+    → (Settled first → Settled mid) → (mid.tells → IsShut mid.here.side)
+    → (Settled first → Leaving first mid)
     → ((tidy : Bool) (X : Searching) → Has (Holds knows bytes header mid) header.indexes tree.known tree.searches (λ image. IsShut image.side) mid tidy X → (true ≡ true → now.tells)
     → StoreSessionEnds (file_effects becomes) (ReadsAs tidy bytes) (λ image. IsShut image.side) mid.here mid now X end)
     → EndsOpened becomes first now end
-ends_opened knows becomes bytes header tree first mid now end o tells told input store settled shut leaving session =
+ends_opened knows becomes bytes header tree first mid now end o fresh tells told input store settled shut leaving session =
     let X : Searching = o.tree.tree in
     let shown = o.tree.shows.0 in
     let sound : InOrder false X = record {
@@ -117,13 +129,14 @@ ends_opened knows becomes bytes header tree first mid now end o tells told input
     } in
     let shows : (c : Image) → Stands bytes c o.nodes X.tree.last → StandsFor (Stands bytes c) X.tree = λ c is. record { nodes = o.nodes; held = is; at = shown.at; counters = refl } in
     let stands : Stands bytes first.here o.nodes X.tree.last = subst (λ l. Stands bytes first.here o.nodes l) (sym o.tree.counters) (laid_stands bytes o.laid o.front) in
-    let leaves : LeavesNodes first mid bytes o.nodes X.tree.last = leaving bytes o.nodes X.tree.last (λ t. stands) in
     record {
       start = X;
+      fresh = fresh_start o fresh;
       reads = subst (λ f. ReadsAs false f first.here X) o.front (shows first.here stands, sound);
       opened = mid.here;
       store = store;
-      session = λ tidy read.
+      session = λ still tidy read.
+          let leaves : LeavesNodes first mid bytes o.nodes X.tree.last = leaving still bytes o.nodes X.tree.last (λ t. stands) in
           let order : InOrder tidy X = read.1 in
           let opening : LeavesOnly first mid (λ c. (c.said ≡ first.here.said) × ReadsAs tidy bytes c X) = leaves_tree tidy bytes first mid o.nodes X shows order leaves in
           let has : Has (Holds knows bytes header mid) header.indexes tree.known tree.searches (λ image. IsShut image.side) mid tidy X = record {
@@ -132,7 +145,7 @@ ends_opened knows becomes bytes header tree first mid now end o tells told input
               searches = o.tree.searches;
             };
             order = order;
-            settled = settled;
+            settled = settled still;
             at_rest = shut;
           } in
           subst (λ f. StoreSessionEnds (file_effects becomes) (ReadsAs tidy f) (λ image. IsShut image.side) mid.here first now X end) o.front
@@ -173,13 +186,36 @@ still_reads : (found : List ℕ) (first now : World) → Leaving first now → (
 still_reads found first now leaving tidy X r =
     leaves_tree tidy found first now r.0.nodes X (λ c is. record { nodes = r.0.nodes; held = is; at = r.0.at; counters = r.0.counters }) r.1 (leaving found r.0.nodes X.tree.last (λ t. r.0.held))
 
+memory_fault : stops.Memory ≡ stops.Fault → ⊥
+memory_fault is = cc
+
+disk_memory : Disk ≡ Memory → ⊥
+disk_memory is = cc
+
 pub ends_unopened : (first now : World) (stop : FileStop) (end : SessionEnd) → unopened stop ≡ Ended end → now.tells
-    → StopsOpening first.here stop → (now.tells → now.input ≡ first.input) → (now.tells → now.here.said ≡ first.here.said) → Leaving first now
+    → StopsOpening first.here stop → (now.tells → now.input ≡ first.input) → (now.tells → SameStore first.here now.here) → ((stop ≡ stops.Fault → ⊥) → Untouched first now)
+    → (((X : Searching) → ReadsFresh first.here X → ⊥) → Untouched first now) → (Settled first → Leaving first now)
     → EndsUnopened first now end
-ends_unopened first now (stops.Refused refusal) end is tells why input said leaving = absurd (no_end refusal end is)
-ends_unopened first now stops.Fault end is tells why input said leaving = record { ends = inl (sym (same_end Disk end is)); input = input; said = said; images = still_reads (front_of first.here) first now leaving }
-ends_unopened first now (stops.Changed ib stored computed) end is tells why input said leaving = absurd why
-ends_unopened first now stops.Memory end is tells why input said leaving = record { ends = inr (sym (same_end Memory end is)); input = input; said = said; images = still_reads (front_of first.here) first now leaving }
+ends_unopened first now (stops.Refused refusal) end is tells why input store clean kept leaving = absurd (no_end refusal end is)
+ends_unopened first now stops.Fault end is tells why input store clean kept leaving = record {
+  ends = inl (sym (same_end Disk end is));
+  input = input;
+  said = λ t. (store t).said;
+  memory = λ m. absurd (disk_memory (same_end Disk end is ∙ m));
+  no_tree = kept;
+  store = store;
+  images = λ still. still_reads (front_of first.here) first now (leaving still);
+}
+ends_unopened first now (stops.Changed ib stored computed) end is tells why input store clean kept leaving = absurd why
+ends_unopened first now stops.Memory end is tells why input store clean kept leaving = record {
+  ends = inr (sym (same_end Memory end is));
+  input = input;
+  said = λ t. (store t).said;
+  memory = λ m. clean memory_fault;
+  no_tree = kept;
+  store = store;
+  images = λ still. still_reads (front_of first.here) first now (leaving still);
+}
 
 pub refused_is : (first now : World) (stop : FileStop) (refusal : FileRefusal) → unopened stop ≡ Refused refusal
     → ((stop ≡ stops.Fault → ⊥) → Untouched first now) → (now.tells → StopsOpening first.here stop)

@@ -1,4 +1,8 @@
 -- What a stop comes to: of an opening, and of the plan of a new store.
+use Rattle.std.specs.Prelude.{◌≡◌, ◌<◌, true}
+use Rattle.pst_outside.specs.World.{Image}
+use Rattle.node_port.specs.Stops.{Room}
+use Rattle.pst_commit.specs.Keeping.{HasRoom}
 use Rattle.node_port.specs.declared.keeper.PrepareStop.{PrepareStop}
 use Rattle.node_port.specs.declared.keeper.PrepareStop.TheVariants as prepare
 use Rattle.file_session.specs.declared.make.FileMade.{FileMade}
@@ -18,13 +22,13 @@ unopened stops.Fault = Ended Disk
 unopened (stops.Changed ib stored computed) = Ended (Changed ib stored computed)
 unopened stops.Memory = Ended Memory
 
--- the end of a new store whose plan isn't made: room and numbers are there, so what is left is want of memory
+-- the end of a new store whose plan isn't made
 abbrev pub of_plan : PrepareStop → FileMade
 of_plan prepare.Fault = made.Disk
 of_plan (prepare.Changed ib stored computed) = made.Changed ib stored computed
 of_plan prepare.Memory = made.Memory
-of_plan (prepare.Full free need) = made.Memory
-of_plan prepare.IdsSpent = made.Memory
+of_plan (prepare.Full free need) = made.Full free need
+of_plan prepare.IdsSpent = made.IdsSpent
 
 -- and where no file with its nodes was laid
 abbrev pub of_laying : LayingStop → FileMade
@@ -32,3 +36,9 @@ of_laying laying.NotEmpty = made.NotEmpty
 of_laying laying.Fault = made.Disk
 of_laying laying.Memory = made.Memory
 of_laying (laying.Unplanned stop) = of_plan stop
+
+-- what the end says of the file without nodes that stands in the image then: it has too few free cells, or no number is left
+abbrev pub LacksRoom : Image → FileMade → Type 0
+LacksRoom image (made.Full free need) = (has : Room) × HasRoom image has × (free ≡ has.free) × (free < need)
+LacksRoom image made.IdsSpent = (has : Room) × HasRoom image has × (has.spent ≡ true)
+LacksRoom image other = Unit {0}

@@ -1,10 +1,11 @@
 //! A new store in a file.
 ghost use Rattle.std.specs.Prelude.{◌≡◌, ◌⊎◌, ℕ, true};
 ghost use Rattle.pst_outside.specs.Calls.{NeverFall, Rose, Settled, Untouched};
+ghost use Rattle.gate_file.specs.Gate.{IsShut};
 ghost use Rattle.empty_file.specs.Empty.{HasBytes};
 ghost use Rattle.mail_searches.specs.Searching.{Searching, StartsSearching};
 ghost use Rattle.file_session.specs.FileRun.{ReadsAs, front_of};
-ghost use Rattle.file_session.specs.Stops.{of_laying, of_plan};
+ghost use Rattle.file_session.specs.Stops.{LacksRoom, of_laying, of_plan};
 
 use file_laying::{FoundStore, LayingStop, lay_nodes};
 use mapi_values::Units;
@@ -26,9 +27,13 @@ pub enum FileMade {
     Changed { ib: u64, stored: u64, computed: u64 },
     /// There was no memory.
     Memory,
+    /// A file without nodes is there, with fewer free cells than the store's nodes need.
+    Full { free: u64, need: u64 },
+    /// A file without nodes is there, and the number of its next block or page is 2^61 or above.
+    IdsSpent,
 }
 
-/// The end for a plan that isn't made. A file without nodes has room and numbers for those of a new store.
+/// The end for a plan that isn't made.
 fn of_plan(stop: PrepareStop) -> FileMade
     ensures { result ≡ of_plan stop }
 {
@@ -43,7 +48,9 @@ fn of_plan(stop: PrepareStop) -> FileMade
             stored,
             computed,
         },
-        PrepareStop::Memory | PrepareStop::Full { .. } | PrepareStop::IdsSpent => FileMade::Memory,
+        PrepareStop::Memory => FileMade::Memory,
+        PrepareStop::Full { free, need } => FileMade::Full { free, need },
+        PrepareStop::IdsSpent => FileMade::IdsSpent,
     }
 }
 
@@ -66,12 +73,15 @@ pub fn make_file<W: Outside, S: FoundStore<W> + Drop>(
     name: &Units,
 ) -> FileMade
     ensures made { result ≡ FileMade.Made → (W.view w.new).tells → (X : Searching) × StartsSearching name.now X × ReadsAs true (front_of (W.view w.new).here) (W.view w.new).here X }
-    ensures said { Settled (W.view w.old) → result ≡ FileMade.Made → (W.view w.new).tells → (W.view w.new).here.said ≡ (W.view w.old).here.said }
+    // Nothing is pending then, and the gate is shut.
+    ensures rests { Settled (W.view w.old) → result ≡ FileMade.Made → Settled (W.view w.new) × ((W.view w.new).tells → IsShut (W.view w.new).here.side) }
+    ensures said { Settled (W.view w.old) → (W.view w.new).tells → (W.view w.new).here.said ≡ (W.view w.old).here.said }
     ensures not_empty { result ≡ FileMade.NotEmpty → Untouched (W.view w.old) (W.view w.new) × ((W.view w.new).tells → HasBytes (W.view w.new).here) }
     // Files that have bytes stay as they are.
     ensures kept { (W.view w.old).tells → HasBytes (W.view w.old).here → Untouched (W.view w.old) (W.view w.new) × ((result ≡ FileMade.NotEmpty) ⊎ (result ≡ FileMade.Disk) ⊎ (result ≡ FileMade.Memory)) }
     ensures fault { result ≡ FileMade.Disk → Rose (W.view w.old).disk_faults (W.view w.new).disk_faults }
     ensures not_changed { (ib stored computed : ℕ) → result ≡ FileMade.Changed ib stored computed → (W.view w.new).tells → ⊥ }
+    ensures lacks { (W.view w.new).tells → LacksRoom (W.view w.new).here result }
     ensures told { (W.view w.new).tells → (W.view w.old).tells }
     ensures input { (W.view w.new).tells → (W.view w.new).input ≡ (W.view w.old).input }
     ensures counts { NeverFall (W.view w.old) (W.view w.new) }

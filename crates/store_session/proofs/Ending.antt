@@ -1,7 +1,7 @@
 -- How a session over a store ends.
-use Rattle.std.proofs.Common.{◌≡◌, ◌∙◌, ℕ, Bool, true, false, List, [], ◌∷◌, ◌++◌, length, inl, inr, refl, sym, ap, subst, arith}
+use Rattle.std.proofs.Common.{◌≡◌, ◌∙◌, ℕ, Bool, true, false, List, [], ◌∷◌, ◌++◌, inl, inr, refl, sym, ap, subst, arith}
 use Rattle.std.proofs.lemmas.Bool.{true≢false}
-use Rattle.std.proofs.lemmas.List.{append-nil, take_all}
+use Rattle.std.proofs.lemmas.List.{append-nil}
 use Rattle.pst_outside.specs.World.{Image, World}
 use Rattle.pst_outside.specs.Calls.{LeavesOnly, Settled}
 use Rattle.pst_outside.proofs.Moments.{weaker}
@@ -26,7 +26,7 @@ use Rattle.store_session.specs.declared.session.SessionEnd.{SessionEnd}
 use Rattle.store_session.specs.declared.session.SessionEnd.TheVariants.{Done, Input, Output, Lines, Disk, Changed, Memory}
 use Rattle.store_session.proofs.Carry.{rose_later, same_as, standing}
 use Rattle.store_session.proofs.LineLaws.{answers_on}
-use Rattle.store_session.proofs.Reached.{commit_leaves, reached_then}
+use Rattle.store_session.proofs.Reached.{commit_leaves, reached_before, reached_then, said_all, said_none}
 use Rattle.store_session.proofs.Sessions.{heard_has, heard_leaves, turns_counts, turns_run}
 
 -- the causes of ends, whatever the store has
@@ -129,9 +129,9 @@ module _ {S W : Type 0} (view : W → World) (disk : Bool) (has : S → W → Se
         in_hand = ((room e.behind, r.measured, answers_on effects (room e.behind) Y (λ none. none) (λ none. absurd none) (λ none. absurd none) e.closes.0 reply next answer), tt);
         stand = r.stand;
         disk_is = λ no. absurd (no refl);
-        front = λ t. (length (texts r.turns), whole t ∙ ap (λ l. (view first).here.said ++ l) (sym (take_all (length (texts r.turns)) (texts r.turns) (omega arith))));
+        front = λ t. said_all (view first).here.said (view now).here.said r.turns (whole t);
         whole = λ no. whole;
-        images = reached_then stands (view first).here.said X r.turns hand_turn r.images (λ t. said (told t)) (commit_leaves stands Y hand_turn leaves);
+        images = reached_then stands (view first).here.said X r.turns (hand_turn ∷ []) r.images (λ t. said (told t)) (commit_leaves stands Y hand_turn leaves);
         ends_as = λ no. absurd (no refl);
         settled = λ no. absurd (no refl);
         at_rest = λ no. absurd (no refl);
@@ -184,16 +184,9 @@ ends_by_memory effects stands rests v X settled at_rest is = record {
   in_hand = tt;
   stand = is;
   disk_is = λ no t. same_as refl;
-  front = λ t. (0, sym (append-nil v.here.said));
+  front = λ t. said_none v.here.said v.here.said refl;
   whole = λ no t. sym (append-nil v.here.said);
-  images = weaker (IsReached stands v.here.said X []) (standing stands v X settled is) (λ c told k. record {
-    done = [];
-    left = [];
-    are = refl;
-    tree = elim k.1 [ inl is ↦ is | inr is ↦ is ];
-    count = 0;
-    said = k.0 ∙ sym (append-nil v.here.said);
-  });
+  images = weaker (IsReached stands v.here.said X []) (standing stands v X settled is) (λ c told k. reached_before stands v.here.said X [] c k.0 (elim k.1 [ inl is ↦ is | inr is ↦ is ]));
   ends_as = λ no. is;
   settled = λ no. settled;
   at_rest = λ no. at_rest;

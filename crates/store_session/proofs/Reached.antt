@@ -1,12 +1,13 @@
 -- What a stop within turns leaves.
-use Rattle.std.proofs.Common.{◌≡◌, ◌∙◌, ◌⊎◌, inl, inr, ℕ, suc, ◌+◌, List, [], ◌∷◌, ◌++◌, length, take, refl, sym, ap, subst, arith, append_assoc}
+use Rattle.std.proofs.Common.{◌≡◌, ◌∙◌, ◌⊎◌, inl, inr, ℕ, ◌<◌, List, [], ◌∷◌, ◌++◌, take, refl, sym, ap, subst, arith, append_assoc}
 use Rattle.std.proofs.lemmas.List.{append-nil, take_at}
 use Rattle.pst_outside.specs.World.{Image, SameDisk, World}
 use Rattle.pst_outside.specs.Calls.{LeavesOnly, SaysSome, Settled}
-use Rattle.pst_outside.proofs.Moments.{continues, says_settled, weaker}
+use Rattle.pst_outside.proofs.Moments.{continues, same_disk, says_settled, weaker}
 use Rattle.mail_searches.specs.Searching.{Searching}
 use Rattle.store_session.specs.Carrying.{Leaves}
-use Rattle.store_session.specs.Turns.{IsReached, StoreTurn, texts, tree_after}
+use Rattle.store_session.specs.Turns.{IsReached, SaysTurns, StoreTurn, texts, tree_after}
+use Rattle.store_session.proofs.Carry.{same_as}
 
 pub texts_more : (turns more : List StoreTurn) → texts (turns ++ more) ≡ texts turns ++ texts more
 texts_more [] more = refl
@@ -16,87 +17,117 @@ pub after_more : (start : Searching) (turns more : List StoreTurn) → tree_afte
 after_more start [] more = refl
 after_more start (t ∷ ts) more = after_more t.tree ts more
 
-pub take_over : (xs ys : List ℕ) (n : ℕ) → take (length xs + n) (xs ++ ys) ≡ xs ++ take n ys
-take_over [] ys n = let e : 0 + n ≡ n = omega arith in ap (λ k. take k ys) e
-take_over (x ∷ xs) ys n =
-    let e : length (x ∷ xs) + n ≡ suc (length xs + n) = omega arith in
-    ap (λ k. take k (x ∷ (xs ++ ys))) e ∙ ap (λ l. x ∷ l) (take_over xs ys n)
+-- ---- what was said of turns
+
+pub said_none : (first now : List ℕ) → now ≡ first → SaysTurns first [] now
+said_none first now is = record { done = []; hand = []; one = omega arith; are = refl; count = 0; said = is ∙ sym (append-nil first) }
+
+pub said_all : (first now : List ℕ) (turns : List StoreTurn) → now ≡ first ++ texts turns → SaysTurns first turns now
+said_all first now turns is = record { done = turns; hand = []; one = omega arith; are = sym (append-nil turns); count = 0; said = is ∙ ap (λ l. first ++ l) (sym (append-nil (texts turns))) }
+
+pub said_front : (first now : List ℕ) (turn : StoreTurn) (k : ℕ) → now ≡ first ++ take k turn.said → SaysTurns first (turn ∷ []) now
+said_front first now turn k is = record { done = []; hand = turn ∷ []; one = omega arith; are = refl; count = k; said = is ∙ ap (λ l. first ++ take k l) (sym (append-nil turn.said)) }
+
+-- behind a turn whose reply was said
+pub said_behind : (first mid now : List ℕ) (turn : StoreTurn) (turns : List StoreTurn) → mid ≡ first ++ turn.said → SaysTurns mid turns now → SaysTurns first (turn ∷ turns) now
+said_behind first mid now turn turns e is =
+    let front : List ℕ = take is.count (texts is.hand) in
+    record {
+      done = turn ∷ is.done;
+      hand = is.hand;
+      one = is.one;
+      are = ap (λ l. turn ∷ l) is.are;
+      count = is.count;
+      said = is.said ∙ ap (λ s. s ++ (texts is.done ++ front)) e ∙ append_assoc first turn.said (texts is.done ++ front) ∙ ap (λ l. first ++ l) (sym (append_assoc turn.said (texts is.done) front));
+    }
+
+-- ---- what was reached
 
 -- what was reached stays reached when more turns come
 pub reached_more : (stands : Image → Searching → Type 0) (first : List ℕ) (start : Searching) (turns more : List StoreTurn) (c : Image) → IsReached stands first start turns c → IsReached stands first start (turns ++ more) c
 reached_more stands first start turns more c is = record {
   done = is.done;
+  hand = is.hand;
   left = is.left ++ more;
-  are = ap (λ l. l ++ more) is.are ∙ append_assoc is.done is.left more;
+  one = is.one;
+  are = ap (λ l. l ++ more) is.are ∙ append_assoc is.done (is.hand ++ is.left) more ∙ ap (λ l. is.done ++ l) (append_assoc is.hand is.left more);
   tree = is.tree;
   count = is.count;
   said = is.said;
+  disk = is.disk;
 }
 
--- what is reached behind a turn whose reply was said
-pub reached_behind : (stands : Image → Searching → Type 0) (first said : List ℕ) (start : Searching) (turn : StoreTurn) (turns : List StoreTurn) (c : Image) → said ≡ first ++ turn.said → IsReached stands said turn.tree turns c
-    → IsReached stands first start (turn ∷ turns) c
-reached_behind stands first said start turn turns c e is = record {
-  done = turn ∷ is.done;
-  left = is.left;
-  are = ap (λ l. turn ∷ l) is.are;
-  tree = is.tree;
-  count = length turn.said + is.count;
-  said = is.said ∙ (ap (λ s. s ++ take is.count (texts is.done)) e ∙ (append_assoc first turn.said (take is.count (texts is.done)) ∙ ap (λ l. first ++ l) (sym (take_over turn.said (texts is.done) is.count))));
-}
+-- what is reached behind turns whose replies were said
+pub reached_behind : (stands : Image → Searching → Type 0) (first said : List ℕ) (start : Searching) (turns more : List StoreTurn) (c : Image) → said ≡ first ++ texts turns → IsReached stands said (tree_after start turns) more c
+    → IsReached stands first start (turns ++ more) c
+reached_behind stands first said start turns more c e is =
+    let front : List ℕ = take is.count (texts is.hand) in
+    record {
+      done = turns ++ is.done;
+      hand = is.hand;
+      left = is.left;
+      one = is.one;
+      are = ap (λ l. turns ++ l) is.are ∙ sym (append_assoc turns is.done (is.hand ++ is.left));
+      tree = subst (stands c) (sym (ap (tree_after start) (append_assoc turns is.done is.hand) ∙ after_more start turns (is.done ++ is.hand))) is.tree;
+      count = is.count;
+      said = is.said ∙ ap (λ s. s ++ (texts is.done ++ front)) e ∙ append_assoc first (texts turns) (texts is.done ++ front)
+          ∙ ap (λ l. first ++ l) (sym (append_assoc (texts turns) (texts is.done) front) ∙ ap (λ l. l ++ front) (sym (texts_more turns is.done)));
+      disk = is.disk;
+    }
 
--- within a turn, of whose reply nothing was said yet
-pub reached_commit : (stands : Image → Searching → Type 0) (first : List ℕ) (start : Searching) (turn : StoreTurn) (c : Image) → c.said ≡ first → stands c start ⊎ stands c turn.tree → IsReached stands first start (turn ∷ []) c
-reached_commit stands first start turn c said (inl before) = record {
+-- before a turn that nothing was said of
+pub reached_before : (stands : Image → Searching → Type 0) (first : List ℕ) (start : Searching) (turns : List StoreTurn) (c : Image) → c.said ≡ first → stands c start → IsReached stands first start turns c
+reached_before stands first start turns c said is = record {
   done = [];
-  left = turn ∷ [];
+  hand = [];
+  left = turns;
+  one = omega arith;
   are = refl;
-  tree = before;
+  tree = is;
   count = 0;
   said = said ∙ sym (append-nil first);
-}
-reached_commit stands first start turn c said (inr after) = record {
-  done = turn ∷ [];
-  left = [];
-  are = refl;
-  tree = after;
-  count = 0;
-  said = said ∙ sym (append-nil first) ∙ ap (λ l. first ++ l) (sym (take_at [] (turn.said ++ []) 0 refl));
+  disk = λ begun. same_as refl;
 }
 
--- while its reply is said
-pub reached_say : (stands : Image → Searching → Type 0) (first : List ℕ) (start : Searching) (turn : StoreTurn) (c : Image) (n : ℕ) → c.said ≡ first ++ take n turn.said → stands c turn.tree → IsReached stands first start (turn ∷ []) c
-reached_say stands first start turn c n said after = record {
-  done = turn ∷ [];
+-- behind its commit
+reached_hand : (stands : Image → Searching → Type 0) (first : List ℕ) (start : Searching) (turn : StoreTurn) (c : Image) (n : ℕ) → c.said ≡ first ++ take n turn.said → stands c turn.tree → (0 < n → SameDisk turn.disk c) → IsReached stands first start (turn ∷ []) c
+reached_hand stands first start turn c n said after same = record {
+  done = [];
+  hand = turn ∷ [];
   left = [];
+  one = omega arith;
   are = refl;
   tree = after;
   count = n;
   said = said ∙ ap (λ l. first ++ take n l) (sym (append-nil turn.said));
+  disk = same;
 }
+
+-- within a turn, of whose reply nothing was said yet
+reached_commit : (stands : Image → Searching → Type 0) (first : List ℕ) (start : Searching) (turn : StoreTurn) (c : Image) → c.said ≡ first → stands c start ⊎ stands c turn.tree → IsReached stands first start (turn ∷ []) c
+reached_commit stands first start turn c said (inl before) = reached_before stands first start (turn ∷ []) c said before
+reached_commit stands first start turn c said (inr after) =
+    reached_hand stands first start turn c 0 (said ∙ sym (append-nil first) ∙ ap (λ l. first ++ l) (sym (take_at [] turn.said 0 refl))) after (λ begun. absurd (none begun))
+  where
+    none : 0 < 0 → ⊥
+    none h = omega (arith, h)
 
 -- one turn's images, from its commit and the saying of its reply
 pub turn_leaves : (stands : Image → Searching → Type 0) (X : Searching) (turn : StoreTurn) {old mid new : World} → Leaves stands old mid X turn.tree → LeavesOnly mid new (SaysSome mid turn.said) → Settled mid → stands mid.here turn.tree
-    → ((c d : Image) → SameDisk c d → stands c turn.tree → stands d turn.tree) → (new.tells → mid.tells) → LeavesOnly old new (IsReached stands old.here.said X (turn ∷ []))
-turn_leaves stands X turn {old} {mid} {new} leaves saying settled is on tells =
+    → ((c d : Image) → SameDisk c d → stands c turn.tree → stands d turn.tree) → (new.tells → mid.tells) → (new.tells → SameDisk turn.disk mid.here) → LeavesOnly old new (IsReached stands old.here.said X (turn ∷ []))
+turn_leaves stands X turn {old} {mid} {new} leaves saying settled is on tells left =
     continues (weaker (IsReached stands old.here.said X (turn ∷ [])) leaves (λ c told k. reached_commit stands old.here.said X turn c k.0 k.1)) saying
-    (λ c told some. reached_say stands old.here.said X turn c some.so_far (some.said ∙ ap (λ s. s ++ take some.so_far turn.said) (leaves.here (tells told)).0) (on mid.here c (says_settled settled some) is))
+    (λ c told some.
+    let same : SameDisk mid.here c = says_settled settled some in
+    reached_hand stands old.here.said X turn c some.so_far (some.said ∙ ap (λ s. s ++ take some.so_far turn.said) (leaves.here (tells told)).0) (on mid.here c same is) (λ begun. same_disk (left told) same))
 
 -- the same where nothing is said
 pub commit_leaves : (stands : Image → Searching → Type 0) (X : Searching) (turn : StoreTurn) {old new : World} → Leaves stands old new X turn.tree → LeavesOnly old new (IsReached stands old.here.said X (turn ∷ []))
 commit_leaves stands X turn {old} leaves = weaker (IsReached stands old.here.said X (turn ∷ [])) leaves (λ c told k. reached_commit stands old.here.said X turn c k.0 k.1)
 
--- a turn's images, behind those of all that went before
-pub reached_then : (stands : Image → Searching → Type 0) (first : List ℕ) (start : Searching) (turns : List StoreTurn) (turn : StoreTurn) {old mid new : World} → LeavesOnly old mid (IsReached stands first start turns)
-    → (new.tells → mid.here.said ≡ first ++ texts turns) → LeavesOnly mid new (IsReached stands mid.here.said (tree_after start turns) (turn ∷ [])) → LeavesOnly old new (IsReached stands first start (turns ++ turn ∷ []))
-reached_then stands first start turns turn {old} {mid} {new} run said step =
-    continues (weaker (IsReached stands first start (turns ++ turn ∷ [])) run (λ c told is. reached_more stands first start turns (turn ∷ []) c is)) step
-    (λ c told is. record {
-      done = turns ++ is.done;
-      left = is.left;
-      are = ap (λ l. turns ++ l) is.are ∙ sym (append_assoc turns is.done is.left);
-      tree = subst (stands c) (sym (after_more start turns is.done)) is.tree;
-      count = length (texts turns) + is.count;
-      said = is.said ∙ (ap (λ s. s ++ take is.count (texts is.done)) (said told) ∙ (append_assoc first (texts turns) (take is.count (texts is.done))
-          ∙ ap (λ l. first ++ l) (sym (ap (take (length (texts turns) + is.count)) (texts_more turns is.done) ∙ take_over (texts turns) (texts is.done) is.count))));
-    })
+-- images behind those of all turns that went before
+pub reached_then : (stands : Image → Searching → Type 0) (first : List ℕ) (start : Searching) (turns more : List StoreTurn) {old mid new : World} → LeavesOnly old mid (IsReached stands first start turns)
+    → (new.tells → mid.here.said ≡ first ++ texts turns) → LeavesOnly mid new (IsReached stands mid.here.said (tree_after start turns) more) → LeavesOnly old new (IsReached stands first start (turns ++ more))
+reached_then stands first start turns more {old} {mid} {new} run said step =
+    continues (weaker (IsReached stands first start (turns ++ more)) run (λ c told is. reached_more stands first start turns more c is)) step
+    (λ c told is. reached_behind stands first mid.here.said start turns more c (said told) is)

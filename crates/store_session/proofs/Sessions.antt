@@ -1,5 +1,5 @@
 -- Turns over a store, one after another.
-use Rattle.std.proofs.Common.{◌≡◌, ◌∙◌, ◌⊎◌, inl, inr, ℕ, ◌+◌, Bool, true, List, [], ◌∷◌, ◌++◌, length, take, refl, sym, ap, subst, append_assoc}
+use Rattle.std.proofs.Common.{◌≡◌, ◌∙◌, ◌⊎◌, inl, inr, ℕ, Bool, true, List, [], ◌∷◌, ◌++◌, take, refl, sym, ap, subst, append_assoc}
 use Rattle.std.proofs.lemmas.List.{append-nil}
 use Rattle.pst_outside.specs.World.{Image, SameDisk, World}
 use Rattle.pst_outside.specs.Calls.{LeavesOnly, NeverFall, Settled}
@@ -20,11 +20,11 @@ use Rattle.store_session.specs.Carrying.{Leaves}
 use Rattle.store_session.specs.Keeping.{Keeping}
 use Rattle.store_session.specs.Disks.{Effects}
 use Rattle.store_session.specs.Run.{Answers, Run, refused}
-use Rattle.store_session.specs.Turns.{IsReached, StandThrough, StoreTurn, disk_after, replies_of, texts, tree_after}
+use Rattle.store_session.specs.Turns.{IsReached, SaysTurns, StandThrough, StoreTurn, disk_after, replies_of, texts, tree_after}
 use Rattle.store_session.specs.declared.carrying.StoreStop.{StoreStop}
 use Rattle.store_session.proofs.Carry.{same_as, standing}
 use Rattle.store_session.proofs.LineLaws.{answers_on}
-use Rattle.store_session.proofs.Reached.{reached_behind, reached_more, take_over, turn_leaves}
+use Rattle.store_session.proofs.Reached.{reached_before, reached_then, said_behind, said_front, said_none, turn_leaves}
 
 limit_text : too_long_text ≡ refused (Limit limits.Line)
 unfolding text last_text last_words refusal_words limit_word
@@ -37,6 +37,10 @@ listens_on {old} {mid} {new} {P} run listens =
 
 heard_settled : {v w : World} → Settled v → Listens v w → Settled w
 heard_settled {v} {w} settled listens c left = settled c (listens.crash c left) ∙ sym (listens.stays.here (tells_now w c left))
+
+-- the same the other way round
+still : {c d : Image} → SameDisk c d → SameDisk d c
+still same = record { main = sym same.main; side = sym same.side; copy = sym same.copy }
 
 -- a world that tells told before
 turn_told : {S W : Type 0} (view : W → World) (answers : Answering S W) (whole : Type 0) (piece : Piece) (reply : List ℕ) (a b : S) (v w : W) → Turn view answers whole piece reply a v b w → (view w).tells → (view v).tells
@@ -67,7 +71,7 @@ pub record Ran {S W : Type 0} (view : W → World) (has : S → W → Searching 
   pub replies_are : replies_of turns ≡ replies
   pub holds : has b w (tree_after X turns)
   pub images : LeavesOnly (view v) (view w) (IsReached stands (view v).here.said X turns)
-  pub front : (view w).tells → (k : ℕ) × ((view w).here.said ≡ (view v).here.said ++ take k (texts turns))
+  pub front : (view w).tells → SaysTurns (view v).here.said turns (view w).here.said
   pub said : whole → (view w).tells → (view w).here.said ≡ (view v).here.said ++ texts turns
 
 -- What one turn comes to.
@@ -127,7 +131,7 @@ module _ {S W : Type 0} (view : W → World) (disk : Bool) (has : S → W → Se
         disk_is = refl;
         answer = answers_on effects (room a) X (λ t. told_answered (also t)) (λ t. turn.hears.stays.here (told_heard (told_answered (also t)))) (λ t. turn.says.stays.here (also t)) piece reply done.0 done.1;
         holds = keeps.has_on b turn.answered w done.0 done.2 (turn.says.settled settled) (λ t. (told_answered t, turn.says.stays.here t)) tells;
-        images = turn_leaves stands X made leaves turn.says.any_moment settled (keeps.here b turn.answered done.0 done.2) (λ c d same is. keeps.stands_on c d done.0 same is) told_answered;
+        images = turn_leaves stands X made leaves turn.says.any_moment settled (keeps.here b turn.answered done.0 done.2) (λ c d same is. keeps.stands_on c d done.0 same is) told_answered (λ t. still (turn.says.stays.here t));
         front = λ t. let k = turn.says.front t in (k.0, k.2 ∙ ap (λ s. s ++ take k.0 reply) (leaves.here (told_answered t)).0);
         said = λ is t. turn.all_said is t ∙ ap (λ s. s ++ reply) (leaves.here (told_answered t)).0;
       }
@@ -147,15 +151,8 @@ module _ {S W : Type 0} (view : W → World) (disk : Bool) (has : S → W → Se
         measured = subst (λ x. effects.measures (view v).here (room x)) (sym turns.0) (keeps.measured a v X h);
         replies_are = refl;
         holds = held;
-        images = listens_on (weaker (IsReached stands (view v).here.said X []) before (λ c t k. record {
-          done = [];
-          left = [];
-          are = refl;
-          tree = elim k.1 [ inl is ↦ is | inr is ↦ is ];
-          count = 0;
-          said = k.0 ∙ sym (append-nil (view v).here.said);
-        })) turns.1;
-        front = λ t. (0, same t);
+        images = listens_on (weaker (IsReached stands (view v).here.said X []) before (λ c t k. reached_before stands (view v).here.said X [] c k.0 (elim k.1 [ inl is ↦ is | inr is ↦ is ]))) turns.1;
+        front = λ t. said_none (view v).here.said (view w).here.said (ap (λ (i : Image). i.said) (turns.1.stays.here t));
         said = λ is t. same t;
       }
   turns_run told whole (piece ∷ []) (reply ∷ []) a b v w X also h turns tells =
@@ -171,7 +168,9 @@ module _ {S W : Type 0} (view : W → World) (disk : Bool) (has : S → W → Se
         replies_are = ap (λ l. l ∷ []) one.reply_is;
         holds = subst (λ x. has x w one.turn.tree) (sym rest.0) (heard_has turns.0 turns.1 w one.turn.tree one.holds rest.1 tells);
         images = listens_on one.images rest.1;
-        front = λ t. let k = one.front (back t) in (k.0, ap (λ (i : Image). i.said) (rest.1.stays.here t) ∙ k.1 ∙ ap (λ x. (view v).here.said ++ take k.0 x) (sym (append-nil one.turn.said ∙ one.reply_is)));
+        front = λ t.
+            let k = one.front (back t) in
+            said_front (view v).here.said (view w).here.said one.turn k.0 (ap (λ (i : Image). i.said) (rest.1.stays.here t) ∙ k.1 ∙ ap (λ x. (view v).here.said ++ take k.0 x) (sym one.reply_is));
         said = λ all t. ap (λ (i : Image). i.said) (rest.1.stays.here t) ∙ one.said (λ e. all) (back t) ∙ ap (λ x. (view v).here.said ++ x) (sym (append-nil one.turn.said ∙ one.reply_is));
       }
   turns_run told whole (piece ∷ q ∷ ps) (reply ∷ r ∷ rs) a b v w X also h turns tells =
@@ -189,11 +188,8 @@ module _ {S W : Type 0} (view : W → World) (disk : Bool) (has : S → W → Se
         measured = subst (λ i. effects.measures (disk_after i more.turns) (room b)) (sym one.disk_is) more.measured;
         replies_are = λ i. one.reply_is i ∷ more.replies_are i;
         holds = more.holds;
-        images = continues (weaker (IsReached stands first X (one.turn ∷ more.turns)) one.images (λ c t k. reached_more stands first X (one.turn ∷ []) more.turns c k)) more.images
-            (λ c t k. reached_behind stands first (view turns.1).here.said X one.turn more.turns c (before t) k);
-        front = λ t.
-            let k = more.front t in
-            (length one.turn.said + k.0, k.1 ∙ ap (λ x. x ++ take k.0 (texts more.turns)) (before t) ∙ append_assoc first one.turn.said (take k.0 (texts more.turns)) ∙ ap (λ l. first ++ l) (sym (take_over one.turn.said (texts more.turns) k.0)));
+        images = reached_then stands first X (one.turn ∷ []) more.turns one.images (λ t. before t ∙ ap (λ l. first ++ l) (sym (append-nil one.turn.said))) more.images;
+        front = λ t. said_behind first (view turns.1).here.said (view w).here.said one.turn more.turns (before t) (more.front t);
         said = λ all t. more.said all t ∙ ap (λ x. x ++ texts more.turns) (before t) ∙ append_assoc first one.turn.said (texts more.turns);
       }
   turns_run told whole [] (r ∷ rs) a b v w X also h turns tells = absurd turns

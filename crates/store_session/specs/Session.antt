@@ -1,5 +1,5 @@
 -- How a session over a store ends.
-use Rattle.std.specs.Prelude.{◌≡◌, ◌⊎◌, ℕ, ◌<◌, ◌≤◌, Bool, true, false, List, [], ◌++◌, length, take}
+use Rattle.std.specs.Prelude.{◌≡◌, ◌⊎◌, ℕ, ◌<◌, ◌≤◌, Bool, true, false, List, [], ◌++◌, length}
 use Rattle.std.specs.List.{list_any}
 use Rattle.pst_outside.specs.World.{Image, SameDisk, World}
 use Rattle.pst_outside.specs.Calls.{LeavesOnly, Rose, Settled}
@@ -10,7 +10,7 @@ use Rattle.line_server.specs.Server.{LINES}
 use Rattle.mail_searches.specs.Searching.{Searching}
 use Rattle.store_session.specs.Disks.{Effects}
 use Rattle.store_session.specs.Run.{Run}
-use Rattle.store_session.specs.Turns.{IsReached, StandThrough, StoreTurn, disk_after, texts, tree_after}
+use Rattle.store_session.specs.Turns.{IsReached, SaysTurns, StandThrough, StoreTurn, disk_after, texts, tree_after}
 use Rattle.store_session.specs.declared.carrying.StoreStop.{StoreStop}
 use Rattle.store_session.specs.declared.carrying.StoreStop.TheVariants as store_stops
 use Rattle.store_session.specs.declared.session.SessionEnd.{SessionEnd}
@@ -57,10 +57,10 @@ pub record StoreSessionEnds (effects : Effects) (stands : Image → Searching �
   -- each disk of the run stands for the tree of its place, and the last of them is the disk at the end
   pub stand : StandThrough stands start opened turns
   pub disk_is : (end ≡ Disk → ⊥) → now.tells → SameDisk (disk_after opened turns) now.here
-  -- a front of the replies was said, and all of them, without that in hand, unless the output failed
-  pub front : now.tells → (k : ℕ) × (now.here.said ≡ first.here.said ++ take k (texts turns))
+  -- All replies were said, without that in hand, unless the output failed; then of the last a front was.
+  pub front : now.tells → SaysTurns first.here.said turns now.here.said
   pub whole : (end ≡ Output → ⊥) → now.tells → now.here.said ≡ first.here.said ++ texts turns
-  -- A stop at any moment since the start leaves a disk that stands for the tree after some of the turns, among them each whose reply had begun.
+  -- A stop at any moment since the start leaves a disk that stands for the tree after some of the turns, among them each whose reply had begun, and at most one whose reply wasn't said whole.
   pub images : LeavesOnly first now (IsReached stands first.here.said start (turns ++ last))
   -- at the end the disk stands for the last tree and nothing is pending, unless it failed
   pub ends_as : (end ≡ Disk → ⊥) → stands now.here (tree_after start turns)

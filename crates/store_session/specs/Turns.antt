@@ -1,6 +1,6 @@
--- What a stop within a session leaves: the tree after some of the turns, among them each whose reply had begun.
-use Rattle.std.specs.Prelude.{◌≡◌, ℕ, List, [], ◌∷◌, ◌++◌, take}
-use Rattle.pst_outside.specs.World.{Image}
+-- What a stop within a session leaves: the tree after some of the turns, among them each whose reply had begun, and at most one whose reply wasn't said whole.
+use Rattle.std.specs.Prelude.{◌≡◌, ℕ, ◌<◌, ◌≤◌, List, [], ◌∷◌, ◌++◌, length, take}
+use Rattle.pst_outside.specs.World.{Image, SameDisk}
 use Rattle.mail_searches.specs.Searching.{Searching}
 
 -- One turn: what was said, and the tree with its searches and the disk after it.
@@ -34,11 +34,23 @@ abbrev pub StandThrough : (Image → Searching → Type 0) → Searching → Ima
 StandThrough stands start disk [] = stands disk start
 StandThrough stands start disk (turn ∷ turns) = stands disk start × StandThrough stands turn.tree turn.disk turns
 
--- The image stands for the tree after the first of the turns, and no more was said than their replies.
+-- What was said since `first`: the replies of all turns but the last whole, and of that a front.
+pub record SaysTurns (first : List ℕ) (turns : List StoreTurn) (now : List ℕ) : Type 0 where
+  pub done : List StoreTurn
+  pub hand : List StoreTurn
+  pub one : length hand ≤ 1
+  pub are : turns ≡ done ++ hand
+  pub count : ℕ
+  pub said : now ≡ first ++ (texts done ++ take count (texts hand))
+
+-- The image stands for the tree after the turns whose replies were said whole and the one in hand, if there is one, of whose reply a front was said. Once that has begun, the disk is the one that this turn left.
 pub record IsReached (stands : Image → Searching → Type 0) (first : List ℕ) (start : Searching) (turns : List StoreTurn) (c : Image) : Type 0 where
   pub done : List StoreTurn
+  pub hand : List StoreTurn
   pub left : List StoreTurn
-  pub are : turns ≡ done ++ left
-  pub tree : stands c (tree_after start done)
+  pub one : length hand ≤ 1
+  pub are : turns ≡ done ++ (hand ++ left)
+  pub tree : stands c (tree_after start (done ++ hand))
   pub count : ℕ
-  pub said : c.said ≡ first ++ take count (texts done)
+  pub said : c.said ≡ first ++ (texts done ++ take count (texts hand))
+  pub disk : 0 < count → SameDisk (disk_after c hand) c

@@ -14,8 +14,7 @@ pub returns-clause-rests : goal.returns-clause-rests
 returns-clause-rests g c = λ settled. c.put_nodes.ensures.rests (c.in_ok-found.ensures.settled settled)
 
 pub returns-clause-said : goal.returns-clause-said
-returns-clause-said g c = λ settled.
-    ok_then c.put_nodes.result _ _ (λ said tells. said tells ∙ c.in_ok-found.ensures.said (c.put_nodes.ensures.told tells)) (c.put_nodes.ensures.said (c.in_ok-found.ensures.settled settled))
+returns-clause-said g c = λ settled tells. c.put_nodes.ensures.said (c.in_ok-found.ensures.settled settled) tells ∙ c.in_ok-found.ensures.said (c.put_nodes.ensures.told tells)
 
 pub returns-clause-empty : goal.returns-clause-empty
 returns-clause-empty g c = ok_so c.put_nodes.result _ c.in_ok-found.ensures.empty

@@ -53,9 +53,23 @@ returns-in-Ok-apply-clause-said g c = λ settled tells.
     let mid_told = c.apply.ensures.told tells in
     let told = kept.stays.told mid_told in
     let held = holds_none (g.S.NodeStore.knows c.in-Ok.planner) c.write.result start c.args.found c.requires.first (c.requires.laid told) told c.in-Ok.ensures.known in
-    let leaves = c.in-Ok-apply.ensures.any_moment c.args.changes.counts.last c.args.changes.nodes.items c.in-Ok-prepare.ensures.fits no_nodes (c.in-Ok-prepare.ensures.stays no_nodes held)
+    let leaves = c.apply.ensures.any_moment c.args.changes.counts.last c.args.changes.nodes.items c.in-Ok-prepare.ensures.fits no_nodes (c.in-Ok-prepare.ensures.stays no_nodes held)
     (stays_settled settled kept) (λ t. subst (λ i. IsShut i.side) (sym (kept.stays.here t)) (c.requires.shut (kept.stays.told t))) in
     (leaves.here tells).0 ∙ ap (λ i. i.said) (kept.stays.here mid_told)
+
+pub returns-in-Err-apply-clause-said : goal.returns-in-Err-apply-clause-said
+returns-in-Err-apply-clause-said g c = λ settled tells.
+    let start = g.W.Outside.view c.args.w.now in
+    let kept = c.in-Ok-prepare.ensures.untouched in
+    let mid_told = c.apply.ensures.told tells in
+    let told = kept.stays.told mid_told in
+    let held = holds_none (g.S.NodeStore.knows c.in-Ok.planner) c.write.result start c.args.found c.requires.first (c.requires.laid told) told c.in-Ok.ensures.known in
+    let leaves = c.apply.ensures.any_moment c.args.changes.counts.last c.args.changes.nodes.items c.in-Ok-prepare.ensures.fits no_nodes (c.in-Ok-prepare.ensures.stays no_nodes held)
+    (stays_settled settled kept) (λ t. subst (λ i. IsShut i.side) (sym (kept.stays.here t)) (c.requires.shut (kept.stays.told t))) in
+    (leaves.here tells).0 ∙ ap (λ i. i.said) (kept.stays.here mid_told)
+
+pub returns-in-Err-clause-said : goal.returns-in-Err-clause-said
+returns-in-Err-clause-said g c = λ settled tells. ap (λ i. i.said) (c.in-Err.ensures.untouched.stays.here tells)
 
 pub returns-in-Err-clause-plan : goal.returns-in-Err-clause-plan
 returns-in-Err-clause-plan g c = λ tells.

@@ -9,7 +9,7 @@ use Rattle.file_session.proofs.Opened.{ends_opened, ends_unopened, refused_is, s
 use Rattle.file_session.proofs.run.run_file.Goals as goal
 
 pub returns-in-Ok-clause-ends : goal.returns-in-Ok-clause-ends
-returns-in-Ok-clause-ends g c = λ end is settled tells.
+returns-in-Ok-clause-ends g c = λ end is tells.
     let first = g.W.Outside.view c.args.world.now in
     let mid = g.W.Outside.view c.open_file.new.w in
     let now = g.W.Outside.view c.run_session.new.world in
@@ -17,7 +17,7 @@ returns-in-Ok-clause-ends g c = λ end is settled tells.
     let o = c.in-Ok.opened.keeper in
     subst (λ e. FileRunEnds (g.S.NodeStore.becomes []) first now e) (same_end c.run_session.result end is)
     (inr (ends_opened (g.S.NodeStore.knows o.store) (g.S.NodeStore.becomes []) o.found o.header c.in-Ok.opened.tree first mid now c.run_session.result
-    (c.in-Ok.ensures.opened (told tells)) tells told c.in-Ok.ensures.input (c.in-Ok.ensures.store (told tells)) (c.in-Ok.ensures.settled settled) c.in-Ok.ensures.shut (c.in-Ok.ensures.any_moment settled)
+    (c.in-Ok.ensures.opened (told tells)) (c.in-Ok.ensures.reads (told tells)) tells told c.in-Ok.ensures.input (c.in-Ok.ensures.store (told tells)) c.in-Ok.ensures.settled c.in-Ok.ensures.shut c.in-Ok.ensures.any_moment
     (λ tidy X has disk. subst (λ p. StoreSessionEnds (effects_of p HasRoom (λ pins old new. g.S.NodeStore.becomes pins.opened (file_of old) (file_of new)) IsSaved) (ReadsAs tidy o.found) (λ image. IsShut image.side) mid.here mid now X c.run_session.result) c.in-Ok.ensures.no_pins
     (c.run_session.ensures.ends tidy X has disk))))
 
@@ -26,6 +26,6 @@ returns-in-Err-clause-refused g c = λ refusal is.
     refused_is (g.W.Outside.view c.args.world.now) (g.W.Outside.view c.open_file.new.w) c.in-Err.stop refusal (sym c.unopened.ensures ∙ is) c.in-Err.ensures.clean c.in-Err.ensures.refused
 
 pub returns-in-Err-clause-ends : goal.returns-in-Err-clause-ends
-returns-in-Err-clause-ends g c = λ end is settled tells.
+returns-in-Err-clause-ends g c = λ end is tells.
     inl (ends_unopened (g.W.Outside.view c.args.world.now) (g.W.Outside.view c.open_file.new.w) c.in-Err.stop end (sym c.unopened.ensures ∙ is) tells
-    (c.in-Err.ensures.refused tells) c.in-Err.ensures.input (λ t. (c.in-Err.ensures.store t).said) (c.in-Err.ensures.any_moment settled))
+    (c.in-Err.ensures.refused tells) c.in-Err.ensures.input c.in-Err.ensures.store c.in-Err.ensures.clean (c.in-Err.ensures.kept tells) c.in-Err.ensures.any_moment)
