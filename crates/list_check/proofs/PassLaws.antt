@@ -1,5 +1,5 @@
 -- What one pass over the messages of a whole tree tells of the lists of searches.
-use Rattle.std.proofs.Common.{◌≡◌, ◌∙◌, ℕ, suc, ◌%◌, ◌==◌, ◌++◌, Bool, true, false, not, List, [], ◌∷◌, filter, map, Option, None, Some, IsSome, is_some, Ok, Err, ap, sym, refl, subst, inl, inr, arith, if◌then◌else◌}
+use Rattle.std.proofs.Common.{◌≡◌, ◌∙◌, ℕ, suc, ◌%◌, ◌==◌, ◌++◌, Bool, true, false, not, List, [], ◌∷◌, filter, map, Option, None, Some, IsSome, is_some, Ok, Err, ap, sym, refl, subst, inl, inr, arith, if◌then◌else◌, ◌||◌}
 use Rattle.std.specs.Prelude.{nat_le}
 use Rattle.std.proofs.lemmas.Bool.{and_parts, cases_Bool, eq-eqb, eqb-true, false≢true, ne_eqb}
 use Rattle.std.proofs.lemmas.Option.{none-some, same_Some}
@@ -12,6 +12,9 @@ use Rattle.mail_objects.specs.declared.object.Object.{Object}
 use Rattle.mail_objects.specs.declared.object.Object.TheVariants.{Bare, Context, Message, Table}
 use Rattle.mail_tree.specs.declared.places.FolderPlace.{FolderPlace}
 use Rattle.mail_tree.specs.Changing.{Answer, ◌>>=◌, as_message, contents, known, as_table, nothing, now_at}
+use Rattle.mail_tree.specs.Flags.{AreFlags, FlagList, known_flag}
+use Rattle.mail_tree.specs.declared.note.Note.TheVariants.{Unread}
+use Rattle.mail_tree.proofs.NoteLaws.{note_of_flag}
 use Rattle.mail_tree.specs.Places.{find_place, is_plain, place_id}
 use Rattle.mail_tree.specs.Settling.{is_message_row, message_ids}
 use Rattle.mail_tree.specs.Tree.{Tree, object_at}
@@ -22,10 +25,10 @@ use Rattle.mail_tree.proofs.KindsOfPuts.{same_table}
 use Rattle.mail_tree.proofs.Nearly.{message_id}
 use Rattle.mail_tree.proofs.Settles.{EachMessage, messages_of}
 use Rattle.search_obj.specs.Scope.{is_among}
-use Rattle.mail_searches.specs.Searches.{IsFresh, Search, find_search, is_found, is_listed, results, row_ids, runs, search_id}
+use Rattle.mail_searches.specs.Searches.{IsFresh, KnowsMessages, Search, find_search, is_found, is_listed, results, row_ids, runs, search_id}
 use Rattle.mail_searches.specs.Searching.{AllFresh, AreSearches, Each, Searching}
 use Rattle.search_lists.proofs.ListLaws.{are-rows, row-among, rows-are}
-use Rattle.list_check.specs.Watching.{Watch, differs, or_else, rows_at, stale_among, stale_at, stale_below, stale_in, stale_listed, stale_of, watched, with_search}
+use Rattle.list_check.specs.Watching.{Watch, are_known, differs, or_else, rows_at, stale_among, stale_at, stale_below, stale_in, stale_listed, stale_of, stray_of, watched, with_search}
 
 -- ---- lists
 
@@ -198,22 +201,75 @@ module _ (X : Searching) (w : IsWhole X.tree) (a : AreSearches X) where
 
   -- ---- what a list is to be
 
-  -- a list that agrees on each message is as it is to be
-  fresh-one : (v : Watch) → IsWatched v → ((m : ℕ) (M : Mes) → object_at T m ≡ Some (Message M) → Agrees m v) → FreshWatch v
-  fresh-one v is agree =
+  -- each row of the list names a message
+  abbrev pub Names : Watch → Type 0
+  Names v = (m : ℕ) → is_among v.1 m ≡ true → IsSome (as_message (object_at T m))
+
+  -- a list whose rows name messages, and that agrees on each message, is as it is to be
+  fresh-one : (v : Watch) → IsWatched v → Names v → ((m : ℕ) (M : Mes) → object_at T m ≡ Some (Message M) → Agrees m v) → FreshWatch v
+  fresh-one v is names agree =
       let t = is.0 in let f = search_id v.0 in
       (t, is.1, rows-are T v.0 t.table.rows (w.objects.rows_ascend (results f) t is.1) (λ m. at-each m (as_message (object_at T m)) refl))
     where
       at-each : (m : ℕ) (o : Option Mes) → as_message (object_at T m) ≡ o → is_some (find_row m is.0.table.rows) ≡ is_listed T.places v.0 (as_message (object_at T m))
       at-each m (Some M) e = sym (row-among is.0.table.rows m) ∙ ap (λ ids. is_among ids m) (sym is.2) ∙ agree m M (message-is (object_at T m) M e)
       at-each m None e = elim (cases_Bool (is_some (find_row m is.0.table.rows))) [
-        | inl there ↦ absurd (false≢true (sym (ap is_some e) ∙ a.rows (search_id v.0) is.0 m (a.among (search_id v.0) v.0 is.3) is.1 there))
+        | inl there ↦ absurd (false≢true (sym (ap is_some e) ∙ names m (ap (λ ids. is_among ids m) is.2 ∙ row-among is.0.table.rows m ∙ there)))
         | inr none ↦ none ∙ sym (ap (is_listed T.places v.0) e)
       ]
 
-  pub fresh-each : (vs : List Watch) → Each IsWatched vs → ((m : ℕ) (M : Mes) → object_at T m ≡ Some (Message M) → Each (Agrees m) vs) → Each FreshWatch vs
-  fresh-each [] each agree = tt
-  fresh-each (v ∷ vs) each agree = (fresh-one v each.0 (λ m M at. (agree m M at).0), fresh-each vs each.1 (λ m M at. (agree m M at).1))
+  pub fresh-each : (vs : List Watch) → Each IsWatched vs → Each Names vs → ((m : ℕ) (M : Mes) → object_at T m ≡ Some (Message M) → Each (Agrees m) vs) → Each FreshWatch vs
+  fresh-each [] each names agree = tt
+  fresh-each (v ∷ vs) each names agree = (fresh-one v each.0 names.0 (λ m M at. (agree m M at).0), fresh-each vs each.1 names.1 (λ m M at. (agree m M at).1))
+
+  -- ---- rows that name no message
+
+  module _ (flags : FlagList) (are : AreFlags (object_at T) flags) (all : KnowsMessages T flags) where
+    -- of what something is known it is a message
+    message-known : (m : ℕ) → is_some (known_flag m flags) ≡ true → IsSome (as_message (object_at T m))
+    message-known m e = go (known_flag m flags) refl e
+      where
+        go : (o : Option Bool) → known_flag m flags ≡ o → is_some o ≡ true → IsSome (as_message (object_at T m))
+        go None here e = absurd (false≢true e)
+        go (Some unread) here e = let k = are m (Unread unread) (note_of_flag m flags unread here) in rw k.1 refl
+
+    -- one of which nothing is known is none
+    stray-stale : (v : Watch) (m : ℕ) → IsWatched v → is_among v.1 m ≡ true → is_some (known_flag m flags) ≡ false → Agrees m v → ⊥
+    stray-stale v m is among none agree = go (as_message (object_at T m)) refl
+      where
+        go : (o : Option Mes) → as_message (object_at T m) ≡ o → ⊥
+        go None e = false≢true (sym (ap (is_listed T.places v.0) e) ∙ sym agree ∙ among)
+        go (Some M) e = false≢true (sym none ∙ all m (ap is_some e))
+
+    among-known : (ids : List ℕ) → are_known flags ids ≡ true → (m : ℕ) → is_among ids m ≡ true → is_some (known_flag m flags) ≡ true
+    among-known [] k m among = absurd (false≢true among)
+    among-known (x ∷ xs) k m among =
+        let p = and_parts (is_some (known_flag x flags)) (are_known flags xs) k in
+        elim (cases_Bool (x == m)) [
+          | inl e ↦ ap (λ y. is_some (known_flag y flags)) (sym (eqb-true x m e)) ∙ p.0
+          | inr n ↦ among-known xs p.1 m (sym (rw n refl) ∙ among)
+        ]
+
+    one-unknown : (ids : List ℕ) → are_known flags ids ≡ false → (m : ℕ) × (is_among ids m ≡ true) × (is_some (known_flag m flags) ≡ false)
+    one-unknown [] k = absurd (false≢true (sym k))
+    one-unknown (x ∷ xs) k = elim (cases_Bool (is_some (known_flag x flags))) [
+      | inr none ↦ (x, rw (eq-eqb x x refl) refl, none)
+      | inl some ↦
+          let rest = one-unknown xs (sym (rw some refl) ∙ k) in
+          (rest.0, later (x == rest.0) rest.1, rest.2)
+    ]
+      where
+        later : (b : Bool) {c : Bool} → c ≡ true → (b || c) ≡ true
+        later true e = refl
+        later false e = e
+
+    -- a search is told whose list has a row that names no message, or all rows do
+    pub strays-told : (vs : List Watch) → Each IsWatched vs → Told (Each Names vs) (stray_of flags vs)
+    strays-told [] each = tt
+    strays-told (v ∷ vs) each = elim (cases_Bool (are_known flags v.1)) [
+      | inr unknown ↦ let m = one-unknown v.1 unknown in rw unknown (v, each.0, refl, m.0, stray-stale v m.0 each.0 m.1 m.2)
+      | inl known ↦ rw known (told-more (Each Names vs) (Each Names (v ∷ vs)) (stray_of flags vs) (strays-told vs each.1) (λ rest. ((λ m among. message-known m (among-known v.1 known m among)), rest)))
+    ]
 
   -- a list that is as it is to be agrees on each id
   pub fresh-agrees : (v : Watch) (m : ℕ) → IsWatched v → FreshWatch v → Agrees m v

@@ -1,9 +1,12 @@
 -- Which running search's list isn't what it is to be, message by message.
 use Rattle.std.specs.Prelude.{ℕ, ◌++◌, Bool, not, List, [], ◌∷◌, map, Option, None, Some, Ok, if◌then◌else◌}
+use Rattle.std.specs.List.{list_all}
+use Rattle.std.specs.Option.{is_some}
 use Rattle.pst_base.specs.declared.ids.Nid.{Nid}
 use Rattle.mapi_values.specs.Messages.{Mes}
 use Rattle.mail_tree.specs.declared.places.FolderPlace.{FolderPlace}
 use Rattle.mail_tree.specs.Changing.{Answer, ◌>>=◌, contents, message_at, nothing, table_at}
+use Rattle.mail_tree.specs.Flags.{FlagList, known_flag}
 use Rattle.mail_tree.specs.Places.{is_plain, place_id}
 use Rattle.mail_tree.specs.Settling.{message_ids}
 use Rattle.mail_tree.specs.Tree.{Tree}
@@ -37,6 +40,15 @@ with_search T ws s = if runs s then (rows_at T s.nid >>= λ rows. Ok (ws ++ ((s,
 abbrev pub watched : Tree → List Watch → List Search → Answer (List Watch)
 watched T ws [] = Ok ws
 watched T ws (s ∷ ss) = with_search T ws s >>= λ more. watched T more ss
+
+-- something is known of the message at each of these ids
+abbrev pub are_known : FlagList → List ℕ → Bool
+are_known flags ids = list_all (λ m. is_some (known_flag m flags)) ids
+
+-- the first search whose list has a row that names no message
+abbrev pub stray_of : FlagList → List Watch → Option ℕ
+stray_of flags [] = None
+stray_of flags (w ∷ ws) = if are_known flags w.1 then stray_of flags ws else Some (search_id w.0)
 
 -- the search lists the message and isn't to, or is to list it and doesn't
 abbrev pub differs : List FolderPlace → Watch → ℕ → Mes → Bool

@@ -3,7 +3,9 @@ ghost use Rattle.std.specs.Prelude.{◌≡◌, IfOk, map};
 ghost use Rattle.mail_searches.specs.Searches.{row_ids};
 ghost use Rattle.search_obj.specs.Scope.{is_among};
 ghost use Rattle.list_check.specs.Rows.{row_id};
+ghost use Rattle.list_check.specs.Watching.{are_known};
 
+use mail_tree::Flags;
 use mapi_values::{Keyed, Props, Table, find_keyed};
 use pst_base::Nid;
 use std::alloc::{AllocError, Global};
@@ -54,6 +56,18 @@ impl RowIds {
     {
         let ids = ids_of(alloc, table.rows())?;
         Ok(RowIds { ids })
+    }
+
+    /// Whether something is known of the message at each id. Takes no memory.
+    pub(crate) fn are_known(&self, flags: &Flags) -> bool
+        ensures { result ≡ are_known flags.now self.now }
+    {
+        for id in &self.ids {
+            if flags.get(id.bits).is_none() {
+                return false;
+            }
+        }
+        true
     }
 
     /// Whether there is a row with this id. Takes no memory.

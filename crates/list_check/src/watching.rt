@@ -1,11 +1,11 @@
 //! The running searches, with what they list.
 ghost use Rattle.std.specs.Prelude.{◌≡◌};
 ghost use Rattle.mail_searches.specs.Searches.{is_found, search_id};
-ghost use Rattle.list_check.specs.Watching.{bits_of, differs, stale_of, watch_of, watches_of};
+ghost use Rattle.list_check.specs.Watching.{bits_of, differs, stale_of, stray_of, watch_of, watches_of};
 
 use crate::rows::RowIds;
 use mail_searches::OwnSearch;
-use mail_tree::Places;
+use mail_tree::{Flags, Places};
 use mapi_values::Message;
 use pst_base::{Ledger, Nid, Steps};
 use restr_eval::eval;
@@ -51,6 +51,18 @@ impl<'a> Watched<'a> {
             finds
         }
     }
+}
+
+/// The first of these searches whose list has a row that names no message: one of which nothing is known. Takes no memory.
+pub(crate) fn stray_of(flags: &Flags, watched: &[Watched<'_>]) -> Option<Nid>
+    ensures { bits_of result ≡ stray_of flags.now (watches_of watched.now) }
+{
+    for one in watched {
+        if !one.rows.are_known(flags) {
+            return Some(one.id());
+        }
+    }
+    None
 }
 
 /// The first of these searches that differs on a message. Takes no memory.

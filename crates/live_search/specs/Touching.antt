@@ -28,17 +28,3 @@ delta false false = Same
 delta false true = Enter
 delta true false = Leave
 delta true true = Stay
-
--- the message was listed before the change
-abbrev pub was_listed : Delta → Bool
-was_listed Same = false
-was_listed Enter = false
-was_listed Leave = true
-was_listed Stay = true
-
--- the message is to be listed after it
-abbrev pub is_listed : Delta → Bool
-is_listed Same = false
-is_listed Enter = true
-is_listed Leave = false
-is_listed Stay = true

@@ -7,4 +7,4 @@
 
 mod touching;
 
-pub use touching::{Delta, deltas_tell_lists, touch};
+pub use touching::{Delta, touch};

@@ -1,6 +1,6 @@
 //! A message before and after a change.
-ghost use Rattle.std.specs.Prelude.{◌≡◌, ◌≤◌, ◌+◌, Bool, option_copied};
-ghost use Rattle.live_search.specs.Touching.{delta, is_listed, is_met, reached_for, was_listed, work_for};
+ghost use Rattle.std.specs.Prelude.{◌≡◌, ◌≤◌, ◌+◌, option_copied};
+ghost use Rattle.live_search.specs.Touching.{delta, is_met, reached_for, work_for};
 
 use mapi_values::Message;
 use pst_base::{Ledger, Steps};
@@ -18,28 +18,6 @@ pub enum Delta {
     Leave,
     /// It was listed and is to be.
     Stay,
-}
-
-impl Delta {
-    /// Whether the message was listed before the change.
-    pub fn was_listed(self) -> bool
-        ensures { result ≡ was_listed self }
-    {
-        match self {
-            Delta::Same | Delta::Enter => false,
-            Delta::Leave | Delta::Stay => true,
-        }
-    }
-
-    /// Whether the message is to be listed after the change.
-    pub fn is_listed(self) -> bool
-        ensures { result ≡ is_listed self }
-    {
-        match self {
-            Delta::Same | Delta::Leave => false,
-            Delta::Enter | Delta::Stay => true,
-        }
-    }
 }
 
 /// Whether a restriction holds of a message, if there is one.
@@ -74,9 +52,3 @@ pub fn touch<L: Ledger>(
         (true, true) => Delta::Stay,
     }
 }
-
-/// What becomes of a message tells whether it was listed and whether it is to be listed.
-pub fn deltas_tell_lists()
-    ensures was { (was is : Bool) → was_listed (delta was is) ≡ was }
-    ensures is { (was is : Bool) → is_listed (delta was is) ≡ is }
-{}

@@ -38,7 +38,7 @@ use Rattle.mail_tree.specs.Columns.{contents_table}
 use Rattle.mail_tree.specs.Ids.{LAST_INDEX, greatest, is_used, new_id}
 use Rattle.mail_tree.specs.Folders.{Outcome, folder_in, listed, making, nid, replied, replying, unchanged, unless_full, unless_named, unless_plain}
 use Rattle.mail_searches.specs.Building.{built}
-use Rattle.mail_searches.specs.Relisting.{named, unless_stray}
+use Rattle.mail_searches.specs.Relisting.{named, unless_unclear}
 use Rattle.mail_searches.specs.Searches.{Search, criteria_node, criteria_of, is_plain_at, results, search_id, search_of, updates}
 use Rattle.mail_searches.specs.Searching.{Searching, is_own}
 
@@ -182,7 +182,7 @@ message_line M = lines.Message (nid M.nid) (number_of 0x0E08 M.props) (text_of 0
 
 -- `ls` of an own search folder: the messages that its rows name, ascending by id
 unfoldable pub search_listing : Tree → ℕ → Answer Outcome
-search_listing T s = table_at T nothing (results s) >>= λ t. unless_stray T nothing t.table.rows >>= λ u. Ok (unchanged T (listed (map message_line (named T nothing t.table.rows))))
+search_listing T s = table_at T nothing (results s) >>= λ t. unless_unclear T nothing t.table.rows >>= λ u. Ok (unchanged T (listed (map message_line (named T nothing t.table.rows))))
 
 -- a line of a folder's listing, where these search folders are own
 abbrev pub marked_line : List ℕ → DataLine → DataLine

@@ -1,5 +1,5 @@
 -- What the messages that a command touches change in the tables of searches.
-use Rattle.std.specs.Prelude.{ℕ, ◌&&◌, Bool, true, false, not, List, [], ◌∷◌, filter, length, Option, None, Some, Ok, if◌then◌else◌, ◌||◌}
+use Rattle.std.specs.Prelude.{ℕ, ◌&&◌, Bool, true, false, not, List, [], ◌∷◌, filter, length, Option, None, Some, Ok, Err, if◌then◌else◌, ◌||◌}
 use Rattle.std.specs.List.{list_any}
 use Rattle.std.specs.Option.{is_none, is_some}
 use Rattle.std.specs.FinMap as map
@@ -15,7 +15,7 @@ use Rattle.mail_tree.specs.declared.places.FolderPlace.{FolderPlace}
 use Rattle.mail_tree.specs.Changing.{Answer, Changed, ◌>>=◌, as_message, context_at, known, now_at, table_at, with_object, with_rows}
 use Rattle.mail_tree.specs.Settling.{mirrored, with_context}
 use Rattle.mail_tree.specs.Folders.{Outcome}
-use Rattle.mail_tree.specs.Ids.{is_taken}
+use Rattle.mail_tree.specs.Messages.{message_in}
 use Rattle.mail_tree.specs.Tree.{Tree, object_at}
 use Rattle.mail_tree.specs.Values.{is_read, with_counts}
 use Rattle.mail_searches.specs.Searches.{Search, is_listed, results, runs}
@@ -99,17 +99,27 @@ named T D (r ∷ rs) = before_those (as_message (now_at T D r.0)) (named T D rs)
 abbrev pub unread : List Mes → List Mes
 unread ms = filter (λ m. not (is_read m.props)) ms
 
--- a node stands at the id that is none of the tree's messages, and nothing was put there or removed: by itself it can't be told from a message
-abbrev pub is_stray : Tree → Changed → ℕ → Bool
-is_stray T D q = is_none (map.get D.objects q) && (is_taken T q && is_none (as_message (object_at T q)))
+-- what is told of a message by the folder that is its node's parent agrees with what stands at its id
+abbrev pub agrees : Answer Mes → Option Mes → Bool
+agrees (Ok M) message = true
+agrees (Err (Some refusal)) message = is_none message
+agrees (Err None) message = false
 
--- each of these rows names a message or nothing, or something isn't of its form
-abbrev pub unless_stray : Tree → Changed → List (ℕ × List Val) → Answer (Unit {0})
-unless_stray T D rows = known (if list_any (λ r. is_stray T D r.0) rows then None else Some tt)
+-- by the nodes it can't be told whether a message of the tree stands at the id
+abbrev pub is_untold : Tree → ℕ → Bool
+is_untold T q = not (agrees (message_in T q) (as_message (object_at T q)))
+
+-- nor by changes: nothing was put there or removed
+abbrev pub is_unclear : Tree → Changed → ℕ → Bool
+is_unclear T D q = is_none (map.get D.objects q) && is_untold T q
+
+-- of each of these rows it can be told whether it names a message, or something isn't of its form
+abbrev pub unless_unclear : Tree → Changed → List (ℕ × List Val) → Answer (Unit {0})
+unless_unclear T D rows = known (if list_any (λ r. is_unclear T D r.0) rows then None else Some tt)
 
 -- a search with these rows is counted anew: the messages that they name, and those of them that weren't read; no folder stands in it
 unfoldable pub counted_search : Tree → ℕ → List (ℕ × List Val) → Changed → Answer Changed
-counted_search T s rows D = context_at T D s >>= λ c. unless_stray T D rows >>= λ u. let ms = named T D rows in
+counted_search T s rows D = context_at T D s >>= λ c. unless_unclear T D rows >>= λ u. let ms = named T D rows in
     Ok (with_context s c (with_counts (length ms) (length (unread ms)) false c.props) D)
 
 -- a search whose table gets these rows is counted anew, and the row that shows it is in order

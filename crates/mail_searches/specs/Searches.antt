@@ -1,5 +1,5 @@
 -- The searches of a store, and what they list.
-use Rattle.std.specs.Prelude.{◌≡◌, ℕ, ◌&&◌, Bool, true, false, List, [], ◌∷◌, filter, map, Option, Some, if◌then◌else◌}
+use Rattle.std.specs.Prelude.{◌≡◌, ℕ, ◌&&◌, Bool, true, false, IsSome, List, [], ◌∷◌, filter, map, Option, Some, if◌then◌else◌}
 use Rattle.std.specs.List.{list_any}
 use Rattle.std.specs.Option.{is_some, option_and_then, option_map}
 use Rattle.std.specs.FinMap as map
@@ -19,6 +19,7 @@ use Rattle.mail_objects.specs.Forms.{Tbl}
 use Rattle.mail_objects.specs.declared.object.Object.TheVariants.{Table}
 use Rattle.mail_tree.specs.declared.places.FolderPlace.{FolderPlace}
 use Rattle.mail_tree.specs.Changing.{as_message, beside}
+use Rattle.mail_tree.specs.Flags.{FlagList, known_flag}
 use Rattle.mail_tree.specs.Places.{find_place, is_plain, path}
 use Rattle.mail_tree.specs.Tree.{Tree, object_at}
 
@@ -105,3 +106,7 @@ AreFresh places message s rows = (m : ℕ) → is_some (find_row m rows) ≡ is_
 -- the table of the search has the rows that it is to have
 abbrev pub IsFresh : Tree → Search → Type 0
 IsFresh T s = (t : Tbl) × (object_at T (results s.nid) ≡ Some (Table t)) × (row_ids t.table.rows ≡ lists T s)
+
+-- something is known of each message of the tree
+abbrev pub KnowsMessages : Tree → FlagList → Type 0
+KnowsMessages T flags = (m : ℕ) → IsSome (as_message (object_at T m)) → IsSome (known_flag m flags)

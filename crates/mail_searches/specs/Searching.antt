@@ -36,11 +36,8 @@ pub record AreSearches (X : Searching) : Type 0 where
   pub placed : (f : ℕ) → is_own X.own f ≡ true → IsSome (find_place f X.tree.places)
   -- its criteria object is there, and says criteria, those of the search where any are set
   pub criteria : (f : ℕ) → is_own X.own f ≡ true → (c : Ctx) × (object_at X.tree (criteria_node f) ≡ Some (Context c)) × ShowsCriteria X.searches f c.props
-  -- so is its list, and each row of that names a message
+  -- so is its list, whatever rows it has
   pub tables : (f : ℕ) → is_own X.own f ≡ true → (t : Tbl) × (object_at X.tree (results f) ≡ Some (Table t))
-  pub rows : (f : ℕ) (t : Tbl) (r : ℕ) → is_own X.own f ≡ true → object_at X.tree (results f) ≡ Some (Table t) → IsSome (find_row r t.table.rows) → IsSome (as_message (object_at X.tree r))
-  -- where none are set the list has no rows
-  pub blank : (f : ℕ) (t : Tbl) → is_own X.own f ≡ true → find_search f X.searches ≡ None → object_at X.tree (results f) ≡ Some (Table t) → t.table.rows ≡ []
 
 -- each element of a list is so
 abbrev pub Each : {E : Type 0} → (E → Type 0) → List E → Type 0

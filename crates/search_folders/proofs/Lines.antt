@@ -2,7 +2,6 @@
 use Rattle.std.proofs.Common.{◌≡◌, ℕ, ◌+◌, ◌<◌, suc, List, [], ◌∷◌, ◌++◌, append_assoc, ap, sym, subst, ◌∙◌, map, length, get_or, drop, drop-cons, add-one, inl, inr, if◌then◌else◌, Option, None, Some, is_some, Result, Ok, Err, Bool, true, false, ◌&&◌, refl, ◌||◌}
 use Rattle.std.proofs.lemmas.Bool.{cases_Bool}
 use Rattle.std.proofs.lemmas.List.{append-nil}
-use Rattle.std.specs.Option.{is_none}
 use Rattle.std.specs.Ordering.{nat_cmp}
 use Rattle.std.specs.FinMap as finmap
 use Rattle.mapi_values.specs.Messages.{Mes}
@@ -15,7 +14,6 @@ use Rattle.node_port.specs.Nodes.{Nodes, node_at}
 use Rattle.node_port.specs.declared.node.NodeRec.{NodeRec}
 use Rattle.mail_tree.specs.Changing.{Answer, ◌>>=◌, as_message, known, nothing, now_at}
 use Rattle.mail_tree.specs.Folders.{Outcome, listed, listing, nid, unchanged}
-use Rattle.mail_tree.specs.Ids.{is_taken}
 use Rattle.mail_tree.specs.Tree.{Shown, StandsAt, Tree, object_at}
 use Rattle.mail_tree.specs.Values.{number_of, text_of}
 use Rattle.mail_draft.specs.Answers.{Says}
@@ -24,9 +22,10 @@ use Rattle.mail_draft.proofs.Passes.{stop_says, then_says}
 use Rattle.mail_folders.specs.Pieces.{line_of_message}
 use Rattle.mail_folders.proofs.Steps.{regroup}
 use Rattle.mail_searches.specs.Criteria.{marked, message_line}
-use Rattle.mail_searches.specs.Relisting.{before_those, is_stray, named, unless_stray}
+use Rattle.mail_searches.specs.Relisting.{before_those, is_unclear, is_untold, named, unless_unclear}
 use Rattle.mail_searches.specs.Searching.{Searching, is_own}
 use Rattle.mail_searches.specs.Step.{listing_in}
+use Rattle.search_results.specs.Counting.{message_told}
 use Rattle.search_folders.specs.Pieces.{named_line, named_lines}
 
 -- what stands there before anything is changed
@@ -36,8 +35,8 @@ nothing_put q = finmap.get-empty nat_cmp q
 same_message : (T : Tree) (q : ℕ) → as_message (now_at T nothing q) ≡ as_message (object_at T q)
 same_message T q = rw (nothing_put q) refl
 
-stray_is : (T : Tree) (q : ℕ) → is_stray T nothing q ≡ is_taken T q && is_none (as_message (object_at T q))
-stray_is T q = rw (nothing_put q) refl
+unclear_is : (T : Tree) (q : ℕ) → is_unclear T nothing q ≡ is_untold T q
+unclear_is T q = rw (nothing_put q) refl
 
 -- a message tells its own id
 own_id : (q : ℕ) (n : Option NodeRec) (o : Option Object) (other : Option NodeRec) (M : Mes) → StandsAt q n o other → as_message o ≡ Some M → M.nid ≡ q
@@ -48,56 +47,70 @@ own_id q n (Some (Bare parent)) other M stands is = cc
 own_id q n (Some (Message m)) other M stands is =
     let same : m ≡ M = cc in ap (λ (x : Mes). x.nid) (sym same) ∙ stands.1.2.message.id
 
--- the lines so far, where these are the message and whether a node stands there
+-- the lines so far, where this is the message and it can be told whether it is one
 abbrev line_by : List DataLine → Bool → Option Mes → Answer (List DataLine)
-line_by before taken message = if taken && is_none message then Err None else Ok (before ++ map message_line (before_those message []))
+line_by before untold message = if untold then Err None else Ok (before ++ map message_line (before_those message []))
 
-line_is : (T : Tree) (before : List DataLine) (q : ℕ) → named_line T before q ≡ line_by before (is_taken T q) (as_message (object_at T q))
+line_is : (T : Tree) (before : List DataLine) (q : ℕ) → named_line T before q ≡ line_by before (is_untold T q) (as_message (object_at T q))
 unfolding named_line
-line_is T before q = rw (stray_is T q, same_message T q) refl
+line_is T before q = rw (unclear_is T q, same_message T q) refl
 
--- no node stands there
-untaken : (o : Option Object) (other : Option NodeRec) → is_some o || is_some other ≡ false → as_message o ≡ None
-untaken None other e = refl
-untaken (Some o) other e = cc
+-- it is told whether there is a message
+abbrev is_there_by : Bool → Option Mes → Answer Bool
+is_there_by untold message = (if untold then Err None else Ok message) >>= λ M. Ok (is_some M)
 
-pub no_line : {D : Type 0} (view : D → List DataLine) (T : Tree) (before : List DataLine) (q : ℕ) (out : D) → is_taken T q ≡ false → view out ≡ before → Says view (named_line T before q) (Ok out)
-no_line view T before q out none same =
-    rw (line_is T before q, none, untaken (object_at T q) (node_at T.others q) none) (same ∙ sym (append-nil before))
+-- there is none
+pub no_line : {D : Type 0} (view : D → List DataLine) (T : Tree) (before : List DataLine) (q : ℕ) (out : D) → Says (λ b. b) (message_told T q) (Ok false) → view out ≡ before → Says view (named_line T before q) (Ok out)
+no_line view T before q out told same = rw (line_is T before q) (go (is_untold T q) (as_message (object_at T q)) told)
+  where
+    go : (untold : Bool) (message : Option Mes) → Says (λ b. b) (is_there_by untold message) (Ok false) → Says view (line_by before untold message) (Ok out)
+    go true message told = tt
+    go false None told = same ∙ sym (append-nil before)
+    go false (Some M) told = cc
 
 -- the message's own line is that of its id
 abbrev told : ℕ → Mes → DataLine
 told q M = lines.Message (nid q) (number_of 0x0E08 M.props) (text_of 0x0037 M.props)
 
-by_message : {D : Type 0} (view : D → List DataLine) (before : List DataLine) (q : ℕ) (message : Option Mes) (line : DataLine) (out : D) → ((M : Mes) → message ≡ Some M → M.nid ≡ q)
-    → Says {B = DataLine} (λ l. l) (known message >>= λ M. Ok (told q M)) (Ok line) → view out ≡ before ++ (line ∷ []) → Says view (line_by before true message) (Ok out)
-by_message view before q None line out own said is = tt
-by_message view before q (Some M) line out own said is = is ∙ ap (λ l. before ++ (l ∷ [])) (said ∙ ap (λ n. lines.Message (nid n) (number_of 0x0E08 M.props) (text_of 0x0037 M.props)) (sym (own M refl)))
+by_message : {D : Type 0} (view : D → List DataLine) (before : List DataLine) (q : ℕ) (untold : Bool) (message : Option Mes) (line : DataLine) (out : D) → ((M : Mes) → message ≡ Some M → M.nid ≡ q)
+    → Says (λ b. b) (is_there_by untold message) (Ok true) → Says {B = DataLine} (λ l. l) (known message >>= λ M. Ok (told q M)) (Ok line) → view out ≡ before ++ (line ∷ []) → Says view (line_by before untold message) (Ok out)
+by_message view before q true message line out own there said is = tt
+by_message view before q false None line out own there said is = cc
+by_message view before q false (Some M) line out own there said is = is ∙ ap (λ l. before ++ (l ∷ [])) (said ∙ ap (λ n. lines.Message (nid n) (number_of 0x0E08 M.props) (text_of 0x0037 M.props)) (sym (own M refl)))
 
-stop_by : {D : Type 0} (view : D → List DataLine) (before : List DataLine) (q : ℕ) (message : Option Mes) (stop : Stop)
-    → Says {B = DataLine} (λ l. l) (known message >>= λ M. Ok (told q M)) (Err stop) → Says view (line_by before true message) (Err stop)
-stop_by view before q None stop said = tt
-stop_by view before q (Some M) stop said = said
+stop_by : {D : Type 0} (view : D → List DataLine) (before : List DataLine) (q : ℕ) (untold : Bool) (message : Option Mes) (stop : Stop)
+    → Says (λ b. b) (is_there_by untold message) (Ok true) → Says {B = DataLine} (λ l. l) (known message >>= λ M. Ok (told q M)) (Err stop) → Says view (line_by before untold message) (Err stop)
+stop_by view before q true message stop there said = tt
+stop_by view before q false None stop there said = cc
+stop_by view before q false (Some M) stop there said = said
 
-pub one_line : {D : Type 0} {holds : Nodes → Type 0} {last : List ℕ} (view : D → List DataLine) (T : Tree) (s : Shown holds last T) (before : List DataLine) (q : ℕ) (line : DataLine) (out : D) → is_taken T q ≡ true
+pub one_line : {D : Type 0} {holds : Nodes → Type 0} {last : List ℕ} (view : D → List DataLine) (T : Tree) (s : Shown holds last T) (before : List DataLine) (q : ℕ) (line : DataLine) (out : D) → Says (λ b. b) (message_told T q) (Ok true)
     → Says (λ l. l) (line_of_message T q) (Ok line) → view out ≡ before ++ (line ∷ []) → Says view (named_line T before q) (Ok out)
 unfolding line_of_message
-one_line view T s before q line out taken said is =
-    rw (line_is T before q, taken)
-    (by_message view before q (as_message (object_at T q)) line out (λ M here. own_id q (node_at s.nodes q) (object_at T q) (node_at T.others q) M (s.at q) here) (rw (same_message T q) at said) is)
+one_line view T s before q line out there said is =
+    rw (line_is T before q)
+    (by_message view before q (is_untold T q) (as_message (object_at T q)) line out (λ M here. own_id q (node_at s.nodes q) (object_at T q) (node_at T.others q) M (s.at q) here) there (rw (same_message T q) at said) is)
 
-pub line_stops : {D : Type 0} (view : D → List DataLine) (T : Tree) (before : List DataLine) (q : ℕ) (stop : Stop) → is_taken T q ≡ true
+pub line_stops : {D : Type 0} (view : D → List DataLine) (T : Tree) (before : List DataLine) (q : ℕ) (stop : Stop) → Says (λ b. b) (message_told T q) (Ok true)
     → Says {A = DataLine} {B = DataLine} (λ l. l) (line_of_message T q) (Err stop) → Says view (named_line T before q) (Err stop)
 unfolding line_of_message
-line_stops view T before q stop taken said = rw (line_is T before q, taken) (stop_by view before q (as_message (object_at T q)) stop (rw (same_message T q) at said))
+line_stops view T before q stop there said = rw (line_is T before q) (stop_by view before q (is_untold T q) (as_message (object_at T q)) stop there (rw (same_message T q) at said))
+
+-- it couldn't be asked
+pub asking_stops : {D : Type 0} (view : D → List DataLine) (T : Tree) (before : List DataLine) (q : ℕ) (stop : Stop) → Says {B = Bool} (λ b. b) (message_told T q) (Err stop) → Says view (named_line T before q) (Err stop)
+asking_stops view T before q stop asked = rw (line_is T before q) (go (is_untold T q) (as_message (object_at T q)) asked)
+  where
+    go : (untold : Bool) (message : Option Mes) → Says {B = Bool} (λ b. b) (is_there_by untold message) (Err stop) → Says view (line_by before untold message) (Err stop)
+    go true message asked = tt
+    go false message asked = asked
 
 -- all lines, with those of the rows that are left
-all_after : (T : Tree) (before : List DataLine) (rows : List (ℕ × List Val)) → named_lines T before rows ≡ (unless_stray T nothing rows >>= λ u. Ok (before ++ map message_line (named T nothing rows)))
+all_after : (T : Tree) (before : List DataLine) (rows : List (ℕ × List Val)) → named_lines T before rows ≡ (unless_unclear T nothing rows >>= λ u. Ok (before ++ map message_line (named T nothing rows)))
 unfolding named_line
 all_after T before [] = ap Ok (sym (append-nil before))
-all_after T before (r ∷ rs) = elim (cases_Bool (is_stray T nothing r.0)) [
+all_after T before (r ∷ rs) = elim (cases_Bool (is_unclear T nothing r.0)) [
   | inl t ↦ rw t refl
-  | inr f ↦ rw f (all_after T (before ++ map message_line (before_those (as_message (now_at T nothing r.0)) [])) rs ∙ rest (unless_stray T nothing rs) (as_message (now_at T nothing r.0)))
+  | inr f ↦ rw f (all_after T (before ++ map message_line (before_those (as_message (now_at T nothing r.0)) [])) rs ∙ rest (unless_unclear T nothing rs) (as_message (now_at T nothing r.0)))
 ]
   where
     rest : (a : Answer (Unit {0})) (message : Option Mes)
@@ -106,7 +119,7 @@ all_after T before (r ∷ rs) = elim (cases_Bool (is_stray T nothing r.0)) [
     rest (Ok u) None = ap (λ l. Ok (l ++ map message_line (named T nothing rs))) (append-nil before)
     rest (Ok u) (Some M) = ap Ok (append_assoc before (message_line M ∷ []) (map message_line (named T nothing rs)))
 
-pub all_lines : (T : Tree) (rows : List (ℕ × List Val)) → named_lines T [] rows ≡ (unless_stray T nothing rows >>= λ u. Ok (map message_line (named T nothing rows)))
+pub all_lines : (T : Tree) (rows : List (ℕ × List Val)) → named_lines T [] rows ≡ (unless_unclear T nothing rows >>= λ u. Ok (map message_line (named T nothing rows)))
 all_lines T rows = all_after T [] rows
 
 -- at a row
@@ -124,18 +137,18 @@ lines_stop view T before rows i row stop h is first =
 
 -- what is listed of a search, after all lines
 pub search_lists : {A D : Type 0} (items : A → List DataLine) (view : D → Outcome) (T : Tree) (rows : List (ℕ × List Val)) (lines : A) (result : Result D Stop) → Says items (named_lines T [] rows) (Ok lines)
-    → Says view (Ok (unchanged T (listed (items lines)))) result → Says view (unless_stray T nothing rows >>= λ u. Ok (unchanged T (listed (map message_line (named T nothing rows))))) result
+    → Says view (Ok (unchanged T (listed (items lines)))) result → Says view (unless_unclear T nothing rows >>= λ u. Ok (unchanged T (listed (map message_line (named T nothing rows))))) result
 search_lists items view T rows lines result said last =
     let first = subst (λ a. Says items a (Ok lines)) (all_lines T rows) said in
-    regroup view (unless_stray T nothing rows) (λ u. Ok (map message_line (named T nothing rows))) (λ all. Ok (unchanged T (listed all))) result
-    (then_says items view (unless_stray T nothing rows >>= λ u. Ok (map message_line (named T nothing rows))) (λ all. Ok (unchanged T (listed all))) lines result first last)
+    regroup view (unless_unclear T nothing rows) (λ u. Ok (map message_line (named T nothing rows))) (λ all. Ok (unchanged T (listed all))) result
+    (then_says items view (unless_unclear T nothing rows >>= λ u. Ok (map message_line (named T nothing rows))) (λ all. Ok (unchanged T (listed all))) lines result first last)
 
 pub search_stops : {A D : Type 0} (items : A → List DataLine) (view : D → Outcome) (T : Tree) (rows : List (ℕ × List Val)) (stop : Stop) → Says items (named_lines T [] rows) (Err stop)
-    → Says view (unless_stray T nothing rows >>= λ u. Ok (unchanged T (listed (map message_line (named T nothing rows))))) (Err stop)
+    → Says view (unless_unclear T nothing rows >>= λ u. Ok (unchanged T (listed (map message_line (named T nothing rows))))) (Err stop)
 search_stops items view T rows stop said =
     let first = subst (λ a. Says items a (Err stop)) (all_lines T rows) said in
-    regroup view (unless_stray T nothing rows) (λ u. Ok (map message_line (named T nothing rows))) (λ all. Ok (unchanged T (listed all))) (Err stop)
-    (stop_says items view (unless_stray T nothing rows >>= λ u. Ok (map message_line (named T nothing rows))) (λ all. Ok (unchanged T (listed all))) stop first)
+    regroup view (unless_unclear T nothing rows) (λ u. Ok (map message_line (named T nothing rows))) (λ all. Ok (unchanged T (listed all))) (Err stop)
+    (stop_says items view (unless_unclear T nothing rows >>= λ u. Ok (map message_line (named T nothing rows))) (λ all. Ok (unchanged T (listed all))) stop first)
 
 -- what is listed of a folder that is no own search folder
 pub lists_folder : {D : Type 0} (view : D → Outcome) (X : Searching) (f : ℕ) (own : List ℕ) (y : D) (result : Result D Stop) → X.own ≡ own → is_own own f ≡ false → Says view (listing X.tree f) (Ok y)

@@ -19,13 +19,13 @@ use Rattle.mail_tree.specs.Tree.{Tree}
 use Rattle.search_obj.specs.Crits.{Crit}
 use Rattle.mail_searches.specs.Building.{found_among, with_found}
 use Rattle.mail_searches.specs.Criteria.{Coming, built_unless, criteria_in, message_line, next_search_index, overfills, staying, unless_listless}
-use Rattle.mail_searches.specs.Relisting.{before_those, is_stray}
+use Rattle.mail_searches.specs.Relisting.{before_those, is_unclear}
 use Rattle.mail_searches.specs.Searches.{Search, criteria_node, in_scope, search_id}
 use Rattle.mail_searches.specs.Searching.{Searching}
 
 -- the lines so far, with that of the message that a row of this id names, if it names one
 unfoldable pub named_line : Tree → List DataLine → ℕ → Answer (List DataLine)
-named_line T lines q = if is_stray T nothing q then Err None else Ok (lines ++ map message_line (before_those (as_message (now_at T nothing q)) []))
+named_line T lines q = if is_unclear T nothing q then Err None else Ok (lines ++ map message_line (before_those (as_message (now_at T nothing q)) []))
 
 -- the lines so far, with those of the messages that these rows name
 abbrev pub named_lines : Tree → List DataLine → List (ℕ × List Val) → Answer (List DataLine)

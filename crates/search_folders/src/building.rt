@@ -1,5 +1,6 @@
 //! How the list of a search is built.
 ghost use Rattle.std.specs.Prelude.{◌≡◌, [], IfErr, Ok};
+ghost use Rattle.mail_tree.specs.Knowing.{Knows};
 ghost use Rattle.mail_tree.specs.Tree.{Shown, Tree};
 ghost use Rattle.mail_draft.specs.Answers.{IsCalm, IsCaused, Looks, Says};
 ghost use Rattle.mail_draft.specs.Drafts.{changed_of};
@@ -11,7 +12,7 @@ use mail_draft::{Draft, Stop, contents, message_ids, table_at};
 use mail_folders::{message_in, table_in};
 use mail_objects::TableNode;
 use mail_searches::OwnSearch;
-use mail_tree::Places;
+use mail_tree::{Known, Places};
 use mapi_values::{Message, Table, put_row};
 use node_port::NodeReader;
 use pst_base::{Ledger, Nid, Steps};
@@ -26,24 +27,25 @@ pub(crate) fn built<W: Outside, K: NodeReader<W>, L: Ledger>(
     alloc: Global,
     keeper: &mut K,
     w: &mut W,
-    places: &Places,
+    known: &Known,
     search: &OwnSearch,
     draft: Draft,
     steps: &mut Steps<L>,
 ) -> Result<Draft, Stop>
-    ensures answer { (T : Tree) → Shown (K.holds keeper.old (W.view w.old)) (K.last keeper.old) T → T.places ≡ places.now → Says changed_of (built T search.now (changed_of draft)) result }
+    ensures answer { (T : Tree) → Shown (K.holds keeper.old (W.view w.old)) (K.last keeper.old) T → Knows T known.now → Says changed_of (built T search.now (changed_of draft)) result }
     ensures looks { Looks (K.holds keeper.old (W.view w.old)) (K.holds keeper.new (W.view w.new)) (K.last keeper.old) (K.last keeper.new) (K.room keeper.old) (K.room keeper.new) (W.view w.old) (W.view w.new) }
     ensures cause { IfErr result (IsCaused K.has_disk (W.view w.old).disk_faults (W.view w.new).disk_faults) }
 {
     let node = table_at(alloc, keeper, w, &draft, results(search.nid))?;
     let parent = node.parent();
     let mut table = without_rows(alloc, node.into_table());
-    find_below(alloc, keeper, w, places, search, &mut table, steps)?;
+    find_below(alloc, keeper, w, &known.places, search, &mut table, steps)?;
     with_results(
         alloc,
         keeper,
         w,
         draft,
+        known,
         search.nid,
         TableNode::new(parent, table),
     )

@@ -167,7 +167,7 @@ fn with_criteria<W: Outside, K: NodeReader<W>, L: Ledger>(
         alloc,
         keeper,
         w,
-        &known.places,
+        known,
         &searches.searches,
         own,
         stopped,
@@ -182,18 +182,18 @@ fn setting<W: Outside, K: NodeReader<W>, L: Ledger>(
     alloc: Global,
     keeper: &mut K,
     w: &mut W,
-    places: &Places,
+    known: &Known,
     searches: &Searches,
     search: OwnSearch,
     stopped: bool,
     draft: Draft,
     steps: &mut Steps<L>,
 ) -> Result<Coming, Stop>
-    ensures answer { (X : Searching) → Shown (K.holds keeper.old (W.view w.old)) (K.last keeper.old) X.tree → X.tree.places ≡ places.now → X.searches ≡ searches.now → Says (coming_of X) (setting X search stopped (changed_of draft)) result }
+    ensures answer { (X : Searching) → Shown (K.holds keeper.old (W.view w.old)) (K.last keeper.old) X.tree → Knows X.tree known.now → X.searches ≡ searches.now → Says (coming_of X) (setting X search stopped (changed_of draft)) result }
     ensures looks { Looks (K.holds keeper.old (W.view w.old)) (K.holds keeper.new (W.view w.new)) (K.last keeper.old) (K.last keeper.new) (K.room keeper.old) (K.room keeper.new) (W.view w.old) (W.view w.new) }
     ensures cause { IfErr result (IsCaused K.has_disk (W.view w.old).disk_faults (W.view w.new).disk_faults) }
 {
-    let draft = built_unless(alloc, keeper, w, places, &search, stopped, draft, steps)?;
+    let draft = built_unless(alloc, keeper, w, known, &search, stopped, draft, steps)?;
     let after = searches.with(alloc, search)?;
     let reason = overfills(searches, &after);
     let outcome = replying(alloc, keeper, w, draft, reason, LastLine::Done)?;
@@ -209,20 +209,20 @@ fn built_unless<W: Outside, K: NodeReader<W>, L: Ledger>(
     alloc: Global,
     keeper: &mut K,
     w: &mut W,
-    places: &Places,
+    known: &Known,
     search: &OwnSearch,
     stopped: bool,
     draft: Draft,
     steps: &mut Steps<L>,
 ) -> Result<Draft, Stop>
-    ensures answer { (T : Tree) → Shown (K.holds keeper.old (W.view w.old)) (K.last keeper.old) T → T.places ≡ places.now → Says changed_of (built_unless stopped T search.now (changed_of draft)) result }
+    ensures answer { (T : Tree) → Shown (K.holds keeper.old (W.view w.old)) (K.last keeper.old) T → Knows T known.now → Says changed_of (built_unless stopped T search.now (changed_of draft)) result }
     ensures looks { Looks (K.holds keeper.old (W.view w.old)) (K.holds keeper.new (W.view w.new)) (K.last keeper.old) (K.last keeper.new) (K.room keeper.old) (K.room keeper.new) (W.view w.old) (W.view w.new) }
     ensures cause { IfErr result (IsCaused K.has_disk (W.view w.old).disk_faults (W.view w.new).disk_faults) }
 {
     if stopped {
         return Ok(draft);
     }
-    built(alloc, keeper, w, places, search, draft, steps)
+    built(alloc, keeper, w, known, search, draft, steps)
 }
 
 /// Why there may not be these searches after those: they are more than 64, and more than before.

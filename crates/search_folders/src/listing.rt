@@ -15,13 +15,14 @@ use crate::coming::Coming;
 use crate::nodes::results;
 use command_text::{DataLine, DataLines, Reply};
 use mail_draft::{Outcome, Stop};
-use mail_folders::{is_taken, line_of_message, listed, table_in};
+use mail_folders::{line_of_message, listed, table_in};
 use mail_searches::{KnownSearches, OwnFolders};
-use mail_tree::{Known, Places};
+use mail_tree::Known;
 use mapi_values::{Props, Units};
 use node_port::NodeReader;
 use pst_base::Nid;
 use pst_outside::Outside;
+use search_results::is_message;
 use std::alloc::{AllocError, Global};
 
 /// Lists what is in a folder: of an own search folder the messages that its rows name, and in any other one own search folders as such. The refusal: `Object`.
@@ -37,7 +38,7 @@ pub fn list_folder<W: Outside, K: NodeReader<W>>(
     ensures looks { Looks (K.holds keeper.old (W.view w.old)) (K.holds keeper.new (W.view w.new)) (K.last keeper.old) (K.last keeper.new) (K.room keeper.old) (K.room keeper.new) (W.view w.old) (W.view w.new) }
     ensures cause { IfErr result (IsCaused K.has_disk (W.view w.old).disk_faults (W.view w.new).disk_faults) }
 {
-    let outcome = listing_in(alloc, keeper, w, &known.places, &searches.own, folder)?;
+    let outcome = listing_in(alloc, keeper, w, known, &searches.own, folder)?;
     Ok(Coming::staying(outcome))
 }
 
@@ -47,18 +48,18 @@ fn listing_in<W: Outside, K: NodeReader<W>>(
     alloc: Global,
     keeper: &mut K,
     w: &mut W,
-    places: &Places,
+    known: &Known,
     own: &OwnFolders,
     folder: Nid,
 ) -> Result<Outcome, Stop>
-    ensures answer { (X : Searching) → Shown (K.holds keeper.old (W.view w.old)) (K.last keeper.old) X.tree → X.tree.places ≡ places.now → X.own ≡ own.now → Says (outcome_of X.tree) (listing_in X folder.bits) result }
+    ensures answer { (X : Searching) → Shown (K.holds keeper.old (W.view w.old)) (K.last keeper.old) X.tree → Knows X.tree known.now → X.own ≡ own.now → Says (outcome_of X.tree) (listing_in X folder.bits) result }
     ensures looks { Looks (K.holds keeper.old (W.view w.old)) (K.holds keeper.new (W.view w.new)) (K.last keeper.old) (K.last keeper.new) (K.room keeper.old) (K.room keeper.new) (W.view w.old) (W.view w.new) }
     ensures cause { IfErr result (IsCaused K.has_disk (W.view w.old).disk_faults (W.view w.new).disk_faults) }
 {
     if own.contains(folder) {
-        return search_listing(alloc, keeper, w, folder);
+        return search_listing(alloc, keeper, w, known, folder);
     }
-    let outcome = mail_folders::list_folder(alloc, keeper, w, places, folder)?;
+    let outcome = mail_folders::list_folder(alloc, keeper, w, &known.places, folder)?;
     Ok(with_marks(alloc, own, outcome)?)
 }
 
@@ -68,14 +69,15 @@ fn search_listing<W: Outside, K: NodeReader<W>>(
     alloc: Global,
     keeper: &mut K,
     w: &mut W,
+    known: &Known,
     search: Nid,
 ) -> Result<Outcome, Stop>
-    ensures answer { (T : Tree) → Shown (K.holds keeper.old (W.view w.old)) (K.last keeper.old) T → Says (outcome_of T) (search_listing T search.bits) result }
+    ensures answer { (T : Tree) → Shown (K.holds keeper.old (W.view w.old)) (K.last keeper.old) T → Knows T known.now → Says (outcome_of T) (search_listing T search.bits) result }
     ensures looks { Looks (K.holds keeper.old (W.view w.old)) (K.holds keeper.new (W.view w.new)) (K.last keeper.old) (K.last keeper.new) (K.room keeper.old) (K.room keeper.new) (W.view w.old) (W.view w.new) }
     ensures cause { IfErr result (IsCaused K.has_disk (W.view w.old).disk_faults (W.view w.new).disk_faults) }
 {
     let node = table_in(alloc, keeper, w, results(search))?;
-    let lines = named_lines(alloc, keeper, w, node.table().rows())?;
+    let lines = named_lines(alloc, keeper, w, known, node.table().rows())?;
     Ok(Outcome::unchanged(alloc, listed(lines)))
 }
 
@@ -84,15 +86,16 @@ fn named_lines<W: Outside, K: NodeReader<W>>(
     alloc: Global,
     keeper: &mut K,
     w: &mut W,
+    known: &Known,
     rows: &[(u32, Props)],
 ) -> Result<Vec<DataLine>, Stop>
-    ensures answer { (T : Tree) → Shown (K.holds keeper.old (W.view w.old)) (K.last keeper.old) T → Says (λ lines. lines.items) (named_lines T [] rows.now) result }
+    ensures answer { (T : Tree) → Shown (K.holds keeper.old (W.view w.old)) (K.last keeper.old) T → Knows T known.now → Says (λ lines. lines.items) (named_lines T [] rows.now) result }
     ensures looks { Looks (K.holds keeper.old (W.view w.old)) (K.holds keeper.new (W.view w.new)) (K.last keeper.old) (K.last keeper.new) (K.room keeper.old) (K.room keeper.new) (W.view w.old) (W.view w.new) }
     ensures cause { IfErr result (IsCaused K.has_disk (W.view w.old).disk_faults (W.view w.new).disk_faults) }
 {
     let mut lines = Vec::new(alloc);
     for row in rows {
-        lines = named_line(alloc, keeper, w, lines, Nid { bits: row.0 })?;
+        lines = named_line(alloc, keeper, w, known, lines, Nid { bits: row.0 })?;
     }
     Ok(lines)
 }
@@ -103,14 +106,15 @@ fn named_line<W: Outside, K: NodeReader<W>>(
     alloc: Global,
     keeper: &mut K,
     w: &mut W,
+    known: &Known,
     lines: Vec<DataLine>,
     id: Nid,
 ) -> Result<Vec<DataLine>, Stop>
-    ensures answer { (T : Tree) → Shown (K.holds keeper.old (W.view w.old)) (K.last keeper.old) T → Says (λ lines. lines.items) (named_line T lines.items id.bits) result }
+    ensures answer { (T : Tree) → Shown (K.holds keeper.old (W.view w.old)) (K.last keeper.old) T → Knows T known.now → Says (λ lines. lines.items) (named_line T lines.items id.bits) result }
     ensures looks { Looks (K.holds keeper.old (W.view w.old)) (K.holds keeper.new (W.view w.new)) (K.last keeper.old) (K.last keeper.new) (K.room keeper.old) (K.room keeper.new) (W.view w.old) (W.view w.new) }
     ensures cause { IfErr result (IsCaused K.has_disk (W.view w.old).disk_faults (W.view w.new).disk_faults) }
 {
-    if !is_taken(alloc, keeper, w, id)? {
+    if !is_message(alloc, keeper, w, known, id)? {
         return Ok(lines);
     }
     let line = line_of_message(alloc, keeper, w, id.bits)?;

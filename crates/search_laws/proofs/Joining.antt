@@ -41,14 +41,14 @@ use Rattle.mail_searches.specs.Step.{after, concluded, if_within, listing_in, ou
 use Rattle.mail_searches.specs.Touching.{followed, touched}
 use Rattle.search_lists.specs.Laws.{AreTouched, with_tree}
 use Rattle.search_lists.proofs.ApartLaws.{all-apart, each-found}
-use Rattle.search_lists.proofs.NamedLaws.{named_then}
 use Rattle.search_lists.proofs.PlainLaws.{plain_commands_stay}
 use Rattle.search_lists.proofs.SettleLaws.{each}
 use Rattle.search_lists.proofs.TouchLaws.{touches_all}
 use Rattle.search_lists.specs.Keeps.{IsThere, KeepsOrder, with_changes}
 use Rattle.search_lists.specs.Order.{InOrder}
 use Rattle.search_lists.proofs.AfterOrder.{settling_keeps_order}
-use Rattle.search_lists.proofs.ResultSteps.{if_given, none_stray}
+use Rattle.search_lists.proofs.ClearLaws.{none_unclear}
+use Rattle.search_lists.proofs.ResultSteps.{if_given}
 use Rattle.search_laws.specs.Laws.{StaysInOrder}
 use Rattle.search_laws.proofs.Making.{makes_in_order}
 use Rattle.search_laws.proofs.Marked.{marks_still}
@@ -127,7 +127,7 @@ module _ (tidy : Bool) (X : Searching) (h : InOrder tidy X) where
   keeps c o whole leaves touches =
       fine_then (AreTouched X.tree o) (Keeps o) (touched X.tree c o) (λ ts. with_searches X.tree X.searches ts o) touches (λ ts are.
       fine_then (KeepsOrder X.tree o) (Keeps o) (settled_searches X.tree (around X.tree o) ts X.searches o.changed) _
-      (settling_keeps_order X.tree o (around X.tree o) ts X.searches whole (all-apart X h.searches) (are-there o leaves) (named_then X o ts h.whole h.searches h.fresh leaves are))
+      (settling_keeps_order X.tree o (around X.tree o) ts X.searches h.whole whole (all-apart X h.searches) (are-there o leaves))
       (λ D k. (k, refl)))
 
   -- what a command of the tree leaves
@@ -194,7 +194,7 @@ module _ (tidy : Bool) (X : Searching) (h : InOrder tidy X) where
   lists_own f own =
       let t = h.searches.tables f own in
       after_table (λ o. o ≡ unchanged X.tree o.reply) X.tree nothing (results f) t.0 _ (ap (λ g. g (results f)) (now_nothing X.tree) ∙ t.1)
-      (rw (none_stray X.tree nothing t.0.table.rows (λ r some. subst (λ at. IsSome (as_message (at r))) (sym (now_nothing X.tree)) (h.searches.rows f t.0 r own t.1 some))) refl)
+      (rw (none_unclear X.tree nothing t.0.table.rows h.whole) refl)
 
   -- so is what is in any other folder
   lists_other : (folder : Nid) → Fine (listing X.tree folder.bits) (λ o. o ≡ unchanged X.tree o.reply)

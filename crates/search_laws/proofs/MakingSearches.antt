@@ -79,10 +79,6 @@ module _ (X : Searching) (s parent : ℕ) (three : s % 32 ≡ 3) (free : IsFree 
   list_still : (f : ℕ) → is_own X.own f ≡ true → object_at T' (results f) ≡ object_at T (results f)
   list_still f old = beside_other f 16 (searches.kinds f old) (λ same. not_own (subst (λ x. is_own X.own x ≡ true) same old)) (inr refl)
 
-  -- that of the new one has no rows
-  new_list : (f : ℕ) (t : Tbl) → f ≡ s → object_at T' (results f) ≡ Some (Table t) → contents_table ≡ t
-  new_list f t same at = same_table contents_table t (sym list_there ∙ ap (λ x. object_at T' (results x)) (sym same) ∙ at)
-
   -- the searches are those of the tree
   pub searches_after : AreSearches X'
   searches_after = record {
@@ -105,14 +101,6 @@ module _ (X : Searching) (s parent : ℕ) (three : s % 32 ≡ 3) (free : IsFree 
       | inr old ↦
           let t = searches.tables f old in
           (t.0, list_still f old ∙ t.1)
-    ];
-    rows = λ f t r is at row. elim (among_was s f X.own is) [
-      | inl same ↦ absurd (false≢true (subst (λ (x : Tbl). IsSome (find_row r x.table.rows)) (sym (new_list f t same at)) row))
-      | inr old ↦ ap is_some (same_message r) ∙ searches.rows f t r old (sym (list_still f old) ∙ at) row
-    ];
-    blank = λ f t is none at. elim (among_was s f X.own is) [
-      | inl same ↦ ap (λ (x : Tbl). x.table.rows) (sym (new_list f t same at))
-      | inr old ↦ searches.blank f t old none (sym (list_still f old) ∙ at)
     ];
   }
 

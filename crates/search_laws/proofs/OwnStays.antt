@@ -77,8 +77,6 @@ module _ (X : Searching) (s : ℕ) (o : Coming) (w : IsWhole X.tree) (are : AreS
         let c = are.criteria f (k.stays f own) in let told = c.2 in
         (c.0, now (criteria_node f) ∙ k.criteria f own ∙ c.1, (told.0, told.1, k.found f own ∙ told.2));
     tables = λ f own. let t = are.tables f (k.stays f own) in (t.0, now (results f) ∙ k.lists f own ∙ t.1);
-    rows = λ f t r own there row. subst IsSome (sym (ap as_message (now r) ∙ k.messages r)) (are.rows f t r (k.stays f own) (sym (k.lists f own) ∙ sym (now (results f)) ∙ there) row);
-    blank = λ f t own none there. are.blank f t (k.stays f own) (sym (k.found f own) ∙ none) (sym (k.lists f own) ∙ sym (now (results f)) ∙ there);
   }
 
   out : (m : ℕ) (M : Mes) → as_message (object_at X.tree m) ≡ Some M → is_within X.tree.places s M.folder ≡ false

@@ -31,8 +31,6 @@ module _ (name : List ℕ) (X : Searching) (s : StartsSearching name X) where
     placed = λ f e. absurd (none-own f e);
     criteria = λ f e. absurd (none-own f e);
     tables = λ f e. absurd (none-own f e);
-    rows = λ f t r e. absurd (none-own f e);
-    blank = λ f t e. absurd (none-own f e);
   }
 
   -- its folders are plain ones

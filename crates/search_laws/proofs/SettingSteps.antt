@@ -42,7 +42,7 @@ use Rattle.mail_tree.proofs.Nearly.{Puts}
 use Rattle.mail_laws.proofs.Keeping.{KeepsAt, both, if_any, if_then, if_weaker, kept_put, mirrored_keeps}
 use Rattle.mail_searches.specs.Building.{built, built_rows}
 use Rattle.mail_searches.specs.Criteria.{Coming, built_unless, can_hold, criteria_in, given_criteria, given_restriction, given_scope, if_readable, overfills, repeats, setting_criteria, unless_other, with_criteria}
-use Rattle.mail_searches.specs.Relisting.{counted_search, named, unless_stray, unread, with_results}
+use Rattle.mail_searches.specs.Relisting.{counted_search, named, unless_unclear, unread, with_results}
 use Rattle.mail_searches.specs.Searches.{IsFresh, Search, ShowsCriteria, criteria_node, find_search, is_listed, is_plain_at, lists, results, row_ids, runs, search_id, search_of}
 use Rattle.mail_searches.specs.Searching.{AllFresh, AreSearches, Each, IsOfSearch, Searching, is_own}
 use Rattle.mail_searches.specs.Step.{after}
@@ -169,7 +169,7 @@ module _ (S : ℕ → Type 0) (no_hierarchy : (g : ℕ) → S (hierarchy g) → 
   unfolding counted_search
   counted-keeps s rows D other =
       if_then (λ c. Unit {0}) (KeepsAt S T D) (context_at T D s) _ (if_any (context_at T D s)) (λ c u.
-      if_then (λ v. Unit {0}) (KeepsAt S T D) (unless_stray T D rows) _ (if_any (unless_stray T D rows)) (λ v u.
+      if_then (λ v. Unit {0}) (KeepsAt S T D) (unless_unclear T D rows) _ (if_any (unless_unclear T D rows)) (λ v u.
       let props = with_counts (length (named T D rows)) (length (unread (named T D rows))) false c.props in
       kept_put S _ _ s _ (puts_object T D s (Some (Context (record c { props = props })))) other))
 
@@ -224,7 +224,6 @@ listed-there T z (Some M) e = refl
 record Sets (T : Tree) (s : ℕ) (search : Search) (D1 D : Changed) : Type 0 where
   keeps : KeepsOrder T (put_so T (replied Done) D1) D
   others : (q : ℕ) → q % 32 ≡ 16 → (q ≡ results s → ⊥) → now_at T D q ≡ now_at T D1 q
-  rows : (u : Tbl) (r : ℕ) → now_at T D (results s) ≡ Some (Table u) → IsSome (find_row r u.table.rows) → IsSome (as_message (object_at T r))
   fresh : runs search ≡ true → (t : Tbl) × (now_at T D (results s) ≡ Some (Table t)) × (row_ids t.table.rows ≡ lists T search)
 
 module _ (results_keep : ResultsKeepOrder) (tidy : Bool) (X : Searching) (s : ℕ) (c : Ctx) (set : CritSet) (order : InOrder tidy X) (own : is_own X.own s ≡ true) (at : object_at X.tree (criteria_node s) ≡ Some (Context c)) (holds : can_hold set ≡ true) where
@@ -281,21 +280,18 @@ module _ (results_keep : ResultsKeepOrder) (tidy : Bool) (X : Searching) (s : �
   by-stop true e = record {
     keeps = record { whole = λ w. w; found = λ own f. f; mirrors = λ w m. m; counts = λ w k. k; criteria = λ q is. refl; messages = λ q. refl; tables = λ q t is e. (t, e) };
     others = λ q is other. refl;
-    rows = λ u r is row. order.searches.rows s u r own (sym (first-listed s) ∙ is) row;
     fresh = λ run. absurd (false≢true (sym (runs-on s set run) ∙ e));
   }
   by-stop false e =
       let t = table.0 in
       after_table (Sets T s search first) T first (results s) t (λ t. built_rows T search t.table.columns >>= λ rows. with_results T s rows t first) table.1
       (fine_then (AreBuilt T search) (Sets T s search first) (built_rows T search t.table.columns) (λ rows. with_results T s rows t first) (rows_built T search t.table.columns order.whole) (λ rows b.
-      let named : (r : ℕ) → IsSome (find_row r rows) → IsSome (as_message (object_at T r)) = λ r row. listed-there T search (as_message (object_at T r)) (sym ((are-rows T search rows b.lists_all).1 r) ∙ row) in
       fine-with (KeepsOrder T said) (Listed T s kind rows t first) (Sets T s search first) (with_results T s rows t first)
-      (results_keep T said s rows t first-whole there table.1 b.ascend (λ r row. subst IsSome (sym (first-messages r)) (named r row)))
+      (results_keep T said s rows t order.whole first-whole there table.1 b.ascend)
       (results-listed T s kind rows t first)
       (λ D keeps listed. record {
         keeps = keeps;
         others = listed.others;
-        rows = λ u r is row. named r (subst (λ (x : Tbl). IsSome (find_row r x.table.rows)) (sym (same_table (record { parent = t.parent; table = record t.table { rows = rows } }) u (sym listed.here ∙ is))) row);
         fresh = λ run. (record { parent = t.parent; table = record t.table { rows = rows } }, listed.here, b.lists_all);
       })))
 
@@ -339,12 +335,6 @@ module _ (results_keep : ResultsKeepOrder) (tidy : Bool) (X : Searching) (s : �
               (old.0, stands ∙ elsewhere ∙ old.1, (shows.0, shows.1, found-now f other ∙ shows.2))
         ]
 
-    rows-now : (f : ℕ) (t : Tbl) (r : ℕ) → is_own X.own f ≡ true → object_at X'.tree (results f) ≡ Some (Table t) → IsSome (find_row r t.table.rows) → IsSome (as_message (object_at X'.tree r))
-    rows-now f t r is_owned is row = subst IsSome (sym (messages-now r)) (elim (cases_eq f s) [
-      | inl same ↦ sets.rows t r (sym (at-now (results s)) ∙ ap (λ x. object_at X'.tree (results x)) (sym same) ∙ is) row
-      | inr other ↦ order.searches.rows f t r is_owned (sym (list-now f is_owned other) ∙ is) row
-    ])
-
     searches-now : AreSearches X'
     searches-now = record {
       own_ascend = order.searches.own_ascend;
@@ -360,11 +350,6 @@ module _ (results_keep : ResultsKeepOrder) (tidy : Bool) (X : Searching) (s : �
           let w = order.searches.tables f is in
           let u = sets.keeps.tables (results f) w.0 (beside_kind f 16 (omega arith)) (first-listed f ∙ w.1) in
           (u.0, at-now (results f) ∙ u.1);
-      rows = rows-now;
-      blank = λ f t is none there. elim (cases_eq f s) [
-        | inl same ↦ absurd (none-some search (sym none ∙ ap (λ x. find_search x searches) same ∙ find-put_same search_id search X.searches))
-        | inr other ↦ order.searches.blank f t is (sym (found-now f other) ∙ none) (sym (list-now f is other) ∙ there)
-      ];
     }
 
     fresh-now : AllFresh X'.tree searches

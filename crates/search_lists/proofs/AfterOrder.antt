@@ -118,12 +118,12 @@ whole_now : (T : Tree) (o : Outcome) → IsWhole (after T o) → AreWhole o.plac
 whole_now T o w = subst (AreWhole o.places) (sym (after_now T o)) w.objects
 
 pub results_keep_order : ResultsKeepOrder
-results_keep_order T o s rows t before there is ascend are =
+results_keep_order T o s rows t was before there is ascend =
     let w = whole_now T o before in
     let p = a_place s (find_place s o.places) there.placed in
-    fine_weaker (IsOrderly T o.places o.changed) (KeepsOrder T o) (with_results T s rows t o.changed) (results_orderly T o.places s p.0 there.kind p.1 rows t o.changed w is ascend are) (λ D k. keeps_order T o D w k)
+    fine_weaker (IsOrderly T o.places o.changed) (KeepsOrder T o) (with_results T s rows t o.changed) (results_orderly T o.places s p.0 there.kind p.1 rows t o.changed was w is ascend) (λ D k. keeps_order T o D w k)
 
 pub settling_keeps_order : SettlingKeepsOrder
-settling_keeps_order T o d ts ss before apart there are =
+settling_keeps_order T o d ts ss was before apart there =
     let w = whole_now T o before in
-    fine_weaker (IsOrderly T o.places o.changed) (KeepsOrder T o) (settled_searches T d ts ss o.changed) (searches_orderly T o.places d ts ss o.changed w apart (all_stand T o ss there) are) (λ D k. keeps_order T o D w k)
+    fine_weaker (IsOrderly T o.places o.changed) (KeepsOrder T o) (settled_searches T d ts ss o.changed) (searches_orderly T was o.places d ts ss o.changed w apart (all_stand T o ss there)) (λ D k. keeps_order T o D w k)

@@ -16,7 +16,7 @@ use Rattle.mail_tree.proofs.KeyedFinds.{find-put_other, find-put_same}
 use Rattle.mail_tree.proofs.KindsOfPuts.{beside_kind}
 use Rattle.mail_laws.proofs.Keeping.{KeepsAt, both, if_any, if_then, mirrored_keeps}
 use Rattle.mail_searches.specs.Searches.{results, runs}
-use Rattle.mail_searches.specs.Relisting.{before_those, concerns, counted_search, named, relisted, settled_search, takes_row, unless_stray, unread, with_results}
+use Rattle.mail_searches.specs.Relisting.{before_those, concerns, counted_search, named, relisted, settled_search, takes_row, unless_unclear, unread, with_results}
 use Rattle.search_lists.specs.Laws.{CountsAnew, TellsCounts}
 use Rattle.search_lists.proofs.SettleLaws.{SameMessages, found-context, mirrored-apart, put-apart}
 
@@ -58,7 +58,7 @@ module _ (T : Tree) (s : ℕ) (search : s % 32 ≡ 3) where
   counted-tells : (rows : List (ℕ × List Val)) (D : Changed) → IfOk (counted_search T s rows D) (Told D rows)
   unfolding counted_search
   counted-tells rows D = if_then (λ c. now_at T D s ≡ Some (Context c)) (Told D rows) (context_at T D s) _ (found-context (now_at T D s)) (λ c there.
-      if_then (λ u. Unit {0}) (Told D rows) (unless_stray T D rows) _ (if_any (unless_stray T D rows)) (λ u u'.
+      if_then (λ u. Unit {0}) (Told D rows) (unless_unclear T D rows) _ (if_any (unless_unclear T D rows)) (λ u u'.
       let ms = named T D rows in
       let props = with_counts (length ms) (length (unread ms)) false c.props in
       let k : Ctx = record c { props = props } in

@@ -11,7 +11,7 @@ pub mod CommandLaws
 pub mod ThereLaws
 pub mod CountLaws
 pub mod ApartLaws
-pub mod NamedLaws
+pub mod ClearLaws
 pub mod PlainLaws
 pub mod StoodLists
 pub mod Quiet

@@ -18,7 +18,7 @@ use Rattle.mail_tree.specs.Places.{ROOT, find_place}
 use Rattle.mail_tree.specs.Settling.{mirrored, with_context}
 use Rattle.mail_tree.specs.Tree.{Tree, object_at}
 use Rattle.mail_tree.specs.Values.{with_counts}
-use Rattle.mail_tree.specs.Whole.{AreWhole, Fine}
+use Rattle.mail_tree.specs.Whole.{AreWhole, Fine, IsWhole}
 use Rattle.mail_tree.proofs.AfterTree.{puts_object}
 use Rattle.mail_tree.proofs.FineLaws.{after_context, fine_then, fine_weaker}
 use Rattle.mail_tree.proofs.KeyedFinds.{find-put_other}
@@ -28,8 +28,8 @@ use Rattle.mail_laws.proofs.CountSteps.{counted_put, mirrored_counts}
 use Rattle.mail_laws.proofs.MirrorPuts.{AreShownBut}
 use Rattle.mail_laws.proofs.MirrorSteps.{context_opens, mirrored_shows}
 use Rattle.mail_searches.specs.Searches.{results}
-use Rattle.mail_searches.specs.Relisting.{counted_search, is_stray, named, unread, with_results}
-use Rattle.search_lists.specs.Keeps.{AreNamed}
+use Rattle.mail_searches.specs.Relisting.{counted_search, named, unread, with_results}
+use Rattle.search_lists.proofs.ClearLaws.{none_unclear}
 use Rattle.search_lists.proofs.Quiet.{IsQuiet, quiet_context, quiet_table, quiet_then}
 use Rattle.search_lists.proofs.ListSteps.{Counted, IsOrderly, Shown, folder_ids, list_orderly, orderly_then, plain_ids}
 
@@ -43,27 +43,6 @@ fine_all P Q R S U (Err (Some refusal)) p q r s next = tt
 pub if_given : {A : Type 0} (B : Type 0) (P : A → Type 0) (a : Answer A) → (B → IfOk a P) → IfOk a (λ x. B → P x)
 if_given B P (Ok x) h = h
 if_given B P (Err e) h = tt
-
--- what names a message is no stray
-not_stray : (T : Tree) (D : Changed) (q : ℕ) → IsSome (as_message (now_at T D q)) → is_stray T D q ≡ false
-not_stray T D q = go (map.get D.objects q)
-  where
-    some_message : (taken : Bool) (m : Option Mes) → IsSome m → (taken && is_none m) ≡ false
-    some_message true (Some m) there = refl
-    some_message false (Some m) there = refl
-    some_message taken None there = cc
-
-    go : (found : Option (Option Object)) → IsSome (as_message (newest found (object_at T q))) → (is_none found && (is_taken T q && is_none (as_message (object_at T q)))) ≡ false
-    go None there = some_message (is_taken T q) (as_message (object_at T q)) there
-    go (Some object) there = refl
-
--- so of rows that name messages none names a stray
-pub none_stray : (T : Tree) (D : Changed) (rows : List (ℕ × List Val)) → AreNamed T D rows → list_any (λ r. is_stray T D r.0) rows ≡ false
-none_stray T D [] are = refl
-none_stray T D (r ∷ rs) are = rw (not_stray T D r.0 (are r.0 (rw (eq-eqb r.0 r.0 refl) refl))) (none_stray T D rs (λ m row. are m (later m row)))
-  where
-    later : (m : ℕ) → IsSome (find_row m rs) → IsSome (find_row m (r ∷ rs))
-    later m row = elim (cases_Bool (r.0 == m)) [ inl t ↦ rw t refl | inr t ↦ rw t row ]
 
 -- the root is no search
 no_root : (s : ℕ) → s % 32 ≡ 3 → s ≡ ROOT → ⊥
@@ -94,11 +73,11 @@ module _ (T : Tree) (places : List FolderPlace) (s : ℕ) (p : FolderPlace) (thr
       }
 
   -- the search is counted anew
-  search_opens : (rows : List (ℕ × List Val)) (D : Changed) → AreWhole places (now_at T D) → AreNamed T D rows → Fine (counted_search T s rows D) (Opens D)
+  search_opens : (rows : List (ℕ × List Val)) (D : Changed) → IsWhole T → AreWhole places (now_at T D) → Fine (counted_search T s rows D) (Opens D)
   unfolding counted_search
-  search_opens rows D w are =
+  search_opens rows D was w =
       let c = w.contexts s p placed in
-      after_context (Opens D) T D s c.0 _ c.1 (rw (none_stray T D rows are) (opens D c.0 (with_counts (length (named T D rows)) (length (unread (named T D rows))) false c.0.props) w c.1))
+      after_context (Opens D) T D s c.0 _ c.1 (rw (none_unclear T D rows was) (opens D c.0 (with_counts (length (named T D rows)) (length (unread (named T D rows))) false c.0.props) w c.1))
 
   -- its row stays in its parent's table of folders
   row_quiet : (D : Changed) → AreWhole places (now_at T D) → Fine (mirrored T s D) (IsQuiet T D)
@@ -129,11 +108,11 @@ module _ (T : Tree) (places : List FolderPlace) (s : ℕ) (p : FolderPlace) (thr
       (λ D2 quiet whole shown counted. record { quiet = quiet_then T D D1 D2 o.quiet quiet; whole = whole; shown = shown; counted = counted })
 
   -- a search gets other rows
-  pub results_orderly : (rows : List (ℕ × List Val)) (t : Tbl) (D : Changed) → AreWhole places (now_at T D) → now_at T D (results s) ≡ Some (Table t) → keys_ascend (λ r. r.0) 0 rows ≡ true → AreNamed T D rows → Fine (with_results T s rows t D) (IsOrderly T places D)
+  pub results_orderly : (rows : List (ℕ × List Val)) (t : Tbl) (D : Changed) → IsWhole T → AreWhole places (now_at T D) → now_at T D (results s) ≡ Some (Table t) → keys_ascend (λ r. r.0) 0 rows ≡ true → Fine (with_results T s rows t D) (IsOrderly T places D)
   unfolding with_results
-  results_orderly rows t D w is ascend are =
+  results_orderly rows t D was w is ascend =
       let u : Tbl = record { parent = t.parent; table = record t.table { rows = rows } } in
       let D1 = with_object (results s) (Some (with_rows rows t)) D in
       let first = list_orderly T places D (results s) t u (beside_kind s 16 (omega arith)) w is ascend in
-      fine_then (Opens D1) (IsOrderly T places D) (counted_search T s rows D1) (mirrored T s) (search_opens rows D1 first.whole (λ r row. subst IsSome (sym (first.quiet.messages r)) (are r row))) (λ D2 o.
+      fine_then (Opens D1) (IsOrderly T places D) (counted_search T s rows D1) (mirrored T s) (search_opens rows D1 was first.whole) (λ D2 o.
       fine_weaker (IsOrderly T places D1) (IsOrderly T places D) (mirrored T s D2) (row_orderly D1 D2 o) (λ D3 rest. orderly_then T places D D1 D3 first rest))

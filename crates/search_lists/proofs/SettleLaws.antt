@@ -16,7 +16,7 @@ use Rattle.mail_tree.proofs.Nearly.{Puts}
 use Rattle.mail_laws.proofs.Keeping.{KeepsAt, both, if_any, if_then, if_weaker, kept_put, mirrored_keeps}
 use Rattle.mail_laws.proofs.Touches.{table_same}
 use Rattle.mail_searches.specs.Searches.{Search, results, runs}
-use Rattle.mail_searches.specs.Relisting.{Around, Touch, concerns, counted_search, relisted, settled_search, settled_searches, named, takes_row, unless_stray, unread, with_results}
+use Rattle.mail_searches.specs.Relisting.{Around, Touch, concerns, counted_search, relisted, settled_search, settled_searches, named, takes_row, unless_unclear, unread, with_results}
 use Rattle.mail_searches.specs.Searching.{Each}
 use Rattle.search_lists.specs.Laws.{AreApart, Settles, SettlesAll}
 use Rattle.search_lists.proofs.RowLaws.{none-gone, still-halted, still-running}
@@ -65,7 +65,7 @@ module _ (T : Tree) where
   counted-apart : (s : ℕ) (rows : List (ℕ × List Val)) (D : Changed) → IfOk (counted_search T s rows D) (SameMessages T D)
   unfolding counted_search
   counted-apart s rows D = if_then (λ c. now_at T D s ≡ Some (Context c)) (SameMessages T D) (context_at T D s) _ (found-context (now_at T D s)) (λ c there.
-      if_then (λ u. Unit {0}) (SameMessages T D) (unless_stray T D rows) _ (if_any (unless_stray T D rows)) (λ u u'.
+      if_then (λ u. Unit {0}) (SameMessages T D) (unless_unclear T D rows) _ (if_any (unless_unclear T D rows)) (λ u u'.
       let props = with_counts (length (named T D rows)) (length (unread (named T D rows))) false c.props in
       put-apart T D (with_context s c props D) s (Some (Context (record c { props = props }))) (puts_object T D s (Some (Context (record c { props = props })))) (ap as_message there) refl))
 
@@ -82,7 +82,7 @@ module _ (T : Tree) where
     counted-keeps : (s : ℕ) (rows : List (ℕ × List Val)) (D : Changed) → (S s → ⊥) → IfOk (counted_search T s rows D) (KeepsAt S T D)
     unfolding counted_search
     counted-keeps s rows D other = if_then (λ c. Unit {0}) (KeepsAt S T D) (context_at T D s) _ (if_any (context_at T D s)) (λ c u.
-        if_then (λ v. Unit {0}) (KeepsAt S T D) (unless_stray T D rows) _ (if_any (unless_stray T D rows)) (λ v v'.
+        if_then (λ v. Unit {0}) (KeepsAt S T D) (unless_unclear T D rows) _ (if_any (unless_unclear T D rows)) (λ v v'.
         let props = with_counts (length (named T D rows)) (length (unread (named T D rows))) false c.props in
         kept_put S _ _ s _ (puts_object T D s (Some (Context (record c { props = props })))) other))
 

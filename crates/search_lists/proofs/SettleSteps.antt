@@ -12,7 +12,7 @@ use Rattle.mail_tree.specs.declared.places.FolderPlace.{FolderPlace}
 use Rattle.mail_tree.specs.Changing.{Answer, Changed, ◌>>=◌, now_at}
 use Rattle.mail_tree.specs.Places.{find_place}
 use Rattle.mail_tree.specs.Tree.{Tree}
-use Rattle.mail_tree.specs.Whole.{AreWhole, Fine}
+use Rattle.mail_tree.specs.Whole.{AreWhole, Fine, IsWhole}
 use Rattle.mail_tree.proofs.FineLaws.{after_table, fine_either, fine_then, fine_weaker}
 use Rattle.mail_tree.proofs.KindsOfPuts.{beside_kind}
 use Rattle.mail_laws.proofs.Keeping.{KeepsAt}
@@ -22,7 +22,6 @@ use Rattle.mail_searches.specs.Relisting.{Around, Touch, concerns, is_gone, reli
 use Rattle.search_lists.specs.Laws.{AreApart}
 use Rattle.search_lists.proofs.RowLaws.{relisted-ascends}
 use Rattle.search_lists.proofs.SettleLaws.{searches-keep}
-use Rattle.search_lists.specs.Keeps.{IsNamedThen}
 use Rattle.search_lists.proofs.Quiet.{IsQuiet}
 use Rattle.search_lists.proofs.ListSteps.{IsOrderly, orderly_stay, orderly_then}
 use Rattle.search_lists.proofs.ResultSteps.{results_orderly}
@@ -60,61 +59,24 @@ stands_still T places D D' o (s ∷ ss) are =
     let t = o.quiet.tables (results s.nid) is.table.0 is.table.1 in
     (record { kind = is.kind; placed = is.placed; table = (t.0, t.1) }, stands_still T places D D' o ss are.1)
 
--- the ids of tables of searches other than this one
-abbrev Others : ℕ → ℕ → Type 0
-Others s q = (q % 32 ≡ 16) × (q ≡ results s → ⊥)
-
--- searches with different ids have different tables
-results_apart : (f g : ℕ) → f % 32 ≡ 3 → g % 32 ≡ 3 → (f ≡ g → ⊥) → results f ≡ results g → ⊥
-results_apart f g a b n e = n (omega (arith, e))
-
--- what holds of an answer that goes on unchanged
-if_one : {A : Type 0} (P : A → Type 0) (a : Answer A) (f : A → Answer A) → ((x : A) → f x ≡ Ok x) → IfOk (a >>= f) P → IfOk a P
-if_one P (Ok x) f same h = subst (λ y. IfOk y P) (same x) h
-if_one P (Err e) f same h = tt
-
--- an answer that is fine, and what holds of each
-fine_both : {A : Type 0} (P Q : A → Type 0) (a : Answer A) → Fine a P → IfOk a Q → Fine a (λ x. P x × Q x)
-fine_both P Q (Ok x) p q = (p, q)
-fine_both P Q (Err None) p q = p
-fine_both P Q (Err (Some refusal)) p q = tt
-
-module _ (T : Tree) (places : List FolderPlace) (d : Around) (ts : List Touch) where
-  search_orderly : (s : Search) (D : Changed) → AreWhole places (now_at T D) → Stands T places D s.nid → IsNamedThen T D d ts s → Fine (settled_search T d ts s D) (IsOrderly T places D)
+module _ (T : Tree) (was : IsWhole T) (places : List FolderPlace) (d : Around) (ts : List Touch) where
+  search_orderly : (s : Search) (D : Changed) → AreWhole places (now_at T D) → Stands T places D s.nid → Fine (settled_search T d ts s D) (IsOrderly T places D)
   unfolding settled_search
-  search_orderly s D w is are =
+  search_orderly s D w is =
       let t = is.table.0 in
       let stays = orderly_stay T places D w in
       fine_either (IsOrderly T places D) (concerns d s ts) _ (Ok D)
       (λ b. after_table (IsOrderly T places D) T D (results s.nid) t _ is.table.1 (fine_either (IsOrderly T places D) (runs s || takes_row t.table.rows ts) _ (Ok D)
-      (λ c. results_orderly T places s.nid is.placed.0 is.kind is.placed.1 (relisted d s t.table.columns ts t.table.rows) t D w is.table.1
-      (still_ascend d s t.table.columns ts t.table.rows (w.rows_ascend (results s.nid) t is.table.1)) (are t is.table.1))
+      (λ c. results_orderly T places s.nid is.placed.0 is.kind is.placed.1 (relisted d s t.table.columns ts t.table.rows) t D was w is.table.1
+      (still_ascend d s t.table.columns ts t.table.rows (w.rows_ascend (results s.nid) t is.table.1)))
       (λ c. stays)))
       (λ b. stays)
 
-  -- the tables of other searches stay
-  others_stay : (s : Search) (D : Changed) → s.nid % 32 ≡ 3 → IfOk (settled_search T d ts s D) (KeepsAt (Others s.nid) T D)
-  others_stay s D three = if_one (KeepsAt (Others s.nid) T D) (settled_search T d ts s D) (settled_searches T d ts []) (λ x. refl)
-      (searches-keep T (Others s.nid) (λ g e. omega (arith, e.0, beside_kind g 13 (omega arith))) d ts (s ∷ []) D (((λ e. omega (arith, e.0, three)), (λ e. e.1 refl)), tt))
-
-  -- rows of other searches name messages then still
-  named_still : (s : Search) (D D1 : Changed) → s.nid % 32 ≡ 3 → IsQuiet T D D1 → KeepsAt (Others s.nid) T D D1 → (ss : List Search) → Each (λ u. u.nid ≡ s.nid → ⊥) ss → Each (λ u. Stands T places D u.nid) ss
-      → Each (IsNamedThen T D d ts) ss → Each (IsNamedThen T D1 d ts) ss
-  named_still s D D1 three quiet kept [] other stand are = tt
-  named_still s D D1 three quiet kept (u ∷ us) other stand are = (
-    λ t there r row.
-        let same = kept (results u.nid) (beside_kind u.nid 16 (omega arith), results_apart u.nid s.nid stand.0.kind three other.0) in
-        subst IsSome (sym (quiet.messages r)) (are.0 t (sym same ∙ there) r row),
-    named_still s D D1 three quiet kept us other.1 stand.1 are.1,
-  )
-
   -- searches are settled
-  pub searches_orderly : (ss : List Search) (D : Changed) → AreWhole places (now_at T D) → AreApart ss → Each (λ s. Stands T places D s.nid) ss → Each (IsNamedThen T D d ts) ss → Fine (settled_searches T d ts ss D) (IsOrderly T places D)
-  searches_orderly [] D w apart stand are = orderly_stay T places D w
-  searches_orderly (s ∷ ss) D w apart stand are =
-      let three = stand.0.kind in
-      let first = fine_both (IsOrderly T places D) (KeepsAt (Others s.nid) T D) (settled_search T d ts s D) (search_orderly s D w stand.0 are.0) (others_stay s D three) in
-      fine_then (λ D1. IsOrderly T places D D1 × KeepsAt (Others s.nid) T D D1) (IsOrderly T places D) (settled_search T d ts s D) (settled_searches T d ts ss) first (λ D1 one.
+  pub searches_orderly : (ss : List Search) (D : Changed) → AreWhole places (now_at T D) → AreApart ss → Each (λ s. Stands T places D s.nid) ss → Fine (settled_searches T d ts ss D) (IsOrderly T places D)
+  searches_orderly [] D w apart stand = orderly_stay T places D w
+  searches_orderly (s ∷ ss) D w apart stand =
+      fine_then (IsOrderly T places D) (IsOrderly T places D) (settled_search T d ts s D) (settled_searches T d ts ss) (search_orderly s D w stand.0) (λ D1 one.
       fine_weaker (IsOrderly T places D1) (IsOrderly T places D) (settled_searches T d ts ss D1)
-      (searches_orderly ss D1 one.0.whole apart.2 (stands_still T places D D1 one.0 ss stand.1) (named_still s D D1 three one.0.quiet one.1 ss apart.1 stand.1 are.1))
-      (λ D2 rest. orderly_then T places D D1 D2 one.0 rest))
+      (searches_orderly ss D1 one.whole apart.2 (stands_still T places D D1 one ss stand.1))
+      (λ D2 rest. orderly_then T places D D1 D2 one rest))

@@ -11,14 +11,14 @@ use Rattle.mail_tree.specs.Tree.{Tree}
 use Rattle.mail_tree.proofs.StoodLaws.{AreStood, IsNew, goes_on, is_context, mirrored_stood, stood_put, stood_then, values_stood}
 use Rattle.mail_searches.specs.Building.{built, built_rows}
 use Rattle.mail_searches.specs.Criteria.{built_unless}
-use Rattle.mail_searches.specs.Relisting.{Around, Touch, around, concerns, counted_search, relisted, settled_search, settled_searches, takes_row, unless_stray, with_results}
+use Rattle.mail_searches.specs.Relisting.{Around, Touch, around, concerns, counted_search, relisted, settled_search, settled_searches, takes_row, unless_unclear, with_results}
 use Rattle.mail_searches.specs.Searches.{Search, results, runs}
 use Rattle.mail_searches.specs.Touching.{followed, touched}
 
 module _ (T : Tree) (new : ℕ → Type 0) where
   counted_search_stood : (s : ℕ) (rows : List (ℕ × List Val)) (D : Changed) → AreStood T new D → IfOk (counted_search T s rows D) (AreStood T new)
   unfolding counted_search
-  counted_search_stood s rows D all = goes_on _ (context_at T D s) _ (λ c is. goes_on _ (unless_stray T D rows) _ (λ u v. values_stood T new s c _ D all (is_context (now_at T D s) c is)))
+  counted_search_stood s rows D all = goes_on _ (context_at T D s) _ (λ c is. goes_on _ (unless_unclear T D rows) _ (λ u v. values_stood T new s c _ D all (is_context (now_at T D s) c is)))
 
   results_stood : (s : ℕ) (rows : List (ℕ × List Val)) (t : Tbl) (D : Changed) → AreStood T new D → IfOk (with_results T s rows t D) (AreStood T new)
   unfolding with_results

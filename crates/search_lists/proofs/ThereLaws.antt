@@ -17,15 +17,16 @@ use Rattle.mail_tree.specs.Tree.{Tree, object_at}
 use Rattle.mail_tree.specs.Ids.{is_taken}
 use Rattle.mail_tree.proofs.KindsOfPuts.{beside_kind}
 use Rattle.mail_tree.specs.Values.{with_counts}
-use Rattle.mail_tree.specs.Whole.{Fine}
+use Rattle.mail_tree.specs.Whole.{Fine, IsWhole}
 use Rattle.mail_tree.proofs.AfterTree.{puts_object}
 use Rattle.mail_tree.proofs.FineLaws.{after_context, after_table, fine_either, fine_then, fine_weaker}
 use Rattle.mail_tree.proofs.Nearly.{Puts}
 use Rattle.mail_searches.specs.Searches.{Search, results, runs}
-use Rattle.mail_searches.specs.Relisting.{Around, Touch, concerns, counted_search, is_stray, named, relisted, settled_search, settled_searches, takes_row, unless_stray, unread, with_results}
+use Rattle.mail_searches.specs.Relisting.{Around, Touch, concerns, counted_search, named, relisted, settled_search, settled_searches, takes_row, unread, with_results}
 use Rattle.mail_searches.specs.Searching.{Each}
-use Rattle.search_lists.specs.Laws.{AreApart, AreNamed, HasNodes, IsNamedThen, IsSearch, SettlesThere}
-use Rattle.search_lists.proofs.SettleLaws.{SameMessages, SettlesOne, apart as tables-apart, are-searches, each, each-two, put-apart, settles-one}
+use Rattle.search_lists.specs.Laws.{AreApart, HasNodes, SettlesThere}
+use Rattle.search_lists.proofs.ClearLaws.{none_unclear}
+use Rattle.search_lists.proofs.SettleLaws.{each}
 
 -- tables stay tables, and values stay values with their parents
 record SameForms (at at' : ℕ → Option Object) : Type 0 where
@@ -75,37 +76,9 @@ forms-then at at' at'' a b = record {
 no-root : (f : ℕ) → f % 32 ≡ 3 → f ≡ ROOT → ⊥
 no-root f search e = omega (arith, e, search)
 
--- two facts of one answer
-fine_both : {A : Type 0} (P Q : A → Type 0) (a : Answer A) → Fine a P → IfOk a Q → Fine a (λ x. P x × Q x)
-fine_both P Q (Ok x) p q = (p, q)
-fine_both P Q (Err None) p q = p
-fine_both P Q (Err (Some refusal)) p q = tt
-
--- where a message is there now no stray node stands
-message-there : (m : Option Mes) (b : Bool) → IsSome m → (b && is_none m) ≡ false
-message-there None b some = absurd (false≢true some)
-message-there (Some m) true some = refl
-message-there (Some m) false some = refl
-
-no-stray : (put : Option (Option Object)) (old : Option Object) (b : Bool) → IsSome (as_message (newest put old)) → (is_none put && (b && is_none (as_message old))) ≡ false
-no-stray None old b some = message-there (as_message old) b some
-no-stray (Some o) old b some = refl
-
-none-stray : (stray : ℕ → Bool) (rows : List (ℕ × List Val)) → ((r : ℕ) → IsSome (find_row r rows) → stray r ≡ false) → list_any (λ (r : ℕ × List Val). stray r.0) rows ≡ false
-none-stray stray [] others = refl
-none-stray stray (r ∷ rows) others =
-    let first : stray r.0 ≡ false = others r.0 (rw (eq-eqb r.0 r.0 refl) refl) in
-    rw first (none-stray stray rows (λ k some. others k (later k some)))
-  where
-    later : (k : ℕ) → IsSome (find_row k rows) → IsSome (find_row k (r ∷ rows))
-    later k some = elim (cases_Bool (r.0 == k)) [ inl t ↦ rw t refl | inr f ↦ rw f some ]
-
-module _ (T : Tree) where
+module _ (T : Tree) (w : IsWhole T) where
   abbrev Forms : Changed → Changed → Type 0
   Forms D D' = SameForms (now_at T D) (now_at T D')
-
-  named-fine : (rows : List (ℕ × List Val)) (D : Changed) → AreNamed T D rows → unless_stray T D rows ≡ Ok tt
-  named-fine rows D names = rw (none-stray (is_stray T D) rows (λ r some. no-stray (map.get D.objects r) (object_at T r) (is_taken T r) (names r some))) refl
 
   shown-there : (q id : ℕ) (props : List Val) (D : Changed) (t : Tbl) → now_at T D q ≡ Some (Table t) → Fine (put_shown T q id props D) (Forms D)
   unfolding put_shown
@@ -117,12 +90,12 @@ module _ (T : Tree) where
   unfolding mirrored
   mirrored-there f D c t search is there = rw (ne_eqb f ROOT (no-root f search)) (after_context (Forms D) T D f c _ is (shown-there (hierarchy c.parent) f c.props D t there))
 
-  counted-there : (s : ℕ) (rows : List (ℕ × List Val)) (D : Changed) (c : Ctx) → now_at T D s ≡ Some (Context c) → AreNamed T D rows → Fine (counted_search T s rows D) (Forms D)
+  counted-there : (s : ℕ) (rows : List (ℕ × List Val)) (D : Changed) (c : Ctx) → now_at T D s ≡ Some (Context c) → Fine (counted_search T s rows D) (Forms D)
   unfolding counted_search
-  counted-there s rows D c is names =
+  counted-there s rows D c is =
       let props = with_counts (length (named T D rows)) (length (unread (named T D rows))) false c.props in
       let k : Ctx = record c { props = props } in
-      after_context (Forms D) T D s c _ is (rw (named-fine rows D names) (put-context (now_at T D) _ s c k (puts_object T D s (Some (Context k))) is refl))
+      after_context (Forms D) T D s c _ is (rw (none_unclear T D rows w) (put-context (now_at T D) _ s c k (puts_object T D s (Some (Context k))) is refl))
 
   -- the nodes of a search are there still
   nodes-stay : (D D' : Changed) → Forms D D' → (s : Search) → HasNodes T D s → HasNodes T D' s
@@ -132,45 +105,36 @@ module _ (T : Tree) where
       let up = same.tables (hierarchy has.1.0.parent) has.1.2.0 has.1.2.1 in
       ((table.0, table.1), (c.0, c.1, (up.0, ap (λ f. now_at T D' (hierarchy f)) c.2 ∙ up.1)))
 
-  results-there : (s : Search) (rows : List (ℕ × List Val)) (D : Changed) → s.nid % 32 ≡ 3 → (has : HasNodes T D s) → AreNamed T D rows → Fine (with_results T s.nid rows has.0.0 D) (Forms D)
+  results-there : (s : Search) (rows : List (ℕ × List Val)) (D : Changed) → s.nid % 32 ≡ 3 → (has : HasNodes T D s) → Fine (with_results T s.nid rows has.0.0 D) (Forms D)
   unfolding with_results
-  results-there s rows D search has names =
+  results-there s rows D search has =
       let t = has.0.0 in
       let u : Tbl = record { parent = t.parent; table = record t.table { rows = rows } } in
       let D1 = with_object (results s.nid) (Some (with_rows rows t)) D in
       let first : Forms D D1 = put-table (now_at T D) (now_at T D1) (results s.nid) t u (puts_object T D (results s.nid) (Some (with_rows rows t))) has.0.1 in
       let has1 = nodes-stay D D1 first s has in
-      let messages : SameMessages T D D1 = put-apart T D D1 (results s.nid) (Some (with_rows rows t)) (puts_object T D (results s.nid) (Some (with_rows rows t))) (ap as_message has.0.1) refl in
-      fine_then (Forms D1) (Forms D) (counted_search T s.nid rows D1) (mirrored T s.nid) (counted-there s.nid rows D1 has1.1.0 has1.1.1 (λ r some. ap is_some (messages r) ∙ names r some)) (λ D2 second.
+      fine_then (Forms D1) (Forms D) (counted_search T s.nid rows D1) (mirrored T s.nid) (counted-there s.nid rows D1 has1.1.0 has1.1.1) (λ D2 second.
       let has2 = nodes-stay D1 D2 second s has1 in
       fine_weaker (Forms D2) (Forms D) (mirrored T s.nid D2) (mirrored-there s.nid D2 has2.1.0 has2.1.2.0 search has2.1.1 has2.1.2.1)
       (λ D3 third. forms-then (now_at T D) (now_at T D1) (now_at T D3) first (forms-then (now_at T D1) (now_at T D2) (now_at T D3) second third)))
 
   module _ (d : Around) (ts : List Touch) where
-    search-there : (s : Search) (D : Changed) → s.nid % 32 ≡ 3 → HasNodes T D s → IsNamedThen T D d ts s → Fine (settled_search T d ts s D) (Forms D)
+    search-there : (s : Search) (D : Changed) → s.nid % 32 ≡ 3 → HasNodes T D s → Fine (settled_search T d ts s D) (Forms D)
     unfolding settled_search
-    search-there s D search has names =
+    search-there s D search has =
         let t = has.0.0 in
         fine_either (Forms D) (concerns d s ts) _ (Ok D)
-        (λ b. after_table (Forms D) T D (results s.nid) t _ has.0.1 (fine_either (Forms D) (runs s || takes_row t.table.rows ts) _ (Ok D) (λ c. results-there s (relisted d s t.table.columns ts t.table.rows) D search has (names t has.0.1)) (λ c. forms-stay (now_at T D))))
+        (λ b. after_table (Forms D) T D (results s.nid) t _ has.0.1 (fine_either (Forms D) (runs s || takes_row t.table.rows ts) _ (Ok D) (λ c. results-there s (relisted d s t.table.columns ts t.table.rows) D search has) (λ c. forms-stay (now_at T D))))
         (λ b. forms-stay (now_at T D))
 
-    -- the rows of another search name messages still
-    names-stay : (s t : Search) (D D1 : Changed) → SettlesOne T d ts s D D1 → (results t.nid ≡ results s.nid → ⊥) → IsNamedThen T D d ts t → IsNamedThen T D1 d ts t
-    names-stay s t D D1 one other names u there r some = ap is_some (one.messages r) ∙ names u (sym (one.others (results t.nid) (beside_kind t.nid 16 (omega arith)) other) ∙ there) r some
-
-    searches-there : (ss : List Search) (D : Changed) → AreApart ss → Each (HasNodes T D) ss → Each (IsNamedThen T D d ts) ss → Fine (settled_searches T d ts ss D) (Forms D)
-    searches-there [] D are has names = forms-stay (now_at T D)
-    searches-there (s ∷ ss) D are has names =
-        let Apart : Search → Type 0 = λ t. results t.nid ≡ results s.nid → ⊥ in
-        let others : Each Apart ss = each-two (λ t. t.nid ≡ s.nid → ⊥) IsSearch Apart ss are.1 (are-searches ss are.2) (λ t n is. tables-apart t.nid s.nid is are.0 n) in
-        fine_then (λ D1. Forms D D1 × SettlesOne T d ts s D D1) (Forms D) (settled_search T d ts s D) (settled_searches T d ts ss)
-        (fine_both (Forms D) (SettlesOne T d ts s D) (settled_search T d ts s D) (search-there s D are.0 has.0 names.0) (settles-one T d ts s D are.0)) (λ D1 one.
+    searches-there : (ss : List Search) (D : Changed) → AreApart ss → Each (HasNodes T D) ss → Fine (settled_searches T d ts ss D) (Forms D)
+    searches-there [] D are has = forms-stay (now_at T D)
+    searches-there (s ∷ ss) D are has =
+        fine_then (Forms D) (Forms D) (settled_search T d ts s D) (settled_searches T d ts ss) (search-there s D are.0 has.0) (λ D1 one.
         fine_weaker (Forms D1) (Forms D) (settled_searches T d ts ss D1)
-        (searches-there ss D1 are.2 (each (HasNodes T D) (HasNodes T D1) ss has.1 (λ x h. nodes-stay D D1 one.0 x h))
-        (each-two Apart (IsNamedThen T D d ts) (IsNamedThen T D1 d ts) ss others names.1 (λ t other n. names-stay s t D D1 one.1 other n)))
-        (λ D2 rest. forms-then (now_at T D) (now_at T D1) (now_at T D2) one.0 rest))
+        (searches-there ss D1 are.2 (each (HasNodes T D) (HasNodes T D1) ss has.1 (λ x h. nodes-stay D D1 one x h)))
+        (λ D2 rest. forms-then (now_at T D) (now_at T D1) (now_at T D2) one rest))
 
 pub settles_there : SettlesThere
-settles_there T d ts ss D are has names =
-    fine_weaker (Forms T D) (λ D'. Each (HasNodes T D') ss) (settled_searches T d ts ss D) (searches-there T d ts ss D are has names) (λ D' same. each (HasNodes T D) (HasNodes T D') ss has (λ s h. nodes-stay T D D' same s h))
+settles_there T d ts ss D w are has =
+    fine_weaker (Forms T w D) (λ D'. Each (HasNodes T D') ss) (settled_searches T d ts ss D) (searches-there T w d ts ss D are has) (λ D' same. each (HasNodes T D) (HasNodes T D') ss has (λ s h. nodes-stay T w D D' same s h))

@@ -38,20 +38,12 @@ pub record IsThere (T : Tree) (o : Outcome) (s : ℕ) : Type 0 where
   pub placed : IsSome (find_place s o.places)
   pub table : (t : Tbl) × (now_at T o.changed (results s) ≡ Some (Table t))
 
--- each of these rows names a message that is there after the changes
-abbrev pub AreNamed : Tree → Changed → List (ℕ × List Val) → Type 0
-AreNamed T D rows = (r : ℕ) → IsSome (find_row r rows) → IsSome (as_message (now_at T D r))
-
--- a search may get other rows, in their order, each of which names a message
+-- a search may get other rows, in their order, whatever they name
 abbrev pub ResultsKeepOrder : Type 0
-ResultsKeepOrder = (T : Tree) (o : Outcome) (s : ℕ) (rows : List (ℕ × List Val)) (t : Tbl) → IsWhole (after T o) → IsThere T o s → now_at T o.changed (results s) ≡ Some (Table t)
-    → keys_ascend (λ r. r.0) 0 rows ≡ true → AreNamed T o.changed rows → Fine (with_results T s rows t o.changed) (KeepsOrder T o)
+ResultsKeepOrder = (T : Tree) (o : Outcome) (s : ℕ) (rows : List (ℕ × List Val)) (t : Tbl) → IsWhole T → IsWhole (after T o) → IsThere T o s → now_at T o.changed (results s) ≡ Some (Table t)
+    → keys_ascend (λ r. r.0) 0 rows ≡ true → Fine (with_results T s rows t o.changed) (KeepsOrder T o)
 
--- the rows of the search's list are named after it was settled: it was so of those rows before that stay, and a row that comes is that of a message that is there
-abbrev pub IsNamedThen : Tree → Changed → Around → List Touch → Search → Type 0
-IsNamedThen T D d ts s = (t : Tbl) → now_at T D (results s.nid) ≡ Some (Table t) → AreNamed T D (relisted d s t.table.columns ts t.table.rows)
-
--- searches may be settled, if rows then name messages
+-- searches may be settled
 abbrev pub SettlingKeepsOrder : Type 0
-SettlingKeepsOrder = (T : Tree) (o : Outcome) (d : Around) (ts : List Touch) (ss : List Search) → IsWhole (after T o) → AreApart ss → Each (λ s. IsThere T o s.nid) ss → Each (IsNamedThen T o.changed d ts) ss
+SettlingKeepsOrder = (T : Tree) (o : Outcome) (d : Around) (ts : List Touch) (ss : List Search) → IsWhole T → IsWhole (after T o) → AreApart ss → Each (λ s. IsThere T o s.nid) ss
     → Fine (settled_searches T d ts ss o.changed) (KeepsOrder T o)

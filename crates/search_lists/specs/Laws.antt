@@ -116,17 +116,9 @@ CountsAnew = (T : Tree) (d : Around) (ts : List Touch) (s : Search) (D : Changed
 abbrev pub HasNodes : Tree → Changed → Search → Type 0
 HasNodes T D s = ((t : Tbl) × (now_at T D (results s.nid) ≡ Some (Table t))) × ((c : Ctx) × (now_at T D s.nid ≡ Some (Context c)) × ((u : Tbl) × (now_at T D (hierarchy c.parent) ≡ Some (Table u))))
 
--- each of these rows names a message that is there after the changes
-abbrev pub AreNamed : Tree → Changed → List (ℕ × List Val) → Type 0
-AreNamed T D rows = (r : ℕ) → IsSome (find_row r rows) → IsSome (as_message (now_at T D r))
-
--- so does each row that the touched messages leave the search
-abbrev pub IsNamedThen : Tree → Changed → Around → List Touch → Search → Type 0
-IsNamedThen T D d ts s = (t : Tbl) → now_at T D (results s.nid) ≡ Some (Table t) → AreNamed T D (relisted d s t.table.columns ts t.table.rows)
-
--- searches whose nodes are there are settled, if their rows name messages then, and their nodes are there still
+-- searches whose nodes are there are settled, if the tree is whole, whatever their rows name, and their nodes are there still
 abbrev pub SettlesThere : Type 0
-SettlesThere = (T : Tree) (d : Around) (ts : List Touch) (ss : List Search) (D : Changed) → AreApart ss → Each (HasNodes T D) ss → Each (IsNamedThen T D d ts) ss
+SettlesThere = (T : Tree) (d : Around) (ts : List Touch) (ss : List Search) (D : Changed) → IsWhole T → AreApart ss → Each (HasNodes T D) ss
     → Fine (settled_searches T d ts ss D) (λ D'. Each (HasNodes T D') ss)
 
 -- the command left the tables of searches as they were

@@ -25,13 +25,4 @@ excludes N places (refusals.Criteria q) is own searches has =
     let shown = has.criteria is.0 (has.all is.0 is.1 is.2) in
     let same = one_context_at N q.bits is.4.0 shown.0 is.4.1 (subst (λ k. HasContext N k shown.0) (sym is.3) shown.1) in
     none-some shown.2.0 (sym is.4.2 ∙ ap (λ (c : Ctx). criteria_of c.props) same ∙ shown.2.1)
-excludes N places (refusals.Stale f) is own searches has =
-    let t = has.tables f.bits (has.all f.bits is.0 is.1) in
-    let same = one_table_at N (results f.bits) is.2.0 t.0 is.2.1 t.1 in
-    ⊎_elim
-    (λ stray. stray.2 (t.2 stray.0 (subst (λ (x : Tbl). IsSome (find_row stray.0 x.table.rows)) same stray.1)))
-    (λ unasked.
-    let said = unasked.0 in
-    let none = none_shown N (criteria_node f.bits) f.bits searches said.1 (said.0, said.2, said.3) (has.criteria f.bits (has.all f.bits is.0 is.1)) said.4 in
-    unasked.1 (ap (λ (x : Tbl). x.table.rows) same ∙ t.3 none))
-    is.2.2
+excludes N places (refusals.Stale f) is own searches has = absurd is

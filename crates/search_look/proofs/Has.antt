@@ -26,6 +26,9 @@ use Rattle.node_port.specs.Nodes.{Nodes, node_at}
 use Rattle.search_look.specs.Having.{HasSearches, IsMessageIn, IsOwnIn, IsSearchIn}
 use Rattle.search_lists.specs.Order.{AreOwn}
 use Rattle.search_look.specs.Showing.{ShowsSearches}
+use Rattle.mail_searches.specs.Searches.{KnowsMessages}
+use Rattle.mail_tree.specs.Flags.{FlagList}
+use Rattle.tree_look.specs.Seeing.{AreKnown}
 use Rattle.search_look.proofs.Alike.{is_beside, no_beside, node_of, other_node}
 
 -- search folders beside which a node stands are one
@@ -98,7 +101,7 @@ module _ (N : Nodes) (X : Searching) (s : ShowsSearches N X) where
   ]
 
   -- a message of the tree is one that a plain folder lists
-  is_message : (m : ℕ) → IsSome (as_message (object_at X.tree m)) → IsMessageIn N X.tree.places m
+  pub is_message : (m : ℕ) → IsSome (as_message (object_at X.tree m)) → IsMessageIn N X.tree.places m
   is_message m is =
       let M = message_of (object_at X.tree m) is in
       let v = s.whole.objects.held m M.0 M.1 in
@@ -114,8 +117,15 @@ module _ (N : Nodes) (X : Searching) (s : ShowsSearches N X) where
     criteria = λ f own. let c = s.searches.criteria f own in (c.0, node_of N X.tree s.at (criteria_node f) (Context c.0) c.1, c.2);
     tables = λ f own.
         let t = s.searches.tables f own in
-        (t.0, node_of N X.tree s.at (results f) (Table t.0) t.1, λ r row. is_message r (s.searches.rows f t.0 r own t.1 row), λ none. s.searches.blank f t.0 own none t.1);
+        (t.0, node_of N X.tree s.at (results f) (Table t.0) t.1);
   }
 
 pub has_searches : (N : Nodes) (X : Searching) → ShowsSearches N X → HasSearches N X.tree.places X.own X.searches
 has_searches N X s = searches N X s
+
+-- where something is known of each message that is listed, something is of each message of the tree
+pub knows_messages : (N : Nodes) (X : Searching) (flags : FlagList) → ShowsSearches N X → AreKnown N X.tree.places flags → KnowsMessages X.tree flags
+knows_messages N X flags s known m is =
+    let listed = is_message N X s m is in
+    let told = known listed.0 m listed.1 listed.2 in
+    subst IsSome (sym told.1) refl

@@ -174,15 +174,6 @@ module _ (N : Nodes) (T : Tree) (own : List ℕ) (searches : List Search) (s : S
   table_at : (f : ℕ) (is : is_own own f ≡ true) → object_at tree (results f) ≡ Some (Table (h.tables f is).0)
   table_at f is = let t = h.tables f is in object_is (results f) (Table t.0) (has_search f (results f) is (inl refl)) (table_is N f t.0 t.1)
 
-  same_table : (f : ℕ) (t : Tbl) (is : is_own own f ≡ true) → object_at tree (results f) ≡ Some (Table t) → (h.tables f is).0 ≡ t
-  same_table f t is e = let u = h.tables f is in one_table_at N (results f) u.0 t u.1 (stands (results f) (Table t) e).0
-
-  -- what a plain folder lists is a message of the tree
-  message_at : (m : ℕ) → IsMessageIn N T.places m → IsSome (as_message (object_at tree m))
-  message_at m (f, p, x) =
-      let M = (s.tree.tables f p.0 p.1 p.2).listed m x in
-      subst (λ o. IsSome (as_message o)) (sym (object_is m (Message M.0) (has_owned m (inr (inr (f, p, inr (inr (inr x)))))) (mail_is N m M.0 x.3 M.1))) refl
-
   are_searches : AreSearches all
   are_searches = record {
     own_ascend = h.own_ascend;
@@ -192,8 +183,6 @@ module _ (N : Nodes) (T : Tree) (own : List ℕ) (searches : List Search) (s : S
     placed = λ f is. (h.are_own f is).0.0;
     criteria = λ f is. let c = h.criteria f is in (c.0, object_is (criteria_node f) (Context c.0) (has_search f (criteria_node f) is (inr (inl refl))) (context_is N f c.0 c.1), c.2);
     tables = λ f is. ((h.tables f is).0, table_at f is);
-    rows = λ f t r is e row. message_at r ((h.tables f is).2 r (subst (λ (u : Tbl). IsSome (find_row r u.table.rows)) (sym (same_table f t is e)) row));
-    blank = λ f t is none e. subst (λ (u : Tbl). u.table.rows ≡ []) (same_table f t is e) ((h.tables f is).3 none);
   }
 
   -- another node stands there as it is

@@ -20,7 +20,7 @@ use Rattle.search_obj.specs.Scope.{is_among}
 use Rattle.mail_searches.specs.Searches.{Search, ShowsCriteria, criteria_node, find_search, results, search_id, search_of}
 use Rattle.mail_searches.specs.Searching.{is_own}
 use Rattle.mail_searches.proofs.CriteriaLaws.{says-found}
-use Rattle.search_look.specs.Having.{HasSearches, IsOwnIn, IsSearchIn, NamesMessages}
+use Rattle.search_look.specs.Having.{HasSearches, IsOwnIn, IsSearchIn}
 use Rattle.mail_searches.specs.declared.known.KnownSearches.{KnownSearches}
 use Rattle.search_look.specs.Faults.{FindsSearches, HasSearchFault}
 use Rattle.search_look.specs.Looking.{ArePart, FoundAt, Refuses, with_set}
@@ -56,10 +56,6 @@ set_other f g (Some s) searches other = find-put_other search_id g (search_of f 
 set_here : (f : ℕ) (set : Option CritSet) (searches : List Search) → (set ≡ None → find_search f searches ≡ None) → find_search f (with_set f set searches) ≡ option_map (search_of f) set
 set_here f None searches none = none refl
 set_here f (Some s) searches none = find-put_same search_id (search_of f s) searches
-
-none_mapped : (f : ℕ) (set : Option CritSet) → option_map (search_of f) set ≡ None → set ≡ None
-none_mapped f None e = refl
-none_mapped f (Some s) e = absurd (none-some (search_of f s) (sym e))
 
 -- a folder without criteria has no search yet
 none_yet : (N : Nodes) (places rest : List FolderPlace) (own : List ℕ) (searches : List Search) (f : ℕ) (k : Crit) → ArePart N places rest own searches → ((c : Ctx) × HasContext N (criteria_node f) c × Says c.props k)
@@ -106,7 +102,7 @@ left_after : (p : FolderPlace) (rest : List FolderPlace) (g : ℕ) → (g ≡ p.
 left_after p rest g other left = elim (cases_Bool (p.nid.bits == g)) [ inl t ↦ absurd (other (sym (eqb-true p.nid.bits g t))) | inr t ↦ rw t at left ]
 
 -- one that is
-put_part : (N : Nodes) (places rest : List FolderPlace) (p : FolderPlace) (own : List ℕ) (searches : List Search) (k : Crit) → IsSearchIn places p.nid.bits → FoundAt N places p.nid.bits (Some k) → ArePart N places (p ∷ rest) own searches
+put_part : (N : Nodes) (places rest : List FolderPlace) (p : FolderPlace) (own : List ℕ) (searches : List Search) (k : Crit) → IsSearchIn places p.nid.bits → FoundAt N p.nid.bits (Some k) → ArePart N places (p ∷ rest) own searches
     → ArePart N places rest (with_id p.nid.bits own) (with_set p.nid.bits k.set searches)
 put_part N places rest p own searches k search found part = record {
   own_ascend = put-ascends (λ x. x) 0 f own (omega arith) part.own_ascend;
@@ -128,9 +124,8 @@ put_part N places rest p own searches k search found part = record {
     | inr other ↦ let was = part.criteria g (sym (own_other f g own other) ∙ e) in (was.0, was.1, (was.2.0, was.2.1, set_other f g k.set searches other ∙ was.2.2))
   ];
   tables = λ g e. elim (cases_eq g f) [
-    | inl same ↦ subst (λ x. (t : Tbl) × HasTable N (results x) t × NamesMessages N places t × (find_search x searches' ≡ None → t.table.rows ≡ [])) (sym same)
-        (found.2.0, found.2.1, found.2.2, λ none. found.2.3 (none_mapped f k.set (sym here ∙ none)))
-    | inr other ↦ let was = part.tables g (sym (own_other f g own other) ∙ e) in (was.0, was.1, was.2, λ none. was.3 (sym (set_other f g k.set searches other) ∙ none))
+    | inl same ↦ subst (λ x. (t : Tbl) × HasTable N (results x) t) (sym same) found.2
+    | inr other ↦ part.tables g (sym (own_other f g own other) ∙ e)
   ];
 }
   where
@@ -143,7 +138,7 @@ put_part N places rest p own searches k search found part = record {
     here : find_search f searches' ≡ option_map (search_of f) k.set
     here = set_here f k.set searches (none_yet N places (p ∷ rest) own searches f k part found.1)
 
-pub keep_part : (N : Nodes) (places rest : List FolderPlace) (p : FolderPlace) (own own' : List ℕ) (searches searches' : List Search) (k : Crit) (set : Option CritSet) → IsSearchIn places p.nid.bits → FoundAt N places p.nid.bits (Some k) → set ≡ k.set
+pub keep_part : (N : Nodes) (places rest : List FolderPlace) (p : FolderPlace) (own own' : List ℕ) (searches searches' : List Search) (k : Crit) (set : Option CritSet) → IsSearchIn places p.nid.bits → FoundAt N p.nid.bits (Some k) → set ≡ k.set
     → (own' ≡ put_key (λ x. x) p.nid.bits own) × (searches' ≡ with_set p.nid.bits set searches) → ArePart N places (p ∷ rest) own searches → ArePart N places rest own' searches'
 keep_part N places rest p own own' searches searches' k set search found same puts part = rw (puts.0, puts.1, same) (put_part N places rest p own searches k search found part)
 

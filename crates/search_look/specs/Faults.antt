@@ -1,35 +1,24 @@
 -- Why nodes don't have searches.
-use Rattle.std.specs.Prelude.{◌≡◌, ◌⊎◌, ℕ, IsSome, List, [], None, Some, Result, Ok, Err}
-use Rattle.mapi_values.specs.Tables.{find_row}
+use Rattle.std.specs.Prelude.{◌≡◌, ℕ, List, None, Some, Result, Ok, Err}
 use Rattle.node_port.specs.Nodes.{Nodes, node_at}
 use Rattle.node_port.specs.declared.node.NodeRec.{NodeRec}
-use Rattle.mail_objects.specs.Forms.{Ctx, Tbl}
+use Rattle.mail_objects.specs.Forms.{Ctx}
 use Rattle.mail_tree.specs.declared.places.FolderPlace.{FolderPlace}
-use Rattle.mail_tree.specs.Standing.{HasContext, HasTable}
-use Rattle.search_obj.specs.Crits.{Crit}
-use Rattle.search_obj.specs.Objects.{Says}
+use Rattle.mail_tree.specs.Standing.{HasContext}
 use Rattle.tree_look.specs.Forms.{IsNoTable}
 use Rattle.mail_searches.specs.Searches.{criteria_node, criteria_of, results}
 use Rattle.mail_searches.specs.declared.known.KnownSearches.{KnownSearches}
-use Rattle.search_look.specs.Having.{HasSearches, IsMessageIn, IsOwnIn, IsSearchIn}
+use Rattle.search_look.specs.Having.{HasSearches, IsOwnIn, IsSearchIn}
 use Rattle.search_look.specs.declared.stops.SearchRefusal.{SearchRefusal}
 use Rattle.search_look.specs.declared.stops.SearchRefusal.TheVariants as refusals
 use Rattle.search_look.specs.declared.stops.SearchStop.{SearchStop}
 use Rattle.search_look.specs.declared.stops.SearchStop.TheVariants.{Refused, Kept}
 
--- a row of the table names no message
-abbrev pub HasStray : Nodes → List FolderPlace → Tbl → Type 0
-HasStray N places t = (r : ℕ) × IsSome (find_row r t.table.rows) × (IsMessageIn N places r → ⊥)
-
--- no criteria are set, and there are rows
-abbrev pub ListsUnasked : Nodes → ℕ → Tbl → Type 0
-ListsUnasked N f t = ((c : Ctx) × (k : Crit) × HasContext N (criteria_node f) c × Says c.props k × (k.set ≡ None)) × (t.table.rows ≡ [] → ⊥)
-
--- what a refusal says of the nodes: of a search of the store's own, that its list is no table, that no criteria are found in the values of its criteria object, or that its list has a row that names no message, or rows while it has no criteria
+-- what a refusal says of the nodes: of a search of the store's own, that its list is no table, or that no criteria are found in the values of its criteria object; of what lists have to show nothing is said
 abbrev pub HasSearchFault : Nodes → List FolderPlace → SearchRefusal → Type 0
 HasSearchFault N places (refusals.Node q fault) = (f : ℕ) × IsSearchIn places f × IsOwnIn N f × (q.bits ≡ results f) × ((node : NodeRec) × (node_at N q.bits ≡ Some node) × IsNoTable node fault)
 HasSearchFault N places (refusals.Criteria q) = (f : ℕ) × IsSearchIn places f × IsOwnIn N f × (q.bits ≡ criteria_node f) × ((c : Ctx) × HasContext N q.bits c × (criteria_of c.props ≡ None))
-HasSearchFault N places (refusals.Stale f) = IsSearchIn places f.bits × IsOwnIn N f.bits × ((t : Tbl) × HasTable N (results f.bits) t × (HasStray N places t ⊎ ListsUnasked N f.bits t))
+HasSearchFault N places (refusals.Stale f) = ⊥
 
 -- the searches that are known are those of the nodes, or the stop says why there are none; a stop of the keeper is no matter of the nodes
 abbrev pub FindsSearches : Nodes → List FolderPlace → Result KnownSearches SearchStop → Type 0

@@ -1,7 +1,6 @@
 -- The searches that nodes have beside their tree.
-use Rattle.std.specs.Prelude.{◌≡◌, ℕ, ◌%◌, true, IsSome, List, [], None, Some}
+use Rattle.std.specs.Prelude.{◌≡◌, ℕ, ◌%◌, true, IsSome, List, Some}
 use Rattle.mapi_values.specs.Keyed.{keys_ascend}
-use Rattle.mapi_values.specs.Tables.{find_row}
 use Rattle.node_port.specs.Nodes.{Nodes, node_at}
 use Rattle.mail_objects.specs.Forms.{Ctx, Tbl}
 use Rattle.mail_tree.specs.declared.places.FolderPlace.{FolderPlace}
@@ -23,10 +22,6 @@ IsOwnIn N f = AreOwn (node_at N (results f)) (node_at N (criteria_node f))
 abbrev pub IsMessageIn : Nodes → List FolderPlace → ℕ → Type 0
 IsMessageIn N places m = (f : ℕ) × ((p : FolderPlace) × (find_place f places ≡ Some p) × (is_plain p ≡ true)) × ListsMessage N f m
 
--- each row of the table names a message
-abbrev pub NamesMessages : Nodes → List FolderPlace → Tbl → Type 0
-NamesMessages N places t = (r : ℕ) → IsSome (find_row r t.table.rows) → IsMessageIn N places r
-
 -- The nodes have these searches: the own search folders, which are just those whose nodes say so, and of these the searches with criteria.
 pub record HasSearches (N : Nodes) (places : List FolderPlace) (own : List ℕ) (searches : List Search) : Type 0 where
   pub own_ascend : keys_ascend (λ f. f) 0 own ≡ true
@@ -36,5 +31,5 @@ pub record HasSearches (N : Nodes) (places : List FolderPlace) (own : List ℕ) 
   pub all : (f : ℕ) → IsSearchIn places f → IsOwnIn N f → is_own own f ≡ true
   -- each says criteria, those of the search where any are set
   pub criteria : (f : ℕ) → is_own own f ≡ true → (c : Ctx) × HasContext N (criteria_node f) c × ShowsCriteria searches f c.props
-  -- its list is a table whose rows name messages, and which has none where no criteria are set
-  pub tables : (f : ℕ) → is_own own f ≡ true → (t : Tbl) × HasTable N (results f) t × NamesMessages N places t × (find_search f searches ≡ None → t.table.rows ≡ [])
+  -- its list is a table, whatever its rows name
+  pub tables : (f : ℕ) → is_own own f ≡ true → (t : Tbl) × HasTable N (results f) t

@@ -1,10 +1,9 @@
 -- How a look at searches goes on.
-use Rattle.std.specs.Prelude.{◌≡◌, ◌⊎◌, ℕ, Bool, true, false, IsSome, List, [], Option, None, Some, Result, Ok, Err}
+use Rattle.std.specs.Prelude.{◌≡◌, ◌⊎◌, ℕ, Bool, true, IsSome, List, Option, None, Some, Result, Ok, Err}
 use Rattle.pst_base.specs.declared.ids.Nid.{Nid}
 use Rattle.pst_base.specs.declared.stops.MemOr.{MemOr}
 use Rattle.pst_base.specs.declared.stops.MemOr.TheVariants as or_memory
 use Rattle.mapi_values.specs.Keyed.{keys_ascend, put_key}
-use Rattle.mapi_values.specs.Tables.{find_row}
 use Rattle.mail_objects.specs.declared.message.fault.MessageFault.{MessageFault}
 use Rattle.node_port.specs.Nodes.{Nodes, node_at}
 use Rattle.node_port.specs.Stops.{KeepStops}
@@ -12,7 +11,6 @@ use Rattle.node_port.specs.declared.keeper.KeepStop.TheVariants as keep
 use Rattle.node_port.specs.declared.node.NodeRec.{NodeRec}
 use Rattle.mail_objects.specs.Forms.{Ctx, Tbl}
 use Rattle.mail_objects.specs.Objects.{ShowsContext, ShowsTable}
-use Rattle.mail_tree.specs.Flags.{FlagList, known_flag}
 use Rattle.mail_tree.specs.Places.{find_place}
 use Rattle.mail_tree.specs.Standing.{HasContext, HasTable}
 use Rattle.mail_tree.specs.declared.places.FolderPlace.{FolderPlace}
@@ -22,7 +20,7 @@ use Rattle.search_obj.specs.declared.criteria.Version.{Version}
 use Rattle.tree_look.specs.Forms.{IsNoTable}
 use Rattle.mail_searches.specs.Searches.{Search, ShowsCriteria, criteria_node, criteria_of, find_search, results, search_id, search_of}
 use Rattle.mail_searches.specs.Searching.{is_own}
-use Rattle.search_look.specs.Having.{IsOwnIn, IsSearchIn, NamesMessages}
+use Rattle.search_look.specs.Having.{IsOwnIn, IsSearchIn}
 use Rattle.search_look.specs.declared.stops.SearchRefusal.{SearchRefusal}
 use Rattle.search_look.specs.declared.stops.SearchRefusal.TheVariants as refusals
 use Rattle.search_look.specs.declared.stops.SearchStop.{SearchStop}
@@ -86,28 +84,20 @@ TellsOwnAt N f (Some k) = (c : Ctx) × HasContext N (criteria_node f) c × Says 
 abbrev pub LacksCriteriaAt : Nodes → ℕ → SearchRefusal → Type 0
 LacksCriteriaAt N f refusal = (nid : Nid) × (node : NodeRec) × (nid.bits ≡ criteria_node f) × (node_at N (criteria_node f) ≡ Some node) × LacksCriteria nid node refusal
 
--- of each row something is known
-abbrev pub AllKnown : FlagList → Tbl → Type 0
-AllKnown flags t = (r : ℕ) → IsSome (find_row r t.table.rows) → IsSome (known_flag r flags)
+-- the node is a table
+abbrev pub IsList : NodeRec → Type 0
+IsList node = (t : Tbl) × ShowsTable node t
 
--- of some row nothing is known
-abbrev pub HasUnknown : FlagList → Tbl → Type 0
-HasUnknown flags t = (r : ℕ) × IsSome (find_row r t.table.rows) × (known_flag r flags ≡ None)
+-- the node is none
+abbrev pub IsNoList : Nid → NodeRec → SearchRefusal → Type 0
+IsNoList nid node (refusals.Node q fault) = (q ≡ nid) × IsNoTable node fault
+IsNoList nid node (refusals.Criteria q) = ⊥
+IsNoList nid node (refusals.Stale f) = ⊥
 
--- the node is a list of messages, without rows where nothing is asked
-abbrev pub IsList : FlagList → Bool → NodeRec → Type 0
-IsList flags asked node = (t : Tbl) × ShowsTable node t × AllKnown flags t × (asked ≡ false → t.table.rows ≡ [])
-
--- the node is no such list
-abbrev pub IsNoList : FlagList → Nid → Nid → Bool → NodeRec → SearchRefusal → Type 0
-IsNoList flags folder nid asked node (refusals.Node q fault) = (q ≡ nid) × IsNoTable node fault
-IsNoList flags folder nid asked node (refusals.Criteria q) = ⊥
-IsNoList flags folder nid asked node (refusals.Stale f) = (f ≡ folder) × ((t : Tbl) × ShowsTable node t × (HasUnknown flags t ⊎ ((asked ≡ false) × (t.table.rows ≡ [] → ⊥))))
-
--- the folder is none of the store's own, or these are its criteria, and its list is in order with them
-abbrev pub FoundAt : Nodes → List FolderPlace → ℕ → Option Crit → Type 0
-FoundAt N places f None = IsOwnIn N f → ⊥
-FoundAt N places f (Some k) = IsOwnIn N f × ((c : Ctx) × HasContext N (criteria_node f) c × Says c.props k) × ((t : Tbl) × HasTable N (results f) t × NamesMessages N places t × (k.set ≡ None → t.table.rows ≡ []))
+-- the folder is none of the store's own, or these are its criteria, and its list is there
+abbrev pub FoundAt : Nodes → ℕ → Option Crit → Type 0
+FoundAt N f None = IsOwnIn N f → ⊥
+FoundAt N f (Some k) = IsOwnIn N f × ((c : Ctx) × HasContext N (criteria_node f) c × Says c.props k) × ((t : Tbl) × HasTable N (results f) t)
 
 -- ---- all of them
 
@@ -124,4 +114,4 @@ pub record ArePart (N : Nodes) (places rest : List FolderPlace) (own : List ℕ)
   pub are_own : (f : ℕ) → is_own own f ≡ true → IsSearchIn places f × IsOwnIn N f
   pub all : (f : ℕ) → IsSearchIn places f → IsOwnIn N f → (is_own own f ≡ true) ⊎ IsSome (find_place f rest)
   pub criteria : (f : ℕ) → is_own own f ≡ true → (c : Ctx) × HasContext N (criteria_node f) c × ShowsCriteria searches f c.props
-  pub tables : (f : ℕ) → is_own own f ≡ true → (t : Tbl) × HasTable N (results f) t × NamesMessages N places t × (find_search f searches ≡ None → t.table.rows ≡ [])
+  pub tables : (f : ℕ) → is_own own f ≡ true → (t : Tbl) × HasTable N (results f) t

@@ -7,7 +7,6 @@ ghost use Rattle.node_port.specs.Nodes.{Nodes, node_at};
 ghost use Rattle.mail_tree.specs.Places.{find_place};
 ghost use Rattle.mail_tree.specs.Standing.{HasTree};
 ghost use Rattle.mail_tree.specs.declared.places.FolderPlace.{FolderPlace as Stands};
-ghost use Rattle.tree_look.specs.Seeing.{AreKnown, AreListed};
 ghost use Rattle.tree_look.specs.Walk.{Looks};
 ghost use Rattle.search_look.specs.Having.{IsSearchIn};
 ghost use Rattle.search_look.specs.Faults.{FindsSearches, HasSearchFault};
@@ -17,7 +16,7 @@ use crate::criteria::read_own;
 use crate::list::check_list;
 use crate::stops::SearchStop;
 use mail_searches::{KnownSearches, OwnFolders, OwnSearch, Searches};
-use mail_tree::{Flags, FolderPlace, Known};
+use mail_tree::{FolderPlace, Places};
 use node_port::{NodeReader, NodeRec};
 use pst_base::Nid;
 use pst_outside::Outside;
@@ -80,21 +79,19 @@ fn look_criteria<W: Outside, K: NodeReader<W>>(
     read_own(alloc, nid, &node)
 }
 
-/// The criteria of a search folder whose list is in order with them, `None` where it is none of the store's own.
+/// The criteria of a search folder whose list is there, `None` where it is none of the store's own.
 fn look_search<W: Outside, K: NodeReader<W>>(
     alloc: Global,
     keeper: &mut K,
     w: &mut W,
-    flags: &Flags,
     folder: Nid,
 ) -> Result<Option<Criteria>, SearchStop>
-    ensures found { (N : Nodes) (places : List Stands) → K.holds keeper.old (W.view w.old) N → AreListed N places flags.now → AreKnown N places flags.now → IsSearchIn places folder.bits
-        → Finds (FoundAt N places folder.bits) (HasSearchFault N places) result }
+    ensures found { (N : Nodes) (places : List Stands) → K.holds keeper.old (W.view w.old) N → IsSearchIn places folder.bits → Finds (FoundAt N folder.bits) (HasSearchFault N places) result }
     ensures looks { Looks (K.holds keeper.old (W.view w.old)) (K.holds keeper.new (W.view w.new)) (K.last keeper.old) (K.last keeper.new) (K.room keeper.old) (K.room keeper.new) (W.view w.old) (W.view w.new) }
     ensures stops { IfErr result (IsKept K.has_disk (W.view w.old).disk_faults (W.view w.new).disk_faults (K.holds keeper.old (W.view w.old))) }
 {
     let nid = beside(folder, 0x10);
-    // A list of another program may be long: its rows are read only once the folder is known to be an own one.
+    // A list of another program may be long: it is read only once the folder is known to be an own one.
     if !is_there(alloc, keeper, w, nid)? {
         return Ok(None);
     }
@@ -104,7 +101,7 @@ fn look_search<W: Outside, K: NodeReader<W>>(
     let Some(node) = node_at(alloc, keeper, w, nid)? else {
         return Ok(None);
     };
-    check_list(alloc, flags, folder, nid, criteria.set.is_some(), &node)?;
+    check_list(alloc, nid, &node)?;
     Ok(Some(criteria))
 }
 
@@ -129,12 +126,11 @@ fn look_place<W: Outside, K: NodeReader<W>>(
     alloc: Global,
     keeper: &mut K,
     w: &mut W,
-    flags: &Flags,
     place: FolderPlace,
     own: &mut OwnFolders,
     searches: &mut Searches,
 ) -> Result<(), SearchStop>
-    ensures found { (N : Nodes) (places rest : List Stands) → K.holds keeper.old (W.view w.old) N → AreListed N places flags.now → AreKnown N places flags.now → IsSome (find_place place.nid.bits places)
+    ensures found { (N : Nodes) (places rest : List Stands) → K.holds keeper.old (W.view w.old) N → IsSome (find_place place.nid.bits places)
         → ArePart N places (place ∷ rest) own.old searches.old → Finds (λ u. ArePart N places rest own.new searches.new) (HasSearchFault N places) result }
     ensures looks { Looks (K.holds keeper.old (W.view w.old)) (K.holds keeper.new (W.view w.new)) (K.last keeper.old) (K.last keeper.new) (K.room keeper.old) (K.room keeper.new) (W.view w.old) (W.view w.new) }
     ensures stops { IfErr result (IsKept K.has_disk (W.view w.old).disk_faults (W.view w.new).disk_faults (K.holds keeper.old (W.view w.old))) }
@@ -142,38 +138,29 @@ fn look_place<W: Outside, K: NodeReader<W>>(
     if place.nid.bits % 32 != 3 {
         return Ok(());
     }
-    let Some(criteria) = look_search(alloc, keeper, w, flags, place.nid)? else {
+    let Some(criteria) = look_search(alloc, keeper, w, place.nid)? else {
         return Ok(());
     };
     Ok(keep_search(own, searches, place.nid, criteria.set)?)
 }
 
-/// The searches that nodes have beside their tree, which is known: its own search folders, and of these the searches with criteria; or what is wrong with the first that isn't in order.
+/// The searches that nodes have beside their tree, whose folders stand at these places: its own search folders, and of these the searches with criteria; or what is wrong with the first that isn't in order.
 ///
 /// A search folder, one with an id of kind 3, is an own one where the node of its list is there (kind 10h at its index, [MS-PST] 2.4.8.6) and the node of its criteria (kind 07h) is a property context whose values are marked. Of all others nothing is said, whatever their nodes are. `Kept` stops come as the keeper's own: `Fault` where the disk failed, `Memory` where there was none, and `Changed` never of a reader that tells its nodes.
 pub fn look_searches<W: Outside, K: NodeReader<W>>(
     alloc: Global,
     keeper: &mut K,
     w: &mut W,
-    known: &Known,
+    places: &Places,
 ) -> Result<KnownSearches, SearchStop>
-    ensures found { (N : Nodes) → K.holds keeper.old (W.view w.old) N → HasTree N known.now.places → AreListed N known.now.places known.now.flags → AreKnown N known.now.places known.now.flags
-        → FindsSearches N known.now.places result }
+    ensures found { (N : Nodes) → K.holds keeper.old (W.view w.old) N → HasTree N places.now → FindsSearches N places.now result }
     ensures looks { Looks (K.holds keeper.old (W.view w.old)) (K.holds keeper.new (W.view w.new)) (K.last keeper.old) (K.last keeper.new) (K.room keeper.old) (K.room keeper.new) (W.view w.old) (W.view w.new) }
     ensures stops { IfErr result (IsKept K.has_disk (W.view w.old).disk_faults (W.view w.new).disk_faults (K.holds keeper.old (W.view w.old))) }
 {
     let mut own = OwnFolders::new(alloc);
     let mut searches = Searches::new(alloc);
-    for place in known.places.as_slice() {
-        look_place(
-            alloc,
-            keeper,
-            w,
-            &known.flags,
-            *place,
-            &mut own,
-            &mut searches,
-        )?;
+    for place in places.as_slice() {
+        look_place(alloc, keeper, w, *place, &mut own, &mut searches)?;
     }
     Ok(KnownSearches { own, searches })
 }

@@ -5,10 +5,10 @@ ghost use Rattle.mail_tree.specs.declared.places.FolderPlace.{FolderPlace};
 ghost use Rattle.mail_tree.specs.Flags.{AreFlags, FlagList};
 ghost use Rattle.mail_tree.specs.Standing.{HasTree};
 ghost use Rattle.mail_tree.specs.Tree.{object_at};
-ghost use Rattle.mail_searches.specs.Searches.{Search};
+ghost use Rattle.mail_searches.specs.Searches.{KnowsMessages, Search};
 ghost use Rattle.mail_searches.specs.Searching.{Searching};
 ghost use Rattle.search_look.specs.Having.{HasSearches};
-ghost use Rattle.tree_look.specs.Seeing.{AreListed};
+ghost use Rattle.tree_look.specs.Seeing.{AreKnown, AreListed};
 ghost use Rattle.search_look.specs.Showing.{ShowsSearches};
 
 /// Nodes that have a tree, whose folders stand at these places, and these searches, show a tree with them and any counters.
@@ -29,6 +29,11 @@ pub fn has_searches()
 /// What a look knows of the messages and folders of these nodes is so of the tree that they show.
 pub fn search_flags()
     ensures { (N : Nodes) (X : Searching) (flags : FlagList) → ShowsSearches N X → AreListed N X.tree.places flags → AreFlags (object_at X.tree) flags }
+{}
+
+/// Where a look knows something of each message that plain folders list, it knows something of each message of the tree that the nodes show.
+pub fn knows_messages()
+    ensures { (N : Nodes) (X : Searching) (flags : FlagList) → ShowsSearches N X → AreKnown N X.tree.places flags → KnowsMessages X.tree flags }
 {}
 
 /// Nodes show at most one tree with searches and the same counters.

@@ -11,7 +11,7 @@ pub enum SearchRefusal {
     Node { nid: Nid, fault: MessageFault },
     /// Its criteria object says no criteria.
     Criteria { nid: Nid },
-    /// Its list has a row that names no message, or rows while the search has no criteria.
+    /// It runs, and its list isn't what filtering all messages lists. A look at searches doesn't tell that: it leaves lists as they are.
     Stale { folder: Nid },
 }
 

@@ -16,7 +16,7 @@ use Rattle.mail_draft.specs.declared.stop.Stop.{Stop}
 use Rattle.mail_draft.specs.Drafts.{changed_of}
 use Rattle.mail_draft.specs.Answers.{Says}
 use Rattle.mail_draft.proofs.Passes.{stop_says}
-use Rattle.mail_searches.specs.Relisting.{before_those, counted_search, is_stray, named, unless_stray, unread}
+use Rattle.mail_searches.specs.Relisting.{before_those, counted_search, is_unclear, named, unless_unclear, unread}
 use Rattle.mail_searches.specs.Searches.{results, row_ids}
 use Rattle.search_results.specs.Counting.{flag_at, pair_of, tally, with_flag}
 use Rattle.search_results.specs.declared.counting.Tally.{Tally}
@@ -93,13 +93,13 @@ module _ (T : Tree) (D : Changed) where
     | inr b ↦ rw b (ap Ok (pair_is (add-one (length ms)) (add-one (length (unread ms)))))
   ]
 
-  pub tally_is : (rows : List (ℕ × List Val)) → tally T D (row_ids rows) ≡ (unless_stray T D rows >>= λ u. Ok (length (named T D rows), length (unread (named T D rows))))
+  pub tally_is : (rows : List (ℕ × List Val)) → tally T D (row_ids rows) ≡ (unless_unclear T D rows >>= λ u. Ok (length (named T D rows), length (unread (named T D rows))))
   unfolding counted_all flag_told
   tally_is [] = refl
-  tally_is (r ∷ rs) = elim (cases_Bool (is_stray T D r.0)) [
+  tally_is (r ∷ rs) = elim (cases_Bool (is_unclear T D r.0)) [
     | inl b ↦ rw b refl
     | inr b ↦ rw b (ap (λ (a : Answer (ℕ × ℕ)). a >>= λ n. Ok (with_flag (flag_told (as_message (now_at T D r.0))) n)) (tally_is rs)
-        ∙ one_named (list_any (λ (x : ℕ × List Val). is_stray T D x.0) rs) (as_message (now_at T D r.0)) (named T D rs))
+        ∙ one_named (list_any (λ (x : ℕ × List Val). is_unclear T D x.0) rs) (as_message (now_at T D r.0)) (named T D rs))
   ]
 
 -- a search that is counted, once its messages are
@@ -109,8 +109,8 @@ counted_of s D c n = Ok (with_context s c (with_counts n.0 n.1 false c.props) D)
 -- what comes of the count comes of the rows
 pub from_tally : {E : Type 0} (view : E → Changed) (T : Tree) (D : Changed) (s : ℕ) (c : Ctx) (ids : List ℕ) (rows : List (ℕ × List Val)) (r : Result E Stop) → ids ≡ row_ids rows
     → Says view (tally T D ids >>= counted_of s D c) r
-    → Says view (unless_stray T D rows >>= λ u. Ok (with_context s c (with_counts (length (named T D rows)) (length (unread (named T D rows))) false c.props) D)) r
-from_tally view T D s c ids rows r same h = pick (unless_stray T D rows) (subst (λ a. Says view (a >>= counted_of s D c) r) (ap (tally T D) same ∙ tally_is T D rows) h)
+    → Says view (unless_unclear T D rows >>= λ u. Ok (with_context s c (with_counts (length (named T D rows)) (length (unread (named T D rows))) false c.props) D)) r
+from_tally view T D s c ids rows r same h = pick (unless_unclear T D rows) (subst (λ a. Says view (a >>= counted_of s D c) r) (ap (tally T D) same ∙ tally_is T D rows) h)
   where
     pick : (a : Answer (Unit {0})) → Says view ((a >>= λ u. Ok (length (named T D rows), length (unread (named T D rows)))) >>= counted_of s D c) r
         → Says view (a >>= λ u. Ok (with_context s c (with_counts (length (named T D rows)) (length (unread (named T D rows))) false c.props) D)) r

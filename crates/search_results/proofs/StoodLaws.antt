@@ -34,7 +34,7 @@ always (Ok x) = tt
 always (Err e) = tt
 
 module _ (T : Tree) where
-  now_nothing : (q : ℕ) → now_at T nothing q ≡ object_at T q
+  pub now_nothing : (q : ℕ) → now_at T nothing q ≡ object_at T q
   now_nothing q = ap (λ (r : Option (Option Object)). newest r (object_at T q)) (map.get-empty nat_cmp q)
 
   -- a message was there

@@ -1,14 +1,15 @@
 //! How many messages rows name.
 ghost use Rattle.std.specs.Prelude.{◌≡◌, ◌≤◌, ◌<◌, ◌+◌, IfErr};
-ghost use Rattle.mail_tree.specs.Flags.{AreFlags};
-ghost use Rattle.mail_tree.specs.Tree.{Shown, Tree, object_at};
+ghost use Rattle.mail_tree.specs.Knowing.{Knows};
+ghost use Rattle.mail_tree.specs.Tree.{Shown, Tree};
 ghost use Rattle.mail_draft.specs.Answers.{IsCaused, Looks, Says};
 ghost use Rattle.mail_draft.specs.Drafts.{changed_of};
-ghost use Rattle.search_results.specs.Counting.{flag_at, kept_flag, pair_of, tally, with_flag};
+ghost use Rattle.search_results.specs.Counting.{flag_at, found_at, kept_flag, message_told, none_if_refused, pair_of, tally, with_flag};
 
-use mail_draft::{Draft, Stop, content_at, flag_of, glance_of, number_told};
-use mail_tree::Flags;
-use mapi_values::tags::PID_TAG_MESSAGE_FLAGS;
+use mail_draft::{Draft, Stop, flag_of};
+use mail_messages::message_in;
+use mail_objects::{Mail, Object};
+use mail_tree::{Known, Places};
 use node_port::NodeReader;
 use pst_base::Nid;
 use pst_outside::Outside;
@@ -21,41 +22,89 @@ pub(crate) struct Tally {
     pub(crate) unread: u64,
 }
 
-/// Whether the message whose node stands at an id is unread, or `None` where no node stands there. Its subnodes aren't looked at.
+/// No message, where it was refused to find one. Any other stop stays.
+fn none_if_refused(stop: Stop) -> Result<Option<Mail>, Stop>
+    ensures { result ≡ none_if_refused stop }
+{
+    match stop {
+        Stop::Refused(_) => Ok(None),
+        stop => Err(stop),
+    }
+}
+
+/// The message at an id, or `None` where the tree has none there: a node may stand there that no folder lists.
+#[tactic(auto, using(crate::proofs::FlagLaws::found_ok, crate::proofs::FlagLaws::found_stop))]
+fn found_message<W: Outside, K: NodeReader<W>>(
+    alloc: Global,
+    keeper: &mut K,
+    w: &mut W,
+    places: &Places,
+    nid: Nid,
+) -> Result<Option<Mail>, Stop>
+    ensures answer { (T : Tree) → Shown (K.holds keeper.old (W.view w.old)) (K.last keeper.old) T → T.places ≡ places.now → Says (λ m. m) (found_at T nid.bits) result }
+    ensures looks { Looks (K.holds keeper.old (W.view w.old)) (K.holds keeper.new (W.view w.new)) (K.last keeper.old) (K.last keeper.new) (K.room keeper.old) (K.room keeper.new) (W.view w.old) (W.view w.new) }
+    ensures cause { IfErr result (IsCaused K.has_disk (W.view w.old).disk_faults (W.view w.new).disk_faults) }
+{
+    match message_in(alloc, keeper, w, places, nid) {
+        Ok(mail) => Ok(Some(mail)),
+        Err(stop) => none_if_refused(stop),
+    }
+}
+
+/// Whether the tree has a message at an id. The nodes are asked only where nothing is known of it.
+#[tactic(auto, using(crate::proofs::FlagLaws::known_told, crate::proofs::FlagLaws::told_found, crate::proofs::FlagLaws::told_stop))]
+pub fn is_message<W: Outside, K: NodeReader<W>>(
+    alloc: Global,
+    keeper: &mut K,
+    w: &mut W,
+    known: &Known,
+    nid: Nid,
+) -> Result<bool, Stop>
+    ensures answer { (T : Tree) → Shown (K.holds keeper.old (W.view w.old)) (K.last keeper.old) T → Knows T known.now → Says (λ b. b) (message_told T nid.bits) result }
+    ensures looks { Looks (K.holds keeper.old (W.view w.old)) (K.holds keeper.new (W.view w.new)) (K.last keeper.old) (K.last keeper.new) (K.room keeper.old) (K.room keeper.new) (W.view w.old) (W.view w.new) }
+    ensures cause { IfErr result (IsCaused K.has_disk (W.view w.old).disk_faults (W.view w.new).disk_faults) }
+{
+    if known.flags.get(nid.bits).is_some() {
+        return Ok(true);
+    }
+    let found = found_message(alloc, keeper, w, &known.places, nid)?;
+    Ok(found.is_some())
+}
+
+/// Whether the message at an id is unread, or `None` where the tree has none there.
+#[tactic(auto, using(crate::proofs::FlagLaws::flag_found, crate::proofs::FlagLaws::flag_stop))]
 fn read_flag<W: Outside, K: NodeReader<W>>(
     alloc: Global,
     keeper: &mut K,
     w: &mut W,
+    places: &Places,
     nid: Nid,
 ) -> Result<Option<bool>, Stop>
-    ensures answer { (T : Tree) → Shown (K.holds keeper.old (W.view w.old)) (K.last keeper.old) T → Says (λ f. f) (kept_flag T nid.bits) result }
+    ensures answer { (T : Tree) → Shown (K.holds keeper.old (W.view w.old)) (K.last keeper.old) T → T.places ≡ places.now → Says (λ f. f) (kept_flag T nid.bits) result }
     ensures looks { Looks (K.holds keeper.old (W.view w.old)) (K.holds keeper.new (W.view w.new)) (K.last keeper.old) (K.last keeper.new) (K.room keeper.old) (K.room keeper.new) (W.view w.old) (W.view w.new) }
     ensures cause { IfErr result (IsCaused K.has_disk (W.view w.old).disk_faults (W.view w.new).disk_faults) }
 {
-    match content_at(alloc, keeper, w, nid)? {
-        Some(node) => {
-            let flags = glance_of(alloc, &node, PID_TAG_MESSAGE_FLAGS.id)?;
-            Ok(Some(number_told(&flags) % 2 != 1))
-        }
+    match found_message(alloc, keeper, w, places, nid)? {
+        Some(mail) => Ok(flag_of(&Some(Object::Message(mail)))),
         None => Ok(None),
     }
 }
 
-/// Whether the message that stands at an id in the nodes is unread, or `None` where no node stands there. The node is read only where nothing is known of it.
+/// Whether the message that the nodes have at an id is unread, or `None` where the tree has none there. The nodes are asked only where nothing is known of it.
 fn kept_flag<W: Outside, K: NodeReader<W>>(
     alloc: Global,
     keeper: &mut K,
     w: &mut W,
-    flags: &Flags,
+    known: &Known,
     nid: Nid,
 ) -> Result<Option<bool>, Stop>
-    ensures answer { (T : Tree) → Shown (K.holds keeper.old (W.view w.old)) (K.last keeper.old) T → AreFlags (object_at T) flags.now → Says (λ f. f) (kept_flag T nid.bits) result }
+    ensures answer { (T : Tree) → Shown (K.holds keeper.old (W.view w.old)) (K.last keeper.old) T → Knows T known.now → Says (λ f. f) (kept_flag T nid.bits) result }
     ensures looks { Looks (K.holds keeper.old (W.view w.old)) (K.holds keeper.new (W.view w.new)) (K.last keeper.old) (K.last keeper.new) (K.room keeper.old) (K.room keeper.new) (W.view w.old) (W.view w.new) }
     ensures cause { IfErr result (IsCaused K.has_disk (W.view w.old).disk_faults (W.view w.new).disk_faults) }
 {
-    match flags.get(nid.bits) {
+    match known.flags.get(nid.bits) {
         Some(unread) => Ok(Some(unread)),
-        None => read_flag(alloc, keeper, w, nid),
+        None => read_flag(alloc, keeper, w, &known.places, nid),
     }
 }
 
@@ -65,16 +114,16 @@ fn flag_at<W: Outside, K: NodeReader<W>>(
     keeper: &mut K,
     w: &mut W,
     draft: &Draft,
-    flags: &Flags,
+    known: &Known,
     nid: Nid,
 ) -> Result<Option<bool>, Stop>
-    ensures answer { (T : Tree) → Shown (K.holds keeper.old (W.view w.old)) (K.last keeper.old) T → AreFlags (object_at T) flags.now → Says (λ f. f) (flag_at T (changed_of draft.now) nid.bits) result }
+    ensures answer { (T : Tree) → Shown (K.holds keeper.old (W.view w.old)) (K.last keeper.old) T → Knows T known.now → Says (λ f. f) (flag_at T (changed_of draft.now) nid.bits) result }
     ensures looks { Looks (K.holds keeper.old (W.view w.old)) (K.holds keeper.new (W.view w.new)) (K.last keeper.old) (K.last keeper.new) (K.room keeper.old) (K.room keeper.new) (W.view w.old) (W.view w.new) }
     ensures cause { IfErr result (IsCaused K.has_disk (W.view w.old).disk_faults (W.view w.new).disk_faults) }
 {
     match draft.get(nid) {
         Some(object) => Ok(flag_of(object)),
-        None => kept_flag(alloc, keeper, w, flags, nid),
+        None => kept_flag(alloc, keeper, w, known, nid),
     }
 }
 
@@ -105,10 +154,10 @@ pub(crate) fn tallied<W: Outside, K: NodeReader<W>>(
     keeper: &mut K,
     w: &mut W,
     draft: &Draft,
-    flags: &Flags,
+    known: &Known,
     ids: &[u32],
 ) -> Result<Tally, Stop>
-    ensures answer { (T : Tree) → Shown (K.holds keeper.old (W.view w.old)) (K.last keeper.old) T → AreFlags (object_at T) flags.now → Says pair_of (tally T (changed_of draft.now) ids.now) result }
+    ensures answer { (T : Tree) → Shown (K.holds keeper.old (W.view w.old)) (K.last keeper.old) T → Knows T known.now → Says pair_of (tally T (changed_of draft.now) ids.now) result }
     ensures looks { Looks (K.holds keeper.old (W.view w.old)) (K.holds keeper.new (W.view w.new)) (K.last keeper.old) (K.last keeper.new) (K.room keeper.old) (K.room keeper.new) (W.view w.old) (W.view w.new) }
     ensures cause { IfErr result (IsCaused K.has_disk (W.view w.old).disk_faults (W.view w.new).disk_faults) }
 {
@@ -117,7 +166,7 @@ pub(crate) fn tallied<W: Outside, K: NodeReader<W>>(
         unread: 0,
     };
     for id in ids {
-        let flag = flag_at(alloc, keeper, w, draft, flags, Nid { bits: *id })?;
+        let flag = flag_at(alloc, keeper, w, draft, known, Nid { bits: *id })?;
         count = with_flag(count, flag);
     }
     Ok(count)

@@ -17,4 +17,5 @@ mod settling;
 mod touched;
 
 pub use concluding::conclude;
+pub use counting::is_message;
 pub use results::{results_table, with_results};

@@ -11,7 +11,7 @@ ghost use Rattle.search_results.specs.Following.{work_by};
 
 use crate::following::follow;
 use crate::relisting::{relisted, some_gone, takes_row, without_gone};
-use crate::results::{results_table, with_list};
+use crate::results::{results_table, with_results};
 use crate::touched::TouchedMessage;
 use mail_draft::{Draft, Stop, table_at};
 use mail_searches::OwnSearch;
@@ -46,7 +46,7 @@ fn settled_running<W: Outside, K: NodeReader<W>, L: Ledger>(
     }
     let node = table_at(alloc, keeper, w, &draft, results_table(search.nid))?;
     let list = relisted(alloc, node, touches, followed.deltas.as_slice())?;
-    with_list(alloc, keeper, w, draft, &known.flags, search.nid, list)
+    with_results(alloc, keeper, w, draft, known, search.nid, list)
 }
 
 /// A search that isn't running after messages were touched: it loses the rows of those that are there no more.
@@ -74,7 +74,7 @@ fn settled_halted<W: Outside, K: NodeReader<W>>(
         return Ok(draft);
     }
     let list = without_gone(node, touches);
-    with_list(alloc, keeper, w, draft, &known.flags, search.nid, list)
+    with_results(alloc, keeper, w, draft, known, search.nid, list)
 }
 
 /// A search after messages were touched.

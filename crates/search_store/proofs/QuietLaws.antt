@@ -25,7 +25,7 @@ use Rattle.mail_tree.specs.Tree.{Tree}
 use Rattle.mail_tree.specs.Values.{folder_props, name_of}
 use Rattle.mail_searches.specs.Criteria.{Coming, built_unless, can_hold, criteria_in, given_criteria, given_restriction, given_scope, made_search, making_search, making_search_in, next_search_index, overfills, search_listing, search_place, setting_criteria, staying, told_criteria, unless_listless, unless_other, with_criteria, with_search}
 use Rattle.mail_searches.specs.Moving.{moved_search, removed_search, removing_search, renamed_search, without_search}
-use Rattle.mail_searches.specs.Relisting.{Around, Touch, around, concerns, counted_search, relisted, settled_search, settled_searches, takes_row, unless_stray, with_results}
+use Rattle.mail_searches.specs.Relisting.{Around, Touch, around, concerns, counted_search, relisted, settled_search, settled_searches, takes_row, unless_unclear, with_results}
 use Rattle.mail_searches.specs.Searches.{Search, criteria_node, results, runs, search_id, search_of}
 use Rattle.mail_searches.specs.Searching.{Searching, is_own}
 use Rattle.mail_searches.specs.Step.{concluded, if_within, listing_in, outcome, plain_outcome}
@@ -40,7 +40,7 @@ module _ (T : Tree) where
   unfolding with_results counted_search
   writes_results s rows t D =
       let E = with_object (results s) (Some (with_rows rows t)) D in
-      if_then WritesNodes WritesNodes (counted_search T s rows E) (mirrored T s) (if_any WritesNodes (context_at T E s) _ (λ c. if_any WritesNodes (unless_stray T E rows) _ (λ u. some_put E.objects s _))) (λ E' some. mirrors T s E' some)
+      if_then WritesNodes WritesNodes (counted_search T s rows E) (mirrored T s) (if_any WritesNodes (context_at T E s) _ (λ c. if_any WritesNodes (unless_unclear T E rows) _ (λ u. some_put E.objects s _))) (λ E' some. mirrors T s E' some)
 
   -- changes grow, or stay
   abbrev Grows : Changed → Changed → Type 0
@@ -88,7 +88,7 @@ module _ (T : Tree) where
 
   right_listed : (s : ℕ) → IfOk (search_listing T s) (Right T)
   unfolding search_listing
-  right_listed s = then_any T (table_at T nothing (results s)) _ (λ t. then_any T (unless_stray T nothing t.table.rows) _ (λ u none. (refl, refl)))
+  right_listed s = then_any T (table_at T nothing (results s)) _ (λ t. then_any T (unless_unclear T nothing t.table.rows) _ (λ u none. (refl, refl)))
 
   right_renamed : (s : ℕ) (name : List ℕ) → IfOk (renamed_search T s name) (Right T)
   unfolding renamed_search

@@ -11,4 +11,4 @@ returns-in_err-draft-clause-answer g c = λ X s k m. stopped _ _ _ _ c.from_resi
 pub returns-clause-answer : goal.returns-clause-answer
 returns-clause-answer g c = λ X s k m.
     set_on _ X _ _ c.args.criteria _ _ _ _ _ c.in_ok-draft.ensures.set c.in_ok-draft.ensures.says c.in_ok-draft.ensures.changed
-    c.new-own.ensures c.is_stopped-stopped.ensures (c.setting.ensures.answer X s k.places m.searches)
+    c.new-own.ensures c.is_stopped-stopped.ensures (c.setting.ensures.answer X s k m.searches)

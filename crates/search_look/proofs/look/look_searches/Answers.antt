@@ -9,18 +9,18 @@ use Rattle.search_look.proofs.look.look_searches.Goals as goal
 pub loop-place-init : goal.loop-place-init
 loop-place-init g c = record {
   looks = looks_same _ _ _ _;
-  part = λ N held listed known. rw (c.new-own.ensures, c.new-searches.ensures, c.as_slice-place-items.ensures) (none_part N c.args.known.now.places);
+  part = λ N held. rw (c.new-own.ensures, c.new-searches.ensures, c.as_slice-place-items.ensures) (none_part N c.args.places.now);
 }
 
 pub returns-in_err-look_place-clause-found : goal.returns-in_err-look_place-clause-found
-returns-in_err-look_place-clause-found g c = λ N held tree listed known.
+returns-in_err-look_place-clause-found g c = λ N held tree.
     let I = c.loop-place.invariant in
     let items = c.as_slice-place-items.result.now in
     let at = c.loop-place.place-index in
-    finds_searches N c.args.known.now.places c.in_err-look_place.field-0.0 c.from_residual.result c.from_residual.ensures.1
-    (c.in_err-look_place.ensures.found N c.args.known.now.places (drop (at + 1) items) (I.looks.stays N held) listed known
+    finds_searches N c.args.places.now c.in_err-look_place.field-0.0 c.from_residual.result c.from_residual.ensures.1
+    (c.in_err-look_place.ensures.found N c.args.places.now (drop (at + 1) items) (I.looks.stays N held)
     (subst (λ places. IsSome (find_place ((get_or items at (place 0 0)).nid.bits) places)) c.as_slice-place-items.ensures (here_place items at (place 0 0) c.loop-place-test.true))
-    (next_part N c.args.known.now.places items at (place 0 0) c.loop-place.own c.loop-place.searches c.loop-place-test.true (I.part N held listed known)))
+    (next_part N c.args.places.now items at (place 0 0) c.loop-place.own c.loop-place.searches c.loop-place-test.true (I.part N held)))
 
 pub returns-in_err-look_place-clause-stops : goal.returns-in_err-look_place-clause-stops
 returns-in_err-look_place-clause-stops g c =
@@ -30,15 +30,15 @@ returns-in_err-look_place-clause-stops g c =
 pub loop-place-preserved : goal.loop-place-preserved
 loop-place-preserved g c = record {
   looks = looks_then c.loop-place.invariant.looks c.in_ok-look_place.ensures.looks;
-  part = λ N held listed known.
+  part = λ N held.
       let I = c.loop-place.invariant in
       let items = c.as_slice-place-items.result.now in
       let at = c.loop-place.place-index in
-      c.in_ok-look_place.ensures.found N c.args.known.now.places (drop (at + 1) items) (I.looks.stays N held) listed known
+      c.in_ok-look_place.ensures.found N c.args.places.now (drop (at + 1) items) (I.looks.stays N held)
       (subst (λ places. IsSome (find_place ((get_or items at (place 0 0)).nid.bits) places)) c.as_slice-place-items.ensures (here_place items at (place 0 0) c.loop-place-test.true))
-      (next_part N c.args.known.now.places items at (place 0 0) c.loop-place.own c.loop-place.searches c.loop-place-test.true (I.part N held listed known));
+      (next_part N c.args.places.now items at (place 0 0) c.loop-place.own c.loop-place.searches c.loop-place-test.true (I.part N held));
 }
 
 pub returns-clause-found : goal.returns-clause-found
-returns-clause-found g c = λ N held tree listed known.
-    last_part N c.args.known.now.places c.as_slice-place-items.result.now c.loop-place.place-index c.loop-place.own c.loop-place.searches c.loop-place-test.false (c.loop-place.invariant.part N held listed known)
+returns-clause-found g c = λ N held tree.
+    last_part N c.args.places.now c.as_slice-place-items.result.now c.loop-place.place-index c.loop-place.own c.loop-place.searches c.loop-place-test.false (c.loop-place.invariant.part N held)

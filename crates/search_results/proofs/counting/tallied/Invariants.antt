@@ -1,6 +1,6 @@
 use Rattle.std.proofs.Common.{◌≤◌}
-use Rattle.mail_tree.specs.Flags.{AreFlags}
-use Rattle.mail_tree.specs.Tree.{Shown, Tree, object_at}
+use Rattle.mail_tree.specs.Knowing.{Knows}
+use Rattle.mail_tree.specs.Tree.{Shown, Tree}
 use Rattle.mail_draft.specs.Answers.{Looks}
 use Rattle.mail_draft.specs.Drafts.{changed_of}
 use Rattle.search_results.specs.Counting.{pair_of}
@@ -14,5 +14,5 @@ invariant-loop-id g l = record {
   fewer : l.count.unread ≤ l.count.messages;
   looks : Looks (g.K.NodeReader.holds l.fn.keeper (g.W.Outside.view l.fn.w)) (g.K.NodeReader.holds l.keeper (g.W.Outside.view l.w)) (g.K.NodeReader.last l.fn.keeper)
       (g.K.NodeReader.last l.keeper) (g.K.NodeReader.room l.fn.keeper) (g.K.NodeReader.room l.keeper) (g.W.Outside.view l.fn.w) (g.W.Outside.view l.w);
-  counts : (T : Tree) → Shown (g.K.NodeReader.holds l.fn.keeper (g.W.Outside.view l.fn.w)) (g.K.NodeReader.last l.fn.keeper) T → AreFlags (object_at T) l.flags → Counts T (changed_of l.draft) l.ids l.id-index (pair_of l.count);
+  counts : (T : Tree) → Shown (g.K.NodeReader.holds l.fn.keeper (g.W.Outside.view l.fn.w)) (g.K.NodeReader.last l.fn.keeper) T → Knows T l.known → Counts T (changed_of l.draft) l.ids l.id-index (pair_of l.count);
 }

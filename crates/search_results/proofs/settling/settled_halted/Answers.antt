@@ -35,9 +35,9 @@ returns-then-not-takes_row-clause-answer g c = λ T s known.
 pub returns-clause-answer : goal.returns-clause-answer
 returns-clause-answer g c = λ T s known.
     let D = changed_of c.args.draft in
-    settles_halted T (places_around c.args.known.now.places c.args.after.now) c.args.touches.now c.args.search.now D c.in_ok-node.node c.without_gone-list.result c.with_list.result c.requires
+    settles_halted T (places_around c.args.known.now.places c.args.after.now) c.args.touches.now c.args.search.now D c.in_ok-node.node c.without_gone-list.result c.with_results.result c.requires
     (sym c.some_gone.ensures ∙ c.if-not-some_gone.false)
     (says_at (λ t. t) (λ q. table_at T D q) _ _ _ (c.results_table.ensures ∙ ap (λ (x : Search). results x.nid) c.search.view_is) (c.in_ok-node.ensures.answer T s))
     (ap (λ t. takes_row t.rows c.args.touches.now) (sym c.table.ensures.table) ∙ sym c.takes_row.ensures ∙ c.if-not-takes_row.false) c.without_gone-list.ensures
-    (subst (λ (x : Search). Says changed_of (with_results T x.nid c.without_gone-list.result.table.rows c.without_gone-list.result D) c.with_list.result) c.search.view_is
-    (c.with_list.ensures.answer T (shown_still T c.in_ok-node.ensures.looks s) known.flags))
+    (subst (λ (x : Search). Says changed_of (with_results T x.nid c.without_gone-list.result.table.rows c.without_gone-list.result D) c.with_results.result) c.search.view_is
+    (c.with_results.ensures.answer T (shown_still T c.in_ok-node.ensures.looks s) known))

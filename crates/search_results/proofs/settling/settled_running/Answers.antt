@@ -27,9 +27,9 @@ returns-in_err-node-clause-answer g c = λ T s known.
 pub returns-clause-answer : goal.returns-clause-answer
 returns-clause-answer g c = λ T s known.
     let D = changed_of c.args.draft in
-    settles_running T (places_around c.args.known.now.places c.args.after.now) c.args.touches.now c.args.search.now D c.in_ok-node.node c.in_ok-list.list _ c.with_list.result c.requires
+    settles_running T (places_around c.args.known.now.places c.args.after.now) c.args.touches.now c.args.search.now D c.in_ok-node.node c.in_ok-list.list _ c.with_results.result c.requires
     (sym c.in_ok-followed.ensures.concerns ∙ c.if-not-followed.false)
     (says_at (λ t. t) (λ q. table_at T D q) _ _ _ (c.results_table.ensures ∙ ap (λ (x : Search). results x.nid) c.search.view_is) (c.in_ok-node.ensures.answer T s))
     (c.as_slice.ensures.value ∙ c.in_ok-followed.ensures.deltas) c.in_ok-list.ensures
-    (subst (λ (x : Search). Says changed_of (with_results T x.nid c.in_ok-list.list.table.rows c.in_ok-list.list D) c.with_list.result) c.search.view_is
-    (c.with_list.ensures.answer T (shown_still T c.in_ok-node.ensures.looks s) known.flags))
+    (subst (λ (x : Search). Says changed_of (with_results T x.nid c.in_ok-list.list.table.rows c.in_ok-list.list D) c.with_results.result) c.search.view_is
+    (c.with_results.ensures.answer T (shown_still T c.in_ok-node.ensures.looks s) known))
