@@ -3,7 +3,9 @@ use Rattle.std.proofs.Common.{◌≡◌, ◌⊎◌, ◌∙◌, ◌++◌, ◌≤�
 use Rattle.std.proofs.lemmas.List.{append-nil}
 use Rattle.pst_outside.specs.World.{Image, SameDisk, World}
 use Rattle.pst_outside.specs.Calls.{NeverFall, Rose, Settled, Untouched}
+use Rattle.pst_outside.proofs.Moments.{at_end, tells_now}
 use Rattle.pst_commit.specs.Laws.{stands_on}
+use Rattle.gate_file.specs.Gate.{IsShut}
 use Rattle.lays_kept.specs.Stands.{Stands}
 use Rattle.line_server.proofs.Hearing.{falls_along}
 use Rattle.empty_file.specs.Empty.{HasBytes}
@@ -17,7 +19,7 @@ use Rattle.store_session.specs.declared.session.SessionEnd.TheVariants as ends
 use Rattle.file_session.specs.FileRun.{FileRunEnds, ReadsAs, front_of}
 use Rattle.file_session.specs.declared.make.FileMade.{FileMade}
 use Rattle.file_session.specs.declared.make.FileMade.TheVariants as made
-use Rattle.call_forms.specs.Files.{EndsRefused, EndsWell, NewEnds, NoneFailed, RunEnds, status_of_end}
+use Rattle.call_forms.specs.Files.{EndsRefused, EndsWell, IsNewLine, NewEnds, NoneFailed, RunEnds, status_of_end}
 use Rattle.call_forms.specs.Info.{Says}
 use Rattle.call_forms.specs.Statuses.{EndsAs}
 use Rattle.call_forms.specs.Texts.{file_line, made_line, not_empty_line}
@@ -124,15 +126,29 @@ reads_on {a = a} {b = b} {X = X} same h =
     let held = stands_on (front_of a) a b same s.nodes X.tree.last s.held in
     (record { nodes = s.nodes; held = subst (λ f. Stands f b s.nodes X.tree.last) (sym (front_on same)) held; at = s.at; counters = s.counters }, h.1)
 
+-- nothing is pending behind calls that keep the disk, where nothing was
+settled_after : {mid new : World} → Settled mid → KeepsDisk mid new → Settled new
+settled_after {mid} {new} settled keeps c left =
+    let same : SameDisk mid.here c = elim (at_end keeps.disk c left) [ inl here ↦ here | inr was ↦ subst (λ i. SameDisk i c) (settled was.0 was.1) was.2 ] in
+    let here : SameDisk mid.here new.here = keeps.same (tells_now new c left) in
+    let main : c.main ≡ new.here.main = same.main ∙ sym here.main in
+    let side : c.side ≡ new.here.side = same.side ∙ sym here.side in
+    let copy : c.copy ≡ new.here.copy = same.copy ∙ sym here.copy in
+    let said : c.said ≡ new.here.said = new.said c left in
+    λ i. record { main = main i; side = side i; copy = copy i; said = said i }
+
 module _ (name : List ℕ) {old mid : World} (counts : NeverFall old mid) (told : mid.tells → old.tells) (input : mid.tells → mid.input ≡ old.input) where
   -- the store was made, and then that was said
-  pub new_made : {new : World} {status : Status} → (mid.tells → (X : Searching) × StartsSearching name X × ReadsAs true (front_of mid.here) mid.here X) → (Settled old → mid.tells → mid.here.said ≡ old.here.said)
+  pub new_made : {new : World} {status : Status} → (mid.tells → (X : Searching) × StartsSearching name X × ReadsAs true (front_of mid.here) mid.here X) → (Settled old → Settled mid × (mid.tells → IsShut mid.here.side)) → (Settled old → mid.tells → mid.here.said ≡ old.here.said)
       → (old.tells → HasBytes old.here → ⊥) → Says made_line Done mid new status → NewEnds name old new status
-  new_made {new} {status} made said none says = record {
+  new_made {new} {status} made rests said none says = record {
     counts = falls_along counts says.keeps.counts;
     input = λ t. says.input t ∙ input (says.keeps.told t);
     made = λ d t. let m = made (says.keeps.told t) in (m.0, m.1, reads_on (says.keeps.same t) m.2);
+    settled = λ settled d. settled_after (rests settled).0 says.keeps;
+    shut = λ settled d t. subst IsShut (sym (says.keeps.same t).side) ((rests settled).1 (says.keeps.told t));
     said = λ settled d t. says.whole (λ o. done_output (sym d ∙ o)) t ∙ ap (λ x. x ++ made_line) (said settled (says.keeps.told t));
+    front = λ settled t. let f = says.front t in (made_line, f.0, inl refl, f.1 ∙ ap (λ x. x ++ take f.0 made_line) (said settled (says.keeps.told t)));
     refused = λ r t. absurd (elim says.failed [ inl d ↦ done_refused (sym d ∙ r) | inr f ↦ refused_output (sym r ∙ f.0) ]);
     kept = λ t has. absurd (none t has);
     disk_failed = λ d. absurd (elim says.failed [ inl m ↦ done_disk (sym m ∙ d) | inr f ↦ disk_output (sym d ∙ f.0) ]);
@@ -147,7 +163,13 @@ new_refused name {old} {mid} {new} {status} call has says = record {
   counts = falls_along call.counts says.keeps.counts;
   input = λ t. says.input t ∙ call.stays.input (says.keeps.told t);
   made = λ d t. absurd (not_done d);
+  settled = λ settled d. absurd (not_done d);
+  shut = λ settled d t. absurd (not_done d);
   said = λ settled d t. absurd (not_done d);
+  front = λ settled t.
+      let f = says.front t in
+      let same = call.stays.here (says.keeps.told t) in
+      (not_empty_line, f.0, inr (subst HasBytes same (has (says.keeps.told t)), refl), f.1 ∙ ap (λ (i : Image). i.said ++ take f.0 not_empty_line) same);
   refused = λ r t. (
     subst HasBytes (call.stays.here (says.keeps.told t)) (has (says.keeps.told t)),
     says.whole (λ o. refused_output (sym r ∙ o)) t ∙ ap (λ (i : Image). i.said ++ not_empty_line) (call.stays.here (says.keeps.told t)),
@@ -162,14 +184,21 @@ new_refused name {old} {mid} {new} {status} call has says = record {
     not_done : status ≡ Done → ⊥
     not_done d = elim says.failed [ inl r ↦ done_refused (sym d ∙ r) | inr f ↦ done_output (sym d ∙ f.0) ]
 
-module _ (name : List ℕ) {old new : World} (counts : NeverFall old new) (input : new.tells → new.input ≡ old.input) (keeps : old.tells → HasBytes old.here → KeepsDisk old new) where
+module _ (name : List ℕ) {old new : World} (counts : NeverFall old new) (input : new.tells → new.input ≡ old.input) (said : Settled old → new.tells → new.here.said ≡ old.here.said) (keeps : old.tells → HasBytes old.here → KeepsDisk old new) where
+  -- nothing was said
+  silent : Settled old → new.tells → (text : List ℕ) × (k : ℕ) × IsNewLine old.here text × (new.here.said ≡ old.here.said ++ take k text)
+  silent settled t = (made_line, 0, inl refl, said settled t ∙ sym (append-nil old.here.said))
+
   -- the disk failed
   pub new_failed : Rose old.disk_faults new.disk_faults → NewEnds name old new Disk
   new_failed rose = record {
     counts = counts;
     input = input;
     made = λ d t. absurd (done_disk (sym d));
+    settled = λ settled d. absurd (done_disk (sym d));
+    shut = λ settled d t. absurd (done_disk (sym d));
     said = λ settled d t. absurd (done_disk (sym d));
+    front = silent;
     refused = λ r t. absurd (refused_disk (sym r));
     kept = λ t has. (keeps t has, λ d. done_disk (sym d));
     disk_failed = λ d. rose;
@@ -184,7 +213,10 @@ module _ (name : List ℕ) {old new : World} (counts : NeverFall old new) (input
     counts = counts;
     input = input;
     made = λ d t. absurd (memory_done d);
+    settled = λ settled d. absurd (memory_done d);
+    shut = λ settled d t. absurd (memory_done d);
     said = λ settled d t. absurd (memory_done d);
+    front = silent;
     refused = λ r t. absurd (memory_refused r);
     kept = λ t has. (keeps t has, memory_done);
     disk_failed = λ d. absurd (memory_disk d);
@@ -199,7 +231,10 @@ new_changed name {old} {new} {at} counts input untold none = record {
   counts = counts;
   input = input;
   made = λ d t. absurd (untold t);
+  settled = λ settled d. absurd (done_changed at (sym d));
+  shut = λ settled d t. absurd (untold t);
   said = λ settled d t. absurd (untold t);
+  front = λ settled t. absurd (untold t);
   refused = λ r t. absurd (untold t);
   kept = λ t has. absurd (none t has);
   disk_failed = λ d. absurd (disk_changed at (sym d));
@@ -210,7 +245,7 @@ new_changed name {old} {new} {at} counts input untold none = record {
 
 -- nothing was asked of the world, as there was no memory for the name
 pub new_unread : (name : List ℕ) (world : World) → NewEnds name world world Memory
-new_unread name world = new_lacks name (keeps_started world).counts (λ t. refl) (λ t has. keeps_started world)
+new_unread name world = new_lacks name (keeps_started world).counts (λ t. refl) (λ settled t. refl) (λ t has. keeps_started world)
 
 -- ---- what the making of a store answers
 
@@ -253,24 +288,24 @@ end_not_memory : (ib stored computed : ℕ) → ends.Changed ib stored computed 
 end_not_memory ib stored computed is = cc
 
 -- nothing changes under a session
-end_unchanged : (old new : World) (ib stored computed : ℕ) → FileRunEnds (IsMade []) old new (ends.Changed ib stored computed) → ⊥
-end_unchanged old new ib stored computed (inl unopened) = elim unopened.ends [ inl e ↦ end_not_disk ib stored computed e | inr e ↦ end_not_memory ib stored computed e ]
-end_unchanged old new ib stored computed (inr opened) = (opened.session false opened.reads).not_changed ib stored computed refl
+end_unchanged : (old new : World) (ib stored computed : ℕ) → Settled old → FileRunEnds (IsMade []) old new (ends.Changed ib stored computed) → ⊥
+end_unchanged old new ib stored computed settled (inl unopened) = elim unopened.ends [ inl e ↦ end_not_disk ib stored computed e | inr e ↦ end_not_memory ib stored computed e ]
+end_unchanged old new ib stored computed settled (inr opened) = (opened.session settled false opened.reads).not_changed ib stored computed refl
 
 -- a session that ended so while no device failed is done, or it is at the last line, or found no memory
-ends_calmly : (old new : World) (end : SessionEnd) (status : Status) → status ≡ status_of_end end → HasCause true old new end → FileRunEnds (IsMade []) old new end → NoneFailed old new
+ends_calmly : (old new : World) (end : SessionEnd) (status : Status) → Settled old → status ≡ status_of_end end → HasCause true old new end → FileRunEnds (IsMade []) old new end → NoneFailed old new
     → (status ≡ Done) ⊎ ((status ≡ Lines) ⊎ (status ≡ Memory))
-ends_calmly old new ends.Done status is cause runs none = inl is
-ends_calmly old new ends.Input status is cause runs none = absurd (none.input cause)
-ends_calmly old new ends.Output status is cause runs none = absurd (none.output cause)
-ends_calmly old new ends.Lines status is cause runs none = inr (inl is)
-ends_calmly old new ends.Disk status is cause runs none = absurd (none.disk cause.0)
-ends_calmly old new (ends.Changed ib stored computed) status is cause runs none = absurd (end_unchanged old new ib stored computed runs)
-ends_calmly old new ends.Memory status is cause runs none = inr (inr is)
+ends_calmly old new ends.Done status settled is cause runs none = inl is
+ends_calmly old new ends.Input status settled is cause runs none = absurd (none.input cause)
+ends_calmly old new ends.Output status settled is cause runs none = absurd (none.output cause)
+ends_calmly old new ends.Lines status settled is cause runs none = inr (inl is)
+ends_calmly old new ends.Disk status settled is cause runs none = absurd (none.disk cause.0)
+ends_calmly old new (ends.Changed ib stored computed) status settled is cause runs none = absurd (end_unchanged old new ib stored computed settled runs)
+ends_calmly old new ends.Memory status settled is cause runs none = inr (inr is)
 
 ends_well : (old new : World) (status : Status) → RunEnds old new status → EndsWell old new status
 ends_well old new status (inl refused) = λ settled tells places fresh none. absurd ((refused.holds tells).1 places fresh)
-ends_well old new status (inr ended) = λ settled tells places fresh none. ends_calmly old new ended.0 status ended.1 ended.2 (ended.3 settled tells) none
+ends_well old new status (inr ended) = λ settled tells places fresh none. ends_calmly old new ended.0 status settled ended.1 ended.2 (ended.3 tells) none
 
 -- the number of a status with which it comes to its end
 pub well_as : (old new : World) (number : ℕ) → EndsAs (RunEnds old new) number → EndsAs (EndsWell old new) number

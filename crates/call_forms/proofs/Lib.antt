@@ -3,6 +3,8 @@ pub mod Boxed
 pub mod Disks
 pub mod FileLaws
 pub mod InfoLaws
+pub mod LookLaws
+pub mod LookingLaws
 pub mod NodesLaws
 pub mod Orders
 pub mod ScratchLaws

@@ -1,7 +1,8 @@
 -- How `new` and `run` over a file end.
 use Rattle.std.specs.Prelude.{◌≡◌, ◌⊎◌, ℕ, true, List, [], ◌++◌, take}
-use Rattle.pst_outside.specs.World.{World}
+use Rattle.pst_outside.specs.World.{Image, World}
 use Rattle.pst_outside.specs.Calls.{NeverFall, Rose, Settled}
+use Rattle.gate_file.specs.Gate.{IsShut}
 use Rattle.empty_file.specs.Empty.{HasBytes}
 use Rattle.mail_searches.specs.Searching.{Searching, StartsSearching}
 use Rattle.file_open.specs.Opening.{IsFileRefused, ReadsFresh}
@@ -40,9 +41,9 @@ pub record EndsRefused (old new : World) (status : Status) : Type 0 where
   pub whole : status ≡ Refused → new.tells → new.here.said ≡ old.here.said ++ file_line refusal
   pub silent : status ≡ Memory → new.tells → new.here.said ≡ old.here.said
 
--- How a call of `run FILE` ends, over any world: the files were refused; or else the status has its cause, and where the world tells and nothing was pending at the start, the session over them ended as `FileRunEnds` says, each of its commits making of the file what `IsMade` says.
+-- How a call of `run FILE` ends, over any world: the files were refused; or else the status has its cause, and where the world tells, the session over them ended as `FileRunEnds` says, each of its commits making of the file what `IsMade` says.
 abbrev pub RunEnds : World → World → Status → Type 0
-RunEnds old new status = EndsRefused old new status ⊎ ((end : SessionEnd) × (status ≡ status_of_end end) × HasCause true old new end × (Settled old → new.tells → FileRunEnds (IsMade []) old new end))
+RunEnds old new status = EndsRefused old new status ⊎ ((end : SessionEnd) × (status ≡ status_of_end end) × HasCause true old new end × (new.tells → FileRunEnds (IsMade []) old new end))
 
 -- no count of faults rose
 pub record NoneFailed (old new : World) : Type 0 where
@@ -56,12 +57,19 @@ EndsWell old new status = Settled old → new.tells → (X : Searching) → Read
 
 -- ---- new
 
--- How a call of `new FILE NAME` ends, over any world. What is made is read as the tree of a new store of that name. Files that have bytes stay as they are, and only they are refused.
+-- the line that `new` says of these files where no device fails: that it is made, or that they have bytes
+abbrev pub IsNewLine : Image → List ℕ → Type 0
+IsNewLine image text = (text ≡ made_line) ⊎ (HasBytes image × (text ≡ not_empty_line))
+
+-- How a call of `new FILE NAME` ends, over any world. What is made is read as the tree of a new store of that name, with nothing pending and the gate shut, as `run` needs it. Files that have bytes stay as they are, and only they are refused.
 pub record NewEnds (name : List ℕ) (old new : World) (status : Status) : Type 0 where
   pub counts : NeverFall old new
   pub input : new.tells → new.input ≡ old.input
   pub made : status ≡ Done → new.tells → (X : Searching) × StartsSearching name X × ReadsAs true (front_of new.here) new.here X
+  pub settled : Settled old → status ≡ Done → Settled new
+  pub shut : Settled old → status ≡ Done → new.tells → IsShut new.here.side
   pub said : Settled old → status ≡ Done → new.tells → new.here.said ≡ old.here.said ++ made_line
+  pub front : Settled old → new.tells → (text : List ℕ) × (k : ℕ) × IsNewLine old.here text × (new.here.said ≡ old.here.said ++ take k text)
   pub refused : status ≡ Refused → new.tells → HasBytes old.here × (new.here.said ≡ old.here.said ++ not_empty_line)
   pub kept : old.tells → HasBytes old.here → KeepsDisk old new × (status ≡ Done → ⊥)
   pub disk_failed : status ≡ Disk → Rose old.disk_faults new.disk_faults

@@ -1,6 +1,8 @@
 pub mod Boxes
 pub mod Files
 pub mod Info
+pub mod Look
+pub mod Looking
 pub mod Mailboxes
 pub mod Nodes
 pub mod Run

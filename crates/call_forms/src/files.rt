@@ -65,6 +65,7 @@ pub fn make<W: Outside>(alloc: Global, world: &mut W, name: &Units) -> Status
             stored,
             computed,
         }),
-        FileMade::Memory => Status::Memory,
+        // A file without nodes has room and numbers for a new store. No clause says so, and a store without them isn't made.
+        FileMade::Memory | FileMade::Full { .. } | FileMade::IdsSpent => Status::Memory,
     }
 }

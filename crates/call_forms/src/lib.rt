@@ -1,6 +1,6 @@
-//! What each form of the command line does over a world: `say_info` for `info`, `say_nodes` for `nodes`, `make` for `new`, `run_lines` for `run`, and `serve_memory` for `scratch`.
+//! What each form of the command line does over a world: `say_info` for `info`, `say_nodes` for `nodes`, `make` for `new`, `run_lines` for `run`, `look_lines` for `look`, and `serve_memory` for `scratch`.
 //!
-//! Promises, over any world that tells what it holds: `say_info` says exactly what the two files' bytes are (`InfoEnds`), and `say_nodes` says the lines of the one node map that they lay, or a refusal that holds of them (`NodesEnds`). `serve_memory` answers lines as a plain tree of folders and messages does (`ScratchEnds`, `Run`, `step`). These three write nothing. `run_lines` answers lines over the tree that the files are read as, and a stop at any moment leaves files that are read as the tree after some of them, among them each whose reply had begun (`RunEnds`). `make` makes files that are read as the tree of a new store, and leaves files that have bytes as they are (`NewEnds`). Each status has its cause.
+//! Promises, over any world that tells what it holds: `say_info` says exactly what the two files' bytes are (`InfoEnds`), and `say_nodes` says the lines of the one node map that they lay, or a refusal that holds of them (`NodesEnds`). `serve_memory` answers lines as a plain tree of folders and messages does (`ScratchEnds`, `Run`, `step`). `look_lines` answers lines that only read by the tree that the files are read as, whatever its searches list (`LookEnds`, `LookRun`). These four write nothing. `run_lines` answers lines over the tree that the files are read as, and a stop at any moment leaves files that are read as the tree after some of them, among them each whose reply had begun (`RunEnds`). `make` makes files that are read as the tree of a new store, and leaves files that have bytes as they are (`NewEnds`). Each status has its cause.
 //!
 //! Leaves to others: the words of the command line (`mail_session`), the session over a file and its opening (`file_session`), and how the input is cut into lines and the replies are said (`line_server`).
 #![tactic(auto)]
@@ -10,6 +10,8 @@ mod exit;
 mod file_texts;
 mod files;
 mod info;
+mod look;
+mod looking;
 mod mailbox;
 mod nodes;
 mod nowhere;
@@ -19,5 +21,6 @@ mod texts;
 pub use exit::{ChangedAt, Exit, Status};
 pub use files::{make, run_lines};
 pub use info::say_info;
+pub use look::look_lines;
 pub use nodes::say_nodes;
 pub use scratch::serve_memory;

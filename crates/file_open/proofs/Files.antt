@@ -23,10 +23,10 @@ use Rattle.node_port.specs.declared.node.NodeRec.{NodeRec}
 use Rattle.lays_kept.specs.Stands.{AreThose, node_with, rec_of}
 use Rattle.mail_searches.specs.Searching.{Searching}
 use Rattle.node_port.specs.declared.keeper.KeepStop.TheVariants as keep
-use Rattle.store_open.specs.Opening.{ShowsFresh, StopsTree}
+use Rattle.store_open.specs.Opening.{ShowsFresh, ShowsSearches, StopsLook, StopsTree}
 use Rattle.store_open.specs.declared.stops.TreeStop.{TreeStop}
 use Rattle.store_open.specs.declared.stops.TreeStop.TheVariants as trees
-use Rattle.file_open.specs.Opening.{LaysNodes, ReadsFresh, StopsOpening, spent_in}
+use Rattle.file_open.specs.Opening.{LaysNodes, ReadsFresh, ReadsTree, StopsLooking, StopsOpening, spent_in}
 use Rattle.file_open.specs.Stops.{of_scan, of_tree}
 
 -- ---- nodes of a map
@@ -96,11 +96,9 @@ same_spent image N M last next a b =
 
 -- ---- refusals
 
-scan_excludes : (image : Image) (refusal : OpenRefusal) → IsRefused image refusal → (X : Searching) → ReadsFresh image X → ⊥
-scan_excludes image refusal (inl bad) X fresh = never (opening image.main image.side) (fresh.reads.laid).header refusal (fresh.reads.laid).opened bad
-scan_excludes image refusal (inr bad) X fresh =
-    let laid = fresh.reads.laid in
-    bad.none laid.m (subst (λ h. Lays h (file_of image) laid.m) (header_once image laid.header bad.header laid.opened bad.opened) laid.lays)
+scan_excludes : (image : Image) (refusal : OpenRefusal) → IsRefused image refusal → (N : Nodes) (last : List ℕ) → LaysNodes image N last → ⊥
+scan_excludes image refusal (inl bad) N last laid = never (opening image.main image.side) laid.header refusal laid.opened bad
+scan_excludes image refusal (inr bad) N last laid = bad.none laid.m (subst (λ h. Lays h (file_of image) laid.m) (header_once image laid.header bad.header laid.opened bad.opened) laid.lays)
 
 -- where the numbers are used up no tree is read that leaves some
 pub spent_excludes : (image : Image) (N : Nodes) (last : List ℕ) (laid : LaysNodes image N last) → spent_in image N last laid ≡ true → (X : Searching) → ReadsFresh image X → ⊥
@@ -112,7 +110,7 @@ spent_excludes image N last laid spent X fresh =
     both h = cc
 
 pub scan_stops : (image : Image) (stop : OpenStop) → StopsScan stop image → StopsOpening image (of_scan stop)
-scan_stops image (scans.Refused refusal) is = (is, scan_excludes image refusal is)
+scan_stops image (scans.Refused refusal) is = (is, λ X fresh. scan_excludes image refusal is fresh.reads.nodes X.tree.last fresh.reads.laid)
 scan_stops image scans.Fault is = tt
 scan_stops image (scans.Changed ib stored computed) is = is
 scan_stops image scans.Memory is = tt
@@ -122,6 +120,20 @@ tree_stops image N last laid (trees.Refused refusal) is = ((N, last, laid, is.0)
 tree_stops image N last laid (trees.Kept keep.Fault) is = tt
 tree_stops image N last laid (trees.Kept (keep.Changed ib stored computed)) is = is
 tree_stops image N last laid (trees.Kept keep.Memory) is = tt
+
+-- ---- refusals of a look
+
+pub scan_stops_look : (image : Image) (stop : OpenStop) → StopsScan stop image → StopsLooking image (of_scan stop)
+scan_stops_look image (scans.Refused refusal) is = (is, λ X reads. scan_excludes image refusal is reads.nodes X.tree.last reads.laid)
+scan_stops_look image scans.Fault is = tt
+scan_stops_look image (scans.Changed ib stored computed) is = is
+scan_stops_look image scans.Memory is = tt
+
+pub tree_stops_look : (image : Image) (N : Nodes) (last : List ℕ) → LaysNodes image N last → (stop : TreeStop) → StopsLook N stop → StopsLooking image (of_tree stop)
+tree_stops_look image N last laid (trees.Refused refusal) is = ((N, last, laid, is.0), λ X reads. is.1 X (subst (λ M. ShowsSearches M X) (same_nodes reads.laid laid) reads.shows))
+tree_stops_look image N last laid (trees.Kept keep.Fault) is = tt
+tree_stops_look image N last laid (trees.Kept (keep.Changed ib stored computed)) is = is
+tree_stops_look image N last laid (trees.Kept keep.Memory) is = tt
 
 -- ---- what a scan finds
 

@@ -21,15 +21,15 @@ use Rattle.pst_commit.proofs.Holding.{same_header}
 use Rattle.pst_commit.proofs.Outcomes.{stands_over}
 use Rattle.mail_searches.specs.Searching.{Searching}
 use Rattle.tree_look.specs.Walk.{Looks}
-use Rattle.store_open.specs.Opening.{KnowsTree, StopsTree}
+use Rattle.store_open.specs.Opening.{KnowsTree, LooksTree, StopsLook, StopsTree}
 use Rattle.store_open.specs.declared.open.OpenedTree.{OpenedTree}
 use Rattle.store_open.specs.declared.stops.TreeStop.{TreeStop}
-use Rattle.file_open.specs.Opening.{IsKept, IsOpened, LaysNodes, Reads, ReadsFresh, StopsOpening, spent_in}
+use Rattle.file_open.specs.Opening.{IsKept, IsLooked, IsOpened, LaysNodes, Reads, ReadsFresh, StopsLooking, StopsOpening, spent_in}
 use Rattle.file_open.specs.Stops.{of_tree}
 use Rattle.file_open.specs.declared.stops.FileRefusal.TheVariants.{Ids}
 use Rattle.file_open.specs.declared.stops.FileStop.{FileStop}
 use Rattle.file_open.specs.declared.stops.FileStop.TheVariants.{Refused}
-use Rattle.file_open.proofs.Files.{header_once, laid_found, same_spent, some_nodes, spent_excludes, spent_found, tree_stops}
+use Rattle.file_open.proofs.Files.{header_once, laid_found, same_spent, some_nodes, spent_excludes, spent_found, tree_stops, tree_stops_look}
 
 -- files that lay nodes stand for them, whatever their header vouches for, as long as it is the one that was found
 abbrev pub laid_stands : {image : Image} {N : Nodes} {last : List ℕ} (bytes : List ℕ) → LaysNodes image N last → bytes ≡ take 564 (file_of image) → Stands bytes image N last
@@ -161,6 +161,35 @@ module _ {knows : Header → List ℕ → Type 0} {bytes : List ℕ} {header : H
     (o.tree.tree, (reads o, numbers o ∙ spent)),
     spent_excludes mid.here those.0 found.header.indexes laid (sym spent_is ∙ spent),
   )
+
+  -- the tree was refused by a look
+  pub refused_look : (stop : TreeStop) → ((N : Nodes) → Holds knows bytes header mid N → StopsLook N stop) → StopsLooking mid.here (of_tree stop)
+  refused_look stop stops = tree_stops_look mid.here those.0 found.header.indexes laid stop (stops those.0 (made.holds is those.0 those.1))
+
+  -- the tree was looked at
+  pub looked : {knows' : Header → List ℕ → Type 0} {bytes' : List ℕ} {header' : Header} {room room' : Room} {now : World} (tree : OpenedTree)
+      → Looks (Holds knows bytes header mid) (Holds knows' bytes' header' now) header.indexes header'.indexes room room' mid now
+      → ((N : Nodes) → Holds knows bytes header mid N → LooksTree N header.indexes tree) → IsLooked knows' bytes' header' mid.here now tree
+  looked tree looks trees =
+      let before = made.holds is those.0 those.1 in
+      let k = trees those.0 before in
+      record {
+        nodes = those.0;
+        held = looks.stays those.0 before;
+        tree = record { tree = k.tree; shows = k.shows; counters = k.counters ∙ sym looks.counters; knows = k.knows; messages = k.messages; searches = k.searches };
+        reads = record {
+          nodes = those.0;
+          laid = record {
+            header = found.header;
+            opened = is.opened;
+            m = is.nodes;
+            lays = is.lays;
+            those = those.1;
+            counters = ap (λ (h : Header). h.indexes) (sym made.own) ∙ sym k.counters;
+          };
+          shows = k.shows;
+        };
+      }
 
 -- what is held of a store is held where its gate is closed
 pub still_opened : {knows : Header → List ℕ → Type 0} {bytes : List ℕ} {header : Header} {old : Image} {mid now : World} {tree : OpenedTree} → IsOpened knows bytes header old mid tree → SameStore mid.here now.here → now.tells → IsOpened knows bytes header old now tree

@@ -13,7 +13,7 @@ use Rattle.file_scan.specs.Found.{IsFound}
 use Rattle.file_scan.specs.Scan.{IsRefused}
 use Rattle.file_scan.specs.declared.scan.FoundFile.{FoundFile}
 use Rattle.mail_searches.specs.Searching.{Searching}
-use Rattle.store_open.specs.Opening.{IsTreeRefused, KnowsTree, ShowsFresh}
+use Rattle.store_open.specs.Opening.{IsTreeRefused, KnowsTree, LooksTree, ShowsFresh, ShowsSearches}
 pub use Rattle.store_open.specs.declared.open.OpenedTree.{OpenedTree}
 use Rattle.file_open.specs.declared.stops.FileRefusal.{FileRefusal}
 use Rattle.file_open.specs.declared.stops.FileRefusal.TheVariants as refusals
@@ -84,3 +84,25 @@ pub record IsOpened (knows : Header → List ℕ → Type 0) (bytes : List ℕ) 
   pub front : bytes ≡ take 564 (file_of old)
   pub held : Holds knows bytes header now nodes
   pub tree : KnowsTree nodes header.indexes opened
+
+-- ---- where the files are only read
+
+-- The two files are read as the tree with its searches, whatever these list, and whether numbers are left or not.
+pub record ReadsTree (image : Image) (X : Searching) : Type 0 where
+  pub nodes : Nodes
+  pub laid : LaysNodes image nodes X.tree.last
+  pub shows : ShowsSearches nodes X
+
+-- what a stop of a look says of files whose bytes are told: a refusal excludes every tree
+abbrev pub StopsLooking : Image → FileStop → Type 0
+StopsLooking image (stops.Refused refusal) = IsFileRefused image refusal × ((X : Searching) → ReadsTree image X → ⊥)
+StopsLooking image stops.Fault = Unit {0}
+StopsLooking image (stops.Changed ib stored computed) = ⊥
+StopsLooking image stops.Memory = Unit {0}
+
+-- The keeper of a file that was looked at holds nodes that the files lay; they show a tree with searches that the files are read as, of which this is known.
+pub record IsLooked (knows : Header → List ℕ → Type 0) (bytes : List ℕ) (header : Header) (old : Image) (now : World) (opened : OpenedTree) : Type 0 where
+  pub nodes : Nodes
+  pub held : Holds knows bytes header now nodes
+  pub tree : LooksTree nodes header.indexes opened
+  pub reads : ReadsTree old tree.tree

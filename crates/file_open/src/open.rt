@@ -8,7 +8,7 @@ ghost use Rattle.mail_searches.specs.Searching.{Searching};
 ghost use Rattle.node_port.specs.Pins.{no_pins};
 ghost use Rattle.pst_commit.specs.Commit.{LeavesNodes};
 ghost use Rattle.pst_commit.specs.Keeping.{pins_of};
-ghost use Rattle.file_open.specs.Opening.{IsOpened, ReadsFresh, StopsOpening};
+ghost use Rattle.file_open.specs.Opening.{IsLooked, IsOpened, ReadsFresh, StopsLooking, StopsOpening};
 
 use crate::keep::{is_spent, keep};
 use crate::stops::{FileRefusal, FileStop};
@@ -18,7 +18,7 @@ use gate_file::SIDE_LEN;
 use pst_commit::{FileKeeper, close_gate};
 use pst_outside::{Outside, Part};
 use std::alloc::Global;
-use store_open::{OpenedTree, open_store};
+use store_open::{OpenedTree, look_store, open_store};
 
 /// An opened file: the keeper of its nodes, and what is known of their tree and its searches.
 #[derive(Drop)]
@@ -27,8 +27,26 @@ pub struct OpenedFile<S> {
     pub tree: OpenedTree,
 }
 
-/// Opens a file without writing: the gate may be left open, so the keeper is to be read from alone. The stops are those of `open_file`.
+/// Looks at a file: opens it to be read alone. Nothing is written, so the gate may be left open; whatever its searches list, and where its next numbers are used up.
+///
+/// The stops are those of `open_file`, but that neither a list nor a next number is refused.
 pub fn look_file<W: Outside, S: FoundStore<W> + Drop>(
+    alloc: Global,
+    w: &mut W,
+) -> Result<OpenedFile<S>, FileStop>
+    ensures looked { IfOk result (λ o. (W.view w.new).tells → IsLooked (S.knows o.keeper.store) o.keeper.found o.keeper.header (W.view w.old).here (W.view w.new) o.tree) }
+    ensures refused { IfErr result (λ stop. (W.view w.new).tells → StopsLooking (W.view w.old).here stop) }
+    ensures fault { result ≡ Err FileStop.Fault → Rose (W.view w.old).disk_faults (W.view w.new).disk_faults }
+    ensures same { Untouched (W.view w.old) (W.view w.new) }
+{
+    let found = scan_file(alloc, w)?;
+    let mut keeper = keep(alloc, w, found)?;
+    let tree = look_store(alloc, &mut keeper, w)?;
+    Ok(OpenedFile { keeper, tree })
+}
+
+/// Finds all that an opening wants to be so before the gate is closed. Nothing is written. The stops are those of `open_file`.
+fn find_file<W: Outside, S: FoundStore<W> + Drop>(
     alloc: Global,
     w: &mut W,
 ) -> Result<OpenedFile<S>, FileStop>
@@ -87,6 +105,8 @@ pub fn open_file<W: Outside, S: FoundStore<W> + Drop>(
     ensures settled { Settled (W.view w.old) → OnOk result (Settled (W.view w.new)) }
     // Whatever but the disk's failure stops an opening does so before anything is written.
     ensures clean { IfErr result (λ stop. (stop ≡ FileStop.Fault → ⊥) → Untouched (W.view w.old) (W.view w.new)) }
+    // Files that are no tree with numbers left stay as they are, whatever stops it.
+    ensures kept { IfErr result (λ stop. (W.view w.new).tells → ((X : Searching) → ReadsFresh (W.view w.old).here X → ⊥) → Untouched (W.view w.old) (W.view w.new)) }
     // A crash at any moment leaves the same nodes.
     ensures any_moment { Settled (W.view w.old) → (found : List ℕ) (N : Nodes) (last : List ℕ) → ((W.view w.old).tells → Stands found (W.view w.old).here N last)
         → LeavesNodes (W.view w.old) (W.view w.new) found N last }
@@ -94,7 +114,7 @@ pub fn open_file<W: Outside, S: FoundStore<W> + Drop>(
     ensures input { (W.view w.new).tells → (W.view w.new).input ≡ (W.view w.old).input }
     ensures counts { NeverFall (W.view w.old) (W.view w.new) }
 {
-    let opened = look_file::<W, S>(alloc, w)?;
+    let opened = find_file::<W, S>(alloc, w)?;
     let side_len = side_len(w)?;
     close_gate(w, side_len)?;
     Ok(opened)

@@ -321,11 +321,11 @@ lays-these header file blocks nodes lines slots holding whole small are apart us
 }
 
 -- the trees' stops are the scan's
-pub trees-stops : (image : Image) (header : Header) (stop : OpenStop) → opening image.main image.side ≡ Ok header → StopsTrees stop header (file_of image) → StopsScan stop image
-trees-stops image header Memory opened stops = tt
-trees-stops image header Fault opened stops = tt
-trees-stops image header (Changed ib stored computed) opened stops = stops
-trees-stops image header (Refused refusal) opened stops = inr (record { header = header; opened = opened; fault = stops.0; none = stops.1 })
+pub trees-stops : (image : Image) (header : Header) (stop : OpenStop) → opening image.main image.side ≡ Ok header → header.eof ≤ length (file_of image) → header.eof ≤ LARGEST → StopsTrees stop header (file_of image) → StopsScan stop image
+trees-stops image header Memory opened whole small stops = tt
+trees-stops image header Fault opened whole small stops = tt
+trees-stops image header (Changed ib stored computed) opened whole small stops = stops
+trees-stops image header (Refused refusal) opened whole small stops = inr (record { header = header; opened = opened; fault = stops.0; long = λ other. (whole, small); none = stops.1 })
 
 -- ---- what the calls gave
 
@@ -399,28 +399,49 @@ lines-laid header world blocks bs more nodes ns pages ps lines slots told all on
 
 -- ---- the header's end
 
+-- a header's end that is at fault is a stop at the trees
+pub eof-trees : (image : Image) (header : Header) (stop : OpenStop) → 564 ≤ length image.main → StopsEof stop (length image.main) header.eof → StopsTrees stop header (file_of image)
+eof-trees image header Fault long stops = tt
+eof-trees image header Memory long stops = tt
+eof-trees image header (Changed ib stored computed) long stops = absurd stops
+eof-trees image header (Refused (refusals.Truncated len eof)) long stops =
+    let less = stops.2 in
+    let one = stops.0 in
+    let two = stops.1 in
+    let same = same_length image.main image.side long in
+    ((omega (arith, one, same), two, omega (arith, one, two, less)), λ m lays. let h = lays.long_enough in never-less (length image.main) header.eof (length (file_of image)) less same h)
+  where
+    never-less : (a b c : ℕ) → a < b → c ≡ a → b ≤ c → ⊥
+    never-less a b c p q r = omega (arith, p, q, r)
+eof-trees image header (Refused (refusals.Large eof)) long stops =
+    let end = stops.0 in
+    let within = stops.1 in
+    let over = stops.2 in
+    let same = same_length image.main image.side long in
+    ((end, omega (arith, end, within, same), omega (arith, end, over)), λ m lays. let h = lays.small_enough in never-both (header.eof) LARGEST over h)
+  where
+    never-both : (a b : ℕ) → b < a → a ≤ b → ⊥
+    never-both a b p q = omega (arith, p, q)
+eof-trees image header (Refused refusals.Empty) long stops = absurd stops
+eof-trees image header (Refused (refusals.Gate len)) long stops = absurd stops
+eof-trees image header (Refused (refusals.Short len)) long stops = absurd stops
+eof-trees image header (Refused (refusals.Header refusal)) long stops = absurd stops
+eof-trees image header (Refused (refusals.Page ib fault)) long stops = absurd stops
+eof-trees image header (Refused (refusals.Block ib fault)) long stops = absurd stops
+eof-trees image header (Refused (refusals.Missing bid)) long stops = absurd stops
+eof-trees image header (Refused (refusals.Overlap ib)) long stops = absurd stops
+eof-trees image header (Refused (refusals.Node nid fault)) long stops = absurd stops
+
 pub eof-stops : (image : Image) (header : Header) (stop : OpenStop) → opening image.main image.side ≡ Ok header → StopsEof stop (length image.main) header.eof → StopsScan stop image
 eof-stops image header Fault opened stops = tt
 eof-stops image header Memory opened stops = tt
 eof-stops image header (Changed ib stored computed) opened stops = absurd stops
 eof-stops image header (Refused (refusals.Truncated len eof)) opened stops =
-    let less = stops.2 in
-    let one = stops.0 in
-    let two = stops.1 in
-    let long = same_length image.main image.side (opened-long image.main image.side header opened) in
-    inr (record { header = header; opened = opened; fault = (omega (arith, one, long), two, omega (arith, one, two, less)); none = λ m lays. let h = lays.long_enough in never-less (length image.main) header.eof (length (file_of image)) less long h })
-  where
-    never-less : (a b c : ℕ) → a < b → c ≡ a → b ≤ c → ⊥
-    never-less a b c p q r = omega (arith, p, q, r)
+    let found = eof-trees image header (Refused (refusals.Truncated len eof)) (opened-long image.main image.side header opened) stops in
+    inr (record { header = header; opened = opened; fault = found.0; long = λ other. absurd (cc); none = found.1 })
 eof-stops image header (Refused (refusals.Large eof)) opened stops =
-    let end = stops.0 in
-    let within = stops.1 in
-    let over = stops.2 in
-    let long = same_length image.main image.side (opened-long image.main image.side header opened) in
-    inr (record { header = header; opened = opened; fault = (end, omega (arith, end, within, long), omega (arith, end, over)); none = λ m lays. let h = lays.small_enough in never-both (header.eof) LARGEST over h })
-  where
-    never-both : (a b : ℕ) → b < a → a ≤ b → ⊥
-    never-both a b p q = omega (arith, p, q)
+    let found = eof-trees image header (Refused (refusals.Large eof)) (opened-long image.main image.side header opened) stops in
+    inr (record { header = header; opened = opened; fault = found.0; long = λ other. absurd (cc); none = found.1 })
 eof-stops image header (Refused refusals.Empty) opened stops = absurd stops
 eof-stops image header (Refused (refusals.Gate len)) opened stops = absurd stops
 eof-stops image header (Refused (refusals.Short len)) opened stops = absurd stops

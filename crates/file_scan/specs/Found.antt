@@ -1,7 +1,9 @@
 -- What a scan finds in a file, for a keeper of it.
-use Rattle.std.specs.Prelude.{◌≡◌, ◌*◌, ◌++◌, ℕ, length, Ok}
+use Rattle.std.specs.Prelude.{◌≡◌, ◌*◌, ◌++◌, ℕ, List, length, Ok}
 use Rattle.pst_outside.specs.World.{Image}
 use Rattle.alloc_map.specs.Standing.{occupied, IsCovered}
+use Rattle.pst_header.specs.declared.header.Header.{Header}
+use Rattle.btree_pages.specs.declared.entry.BlockEntry.{BlockEntry}
 use Rattle.file_layout.specs.Nodes.{NodeMap, blocks_in, nodes_in, places_of, Lays}
 use Rattle.file_layout.specs.Numbers.{next_block, next_page}
 use Rattle.file_layout.specs.Opening.{opening}
@@ -22,3 +24,9 @@ pub record IsFound (image : Image) (found : FoundFile) : Type 0 where
   pub next_block : found.next_block ≡ next_block found.header (blocks_in lays.blocks)
   pub next_page : found.next_page ≡ next_page found.header (lays.blocks.pages ++ lays.nodes.pages)
   pub refs : (key : ℕ) → refs_in found.refs key ≡ uses_of (found_in (file_of image) (blocks_in lays.blocks)) key (nodes_in lays.nodes)
+
+-- the file with this header lays a node map, and its block tree has these entries
+pub record LaysBlocks (header : Header) (file : List ℕ) (blocks : List BlockEntry) : Type 0 where
+  pub nodes : NodeMap
+  pub lays : Lays header file nodes
+  pub blocks_are : blocks ≡ blocks_in lays.blocks

@@ -1,5 +1,5 @@
 -- What a scan of a file answers: the lines of the nodes that the file lays, or why it lays none.
-use Rattle.std.specs.Prelude.{◌≡◌, ◌⊎◌, ◌≤◌, ◌<◌, ℕ, List, [], ◌∷◌, length, Option, Some, None, Ok, Err}
+use Rattle.std.specs.Prelude.{◌≡◌, ◌⊎◌, ◌≤◌, ◌<◌, ℕ, Bool, true, false, List, [], ◌∷◌, length, Option, Some, None, Ok, Err}
 use Rattle.pst_base.specs.declared.ids.Bid.{Bid}
 use Rattle.pst_base.specs.declared.ids.Bref.{Bref}
 use Rattle.pst_base.specs.Ids.{key_of}
@@ -108,11 +108,18 @@ IsFault header file (refusals.Overlap ib) = HasMeeting header file ib
 IsFault header file (refusals.Node nid fault) = HasBadNode header file nid.bits (stop_of fault)
 IsFault header file refusal = ⊥
 
--- the files open with a header, what the refusal names is at fault, and the store's file lays no node map
+-- the refusal is of the file's length
+abbrev pub is_of_length : OpenRefusal → Bool
+is_of_length (refusals.Truncated len eof) = true
+is_of_length (refusals.Large eof) = true
+is_of_length refusal = false
+
+-- the files open with a header, what the refusal names is at fault, and the store's file lays no node map; of what it names but its length, the length isn't at fault
 pub record IsFaulty (image : Image) (refusal : OpenRefusal) : Type 0 where
   pub header : Header
   pub opened : opening image.main image.side ≡ Ok header
   pub fault : IsFault header (file_of image) refusal
+  pub long : is_of_length refusal ≡ false → (header.eof ≤ length (file_of image)) × (header.eof ≤ LARGEST)
   pub none : (nodes : NodeMap) → Lays header (file_of image) nodes → ⊥
 
 -- what a refusal says of the files: no header counts, or one does and what is named is at fault

@@ -1,6 +1,6 @@
 //! The scan of a whole file: its nodes, and what a keeper needs of it, or why it is refused.
 //!
-//! Promises: `scan_nodes` gives the lines of the node map that the bytes lay (`Lays`) exactly where they lay one, and `scan_file` the used slots, the number of pages, both next numbers and the references to blocks of such a file (`IsFound`). A refusal names what is at fault and excludes every node map. Over any world that tells what it holds; both write nothing, and a device's failure and want of memory are their only other answers.
+//! Promises: `scan_nodes` gives the lines of the node map that the bytes lay (`Lays`) exactly where they lay one, and `scan_file` the used slots, the number of pages, both next numbers and the references to blocks of such a file (`IsFound`); `scan_blocks` gives the entries of the block tree under a header that the caller has read (`LaysBlocks`). A refusal names what is at fault and excludes every node map. Over any world that tells what it holds; all three write nothing, and a device's failure and want of memory are their only other answers.
 //!
 //! Leaves to others: how refusals are printed.
 #![tactic(auto)]
@@ -13,4 +13,4 @@ mod refs;
 mod scan;
 
 pub use nodes::NodeLine;
-pub use scan::{FoundFile, scan_file, scan_nodes};
+pub use scan::{FoundFile, scan_blocks, scan_file, scan_nodes};

@@ -4,9 +4,9 @@ ghost use Rattle.pst_outside.specs.Calls.{Rose, Untouched};
 ghost use Rattle.file_layout.specs.Nodes.{NodeMap, Lays, LARGEST};
 ghost use Rattle.file_layout.specs.Opening.{opening};
 ghost use Rattle.file_layout.specs.Trees.{file_of};
-ghost use Rattle.file_scan.specs.Found.{IsFound};
+ghost use Rattle.file_scan.specs.Found.{IsFound, LaysBlocks};
 ghost use Rattle.file_scan.specs.Lines.{lines_of};
-ghost use Rattle.file_scan.specs.Parts.{LaysThese, StopsTrees};
+ghost use Rattle.file_scan.specs.Parts.{AllPlaced, LaysThese, StopsTrees};
 ghost use Rattle.file_scan.specs.Scan.{Scans, StopsScan};
 
 use crate::blocks::{check_eof, read_blocks};
@@ -113,6 +113,25 @@ fn scan<W: Outside>(alloc: Global, w: &mut W) -> Result<Scanned, OpenStop>
     scan_trees(alloc, w, &opened.header)
 }
 
+/// The entries of the block tree of a file with a header that the caller has read, found by the same scan from the header's end on, with the same stops.
+pub fn scan_blocks<W: Outside>(
+    alloc: Global,
+    w: &mut W,
+    header: &Header,
+) -> Result<Vec<BlockEntry>, OpenStop>
+    requires { (W.view w.old).tells → 564 ≤ length (W.view w.old).here.main }
+    ensures lays { IfOk result (λ blocks. (W.view w.new).tells → LaysBlocks header.now (file_of (W.view w.new).here) blocks.items) }
+    ensures placed { IfOk result (λ blocks. AllPlaced header.now.eof blocks.items) }
+    ensures whole { IfOk result (λ blocks. (W.view w.new).tells → header.now.eof ≤ length (W.view w.new).here.main) }
+    ensures refused { IfErr result (λ stop. (W.view w.new).tells → StopsTrees stop header.now (file_of (W.view w.new).here)) }
+    ensures fault { result ≡ Err OpenStop.Fault → Rose (W.view w.old).disk_faults (W.view w.new).disk_faults }
+    ensures same { Untouched (W.view w.old) (W.view w.new) }
+{
+    check_eof(w, header.eof)?;
+    let scanned = scan_trees(alloc, w, header)?;
+    Ok(scanned.blocks)
+}
+
 /// What is found of a file whose header is known and whose end is in the file.
 fn scan_trees<W: Outside>(alloc: Global, w: &mut W, header: &Header) -> Result<Scanned, OpenStop>
     requires whole { (W.view w.old).tells → header.now.eof ≤ length (W.view w.old).here.main }
@@ -120,6 +139,7 @@ fn scan_trees<W: Outside>(alloc: Global, w: &mut W, header: &Header) -> Result<S
     ensures lays { IfOk result (λ scanned. (W.view w.new).tells → LaysThese header.now (file_of (W.view w.new).here) scanned.blocks.items scanned.nodes.items scanned.pages.items scanned.lines.items scanned.slots) }
     ensures header { IfOk result (λ scanned. scanned.header ≡ header.now) }
     ensures size { IfOk result (λ scanned. length scanned.slots ≡ 3968 * 8192) }
+    ensures placed { IfOk result (λ scanned. AllPlaced header.now.eof scanned.blocks.items) }
     ensures refused { IfErr result (λ stop. (W.view w.new).tells → StopsTrees stop header.now (file_of (W.view w.new).here)) }
     ensures fault { result ≡ Err OpenStop.Fault → Rose (W.view w.old).disk_faults (W.view w.new).disk_faults }
     ensures same { Untouched (W.view w.old) (W.view w.new) }

@@ -3,6 +3,7 @@ use Rattle.std.specs.Prelude.{◌≡◌}
 use Rattle.pst_outside.specs.World.{World}
 use Rattle.call_forms.specs.Files.{NewEnds, RunEnds}
 use Rattle.call_forms.specs.Info.{InfoEnds}
+use Rattle.call_forms.specs.Look.{LookEnds}
 use Rattle.call_forms.specs.Nodes.{NodesEnds}
 use Rattle.call_forms.specs.Scratch.{ScratchEnds}
 use Rattle.call_forms.specs.declared.exit.Status.{Status}
@@ -17,6 +18,7 @@ EndsFor (asked.Plain forms.Info) v w old new status = InfoEnds old new status
 EndsFor (asked.Plain forms.New) v w old new status = (status ≡ Words) × (w ≡ v)
 EndsFor (asked.Plain forms.Nodes) v w old new status = NodesEnds old new status
 EndsFor (asked.Plain forms.Run) v w old new status = RunEnds old new status
+EndsFor (asked.Plain forms.Look) v w old new status = LookEnds old new status
 EndsFor (asked.Plain forms.Scratch) v w old new status = ScratchEnds old new status × (status ≡ Memory → w ≡ v)
 EndsFor (asked.New name) v w old new status = NewEnds name old new status
 EndsFor asked.Nothing v w old new status = (status ≡ Words) × (w ≡ v)

@@ -6,11 +6,12 @@ ghost use Rattle.call_forms.specs.Files.{EndsWell, NewEnds, RunEnds};
 ghost use Rattle.mail_session.specs.Words.{form_of, spelled, third_name};
 ghost use Rattle.call_forms.specs.Statuses.{EndsAs};
 ghost use Rattle.call_forms.specs.Info.{InfoEnds};
+ghost use Rattle.call_forms.specs.Look.{LookEnds, LookEndsWell};
 ghost use Rattle.call_forms.specs.Nodes.{NodesEnds};
 ghost use Rattle.call_forms.specs.Scratch.{ScratchEnds};
 
 use crate::words::{Asked, Form, read_words};
-use call_forms::{Exit, Status, make, run_lines, say_info, say_nodes, serve_memory};
+use call_forms::{Exit, Status, look_lines, make, run_lines, say_info, say_nodes, serve_memory};
 use pst_base::{Ledger, Steps};
 use pst_outside::Outside;
 use std::alloc::Global;
@@ -23,6 +24,7 @@ fn answer<W: Outside>(alloc: Global, world: &mut W, asked: Asked) -> Status
         Asked::Plain(Form::Info) => say_info(alloc, world),
         Asked::Plain(Form::Nodes) => say_nodes(alloc, world),
         Asked::Plain(Form::Run) => run_lines(alloc, world),
+        Asked::Plain(Form::Look) => look_lines(alloc, world),
         Asked::Plain(Form::Scratch) => serve_memory(alloc, world),
         Asked::Plain(Form::New) | Asked::Nothing => Status::Words,
         Asked::New(name) => make(alloc, world, &name),
@@ -31,7 +33,7 @@ fn answer<W: Outside>(alloc: Global, world: &mut W, asked: Asked) -> Status
 
 /// Does what the words of the command line ask for, over a world, and answers how it ended. The words are those without the program's name.
 ///
-/// Status 2 comes exactly where the words have none of the forms, and then nothing was asked of the world; where there is no memory to read the name of `new`, 7 may come in its place. The other statuses come as `InfoEnds`, `NewEnds`, `NodesEnds`, `RunEnds` and `ScratchEnds` say.
+/// Status 2 comes exactly where the words have none of the forms, and then nothing was asked of the world; where there is no memory to read the name of `new`, 7 may come in its place. The other statuses come as `InfoEnds`, `LookEnds`, `NewEnds`, `NodesEnds`, `RunEnds` and `ScratchEnds` say.
 pub fn run<W: Outside, L: Ledger>(
     alloc: Global,
     words: &[String],
@@ -49,6 +51,10 @@ pub fn run<W: Outside, L: Ledger>(
     ensures run { form_of (spelled words.now) ≡ Some Form.Run → EndsAs (RunEnds (W.view world.old) (W.view world.new)) result.status }
     // Where the files are read as a tree and no device fails, it comes to its end: each reply is then that of the tree, or says that there was no memory, no room or no number.
     ensures complete { form_of (spelled words.now) ≡ Some Form.Run → EndsAs (EndsWell (W.view world.old) (W.view world.new)) result.status }
+    // `look`: the replies are those of the tree that the files are read as, whatever its searches list and whether numbers are left or not, and the disk is as it was at every moment.
+    ensures look { form_of (spelled words.now) ≡ Some Form.Look → EndsAs (LookEnds (W.view world.old) (W.view world.new)) result.status }
+    // Where the files are read as a tree and no device fails, it comes to its end.
+    ensures look_complete { form_of (spelled words.now) ≡ Some Form.Look → EndsAs (LookEndsWell (W.view world.old) (W.view world.new)) result.status }
     // `new`: what is made is read as the tree of a new store of that name.
     ensures new { (name : List ℕ) → form_of (spelled words.now) ≡ Some Form.New → third_name (spelled words.now) ≡ Some name → EndsAs (NewEnds name (W.view world.old) (W.view world.new)) result.status }
     // `scratch`: the replies are those of a plain tree whose running searches list what filtering lists.

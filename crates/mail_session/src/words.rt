@@ -20,6 +20,8 @@ pub enum Form {
     Nodes,
     /// `run FILE`
     Run,
+    /// `look FILE`
+    Look,
     /// `scratch`
     Scratch,
 }
@@ -56,6 +58,7 @@ pub(crate) fn read_words(alloc: Global, words: &[String]) -> Result<Asked, Alloc
         [word, _file] if word.as_str() == "info" => Ok(Asked::Plain(Form::Info)),
         [word, _file] if word.as_str() == "nodes" => Ok(Asked::Plain(Form::Nodes)),
         [word, _file] if word.as_str() == "run" => Ok(Asked::Plain(Form::Run)),
+        [word, _file] if word.as_str() == "look" => Ok(Asked::Plain(Form::Look)),
         [word, _file, name] if word.as_str() == "new" => read_new(alloc, name.as_str()),
         _ => Ok(Asked::Nothing),
     }

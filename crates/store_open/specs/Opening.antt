@@ -1,12 +1,12 @@
 -- What an opening of nodes answers.
-use Rattle.std.specs.Prelude.{◌≡◌, ◌⊎◌, ℕ, true, List, Some}
+use Rattle.std.specs.Prelude.{◌≡◌, ℕ, true, List, Some}
 use Rattle.node_port.specs.Nodes.{Nodes}
 use Rattle.node_port.specs.declared.keeper.KeepStop.TheVariants as keep
 use Rattle.mail_tree.specs.declared.places.FolderPlace.{FolderPlace}
 use Rattle.mail_tree.specs.Knowing.{Knows}
 use Rattle.mail_tree.specs.Standing.{HasTree}
 use Rattle.tree_look.specs.Faults.{HasFault}
-use Rattle.mail_searches.specs.Searches.{IsFresh, Search, find_search, runs}
+use Rattle.mail_searches.specs.Searches.{IsFresh, KnowsMessages, Search, find_search, runs}
 use Rattle.mail_searches.specs.Searching.{Searching}
 use Rattle.search_folders.specs.Comings.{KnowsSearches}
 use Rattle.search_look.specs.Faults.{HasSearchFault}
@@ -27,7 +27,7 @@ IsStaleIn N f = (X : Searching) × ShowsSearches N X × ((s : Search) × (find_s
 abbrev pub IsSearchRefused : Nodes → List FolderPlace → SearchRefusal → Type 0
 IsSearchRefused N places (searches.Node q fault) = HasSearchFault N places (searches.Node q fault)
 IsSearchRefused N places (searches.Criteria q) = HasSearchFault N places (searches.Criteria q)
-IsSearchRefused N places (searches.Stale f) = HasSearchFault N places (searches.Stale f) ⊎ IsStaleIn N f.bits
+IsSearchRefused N places (searches.Stale f) = IsStaleIn N f.bits
 
 -- what a refusal says of the nodes
 abbrev pub IsTreeRefused : Nodes → TreeRefusal → Type 0
@@ -47,4 +47,22 @@ pub record KnowsTree (N : Nodes) (last : List ℕ) (opened : OpenedTree) : Type 
   pub shows : ShowsFresh N tree
   pub counters : tree.tree.last ≡ last
   pub knows : Knows tree.tree opened.known
+  pub searches : KnowsSearches tree opened.searches
+
+-- ---- where a store is only read
+
+-- what a stop of a look says of nodes that a keeper tells: a refusal holds of them and excludes every tree, whatever its searches list
+abbrev pub StopsLook : Nodes → TreeStop → Type 0
+StopsLook N (Refused refusal) = IsTreeRefused N refusal × ((X : Searching) → ShowsSearches N X → ⊥)
+StopsLook N (Kept keep.Fault) = Unit {0}
+StopsLook N (Kept (keep.Changed ib stored computed)) = ⊥
+StopsLook N (Kept keep.Memory) = Unit {0}
+
+-- What is known is so of a tree with searches that the nodes show, with these counters, whatever its searches list.
+pub record LooksTree (N : Nodes) (last : List ℕ) (opened : OpenedTree) : Type 0 where
+  pub tree : Searching
+  pub shows : ShowsSearches N tree
+  pub counters : tree.tree.last ≡ last
+  pub knows : Knows tree.tree opened.known
+  pub messages : KnowsMessages tree.tree opened.known.flags
   pub searches : KnowsSearches tree opened.searches

@@ -5,7 +5,7 @@ use Rattle.call_forms.proofs.files.make.Goals as goal
 pub returns-in-Made : goal.returns-in-Made
 returns-in-Made g c =
     let call = c.make_file.ensures in
-    new_made c.args.name.now call.counts call.told call.input (call.made c.in-Made.is) (λ settled. call.said settled c.in-Made.is) (λ told has. none_made c.make_file.result (call.kept told has).1 c.in-Made.is) c.say.ensures
+    new_made c.args.name.now call.counts call.told call.input (call.made c.in-Made.is) (λ settled. call.rests settled c.in-Made.is) call.said (λ told has. none_made c.make_file.result (call.kept told has).1 c.in-Made.is) c.say.ensures
 
 pub returns-in-NotEmpty : goal.returns-in-NotEmpty
 returns-in-NotEmpty g c =
@@ -15,7 +15,7 @@ returns-in-NotEmpty g c =
 pub returns-in-Disk : goal.returns-in-Disk
 returns-in-Disk g c =
     let call = c.make_file.ensures in
-    new_failed c.args.name.now call.counts call.input (λ told has. keeps_untouched (keeps_started (g.W.Outside.view c.args.world.now)) (call.kept told has).0) (call.fault c.in-Disk.is)
+    new_failed c.args.name.now call.counts call.input call.said (λ told has. keeps_untouched (keeps_started (g.W.Outside.view c.args.world.now)) (call.kept told has).0) (call.fault c.in-Disk.is)
 
 pub returns-in-Changed : goal.returns-in-Changed
 returns-in-Changed g c =
@@ -26,4 +26,4 @@ returns-in-Changed g c =
 pub returns-in-Memory : goal.returns-in-Memory
 returns-in-Memory g c =
     let call = c.make_file.ensures in
-    new_lacks c.args.name.now call.counts call.input (λ told has. keeps_untouched (keeps_started (g.W.Outside.view c.args.world.now)) (call.kept told has).0)
+    new_lacks c.args.name.now call.counts call.input call.said (λ told has. keeps_untouched (keeps_started (g.W.Outside.view c.args.world.now)) (call.kept told has).0)

@@ -1,31 +1,49 @@
 use Rattle.std.proofs.Common.{◌≡◌, refl, sym, subst}
 use Rattle.pst_outside.specs.World.{Image}
+use Rattle.pst_outside.specs.Calls.{Untouched}
 use Rattle.pst_outside.proofs.Moments.{quiet, stays_settled}
 use Rattle.gate_file.specs.Gate.{SameStore}
 use Rattle.file_layout.proofs.Underway.{untouched_then}
 use Rattle.lays_kept.specs.Stands.{Stands}
 use Rattle.pst_commit.proofs.Resaved.{nodes_then}
-use Rattle.file_open.proofs.Keepers.{still_opened}
+use Rattle.mail_searches.specs.Searching.{Searching}
+use Rattle.file_open.specs.Opening.{ReadsFresh}
+use Rattle.file_open.specs.declared.stops.FileStop.TheVariants.{Fault}
+use Rattle.file_open.proofs.Keepers.{passed_on, still_opened}
 use Rattle.file_open.proofs.open.open_file.Goals as goal
 
 pub returns-in_err-opened-clause-any_moment : goal.returns-in_err-opened-clause-any_moment
 returns-in_err-opened-clause-any_moment g c = λ settled found N last stands.
-    quiet (λ i. (i.said ≡ (g.W.Outside.view c.args.w.now).here.said) × Stands found i N last) settled c.look_file.ensures.same (λ told. (refl, stands told))
+    quiet (λ i. (i.said ≡ (g.W.Outside.view c.args.w.now).here.said) × Stands found i N last) settled c.find_file.ensures.same (λ told. (refl, stands told))
 
 pub returns-in_err-side_len-clause-any_moment : goal.returns-in_err-side_len-clause-any_moment
 returns-in_err-side_len-clause-any_moment g c = λ settled found N last stands.
-    quiet (λ i. (i.said ≡ (g.W.Outside.view c.args.w.now).here.said) × Stands found i N last) settled (untouched_then c.look_file.ensures.same c.side_len.ensures.same) (λ told. (refl, stands told))
+    quiet (λ i. (i.said ≡ (g.W.Outside.view c.args.w.now).here.said) × Stands found i N last) settled (untouched_then c.find_file.ensures.same c.side_len.ensures.same) (λ told. (refl, stands told))
 
 pub returns-in_err-close_gate-clause-any_moment : goal.returns-in_err-close_gate-clause-any_moment
 returns-in_err-close_gate-clause-any_moment g c = λ settled found N last stands.
-    let before = untouched_then c.look_file.ensures.same c.side_len.ensures.same in
+    let before = untouched_then c.find_file.ensures.same c.side_len.ensures.same in
     nodes_then found N refl c.close_gate.ensures.told
     (quiet (λ i. (i.said ≡ (g.W.Outside.view c.args.w.now).here.said) × Stands found i N last) settled before (λ told. (refl, stands told)))
     (c.close_gate.ensures.any_moment (stays_settled settled before) found N last (λ told. subst (λ (i : Image). Stands found i N last) (sym (before.stays.here told)) (stands (before.stays.told told))))
 
+pub returns-in_err-side_len-clause-kept : goal.returns-in_err-side_len-clause-kept
+returns-in_err-side_len-clause-kept g c =
+    let old = g.W.Outside.view c.args.w.now in
+    let new = g.W.Outside.view c.side_len.new.w in
+    passed_on (λ s. new.tells → ((X : Searching) → ReadsFresh old.here X → ⊥) → Untouched old new) c.in_err-side_len.field-0.0 c.from_residual-in_err-side_len.result c.from_residual-in_err-side_len.ensures.1
+    (λ told none. untouched_then c.find_file.ensures.same c.side_len.ensures.same)
+
+pub returns-in_err-close_gate-clause-kept : goal.returns-in_err-close_gate-clause-kept
+returns-in_err-close_gate-clause-kept g c =
+    let old = g.W.Outside.view c.args.w.now in
+    let new = g.W.Outside.view c.close_gate.new.w in
+    passed_on (λ s. new.tells → ((X : Searching) → ReadsFresh old.here X → ⊥) → Untouched old new) Fault c.from_residual-in_err-close_gate.result c.from_residual-in_err-close_gate.ensures.1
+    (λ told none. let read = c.in_ok-opened.ensures.reads (c.side_len.ensures.same.stays.told (c.close_gate.ensures.told told)) in absurd (none read.0 read.1))
+
 pub returns-clause-any_moment : goal.returns-clause-any_moment
 returns-clause-any_moment g c = λ settled found N last stands.
-    let before = untouched_then c.look_file.ensures.same c.side_len.ensures.same in
+    let before = untouched_then c.find_file.ensures.same c.side_len.ensures.same in
     nodes_then found N refl c.close_gate.ensures.told
     (quiet (λ i. (i.said ≡ (g.W.Outside.view c.args.w.now).here.said) × Stands found i N last) settled before (λ told. (refl, stands told)))
     (c.close_gate.ensures.any_moment (stays_settled settled before) found N last (λ told. subst (λ (i : Image). Stands found i N last) (sym (before.stays.here told)) (stands (before.stays.told told))))

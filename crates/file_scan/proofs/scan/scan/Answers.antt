@@ -1,6 +1,7 @@
-use Rattle.std.proofs.Common.{◌≡◌, ◌∙◌, Ok, ap, sym, subst}
+use Rattle.std.proofs.Common.{◌≡◌, ◌∙◌, ◌≤◌, Ok, ap, arith, length, sym, subst}
 use Rattle.std.proofs.lemmas.Result.{err_from_is_err_and, IfOk-weaker, IfErr-weaker}
 use Rattle.pst_outside.specs.World.{Image}
+use Rattle.file_blocks.proofs.FileLaws.{no_shorter}
 use Rattle.file_layout.specs.Opening.{opening}
 use Rattle.file_layout.proofs.Underway.{untouched_then}
 use Rattle.file_scan.proofs.OpeningLaws.{opening-stops}
@@ -41,7 +42,11 @@ returns-clause-refused g c =
     let same = (untouched_then c.in_ok-check_eof.ensures.same c.scan_trees.ensures.same).stays in
     let opened = (c.in_ok-opened.ensures.opens (same.told told)).0 in
     let opens : opening (g.W.Outside.view c.scan_trees.new.w).here.main (g.W.Outside.view c.scan_trees.new.w).here.side ≡ Ok header = subst (λ (i : Image). opening i.main i.side ≡ Ok header) (sym (same.here told)) opened in
-    trees-stops (g.W.Outside.view c.scan_trees.new.w).here header stop opens (stops told))
+    let now = (g.W.Outside.view c.scan_trees.new.w).here in
+    let later = c.scan_trees.ensures.same.stays in
+    let main : header.eof ≤ length now.main = subst (λ (i : Image). header.eof ≤ length i.main) (sym (later.here told)) (c.in_ok-check_eof.ensures.whole (later.told told)) in
+    let longer = no_shorter now.main now.side in
+    trees-stops now header stop opens (omega (arith, main, longer)) c.in_ok-check_eof.ensures.small (stops told))
     c.scan_trees.ensures.refused
 
 pub returns-clause-same : goal.returns-clause-same

@@ -1,6 +1,7 @@
 use Rattle.std.proofs.Common.{inr, refl, rules}
 use Rattle.call_forms.specs.declared.exit.Status.TheVariants.{Memory}
 use Rattle.call_forms.proofs.FileLaws.{new_unread, well_as}
+use Rattle.call_forms.proofs.LookLaws.{look_unread, look_well_as}
 use Rattle.mail_session.proofs.call.run.Goals as goal
 
 pub returns-in_default-clause-new : goal.returns-in_default-clause-new
@@ -11,3 +12,12 @@ returns-in_default-clause-complete g c = λ form. (Memory, c.exit.ensures.status
 
 pub returns-clause-complete : goal.returns-clause-complete
 returns-clause-complete g c = λ form. well_as (g.W.Outside.view c.args.world.now) (g.W.Outside.view c.answer.new.world) c.exit-2.result.status (search (rules, form))
+
+pub returns-in_default-clause-look : goal.returns-in_default-clause-look
+returns-in_default-clause-look g c = λ form. (Memory, c.exit.ensures.status, look_unread (g.W.Outside.view c.args.world.now))
+
+pub returns-in_default-clause-look_complete : goal.returns-in_default-clause-look_complete
+returns-in_default-clause-look_complete g c = λ form. (Memory, c.exit.ensures.status, λ tells X reads none. inr (inr refl))
+
+pub returns-clause-look_complete : goal.returns-clause-look_complete
+returns-clause-look_complete g c = λ form. look_well_as (g.W.Outside.view c.args.world.now) (g.W.Outside.view c.answer.new.world) c.exit-2.result.status (search (rules, form))

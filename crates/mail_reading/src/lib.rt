@@ -1,0 +1,12 @@
+//! The commands that only read a store: `ls`, `get`, `props`, `fetch` and `getcriteria`, over anything that tells nodes.
+//!
+//! Promises: `ask` comes to what the step of such a command comes to, of every tree with searches that the nodes show, whatever its searches list, and says of all other commands that they are no line (`asked`). It only looks, and its bounds give it nothing that writes. That such a command leaves a whole tree whose searches are those of its nodes, and is answered or refused there, is the law `reads_leave`.
+//!
+//! Leaves to others: the commands themselves (`mail_messages`, `mail_parts`, `search_folders`), lines and replies as text, and where the nodes stand.
+#![tactic(auto)]
+
+mod asking;
+mod law;
+
+pub use asking::ask;
+pub use law::reads_leave;
