@@ -47,6 +47,10 @@ pub struct Case<'a> {
     pub words: Option<&'a str>,
     pub main: Vec<u8>,
     pub side: Vec<u8>,
+    /// With what the file of a copy begins.
+    pub copy: Vec<u8>,
+    /// What it must be afterwards, if not that.
+    pub copied: Option<Vec<u8>>,
     pub input: Vec<u8>,
     /// How many bytes a `take` gives at most.
     pub take_at_most: NonZeroUsize,
@@ -78,6 +82,8 @@ impl<'a> Case<'a> {
             words: None,
             main: Vec::new(alloc),
             side: Vec::new(alloc),
+            copy: Vec::new(alloc),
+            copied: None,
             input: Vec::new(alloc),
             take_at_most: NonZeroUsize::MAX,
             say_at_most: NonZeroUsize::MAX,

@@ -23,6 +23,7 @@ pub struct Outcome {
     pub said: Vec<u8>,
     pub main: Vec<u8>,
     pub side: Vec<u8>,
+    pub copy: Vec<u8>,
 }
 
 /// The first of the lines that must be among those said and isn't.

@@ -40,11 +40,13 @@ impl<R: Print + AllocGlobal> Report<'_, R> {
             self.begin(case)?;
             println!(self.rt; "wanted {:?}, got {:?}", case.ending, outcome.ending)?;
         }
+        let copy = case.copied.as_ref().unwrap_or(&case.copy);
         let same = case.main.as_slice() == outcome.main.as_slice()
-            && case.side.as_slice() == outcome.side.as_slice();
+            && case.side.as_slice() == outcome.side.as_slice()
+            && copy.as_slice() == outcome.copy.as_slice();
         if !same && !case.writes {
             self.begin(case)?;
-            println!(self.rt; "wanted the files as they were, got others")?;
+            println!(self.rt; "wanted the files as they were, and TO as it says, got others")?;
         }
         Ok(())
     }

@@ -96,6 +96,8 @@ impl<'a> Script<'a> {
             "bytes" => self.name(words),
             "file" => self.begin_main(words),
             "gate" => self.begin_side(words),
+            "to" => self.begin_copy(words),
+            "copied" => self.want_copy(words),
             "copy" => self.copy(words),
             _ => self.edit(verb, words),
         }
@@ -170,6 +172,23 @@ impl<'a> Script<'a> {
         self.case()?.side = bytes;
         self.target = Target::Side;
         Ok(())
+    }
+
+    fn begin_copy(&mut self, words: &mut Words<'a>) -> Result<(), Trouble> {
+        let bytes = self.named_copy(words)?;
+        self.case()?.copy = bytes;
+        Ok(())
+    }
+
+    fn want_copy(&mut self, words: &mut Words<'a>) -> Result<(), Trouble> {
+        let bytes = self.named_copy(words)?;
+        self.case()?.copied = Some(bytes);
+        Ok(())
+    }
+
+    /// A copy of the bytes of the name that is the next word.
+    fn named_copy(&self, words: &mut Words) -> Result<Vec<u8>, Trouble> {
+        Ok(Vec::from_slice(self.alloc, self.find(words.word()?)?)?)
     }
 
     /// Adds the bytes of a file that lies beside the case files.
