@@ -1,0 +1,23 @@
+"""Mail stores in .pst files, through the program `pstore`.
+
+    from pstore import Store
+
+    with Store("mail.pst") as store:
+        for message in store.folder("Inbox").messages():
+            print(message.sent, message.sender, message.subject)
+"""
+
+from .drafts import Draft, DraftAttachment
+from .errors import FileRefusal, NotFound, PstoreError, Refusal, SessionEnded
+from .folders import Folder
+from .messages import Attachment, Message
+from .replies import Recipient, Reply
+from .session import Session
+from .store import Store, join_path, split_path
+from .tags import TAGS, Tag
+
+__all__ = [
+    "Attachment", "Draft", "DraftAttachment", "FileRefusal", "Folder", "Message", "NotFound", "PstoreError", "Recipient",
+    "Refusal", "Reply", "Session", "SessionEnded", "Store", "TAGS", "Tag", "join_path", "split_path",
+]  # fmt: skip
+__version__ = "1.0"

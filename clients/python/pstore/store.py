@@ -1,0 +1,163 @@
+"""A store in a file."""
+
+from __future__ import annotations
+
+import subprocess
+from typing import Iterator, List, Optional, Sequence, Tuple, Union
+
+from .drafts import Draft
+from .errors import NotFound, PstoreError, Refusal, end_of, file_refusal_of
+from .folders import Folder
+from .messages import Message
+from .program import find_program
+from .replies import ListedFolder
+from .session import Session
+from .spelling import spell
+
+ROOT = 0x122
+"""The folder above all others."""
+
+TOP = 0x8022
+"""The folder with the user's own, in stores that this program or Outlook laid."""
+
+TOP_NAMES = ("top of personal folders", "top of outlook data file", "top of information store")
+
+Path = Union[str, Sequence[str]]
+
+
+class Store:
+    """A store in a file, over one session of the program.
+
+    Paths of folders, as `Inbox/Lists`, begin at the top of the user's folders, and with a `/` at the root above it. A
+    slash in a name is written `\\/`; a list of names needs no such care.
+    """
+
+    def __init__(self, path: str, program: Optional[str] = None) -> None:
+        self._open("run", path, program)
+
+    @classmethod
+    def look(cls, path: str, program: Optional[str] = None) -> "Store":
+        """Opens a store for reading alone: nothing is written, and a file that can't be written will do."""
+        store = cls.__new__(cls)
+        store._open("look", path, program)
+        return store
+
+    @classmethod
+    def create(cls, path: str, name: str = "Mail", program: Optional[str] = None) -> "Store":
+        """Lays a new store in a file that has no bytes, and opens it."""
+        words = [find_program(program), "new", path, spell(name)]
+        done = subprocess.run(words, stdin=subprocess.DEVNULL, capture_output=True)
+        said, text = done.stdout.decode("utf-8").strip(), done.stderr.decode("utf-8", "replace").strip()
+        if said.startswith("refused "):
+            raise file_refusal_of(path, said.partition(" ")[2], text)
+        if done.returncode:
+            raise end_of(done.returncode, text)
+        return cls(path, program)
+
+    def _open(self, word: str, path: str, program: Optional[str]) -> None:
+        self.path = path
+        self.session = Session([word, path], program)
+        try:
+            self.root = Folder(self, ListedFolder(ROOT, "folder", ""))
+            self.top = self._find_top()
+        except PstoreError:
+            try:
+                self.session.close()
+            except PstoreError:
+                pass
+            raise
+
+    def _find_top(self) -> Folder:
+        """The folder that holds the user's.
+
+        Which one it is stands in a value that no line reads, so it goes by its usual id, then by its usual names.
+        """
+        folders = [it for it in self.root.folders() if it.kind == "folder"]
+        usual = [it for it in folders if it.id == TOP] or [it for it in folders if it.name.lower() in TOP_NAMES]
+        return (usual or [self.root])[0]
+
+    def folder(self, path: Path = "") -> Folder:
+        """The folder at a path."""
+        found, names = self._begin(path)
+        for name in names:
+            found = found.child(name)
+        return found
+
+    def make_folder(self, path: Path) -> Folder:
+        """The folder at a path, made with those above it as far as it isn't there."""
+        found, names = self._begin(path)
+        for name in names:
+            try:
+                found = found.child(name)
+            except NotFound:
+                found = found.make(name)
+        return found
+
+    def _begin(self, path: Path) -> Tuple[Folder, List[str]]:
+        names = split_path(path) if isinstance(path, str) else list(path)
+        return (self.root if isinstance(path, str) and path.startswith("/") else self.top), names
+
+    def walk(self, folder: Optional[Folder] = None) -> Iterator[Tuple[List[str], Folder, List[Message]]]:
+        """A folder and all below it, a parent before its children, each with the names that lead to it and its messages."""
+        yield from self._walk([], folder or self.top)
+
+    def _walk(self, names: List[str], folder: Folder) -> Iterator[Tuple[List[str], Folder, List[Message]]]:
+        folders, messages = folder.entries()
+        yield names, folder, messages
+        for it in folders:
+            yield from self._walk([*names, it.name], it)
+
+    def message(self, ident: int) -> Message:
+        """A message by its id, wherever it is."""
+        return Message(self, ident)
+
+    def write(self, draft: Draft, folder: Folder) -> Message:
+        """Sends the lines of a whole mail. Should one be refused, the message goes again.
+
+        Each line is a commit of its own. Where the program has transactions, this is the place where one begins and ends.
+        """
+        ident = self.session.ask(f"new 0x{folder.id:x} {draft.class_word} {draft.time}").id
+        message = Message(self, ident)
+        try:
+            for attachment in draft.attachments:
+                message.attach(attachment.name, attachment.data)
+            self.session.ask_all(draft.lines(ident))
+        except Refusal:
+            try:
+                message.remove()
+            except Refusal:
+                pass  # The first refusal says more.
+            raise
+        return message
+
+    def save(self) -> None:
+        """Writes the allocation maps, so that other readers need not rebuild them."""
+        self.session.ask("save")
+
+    def close(self) -> None:
+        """Ends the session, and waits for the program."""
+        self.session.close()
+
+    def __enter__(self) -> "Store":
+        return self
+
+    def __exit__(self, kind: object, error: object, trace: object) -> None:
+        self.session.__exit__(kind, error, trace)
+
+
+def split_path(path: str) -> List[str]:
+    """The names that a path is made of."""
+    names, name, escaped = [], "", False
+    for it in path:
+        if escaped or it not in "\\/":
+            name, escaped = name + it, False
+        elif it == "\\":
+            escaped = True
+        else:
+            names, name = [*names, name], ""
+    return [it for it in [*names, name] if it]
+
+
+def join_path(names: Sequence[str]) -> str:
+    """A path of names."""
+    return "/".join(it.replace("\\", "\\\\").replace("/", "\\/") for it in names)

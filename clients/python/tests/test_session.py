@@ -1,0 +1,113 @@
+"""Sessions: lines ahead, refusals, and ends."""
+
+import os
+import stat
+import unittest
+
+from pstore import errors
+from pstore.program import find_program
+from pstore.session import Session
+from pstore.store import Store
+from tests.support import InFolder, needs_program
+
+
+@needs_program
+class Lines(unittest.TestCase):
+    def test_replies_and_refusals(self):
+        with Session(["scratch"]) as session:
+            self.assertEqual(session.ask("mkdir 0x8022 A").id, 0x8082)
+            for line, kind in (
+                ("nonsense", errors.LineRefusal), ("mkdir 0x8022 ", errors.ValueRefusal), ("mkdir 0x9999 A", errors.ObjectRefusal), ("mkdir 0x8022 a", errors.NameTakenRefusal),
+                ("rmdir 0x8022", errors.ProtectedRefusal), ("mvdir 0x8082 0x8082", errors.CycleRefusal), ("getcriteria 0x8082", errors.ReservedRefusal),
+            ):  # fmt: skip
+                with self.subTest(line=line), self.assertRaises(kind):
+                    session.ask(line)
+            answers = list(session.pipeline(["rename 0x8082 B", "no such line", "ls 0x8082"]))
+            self.assertIsInstance(answers[1], errors.LineRefusal)
+            self.assertEqual(answers[2].rest, "0")
+            with self.assertRaises(errors.LineLimitRefusal):
+                session.ask("x" * 1_048_577)
+
+    def test_lines_far_ahead_of_their_replies(self):
+        """More than the pipes hold in both directions, before the first reply is taken."""
+        with Session(["scratch"]) as session:
+            session.ask_all(f"mkdir 0x8022 {'long name ' * 20}{it}" for it in range(10))
+            waiting = [(session.send("ls 0x8022"), session.send("x" * 3000)) for _ in range(60)]
+            self.assertEqual({it.result().rest for it, _ in waiting}, {"10"})
+            self.assertEqual({type(it.exception()) for _, it in waiting}, {errors.LineRefusal})
+
+    def test_nothing_after_the_end(self):
+        session = Session(["scratch"])
+        session.close()
+        session.close()
+        with self.assertRaises(errors.PstoreError):
+            session.ask("ls 0x122")
+
+    def test_a_killed_program(self):
+        session = Session(["scratch"])
+        session.ask("ls 0x122")
+        session._process.kill()
+        with self.assertRaises(errors.SessionEnded) as caught:
+            for _ in range(1000):
+                session.ask("ls 0x122")
+        self.assertEqual(caught.exception.status, -9)
+        session.close()
+
+
+@needs_program
+class Files(InFolder):
+    def test_refused_files(self):
+        for name, data, kind in (("none", None, errors.EmptyFile), ("short", b"x" * 10, errors.ShortFile), ("other", b"x" * 9000, errors.NotPst)):
+            path = self.folder / name
+            if data is not None:
+                path.write_bytes(data)
+            with self.subTest(name=name), self.assertRaises(kind):
+                Store(str(path))
+        with self.assertRaises(errors.FileNotEmpty):
+            Store.create(str(self.folder / "short"))
+
+
+class Ends(InFolder):
+    """Ends that a whole program comes to rarely, by one that just ends."""
+
+    def program(self, script: str) -> str:
+        path = self.folder / "program"
+        path.write_text(f"#!/bin/sh\n{script}\n")
+        path.chmod(path.stat().st_mode | stat.S_IXUSR)
+        return str(path)
+
+    def test_each_status_is_an_exception(self):
+        for status, kind, text in (
+            (2, errors.WordsRefused, "words"), (4, errors.DiskFailed, "disk"), (5, errors.InputFailed, "input"), (6, errors.OutputFailed, "output"),
+            (7, errors.NoMemory, "memory"), (8, errors.LinesSpent, "lines"), (9, errors.FileChanged, "changed 0x4400 1 2"), (77, errors.SessionEnded, ""),
+        ):  # fmt: skip
+            program = self.program(f"read line; echo 'ok 0'; read line; [ -z '{text}' ] || echo '{text}' >&2; exit {status}")
+            with self.subTest(status=status):
+                session = Session(["run", "FILE"], program)
+                self.assertEqual(session.ask("first").rest, "0")
+                with self.assertRaises(kind) as caught:
+                    session.ask("second")
+                self.assertEqual((caught.exception.status, caught.exception.text), (status, text))
+                session.close()
+
+    def test_an_end_that_shows_only_when_closing(self):
+        session = Session(["run", "FILE"], self.program("read line; echo ok; echo disk >&2; exit 4"))
+        with self.assertRaises(errors.DiskFailed):
+            session.close()
+
+    def test_a_refusal_with_its_advice(self):
+        session = Session(["run", "FILE"], self.program("echo refused busy; echo 'another session has it' >&2; exit 3"))
+        self.addCleanup(session.close)
+        with self.assertRaises(errors.BusyFile) as caught:
+            session.ask("ls 0x122")
+        self.assertIn("another session has it", str(caught.exception))
+
+    def test_what_is_no_reply(self):
+        session = Session(["run", "FILE"], self.program("read line; echo what; cat >/dev/null"))
+        self.addCleanup(session.close)
+        with self.assertRaises(errors.ProtocolError):
+            session.ask("ls 0x122")
+
+    def test_a_program_that_is_not_there(self):
+        with self.assertRaises(errors.ProgramMissing):
+            find_program(os.path.join(str(self.folder), "missing"))

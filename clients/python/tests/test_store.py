@@ -1,0 +1,101 @@
+"""Stores, folders, messages and attachments over the built program."""
+
+import unittest
+from datetime import datetime, timezone
+
+from pstore import Draft, Recipient, Store, errors
+from pstore.drafts import DraftAttachment
+from pstore.program import find_program, knows_look
+from pstore.tags import TAGS, Tag
+from tests.support import InFolder, needs_program, program
+
+
+@needs_program
+class Stores(InFolder):
+    def test_folders_messages_and_attachments(self):
+        with Store.create(self.file) as store:
+            self.check_folders(store)
+            message = self.check_message(store)
+            self.check_attachments(message)
+            self.check_whole_mail(store)
+        with Store(self.file) as store:
+            (message,) = store.folder("inbox/Lists").messages()
+            self.assertEqual((message.subject, message.attachment("a b.txt").read()), ("Grüße", b"hello world"))
+
+    def check_folders(self, store: Store):
+        self.assertEqual(store.top.name, "Top of Personal Folders")
+        lists = store.make_folder("Inbox/Lists")
+        self.assertEqual(store.make_folder("inbox/lists").id, lists.id)
+        self.assertEqual([names for names, _, _ in store.walk()], [[], ["Inbox"], ["Inbox", "Lists"]])
+        odd = store.make_folder(["A/B"])
+        self.assertEqual(store.folder("A\\/B").id, odd.id)
+        odd.rename("C")
+        odd.move(lists)
+        self.assertEqual(store.folder("/Top of Personal Folders/Inbox/Lists/C").id, odd.id)
+        with self.assertRaises(errors.NotEmptyRefusal):
+            lists.remove()
+        odd.remove()
+        with self.assertRaises(errors.NotFound):
+            store.folder("Inbox/Lists/C")
+
+    def check_message(self, store: Store):
+        message = store.folder("Inbox/Lists").add(Draft())
+        sent = datetime(2024, 1, 2, 3, 4, 5, tzinfo=timezone.utc)
+        message.set(subject="Grüße", body="line\r\n\\line", sender="Ann", sent=sent)
+        self.assertEqual((message.subject, message.body, message.sender, message.sent, message.html), ("Grüße", "line\r\n\\line", "Ann", sent, None))
+        message.sender = None
+        self.assertIsNone(message.sender)
+        self.assertFalse(message.read)
+        message.read = True
+        self.assertTrue(message.read)
+        message.add_recipient(1, "ann@example.org", "Ann  A")
+        bee = message.add_recipient(2, "bee@example.org")
+        self.assertEqual([(it.type, it.address, it.name) for it in message.recipients], [(1, "ann@example.org", "Ann  A"), (2, "bee@example.org", "bee@example.org")])
+        message.remove_recipient(bee)
+        self.assertEqual(len(message.recipients), 1)
+        message.put({Tag(0x0037, 0x001F): "\x01\x05Re: Grüße"})
+        self.assertEqual(message.subject, "Re: Grüße")
+        message.subject = "Grüße"
+        return message
+
+    def check_attachments(self, message):
+        message.attach("a b.txt", b"hello")
+        with message.attach_stream("stream.bin") as sink:
+            for _ in range(3):
+                sink.write(b"\0" * 400_000)
+        first, second = message.attachments
+        self.assertEqual((second.length, second.read()), (1_200_000, b"\0" * 1_200_000))
+        first.append(b" world")
+        self.assertEqual(message.attachment("1").open().read(), b"hello world")
+        second.remove()
+        with self.assertRaises(errors.NotFound):
+            message.attachment("stream.bin")
+
+    def check_whole_mail(self, store: Store):
+        folder = store.make_folder("Drafts")
+        draft = Draft(values={TAGS["subject"]: "Whole"}, recipients=[Recipient(1, "a@b", "")], attachments=[DraftAttachment("", b"")])
+        message = folder.add(draft)
+        self.assertEqual((message.subject, message.attachments[0].name, message.copy(folder).id != message.id), ("Whole", "attachment", True))
+        draft.values[TAGS["size"]] = 7
+        with self.assertRaises(errors.ProtectedRefusal):
+            folder.add(draft)
+        self.assertEqual(len(folder.messages()), 2)
+        message.move(store.folder("Inbox"))
+        self.assertEqual(list(store.folder("Inbox").values(store.folder("Inbox").messages(), "subject", "body")), [["Whole", None]])
+
+
+@needs_program
+class Looking(InFolder):
+    @unittest.skipUnless(program() and knows_look(find_program()), "the program has no word `look` yet")
+    def test_nothing_is_written(self):
+        with Store.create(self.file) as store:
+            store.make_folder("Inbox").add(Draft(values={TAGS["subject"]: "Seen"}))
+        (self.folder / "mail.pst.gate").unlink()
+        (self.folder / "mail.pst").chmod(0o444)
+        before = (self.folder / "mail.pst").read_bytes()
+        with Store.look(self.file) as store:
+            (message,) = store.folder("Inbox").messages()
+            self.assertEqual(message.subject, "Seen")
+            with self.assertRaises(errors.LineRefusal):
+                store.make_folder("Other")
+        self.assertEqual((before, ["mail.pst"]), ((self.folder / "mail.pst").read_bytes(), [it.name for it in self.folder.iterdir()]))
