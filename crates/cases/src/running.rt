@@ -48,7 +48,7 @@ fn world(
     let input = Bytes::from_slice(alloc, start.input)?;
     let main = Bytes::from_slice(alloc, start.main)?;
     let side = Bytes::from_slice(alloc, start.side)?;
-    let copy = Bytes::new(alloc);
+    let copy = Bytes::from_slice(alloc, case.copy.as_slice())?;
     Ok(CaseWorld {
         world: MemWorld::new(alloc, input, main, side, copy, fails)?,
         take_at_most: case.take_at_most,
@@ -117,6 +117,7 @@ fn outcome_of(alloc: Global, exit: Exit, world: &CaseWorld) -> Result<Outcome, A
         said: Vec::from_slice(alloc, world.world.said())?,
         main: Vec::from_slice(alloc, world.world.content(Part::Main))?,
         side: Vec::from_slice(alloc, world.world.content(Part::Side))?,
+        copy: Vec::from_slice(alloc, world.world.content(Part::Copy))?,
     })
 }
 
