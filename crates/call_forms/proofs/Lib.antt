@@ -1,5 +1,6 @@
 pub mod AnswerLaws
 pub mod Boxed
+pub mod DecodeLaws
 pub mod Disks
 pub mod FileLaws
 pub mod InfoLaws

@@ -1,0 +1,4 @@
+pub mod Decoding
+pub mod Source
+pub mod Decoded
+pub mod Keeps
