@@ -128,3 +128,42 @@ fn one_writes_or_some_read(rt: HostRuntime) -> Result<(), Fail> {
     fs::remove_file(&rt, SHARED)?;
     Ok(())
 }
+
+const COPIED: &str = "copied_test.pst";
+
+/// A world over a file, with one of this name for its copy.
+fn copying<'r>(rt: &'r HostRuntime, copy: &str) -> Result<FileWorld<&'r HostRuntime>, Fail> {
+    let main = String::from_str(rt.alloc(), COPIED)?;
+    let copy = String::from_str(rt.alloc(), copy)?;
+    Ok(FileWorld::new(rt, main, Some(copy), Access::Read)?)
+}
+
+/// Whether a write to a copy of that name fails, since it is the gate.
+fn is_gate(rt: &HostRuntime, copy: &str) -> Result<bool, Fail> {
+    let mut w = copying(rt, copy)?;
+    let has_failed = w.write_at(Part::Copy, 0, b"x").is_err();
+    match w.cause() {
+        Some(cause) => Ok(has_failed && matches!(&cause.trouble, Trouble::Gate)),
+        None => Ok(false),
+    }
+}
+
+/// Whether a copy of another name is written.
+fn is_copied(rt: &HostRuntime) -> Result<bool, Fail> {
+    let mut w = copying(rt, "copied_test.to")?;
+    let has_written = w.write_at(Part::Copy, 0, b"x").is_ok() && w.sync(Part::Copy).is_ok();
+    let bytes = fs::read(rt, "copied_test.to")?;
+    fs::remove_file(rt, "copied_test.to")?;
+    Ok(has_written && bytes.as_slice() == b"x".as_slice())
+}
+
+#[test]
+fn the_gate_is_no_copy(rt: HostRuntime) -> Result<(), Fail> {
+    assert!(rt; is_gate(&rt, "./copied_test.pst.gate")?);
+    assert!(rt; is_gate(&rt, "copied_test.pst.gate")?);
+    let gate = fs::read(&rt, "copied_test.pst.gate")?;
+    assert!(rt; gate.is_empty());
+    assert!(rt; is_copied(&rt)?);
+    fs::remove_file(&rt, "copied_test.pst.gate")?;
+    Ok(())
+}

@@ -13,6 +13,8 @@ pub(crate) struct Disk<R> {
     main: FilePart,
     side: FilePart,
     copy: FilePart,
+    /// The copy was seen to be another file than the gate.
+    is_apart: bool,
 }
 
 impl<R: Files<File = File>> Disk<R> {
@@ -29,7 +31,20 @@ impl<R: Files<File = File>> Disk<R> {
             main: FilePart::new(Some(main), access),
             side: FilePart::new(Some(side), access),
             copy: FilePart::new(copy, Access::Write),
+            is_apart: false,
         }
+    }
+
+    /// Makes the file of the copy if it isn't there, unless its name leads to the gate of the store, which a copy would spoil. One that leads to the store's file has bytes, so nothing is copied to it.
+    fn make_copy(&mut self) -> Result<(), Trouble> {
+        if !self.is_apart {
+            self.copy.make(&self.rt)?;
+            if self.side.names(&self.rt, &self.copy)? {
+                return Err(Trouble::Gate);
+            }
+            self.is_apart = true;
+        }
+        Ok(())
     }
 
     /// Whether the store's file was looked for and wasn't there.
@@ -62,7 +77,10 @@ impl<R: Files<File = File>> Disk<R> {
         match part {
             Part::Main => self.main.write_at(&self.rt, at, bytes),
             Part::Side => self.side.write_at(&self.rt, at, bytes),
-            Part::Copy => self.copy.write_at(&self.rt, at, bytes),
+            Part::Copy => {
+                self.make_copy()?;
+                self.copy.write_at(&self.rt, at, bytes)
+            }
         }
     }
 

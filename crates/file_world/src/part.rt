@@ -5,7 +5,7 @@ use crate::trouble::Trouble;
 use std::fs::{File, Files, OpenOptions, TryLockError};
 use std::io::{self, ErrorKind};
 use std::os::fd::AsRawFd;
-use std::os::unix::fs::FileExt;
+use std::os::unix::fs::{FileExt, MetadataExt};
 use std::path::Path;
 
 /// The greatest descriptor of a standard stream.
@@ -82,8 +82,26 @@ impl FilePart {
         Ok(())
     }
 
+    /// Whether what has its name by now is the open file of another part.
+    pub(crate) fn names<R: Files<File = File>>(
+        &self,
+        rt: &R,
+        other: &FilePart,
+    ) -> Result<bool, Trouble> {
+        let (Some(path), Place::Open(file)) = (&self.path, &other.place) else {
+            return Ok(false);
+        };
+        let named = match rt.metadata(path.as_str()) {
+            Ok(named) => named,
+            Err(e) if e.kind() == ErrorKind::NotFound => return Ok(false),
+            Err(e) => return Err(Trouble::System(e)),
+        };
+        let open = file.metadata()?;
+        Ok(named.dev() == open.dev() && named.ino() == open.ino())
+    }
+
     /// Makes the file if it isn't there, takes its lock, and makes its name stable. One that another program has made meanwhile isn't touched.
-    fn make<R: Files<File = File>>(&mut self, rt: &R) -> Result<(), Trouble> {
+    pub(crate) fn make<R: Files<File = File>>(&mut self, rt: &R) -> Result<(), Trouble> {
         self.open(rt)?;
         if self.access == Access::Read {
             return Err(Trouble::System(ErrorKind::PermissionDenied.into()));
@@ -194,15 +212,17 @@ fn off_streams(file: File) -> io::Result<File> {
     }
 }
 
-/// Takes a file's lock: for this world alone where it is to be written, else beside others that read. Where the system has no locks there is nothing to take.
+/// Takes a file's lock: for this world alone where it is to be written, else beside others that read. Where the system has no locks for such a file there is nothing to take.
 fn take_lock(file: &File, access: Access) -> Result<(), Trouble> {
     let taken = match access {
         Access::Read => file.try_lock_shared(),
         Access::Write => file.try_lock(),
     };
     match taken {
+        Ok(()) => Ok(()),
         Err(TryLockError::WouldBlock) => Err(Trouble::Busy),
-        Ok(()) | Err(TryLockError::Error(_)) => Ok(()),
+        Err(TryLockError::Error(e)) if e.kind() == ErrorKind::Unsupported => Ok(()),
+        Err(TryLockError::Error(e)) => Err(Trouble::System(e)),
     }
 }
 

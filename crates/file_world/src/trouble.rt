@@ -16,6 +16,8 @@ pub enum Device {
 pub enum Trouble {
     /// Another session holds the file's lock.
     Busy,
+    /// It is the gate of the store, to which nothing is copied.
+    Gate,
     /// What has that name is no file of bytes, but a pipe, say.
     NoFile,
     /// What the system says.
@@ -39,6 +41,7 @@ impl Display for Trouble {
     fn fmt<W: Write>(&self, f: &mut Formatter<W>) -> fmt::Result {
         match self {
             Trouble::Busy => f.write_str("another session is at work on it"),
+            Trouble::Gate => f.write_str("it is the gate of the store that is copied"),
             Trouble::NoFile => f.write_str("it is no file of bytes"),
             Trouble::System(error) => Display::fmt(error, f),
         }

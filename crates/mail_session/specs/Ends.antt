@@ -1,6 +1,7 @@
 -- How what was asked for ends.
 use Rattle.std.specs.Prelude.{◌≡◌}
 use Rattle.pst_outside.specs.World.{World}
+use Rattle.call_forms.specs.Decode.{DecodeEnds}
 use Rattle.call_forms.specs.Files.{NewEnds, RunEnds}
 use Rattle.call_forms.specs.Info.{InfoEnds}
 use Rattle.call_forms.specs.Look.{LookEnds}
@@ -19,6 +20,7 @@ EndsFor (asked.Plain forms.New) v w old new status = (status ≡ Words) × (w �
 EndsFor (asked.Plain forms.Nodes) v w old new status = NodesEnds old new status
 EndsFor (asked.Plain forms.Run) v w old new status = RunEnds old new status
 EndsFor (asked.Plain forms.Look) v w old new status = LookEnds old new status
+EndsFor (asked.Plain forms.Decode) v w old new status = DecodeEnds old new status
 EndsFor (asked.Plain forms.Scratch) v w old new status = ScratchEnds old new status × (status ≡ Memory → w ≡ v)
 EndsFor (asked.New name) v w old new status = NewEnds name old new status
 EndsFor asked.Nothing v w old new status = (status ≡ Words) × (w ≡ v)

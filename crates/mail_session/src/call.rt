@@ -2,6 +2,7 @@
 ghost use Rattle.std.specs.Prelude.{◌≡◌, ◌↔◌, ◌⊎◌, ℕ, true, List, None, Some, IsSome};
 ghost use Rattle.mail_session.specs.Asking.{is_naming};
 ghost use Rattle.mail_session.specs.Ends.{EndsFor};
+ghost use Rattle.call_forms.specs.Decode.{DecodeEnds};
 ghost use Rattle.call_forms.specs.Files.{EndsWell, NewEnds, RunEnds};
 ghost use Rattle.mail_session.specs.Words.{form_of, spelled, third_name};
 ghost use Rattle.call_forms.specs.Statuses.{EndsAs};
@@ -11,7 +12,7 @@ ghost use Rattle.call_forms.specs.Nodes.{NodesEnds};
 ghost use Rattle.call_forms.specs.Scratch.{ScratchEnds};
 
 use crate::words::{Asked, Form, read_words};
-use call_forms::{Exit, Status, look_lines, make, run_lines, say_info, say_nodes, serve_memory};
+use call_forms::{Exit, Status, look_lines, make, run_lines, say_decoded, say_info, say_nodes, serve_memory};
 use pst_base::{Ledger, Steps};
 use pst_outside::Outside;
 use std::alloc::Global;
@@ -25,6 +26,7 @@ fn answer<W: Outside>(alloc: Global, world: &mut W, asked: Asked) -> Status
         Asked::Plain(Form::Nodes) => say_nodes(alloc, world),
         Asked::Plain(Form::Run) => run_lines(alloc, world),
         Asked::Plain(Form::Look) => look_lines(alloc, world),
+        Asked::Plain(Form::Decode) => say_decoded(alloc, world),
         Asked::Plain(Form::Scratch) => serve_memory(alloc, world),
         Asked::Plain(Form::New) | Asked::Nothing => Status::Words,
         Asked::New(name) => make(alloc, world, &name),
@@ -33,7 +35,7 @@ fn answer<W: Outside>(alloc: Global, world: &mut W, asked: Asked) -> Status
 
 /// Does what the words of the command line ask for, over a world, and answers how it ended. The words are those without the program's name.
 ///
-/// Status 2 comes exactly where the words have none of the forms, and then nothing was asked of the world; where there is no memory to read the name of `new`, 7 may come in its place. The other statuses come as `InfoEnds`, `LookEnds`, `NewEnds`, `NodesEnds`, `RunEnds` and `ScratchEnds` say.
+/// Status 2 comes exactly where the words have none of the forms, and then nothing was asked of the world; where there is no memory to read the name of `new`, 7 may come in its place. The other statuses come as `DecodeEnds`, `InfoEnds`, `LookEnds`, `NewEnds`, `NodesEnds`, `RunEnds` and `ScratchEnds` say.
 pub fn run<W: Outside, L: Ledger>(
     alloc: Global,
     words: &[String],
@@ -57,6 +59,8 @@ pub fn run<W: Outside, L: Ledger>(
     ensures look_complete { form_of (spelled words.now) ≡ Some Form.Look → EndsAs (LookEndsWell (W.view world.old) (W.view world.new)) result.status }
     // `new`: what is made is read as the tree of a new store of that name.
     ensures new { (name : List ℕ) → form_of (spelled words.now) ≡ Some Form.New → third_name (spelled words.now) ≡ Some name → EndsAs (NewEnds name (W.view world.old) (W.view world.new)) result.status }
+    // `decode`: what is said of the copy is that it was made, of the files with each data block decoded, and Main and Side are at every moment as they were.
+    ensures decode { form_of (spelled words.now) ≡ Some Form.Decode → EndsAs (DecodeEnds (W.view world.old) (W.view world.new)) result.status }
     // `scratch`: the replies are those of a plain tree whose running searches list what filtering lists.
     ensures scratch { form_of (spelled words.now) ≡ Some Form.Scratch → EndsAs (ScratchEnds (W.view world.old) (W.view world.new)) result.status }
     ensures no_memory { form_of (spelled words.now) ≡ Some Form.Scratch → result.status ≡ 7 → world.new ≡ world.old }

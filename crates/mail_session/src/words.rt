@@ -24,6 +24,8 @@ pub enum Form {
     Look,
     /// `scratch`
     Scratch,
+    /// `decode FILE TO`
+    Decode,
 }
 
 /// The form of the words, with the name that `new` is given; or that they have none.
@@ -60,6 +62,7 @@ pub(crate) fn read_words(alloc: Global, words: &[String]) -> Result<Asked, Alloc
         [word, _file] if word.as_str() == "run" => Ok(Asked::Plain(Form::Run)),
         [word, _file] if word.as_str() == "look" => Ok(Asked::Plain(Form::Look)),
         [word, _file, name] if word.as_str() == "new" => read_new(alloc, name.as_str()),
+        [word, _file, _to] if word.as_str() == "decode" => Ok(Asked::Plain(Form::Decode)),
         _ => Ok(Asked::Nothing),
     }
 }

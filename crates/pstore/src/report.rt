@@ -7,7 +7,7 @@ use std::{io, str};
 
 /// The forms of the command line.
 const FORMS: &str =
-    "usage: pstore info|nodes|look|run FILE, pstore new FILE NAME, or pstore scratch";
+    "usage: pstore info|nodes|look|run FILE, pstore new FILE NAME, pstore decode FILE TO, or pstore scratch";
 
 /// The text of an exit; nothing where it needs no explanation.
 pub(crate) fn report(
@@ -77,7 +77,13 @@ fn report_refusal(
     let file = word(words, 1);
     let said = str::from_utf8(world.front()).unwrap_or("");
     match said.split_whitespace().nth(1) {
+        Some("not-empty") if word(words, 0) == "decode" => eprintln!(rt;
+            "{}: it has bytes: a copy needs a name that is free", word(words, 2)
+        ),
         Some("not-empty") => report_not_empty(rt, file, world),
+        Some("encoded") if word(words, 0) == "decode" => eprintln!(rt;
+            "{file}: its blocks are encoded in a way that isn't known: Outlook saves it without where encryption is set to none"
+        ),
         Some(refusal) => match advice(refusal, world.is_missing()) {
             Some(advice) => eprintln!(rt; "{file}: {advice}"),
             None => Ok(()),
@@ -110,7 +116,7 @@ fn advice(refusal: &str, is_missing: bool) -> Option<&'static str> {
             "it isn't a Unicode .pst file of version 23: Outlook can copy its folders into a new one",
         ),
         "encoded" => Some(
-            "its blocks are encoded: Outlook saves it without where encryption is set to none",
+            "its blocks are encoded, as Outlook does: the words `decode FILE TO` write a copy in which they aren't",
         ),
         "truncated" => Some("it is shorter than its header says: a copy of it was cut short"),
         "stale" => Some(

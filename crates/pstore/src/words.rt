@@ -1,6 +1,6 @@
 //! The words of the command line, and what they name.
 use file_world::{Access, FileWorld};
-use std::alloc::AllocError;
+use std::alloc::{AllocError, Global};
 use std::rt::Env;
 use std::{env, io};
 
@@ -29,11 +29,20 @@ fn access(form: &str) -> Access {
     }
 }
 
-/// The world over the file that the second word names.
+/// The file to which that of the second word is copied, where it is.
+fn copy(alloc: Global, words: &[String]) -> Result<Option<String>, AllocError> {
+    match word(words, 0) {
+        "decode" => Ok(Some(String::from_str(alloc, word(words, 2))?)),
+        _ => Ok(None),
+    }
+}
+
+/// The world over the files that the words name.
 pub(crate) fn world(
     rt: HostRuntime,
     words: &[String],
 ) -> Result<FileWorld<HostRuntime>, AllocError> {
     let file = String::from_str(rt.alloc(), word(words, 1))?;
-    FileWorld::new(rt, file, None, access(word(words, 0)))
+    let copy = copy(rt.alloc(), words)?;
+    FileWorld::new(rt, file, copy, access(word(words, 0)))
 }
