@@ -1,3 +1,9 @@
+pub mod CrcLaws
+pub mod DataLaws
+pub mod FrameLaws
+pub mod Standing
+pub mod HeaderLaws
+pub mod LaidLaws
 pub mod BlockLaws
 pub mod CopyLaws
 pub mod Keeping

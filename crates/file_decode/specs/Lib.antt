@@ -1,4 +1,5 @@
 pub mod Decoding
 pub mod Source
+pub mod Laid
 pub mod Decoded
 pub mod Keeps
