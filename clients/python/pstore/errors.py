@@ -246,7 +246,7 @@ class CrcRefused(FileRefusal):
 
 
 class EncodedFile(FileRefusal):
-    """The file's blocks are encoded."""
+    """The file's blocks are encoded: `decode` writes a copy in which they aren't."""
 
     kind = "encoded"
 
@@ -312,7 +312,7 @@ class IdsSpent(FileRefusal):
 
 
 class FileNotEmpty(FileRefusal):
-    """A new store is laid only where neither FILE nor FILE.gate has bytes."""
+    """A new store is laid only where neither FILE nor FILE.gate has bytes, and a copy only where there are none."""
 
     kind = "not-empty"
 

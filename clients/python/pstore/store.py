@@ -25,6 +25,22 @@ TOP_NAMES = ("top of personal folders", "top of outlook data file", "top of info
 Path = Union[str, Sequence[str]]
 
 
+def answer(words: List[str]) -> str:
+    """What the program says to words that begin no session. The file is the word behind the first."""
+    done = subprocess.run(words, stdin=subprocess.DEVNULL, capture_output=True)
+    said, text = done.stdout.decode("utf-8").strip(), done.stderr.decode("utf-8", "replace").strip()
+    if said.startswith("refused "):
+        raise file_refusal_of(words[2], said.partition(" ")[2], text)
+    if done.returncode:
+        raise end_of(done.returncode, text)
+    return said
+
+
+def decode(path: str, to: str, program: Optional[str] = None) -> int:
+    """Writes a copy of a file of Outlook whose blocks aren't encoded, so that a store can be opened in it. `to` has no bytes before. Says how many blocks were encoded."""
+    return int(answer([find_program(program), "decode", path, to]).split(" ")[1])
+
+
 class Store:
     """A store in a file, over one session of the program.
 
@@ -45,13 +61,7 @@ class Store:
     @classmethod
     def create(cls, path: str, name: str = "Mail", program: Optional[str] = None) -> "Store":
         """Lays a new store in a file that has no bytes, and opens it."""
-        words = [find_program(program), "new", path, spell(name)]
-        done = subprocess.run(words, stdin=subprocess.DEVNULL, capture_output=True)
-        said, text = done.stdout.decode("utf-8").strip(), done.stderr.decode("utf-8", "replace").strip()
-        if said.startswith("refused "):
-            raise file_refusal_of(path, said.partition(" ")[2], text)
-        if done.returncode:
-            raise end_of(done.returncode, text)
+        answer([find_program(program), "new", path, spell(name)])
         return cls(path, program)
 
     def _open(self, word: str, path: str, program: Optional[str]) -> None:

@@ -2,12 +2,13 @@
 
 import unittest
 from datetime import datetime, timezone
+from pathlib import Path
 
-from pstore import Draft, Recipient, Store, errors
+from pstore import Draft, Recipient, Store, decode, errors
 from pstore.drafts import DraftAttachment
 from pstore.program import find_program, knows_look
 from pstore.tags import TAGS, Tag
-from tests.support import InFolder, needs_program, program
+from tests.support import TOP, InFolder, needs_program, program
 
 
 @needs_program
@@ -21,6 +22,18 @@ class Stores(InFolder):
         with Store(self.file) as store:
             (message,) = store.folder("inbox/Lists").messages()
             self.assertEqual((message.subject, message.attachment("a b.txt").read()), ("Grüße", b"hello world"))
+
+    def test_a_file_of_outlook_is_decoded(self):
+        cases = TOP.parent.parent / "crates" / "cases" / "data"
+        encoded = str(cases / "one_permuted.pst")
+        with self.assertRaises(errors.EncodedFile):
+            Store.look(encoded)
+        self.assertEqual(decode(encoded, self.file), 29)
+        self.assertEqual(Path(self.file).read_bytes(), (cases / "one.pst").read_bytes())
+        with self.assertRaises(errors.FileNotEmpty):
+            decode(encoded, self.file)
+        with Store(self.file) as store:
+            self.assertEqual([len(list(it.messages())) for it in store.top.folders()], [1])
 
     def check_folders(self, store: Store):
         self.assertEqual(store.top.name, "Top of Personal Folders")

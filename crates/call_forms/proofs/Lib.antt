@@ -1,6 +1,6 @@
 pub mod AnswerLaws
 pub mod Boxed
-pub mod DecodeLaws
+pub mod CopyLaws
 pub mod Disks
 pub mod FileLaws
 pub mod InfoLaws

@@ -1,4 +1,5 @@
 pub mod Boxes
+pub mod Copies
 pub mod Decode
 pub mod Files
 pub mod Info

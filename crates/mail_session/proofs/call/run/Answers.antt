@@ -1,6 +1,7 @@
 use Rattle.std.proofs.Common.{inr, refl, rules}
 use Rattle.call_forms.specs.declared.exit.Status.TheVariants.{Memory}
-use Rattle.call_forms.proofs.DecodeLaws.{decode_unread}
+use Rattle.call_forms.specs.Decode.{IsDecodedText, IsUnreadText}
+use Rattle.call_forms.proofs.CopyLaws.{copy_unread}
 use Rattle.call_forms.proofs.FileLaws.{new_unread, well_as}
 use Rattle.call_forms.proofs.LookLaws.{look_unread, look_well_as}
 use Rattle.mail_session.proofs.call.run.Goals as goal
@@ -15,7 +16,7 @@ pub returns-clause-complete : goal.returns-clause-complete
 returns-clause-complete g c = λ form. well_as (g.W.Outside.view c.args.world.now) (g.W.Outside.view c.answer.new.world) c.exit-2.result.status (search (rules, form))
 
 pub returns-in_default-clause-decode : goal.returns-in_default-clause-decode
-returns-in_default-clause-decode g c = λ form. (Memory, c.exit.ensures.status, decode_unread (g.W.Outside.view c.args.world.now))
+returns-in_default-clause-decode g c = λ form. (Memory, c.exit.ensures.status, copy_unread IsDecodedText IsUnreadText (g.W.Outside.view c.args.world.now))
 
 pub returns-in_default-clause-look : goal.returns-in_default-clause-look
 returns-in_default-clause-look g c = λ form. (Memory, c.exit.ensures.status, look_unread (g.W.Outside.view c.args.world.now))
