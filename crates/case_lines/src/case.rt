@@ -1,4 +1,5 @@
 //! One case: a call of the program, and what must come of it.
+use crate::left::Cut;
 use crate::outcome::{Change, Ending};
 use crate::texts::add_text;
 use pst_outside::FailPlan;
@@ -7,9 +8,9 @@ use std::num::NonZeroUsize;
 use test_lines::{Trouble, Words};
 
 /// The first words of the lines about a case, but for those of its texts.
-const VERBS: [&str; 12] = [
-    "run", "takes", "says", "fails", "dead", "turns", "stops", "look", "status", "changed",
-    "writes", "has",
+const VERBS: [&str; 13] = [
+    "run", "takes", "says", "fails", "dead", "turns", "length", "stops", "look", "status",
+    "changed", "writes", "has",
 ];
 
 /// The change of bytes that words tell.
@@ -26,9 +27,7 @@ fn push<T: Drop>(list: &mut Vec<T>, item: T) -> Result<(), Trouble> {
 }
 
 /// Has one call of a world fail.
-fn fail(fails: &mut FailPlan, words: &mut Words) -> Result<(), Trouble> {
-    let device = words.word()?;
-    let number = words.number()?;
+fn fail(fails: &mut FailPlan, device: &str, number: u64) -> Result<(), Trouble> {
     match device {
         "take" => push(&mut fails.takes, number),
         "say" => push(&mut fails.says, number),
@@ -59,6 +58,8 @@ pub struct Case<'a> {
     pub fails: FailPlan,
     /// A place of FILE, and what the bytes there are xor from their second reading on.
     pub turn: Option<(u64, Vec<u8>)>,
+    /// How many bytes FILE has at least, of which those behind its own are zeros.
+    pub main_at_least: u64,
     /// What must be said.
     pub said: Vec<u8>,
     /// Lines that must be among those said; where there is one, others may be said too.
@@ -67,8 +68,8 @@ pub struct Case<'a> {
     pub ending: Ending,
     /// Whether FILE or FILE.gate may be changed.
     pub writes: bool,
-    /// Whether the case is also cut off at each call of its disk.
-    pub stops: bool,
+    /// How the case is also cut off, at each call.
+    pub cuts: Vec<Cut>,
     /// The lines by which what a stop leaves is looked at.
     pub looks: Vec<u8>,
 }
@@ -89,6 +90,7 @@ impl<'a> Case<'a> {
             say_at_most: NonZeroUsize::MAX,
             fails: FailPlan::none(alloc),
             turn: None,
+            main_at_least: 0,
             said: Vec::new(alloc),
             has: Vec::new(alloc),
             ending: Ending {
@@ -96,7 +98,7 @@ impl<'a> Case<'a> {
                 changed: None,
             },
             writes: false,
-            stops: false,
+            cuts: Vec::new(alloc),
             looks: Vec::new(alloc),
         }
     }
@@ -129,23 +131,31 @@ impl<'a> Case<'a> {
     /// Follows a line that sets something by words and numbers.
     fn set(&mut self, verb: &str, words: &mut Words<'a>) -> Result<(), Trouble> {
         match verb {
-            "fails" => fail(&mut self.fails, words),
+            "fails" => self.fail(words),
             "changed" => {
                 self.ending.changed = Some(change(words)?);
                 Ok(())
             }
             "run" => self.run(words.rest()),
             "has" => push(&mut self.has, words.rest()),
-            "stops" => {
-                self.stops = true;
-                Ok(())
-            }
+            "stops" => push(&mut self.cuts, Cut::Stop),
             "writes" => {
                 self.writes = true;
                 Ok(())
             }
             _ => self.count(verb, words),
         }
+    }
+
+    /// Has one call fail, or each in turn.
+    fn fail(&mut self, words: &mut Words) -> Result<(), Trouble> {
+        let device = words.word()?;
+        if device == "each" {
+            push(&mut self.cuts, Cut::Take)?;
+            push(&mut self.cuts, Cut::Say)?;
+            return push(&mut self.cuts, Cut::Disk);
+        }
+        fail(&mut self.fails, device, words.number()?)
     }
 
     /// Takes the words of the command line, which are said once.
@@ -163,6 +173,7 @@ impl<'a> Case<'a> {
             "takes" => self.take_at_most = words.some()?,
             "says" => self.say_at_most = words.some()?,
             "dead" => self.fails.dead_from = Some(words.number()?),
+            "length" => self.main_at_least = words.number()?,
             "status" => self.ending.status = words.byte()?,
             _ => return Err(Trouble::Spelling),
         }

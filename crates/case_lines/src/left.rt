@@ -7,11 +7,48 @@ use std::alloc::{AllocError, Global};
 /// The outcomes of a crash that are looked at, of each of the two files.
 const PICKS: [Pick; 3] = [Pick::Old, Pick::New, Pick::Junk];
 
-/// An outcome of a crash that opens as none that may be.
+/// How a case is cut off at a call.
+#[derive(Clone, Copy, Debug)]
+pub enum Cut {
+    /// The disk fails from the call on.
+    Stop,
+    /// The call of the disk fails.
+    Disk,
+    /// The call of `take` fails.
+    Take,
+    /// The call of `say` fails.
+    Say,
+}
+
+impl Cut {
+    /// The status with which the call of the program must end.
+    pub fn status(self) -> u8 {
+        match self {
+            Cut::Stop | Cut::Disk => 4,
+            Cut::Take => 5,
+            Cut::Say => 6,
+        }
+    }
+
+    /// Whether the call at which a case was to be cut off came.
+    pub fn came(self, w: &CaseWorld) -> bool {
+        let faults = match self {
+            Cut::Stop | Cut::Disk => w.disk_faults,
+            Cut::Take => w.in_faults,
+            Cut::Say => w.out_faults,
+        };
+        faults > 0
+    }
+}
+
+/// A case that was cut off and ended with another status than it must, or of which an outcome of a crash opens as none that may be.
 #[derive(Drop)]
 pub struct BadStop {
-    /// The number of the call from which on the disk failed.
+    pub cut: Cut,
+    /// The number of the call at which it was cut off.
     pub call: u64,
+    /// The status with which it ended.
+    pub status: u8,
     pub main: Pick,
     pub side: Pick,
     /// What was said of the outcome.

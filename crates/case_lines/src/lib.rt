@@ -13,7 +13,7 @@ mod texts;
 mod world;
 
 pub use case::Case;
-pub use left::{BadStop, Left, begun, outcomes};
+pub use left::{BadStop, Cut, Left, begun, outcomes};
 pub use outcome::{Change, Ending, Outcome};
 pub use report::{Report, Tally};
 pub use script::Script;

@@ -87,14 +87,14 @@ impl<R: Print + AllocGlobal> Report<'_, R> {
         println!(self.rt; "")
     }
 
-    /// Prints that a stop left what no whole lines leave.
+    /// Prints that a case that was cut off ended otherwise than it must, or left what no whole lines leave.
     pub fn bad_stop(&mut self, case: &Case, stop: &BadStop) -> io::Result<()>
         ensures { self.new.tally.differ ≡ min (self.old.tally.differ + 1) (2 ^ 64 - 1) }
     {
         self.begin(case)?;
         print!(self.rt;
-            "a stop at call {} of the disk, {:?} of FILE and {:?} of FILE.gate: got ",
-            stop.call, stop.main, stop.side
+            "{:?} at call {}, status {}, {:?} of FILE and {:?} of FILE.gate: got ",
+            stop.cut, stop.call, stop.status, stop.main, stop.side
         )?;
         self.show(stop.said.as_slice())?;
         println!(self.rt; "")

@@ -1,5 +1,5 @@
-//! The world of a case: one in memory that takes and says a few bytes at a time, and of which a part may turn after it was read.
-ghost use Rattle.std.specs.Prelude.{◌≡◌, ◌≤◌, ◌+◌, ◌-◌, ◌^◌, min};
+//! The world of a case: one in memory that takes and says a few bytes at a time, of which a part may turn after it was read, and whose file may be longer than its bytes.
+ghost use Rattle.std.specs.Prelude.{◌≡◌, ◌≤◌, ◌+◌, ◌-◌, ◌^◌, min, length};
 
 use pst_outside::{Failed, MemWorld, Outside, Part};
 use std::num::NonZeroUsize;
@@ -34,13 +34,28 @@ impl Turn {
     }
 }
 
-/// Another world, of which each `take` gives so many bytes at most, each `say` takes so many at most, and a part may turn. As it may turn it tells contracts its counts alone.
+/// Fills what a reading from a place gave with zeros, up to the end of a file that has at least so many bytes. It gives how many there are then.
+fn stretch(at_least: u64, at: u64, n: usize, read: &mut [u8]) -> usize
+    requires { n ≤ length read.old }
+    ensures fits { result ≤ length read.new }
+    ensures same { length read.new ≡ length read.old }
+{
+    let end = at_least.saturating_sub(at).min(read.len() as u64) as usize;
+    if end <= n {
+        return n;
+    }
+    read[n..end].fill(0);
+    end
+}
+
+/// Another world, of which each `take` gives so many bytes at most, each `say` takes so many at most, a part may turn, and FILE has at least so many bytes. As it may turn it tells contracts its counts alone.
 #[derive(Drop)]
 pub struct CaseWorld {
     pub world: MemWorld,
     pub take_at_most: NonZeroUsize,
     pub say_at_most: NonZeroUsize,
     pub turn: Option<Turn>,
+    pub main_at_least: u64,
     pub in_faults: u64,
     pub out_faults: u64,
     pub disk_faults: u64,
@@ -78,20 +93,23 @@ impl Outside for CaseWorld {
     }
 
     fn len(&mut self, part: Part) -> Result<u64, Failed> {
-        match self.world.len(part) {
-            Ok(n) => Ok(n),
-            Err(Failed) => Err(fault(&mut self.disk_faults)),
+        match (self.world.len(part), part) {
+            (Ok(n), Part::Main) => Ok(n.max(self.main_at_least)),
+            (Ok(n), _) => Ok(n),
+            (Err(Failed), _) => Err(fault(&mut self.disk_faults)),
         }
     }
 
     fn read_at(&mut self, part: Part, at: u64, buf: &mut [u8]) -> Result<usize, Failed> {
         match self.world.read_at(part, at, buf) {
-            Ok(n) => {
-                if let (Part::Main, Some(turn)) = (part, &mut self.turn) {
+            Ok(n) if part == Part::Main => {
+                let n = stretch(self.main_at_least, at, n, buf);
+                if let Some(turn) = &mut self.turn {
                     turn.apply(at, &mut buf[..n]);
                 }
                 Ok(n)
             }
+            Ok(n) => Ok(n),
             Err(Failed) => Err(fault(&mut self.disk_faults)),
         }
     }

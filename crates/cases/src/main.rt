@@ -25,12 +25,10 @@ fn end_case<R: Print + AllocGlobal>(report: &mut Report<R>, script: &mut Script)
     let outcome = run_case(report.rt.alloc(), &case, words)?;
     report.compare(&case, &outcome)?;
     script.leave(outcome);
-    if case.stops {
-        if let Some(stop) = bad_stop(report.rt.alloc(), &case, words)? {
-            report.bad_stop(&case, &stop)?;
-        }
+    match bad_stop(report.rt.alloc(), &case, words)? {
+        Some(stop) => report.bad_stop(&case, &stop),
+        None => Ok(()),
     }
-    Ok(())
 }
 
 /// Follows one line of a case file.

@@ -54,6 +54,7 @@ fn world(
         take_at_most: case.take_at_most,
         say_at_most: case.say_at_most,
         turn,
+        main_at_least: case.main_at_least,
         in_faults: 0,
         out_faults: 0,
         disk_faults: 0,

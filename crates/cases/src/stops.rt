@@ -1,13 +1,14 @@
-//! Stops: a case is cut off at each call of its disk, and what each outcome of a crash opens as is compared with what whole lines leave.
+//! Stops and failing calls: a case is cut off at each call in turn, and what each outcome of a crash opens as is compared with what whole lines leave.
 ghost use Rattle.std.specs.Prelude.{◌≤◌, length};
 
 use crate::running::{Start, call};
-use case_lines::{BadStop, Case, CaseWorld, begun, outcomes};
+use case_lines::{BadStop, Case, CaseWorld, Cut, begun, outcomes};
+use mail_session::Exit;
 use pst_base::Bytes;
-use pst_outside::{FailPlan, Part};
+use pst_outside::{FailPlan, Part, Pick};
 use std::alloc::{AllocError, Global};
 
-/// How many calls of the disk a case may have that is cut off at each.
+/// How many calls of one sort a case may have that is cut off at each.
 const MOST_CALLS: u64 = 100_000;
 
 /// An outcome of a crash that was looked at.
@@ -16,6 +17,28 @@ struct Seen {
     main: Bytes,
     side: Bytes,
     said: Vec<u8>,
+}
+
+/// At which call a case was cut off, and how it ended.
+#[derive(Clone, Copy)]
+struct Moment {
+    cut: Cut,
+    call: u64,
+    status: u8,
+}
+
+impl Moment {
+    /// What went wrong there.
+    fn bad(self, main: Pick, side: Pick, said: Vec<u8>) -> BadStop {
+        BadStop {
+            cut: self.cut,
+            call: self.call,
+            status: self.status,
+            main,
+            side,
+            said,
+        }
+    }
 }
 
 /// What a session over two files says to the lines by which a case looks at them.
@@ -95,7 +118,7 @@ fn bad_outcome(
     case: &Case,
     looks: &[Vec<u8>],
     w: &CaseWorld,
-    call: u64,
+    at: Moment,
     before: &[Seen],
     seen: &mut Vec<Seen>,
 ) -> Result<Option<BadStop>, AllocError> {
@@ -106,12 +129,7 @@ fn bad_outcome(
             let (main_bytes, side_bytes) = (main.bytes.as_slice(), side.bytes.as_slice());
             let said = look_once(alloc, case, main_bytes, side_bytes, before)?;
             if !is_whole(looks, least, said.as_slice()) {
-                return Ok(Some(BadStop {
-                    call,
-                    main: main.pick,
-                    side: side.pick,
-                    said,
-                }));
+                return Ok(Some(at.bad(main.pick, side.pick, said)));
             }
             seen.push(Seen {
                 main: Bytes::from_slice(alloc, main_bytes)?,
@@ -123,45 +141,74 @@ fn bad_outcome(
     Ok(None)
 }
 
-/// The world of a case whose disk fails from a call on.
-fn stopped_at(
+/// Runs a case that is cut off at a call, and gives how it ended and the world that it left.
+fn cut_at(
     alloc: Global,
     case: &Case,
     words: &str,
+    cut: Cut,
     number: u64,
-) -> Result<CaseWorld, AllocError> {
+) -> Result<(Exit, CaseWorld), AllocError> {
     let mut fails = FailPlan::none(alloc);
-    fails.dead_from = Some(number);
+    match cut {
+        Cut::Stop => fails.dead_from = Some(number),
+        Cut::Disk => fails.disks.push(number)?,
+        Cut::Take => fails.takes.push(number)?,
+        Cut::Say => fails.says.push(number)?,
+    }
     let start = Start {
         words,
         main: case.main.as_slice(),
         side: case.side.as_slice(),
         input: case.input.as_slice(),
     };
-    let (_, w) = call(alloc, case, start, fails)?;
-    Ok(w)
+    call(alloc, case, start, fails)
 }
 
-/// The first stop of a case that leaves what no whole lines leave; `None` where there is none.
-pub fn bad_stop(alloc: Global, case: &Case, words: &str) -> Result<Option<BadStop>, AllocError> {
-    let looks = looks_between(alloc, case, words)?;
+/// The first call at which a case that is cut off ends with another status than it must, or leaves what no whole lines leave; `None` where there is none.
+fn bad_cut(
+    alloc: Global,
+    case: &Case,
+    words: &str,
+    cut: Cut,
+    looks: &[Vec<u8>],
+) -> Result<Option<BadStop>, AllocError> {
     let mut before = Vec::new(alloc);
     for number in 0..MOST_CALLS {
-        let w = stopped_at(alloc, case, words, number)?;
+        let (exit, w) = cut_at(alloc, case, words, cut, number)?;
+        if !cut.came(&w) {
+            return Ok(None);
+        }
+        let at = Moment {
+            cut,
+            call: number,
+            status: exit.status,
+        };
+        if exit.status != cut.status() {
+            let said = Vec::from_slice(alloc, w.world.said())?;
+            return Ok(Some(at.bad(Pick::New, Pick::New, said)));
+        }
         let mut seen = Vec::new(alloc);
-        let bad = bad_outcome(
-            alloc,
-            case,
-            looks.as_slice(),
-            &w,
-            number,
-            before.as_slice(),
-            &mut seen,
-        )?;
-        if bad.is_some() || w.disk_faults == 0 {
+        let bad = bad_outcome(alloc, case, looks, &w, at, before.as_slice(), &mut seen)?;
+        if bad.is_some() {
             return Ok(bad);
         }
         before = seen;
+    }
+    Ok(None)
+}
+
+/// The first call at which a case that is cut off in the ways that it tells goes wrong; `None` where there is none.
+pub fn bad_stop(alloc: Global, case: &Case, words: &str) -> Result<Option<BadStop>, AllocError> {
+    if case.cuts.is_empty() {
+        return Ok(None);
+    }
+    let looks = looks_between(alloc, case, words)?;
+    for cut in case.cuts.iter() {
+        let bad = bad_cut(alloc, case, words, *cut, looks.as_slice())?;
+        if bad.is_some() {
+            return Ok(bad);
+        }
     }
     Ok(None)
 }
