@@ -12,7 +12,9 @@ ghost use Rattle.call_forms.specs.Nodes.{NodesEnds};
 ghost use Rattle.call_forms.specs.Scratch.{ScratchEnds};
 
 use crate::words::{Asked, Form, read_words};
-use call_forms::{Exit, Status, look_lines, make, run_lines, say_decoded, say_info, say_nodes, serve_memory};
+use call_forms::{
+    Exit, Status, look_lines, make, run_lines, say_decoded, say_info, say_nodes, serve_memory,
+};
 use pst_base::{Ledger, Steps};
 use pst_outside::Outside;
 use std::alloc::Global;

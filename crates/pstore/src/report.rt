@@ -78,7 +78,8 @@ fn report_refusal(
     let said = str::from_utf8(world.front()).unwrap_or("");
     match said.split_whitespace().nth(1) {
         Some("not-empty") if word(words, 0) == "decode" => eprintln!(rt;
-            "{}: it has bytes: a copy needs a name that is free", word(words, 2)
+            "{}: it has bytes: a copy needs a name that is free",
+            word(words, 2)
         ),
         Some("not-empty") => report_not_empty(rt, file, world),
         Some("encoded") if word(words, 0) == "decode" => eprintln!(rt;
