@@ -1,7 +1,7 @@
 #!/bin/sh
 # Tries the built program where a shell closes its streams, where two sessions meet, and on files that aren't there, can't be read or can't be written.
 # Says a line for each try that didn't end as it must, and at last how many did. The words are the program, if it isn't the one that was built here.
-# As root it also tries a disk that is full and one that is mounted for reading alone.
+# As root it also tries a disk that is full, one that is mounted for reading alone, and as another user files and folders that this one may not use.
 pstore=$(readlink -f "${1:-$(dirname "$0")/../crates/pstore/out/pstore}")
 folder=$(mktemp -d)
 trap 'umount "$folder/small" 2>/dev/null; chmod -R u+w "$folder"; rm -rf "$folder"' EXIT
@@ -106,10 +106,22 @@ check "what is told of it" "$(cat told)" "none.pst: there is no such file"
 ls none.pst none.pst.gate >/dev/null 2>&1
 check "nothing is made of it" $? 2
 mkdir folder
-check "a folder" "$("$pstore" info folder 2>told; echo $?)" 4
-check "what is told of a folder" "$(head -n 1 told)" disk
+for word in info nodes look run; do
+    check "$word of a folder" "$("$pstore" $word folder </dev/null 2>told; echo $?)" 4
+    check "what is told of $word of a folder" "$(head -n 1 told)" disk
+done
+check "new in the place of a folder" "$("$pstore" new folder Mail 2>told; echo $?)" 4
+check "a copy into a folder" "$("$pstore" decode plain.pst folder 2>told; echo $?)" 4
+check "the folder is as it was" "$(ls -A folder | wc -l)" 0
+cp plain.pst under.pst
+mkdir under.pst.gate
+check "a folder in the place of a gate" "$("$pstore" run under.pst </dev/null 2>told; echo $?)" 4
+cmp -s plain.pst under.pst
+check "the file beside it is as it was" $? 0
 check "a pipe" "$("$pstore" info pipe 2>told; echo $?)" 4
-check "a device" "$("$pstore" info /dev/null 2>told; echo $?)" 4
+for word in info nodes look run; do
+    check "$word of a device" "$("$pstore" $word /dev/null </dev/null 2>told; echo $?)" 4
+done
 : >e.pst
 check "a file without bytes" "$("$pstore" run e.pst </dev/null 2>/dev/null; echo $?)" "refused empty
 3"
@@ -127,6 +139,57 @@ done
 ls r.pst.gate >/dev/null 2>&1
 check "no gate is made" $? 2
 
+# Output to a full device, and input from a folder.
+cp plain.pst a.pst && cp plain.pst.gate a.pst.gate
+check "output to a full device" "$(echo 'mkdir 0x8022 Full' | "$pstore" run a.pst 2>told >/dev/full; echo $?)" 6
+check "what is told of it" "$(head -n 1 told)" output
+check "after output to a full device" "$(echo 'ls 0x8022' | "$pstore" run a.pst | head -n 1)" '- 0x8082 folder "Full"'
+check "input from a folder" "$("$pstore" run a.pst 2>told <folder; echo $?)" 5
+check "what is told of it" "$(head -n 1 told)" input
+check "after input from a folder" "$(echo 'ls 0x8022' | "$pstore" run a.pst | tail -n 1)" "ok 1"
+
+# What a user who isn't root may not use. The other user is nobody, with a copy of the program that this one can reach.
+if [ "$(id -u)" = 0 ]; then
+    as="setpriv --reuid=65534 --regid=65534 --clear-groups"
+    cp "$pstore" program && chmod 755 . program
+    if $as "$folder/program" info plain.pst >/dev/null 2>&1; then
+        mkdir closed shut && cp plain.pst shut/a.pst && cp plain.pst.gate shut/a.pst.gate && chmod 777 closed && chmod 755 shut
+        cp plain.pst n.pst && cp plain.pst.gate n.pst.gate && chmod 000 n.pst n.pst.gate
+        for word in info nodes look run; do
+            check "$word of a file that may not be read" "$($as "$folder/program" $word n.pst </dev/null 2>/dev/null; echo $?)" 4
+        done
+        check "new in its place" "$($as "$folder/program" new n.pst Mail 2>/dev/null; echo $?)" 4
+        check "what is told of it" "$($as "$folder/program" info n.pst 2>&1 | tail -n 1 | cut -d : -f 1)" n.pst
+        chmod 444 n.pst n.pst.gate
+        for word in info nodes look; do
+            check "$word of a file that may only be read" "$($as "$folder/program" $word n.pst </dev/null >/dev/null 2>&1; echo $?)" 0
+        done
+        check "run of a file that may only be read" "$(echo 'mkdir 0x8022 A' | $as "$folder/program" run n.pst 2>/dev/null; echo $?)" 4
+        chmod 666 n.pst
+        check "run where only the gate may not be written" "$(echo 'mkdir 0x8022 A' | $as "$folder/program" run n.pst 2>/dev/null; echo $?)" 4
+        chmod 000 n.pst.gate
+        for word in info look run; do
+            check "$word where the gate may not be read" "$(echo 'ls 0x8022' | $as "$folder/program" $word n.pst 2>/dev/null; echo $?)" 4
+        done
+        check "after all of these" "$(echo 'ls 0x8022' | "$pstore" run n.pst)" "ok 0"
+        rm -f shut/a.pst.gate && chmod 666 shut/a.pst
+        check "run where no gate can be made" "$(echo 'mkdir 0x8022 A' | $as "$folder/program" run shut/a.pst 2>/dev/null; echo $?)" 4
+        check "look there" "$(echo 'ls 0x8022' | $as "$folder/program" look shut/a.pst)" "ok 0"
+        check "new where no file can be made" "$($as "$folder/program" new shut/b.pst Mail 2>/dev/null; echo $?)" 4
+        check "a copy where no file can be made" "$($as "$folder/program" decode plain.pst shut/b.pst 2>/dev/null; echo $?)" 4
+        ls shut/b.pst shut/b.pst.gate >/dev/null 2>&1
+        check "nothing is made there" $? 2
+        check "after that" "$(echo 'mkdir 0x8022 A' | "$pstore" run shut/a.pst)" "ok 0x8082"
+    else
+        echo "no other user can run the program"
+    fi
+else
+    chmod 000 r.pst
+    check "a file that may not be read" "$("$pstore" info r.pst 2>told; echo $?)" 4
+    chmod 400 r.pst
+    check "run of a file that may only be read" "$("$pstore" run r.pst </dev/null 2>told; echo $?)" 4
+fi
+
 if [ "$(id -u)" = 0 ]; then
     mkdir small
     if mount -t tmpfs -o size=300k tmpfs small 2>/dev/null; then
@@ -137,8 +200,18 @@ if [ "$(id -u)" = 0 ]; then
         printf 'new 0x8082 IPM.Note 0\nattach 0x200024 a %s\n' "$hex" | "$pstore" run small/a.pst >said 2>told
         check "a full disk" $? 4
         check "what is told of it" "$(tail -n 1 told | cut -d : -f 1)" small/a.pst
-        rm small/fill
+        check "look on a full disk" "$(echo 'ls 0x8022' | "$pstore" look small/a.pst | tail -n 1)" "ok 1"
+        check "new on a full disk" "$("$pstore" new small/b.pst Mail 2>/dev/null; echo $?)" 4
+        check "a copy to a full disk" "$("$pstore" decode plain.pst small/c.pst 2>told; echo $?)" 4
+        check "what is told of the copy" "$(tail -n 1 told | cut -d : -f 1)" small/c.pst
+        rm -f small/fill small/b.pst small/b.pst.gate small/c.pst
         check "after a full disk" "$(echo 'ls 0x8022' | "$pstore" run small/a.pst | tail -n 1)" "ok 1"
+        rm small/a.pst.gate
+        dd if=/dev/zero of=small/fill bs=1k 2>/dev/null
+        check "a full disk without room for the gate" "$(echo 'mkdir 0x8022 B' | "$pstore" run small/a.pst 2>told; echo $?)" 4
+        check "what is told of the gate" "$(tail -n 1 told | cut -d : -f 1)" small/a.pst.gate
+        rm small/fill
+        check "after it" "$(echo 'mkdir 0x8022 B' | "$pstore" run small/a.pst)" "ok 0x80a2"
         mount -o remount,ro small
         for word in info nodes look; do
             check "$word on a disk for reading alone" "$("$pstore" $word small/a.pst </dev/null >/dev/null 2>&1; echo $?)" 0
