@@ -11,3 +11,8 @@ pub mod UnreadLaws
 pub mod SettleLaws
 pub mod WalkLaws
 pub mod GlanceLaws
+pub mod DeskCalls
+pub mod DeskLoops
+pub mod DeskPieces
+mod DeskRows
+pub mod SeenLaws

@@ -10,3 +10,8 @@ pub mod Space
 pub mod Unread
 pub mod Listed
 pub mod Glancing
+pub mod Sight
+pub mod Desks
+pub mod Seen
+pub mod Showing
+pub mod Counting

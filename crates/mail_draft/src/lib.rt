@@ -6,6 +6,8 @@
 #![tactic(auto)]
 
 mod beside;
+mod coming;
+mod desk;
 mod draft;
 mod ending;
 mod flags;
@@ -14,10 +16,14 @@ mod ids;
 mod kept;
 mod limits;
 mod listed;
+pub mod on_desk;
+mod on_keeper;
+mod once;
 mod outcome;
 mod outcomes;
 mod read;
 mod rows;
+mod seen;
 mod settle;
 mod space;
 mod stop;
@@ -26,6 +32,8 @@ mod unread;
 mod values;
 
 pub use beside::{associated, contents, hierarchy};
+pub use coming::Coming;
+pub use desk::{CountingDesk, Desk};
 pub use draft::Draft;
 pub use ending::finish;
 pub use flags::{flag_changes, flag_of};
@@ -33,10 +41,12 @@ pub use glance::{content_at, glance_of, has_row, message_content, number_told, t
 pub use ids::{new_id, next_index};
 pub use limits::within_limits;
 pub use listed::{message_ids, message_ids_at};
+pub use on_keeper::StoreDesk;
 pub use outcome::Outcome;
 pub use outcomes::{changing, making, moving, replying};
 pub use read::{as_message, context_at, message_at, table_at};
 pub use rows::{add_shown, drop_shown, put_shown};
+pub use seen::Seen;
 pub use settle::{counted, mirrored, settled, with_context};
 pub use space::space_needed;
 pub use stop::Stop;

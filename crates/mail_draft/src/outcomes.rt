@@ -88,7 +88,7 @@ pub fn moving<W: Outside, K: NodeReader<W>>(
 }
 
 /// Refused where an index is past the last one.
-fn unless_spent(index: u64) -> Result<(), Stop>
+pub(crate) fn unless_spent(index: u64) -> Result<(), Stop>
     ensures answer { Says (λ u. u) (refused_if (is_spent index) Ids) result }
     ensures few { OnOk result (index ≤ 134217727) }
     ensures refused { IfErr result IsRefused }

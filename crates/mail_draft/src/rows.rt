@@ -19,7 +19,7 @@ use pst_outside::Outside;
 use std::alloc::Global;
 
 /// Whether a table has more than 100,000 rows, and more than it had.
-fn overfills(old_len: usize, table: &Table) -> bool
+pub(crate) fn overfills(old_len: usize, table: &Table) -> bool
     ensures { (old : List (ℕ × List Val)) → length old ≡ old_len → result ≡ overfills old table.now.rows }
 {
     let len = table.rows().len();
@@ -37,7 +37,7 @@ fn into_table(object: Option<Object>) -> Option<TableNode>
 }
 
 /// The table at an id, and the draft in which it can be put again. A table of the draft isn't copied. The draft is lost with an `Err`.
-fn table_out<W: Outside, K: NodeReader<W>>(
+pub(crate) fn table_out<W: Outside, K: NodeReader<W>>(
     alloc: Global,
     keeper: &mut K,
     w: &mut W,

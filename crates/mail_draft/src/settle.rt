@@ -33,7 +33,7 @@ fn is_child(parent: Nid, place: &FolderPlace) -> bool
 }
 
 /// Whether some folder stands directly in that one.
-fn has_folders(places: &Places, folder: Nid) -> bool
+pub(crate) fn has_folders(places: &Places, folder: Nid) -> bool
     ensures { result ≡ list_any (is_child folder.bits) places.now }
 {
     places

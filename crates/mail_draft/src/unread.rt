@@ -38,7 +38,7 @@ fn kept_unread<W: Outside, K: NodeReader<W>>(
 }
 
 /// Whether the message at an id is unread.
-fn is_unread<W: Outside, K: NodeReader<W>>(
+pub(crate) fn is_unread<W: Outside, K: NodeReader<W>>(
     alloc: Global,
     keeper: &mut K,
     w: &mut W,
@@ -81,7 +81,7 @@ pub fn unread_among<W: Outside, K: NodeReader<W>>(
 }
 
 /// 1 where it holds, else 0.
-fn one_if(holds: bool) -> u64
+pub(crate) fn one_if(holds: bool) -> u64
     ensures value { result ≡ (if holds then 1 else 0) }
     ensures few { result ≤ 1 }
 {
