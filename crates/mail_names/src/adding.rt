@@ -1,21 +1,20 @@
 //! `name`
-ghost use Rattle.std.specs.Prelude.{◌≡◌, IfErr, IfOk, None};
-ghost use Rattle.mail_tree.specs.Tree.{Shown, Tree};
+ghost use Rattle.std.specs.Prelude.{◌≡◌, IfOk, None};
+ghost use Rattle.mail_tree.specs.Changing.{nothing};
 ghost use Rattle.mail_tree.specs.Names.{found_or_added, named_property, with_another};
-ghost use Rattle.mail_draft.specs.Answers.{IsCaused, Looks, Says};
-ghost use Rattle.mail_draft.specs.Outcomes.{outcome_of};
+ghost use Rattle.mail_draft.specs.Desks.{Comes};
+ghost use Rattle.mail_draft.specs.Sight.{Drafts};
 ghost use Rattle.mail_names.specs.Parts.{property_given};
 ghost use Rattle.named_props.specs.Finding.{name_at};
 ghost use Rattle.named_props.specs.Holding.{IsWritable};
 
 use crate::reading::{NAMES, names_of};
 use command_text::{CommandRefusal, LastLine, Limit, Reply};
-use mail_draft::{Draft, Outcome, Stop, context_at, replying, with_context, within_limits};
+use mail_draft::on_desk::{put_context, replying};
+use mail_draft::{Coming, Desk, Stop};
 use mail_objects::Context;
 use named_props::{Names, write_names};
-use node_port::NodeReader;
 use pst_base::MemOr;
-use pst_outside::Outside;
 use std::alloc::{AllocError, Global};
 
 /// The names with another one of a number under a GUID, and the property that it has; the names as they are, and no property, where there is no room for it.
@@ -41,70 +40,63 @@ fn plan_name(
 }
 
 /// Adds a name of a number under a GUID. Refused where the values would pass a limit, and then where there is no room for the name.
-fn add_name<W: Outside, K: NodeReader<W>>(
-    alloc: Global,
-    keeper: &mut K,
-    w: &mut W,
+fn add_name<D: Desk>(
+    desk: &mut D,
     context: Context,
     names: Names,
     guid: [u8; 16],
     number: u32,
-) -> Result<Outcome, Stop>
+) -> Result<Coming, Stop>
     requires new { name_at names.guids names.entries guid number ≡ None }
     requires writable { IsWritable names }
-    ensures answer { (T : Tree) → Shown (K.holds keeper.old (W.view w.old)) (K.last keeper.old) T → Says (outcome_of T) (found_or_added T context names guid number None) result }
-    ensures looks { Looks (K.holds keeper.old (W.view w.old)) (K.holds keeper.new (W.view w.new)) (K.last keeper.old) (K.last keeper.new) (K.room keeper.old) (K.room keeper.new) (W.view w.old) (W.view w.new) }
-    ensures cause { IfErr result (IsCaused K.has_disk (W.view w.old).disk_faults (W.view w.new).disk_faults) }
+    requires fresh { (D.view desk.old).changed ≡ nothing }
+    ensures drafts { Drafts (D.view desk.old) (D.view desk.new) result }
+    ensures answer { Comes (D.view desk.old) (D.view desk.new) (λ T c. found_or_added T context names guid number None) result }
+    ensures stays { IfOk result (λ coming. coming.places ≡ None) }
 {
-    let (names, property) = plan_name(alloc, names, guid, number)?;
-    let props = write_names(alloc, &names)?;
-    let draft = with_context(Draft::new(alloc), NAMES, context, props)?;
+    let (names, property) = plan_name(desk.alloc(), names, guid, number)?;
+    let props = write_names(desk.alloc(), &names)?;
+    put_context(desk, NAMES, context, props)?;
     match property {
-        Some(property) => { replying(alloc, keeper, w, draft, None, LastLine::Named(property)) },
+        Some(property) => replying(desk, None, LastLine::Named(property)),
         None => {
-            within_limits(alloc, keeper, w, &draft, None)?;
+            desk.check_limits(None)?;
             Err(Stop::Refused(CommandRefusal::Limit(Limit::Names)))
         }
     }
 }
 
 /// The property of a name of a number under a GUID, which is added where it isn't there.
-fn found_or_added<W: Outside, K: NodeReader<W>>(
-    alloc: Global,
-    keeper: &mut K,
-    w: &mut W,
+fn found_or_added<D: Desk>(
+    desk: &mut D,
     context: Context,
     names: Names,
     guid: [u8; 16],
     number: u32,
-) -> Result<Outcome, Stop>
-    requires { IsWritable names }
-    ensures answer { (T : Tree) → Shown (K.holds keeper.old (W.view w.old)) (K.last keeper.old) T → Says (outcome_of T) (found_or_added T context names guid number (name_at names.guids names.entries guid number)) result }
-    ensures looks { Looks (K.holds keeper.old (W.view w.old)) (K.holds keeper.new (W.view w.new)) (K.last keeper.old) (K.last keeper.new) (K.room keeper.old) (K.room keeper.new) (W.view w.old) (W.view w.new) }
-    ensures cause { IfErr result (IsCaused K.has_disk (W.view w.old).disk_faults (W.view w.new).disk_faults) }
+) -> Result<Coming, Stop>
+    requires writable { IsWritable names }
+    requires fresh { (D.view desk.old).changed ≡ nothing }
+    ensures drafts { Drafts (D.view desk.old) (D.view desk.new) result }
+    ensures answer { Comes (D.view desk.old) (D.view desk.new) (λ T c. found_or_added T context names guid number (name_at names.guids names.entries guid number)) result }
+    ensures stays { IfOk result (λ coming. coming.places ≡ None) }
 {
     match names.find(&guid, number) {
         Some(property) => {
-            let reply = Reply::without_data(alloc, LastLine::Named(property));
-            Ok(Outcome::unchanged(alloc, reply))
+            let reply = Reply::without_data(desk.alloc(), LastLine::Named(property));
+            Ok(Coming::replied(reply))
         }
-        None => add_name(alloc, keeper, w, context, names, guid, number),
+        None => add_name(desk, context, names, guid, number),
     }
 }
 
 /// The property whose name is a number under a GUID, whose bytes stand in their order in a file. A name that isn't there is added: its property has the index after the greatest. Refused where there is no room for it (`Limit`).
-pub fn name_property<W: Outside, K: NodeReader<W>>(
-    alloc: Global,
-    keeper: &mut K,
-    w: &mut W,
-    guid: [u8; 16],
-    number: u32,
-) -> Result<Outcome, Stop>
-    ensures answer { (T : Tree) → Shown (K.holds keeper.old (W.view w.old)) (K.last keeper.old) T → Says (outcome_of T) (named_property T guid number) result }
-    ensures looks { Looks (K.holds keeper.old (W.view w.old)) (K.holds keeper.new (W.view w.new)) (K.last keeper.old) (K.last keeper.new) (K.room keeper.old) (K.room keeper.new) (W.view w.old) (W.view w.new) }
-    ensures cause { IfErr result (IsCaused K.has_disk (W.view w.old).disk_faults (W.view w.new).disk_faults) }
+pub fn name_property<D: Desk>(desk: &mut D, guid: [u8; 16], number: u32) -> Result<Coming, Stop>
+    requires fresh { (D.view desk.old).changed ≡ nothing }
+    ensures drafts { Drafts (D.view desk.old) (D.view desk.new) result }
+    ensures answer { Comes (D.view desk.old) (D.view desk.new) (λ T c. named_property T guid number) result }
+    ensures stays { IfOk result (λ coming. coming.places ≡ None) }
 {
-    let context = context_at(alloc, keeper, w, &Draft::new(alloc), NAMES)?;
-    let names = names_of(alloc, &context)?;
-    found_or_added(alloc, keeper, w, context, names, guid, number)
+    let context = desk.context_before(NAMES)?;
+    let names = names_of(desk.alloc(), &context)?;
+    found_or_added(desk, context, names, guid, number)
 }
