@@ -4,8 +4,8 @@ use Rattle.std.proofs.lemmas.List.{append-nil}
 use Rattle.pst_outside.specs.World.{World, Image, SameDisk}
 use Rattle.pst_outside.specs.Calls.{Rose, Untouched}
 use Rattle.pst_outside.proofs.Moments.{weaker, continues, at_end}
-use Rattle.file_decode.specs.Keeps.{HasSourceOf, IsStable, KeepsSource}
-use Rattle.file_decode.proofs.Keeping.{keeps_started as source_started}
+use Rattle.copy_part.specs.Keeps.{HasSourceOf, IsStable, KeepsSource}
+use Rattle.copy_part.proofs.Keeping.{keeps_started as source_started}
 use Rattle.mail_draft.proofs.Looking.{untouched_same}
 use Rattle.call_forms.specs.declared.exit.ChangedAt.{ChangedAt}
 use Rattle.call_forms.specs.declared.exit.Status.{Status}

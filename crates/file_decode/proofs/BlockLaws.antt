@@ -17,7 +17,7 @@ use Rattle.file_blocks.specs.Stops.{IsPlaced}
 use Rattle.file_blocks.proofs.FileLaws.{behind_header, same_length}
 use Rattle.file_scan.specs.Parts.{AllPlaced}
 use Rattle.file_decode.specs.Decoding.{bytes_at, decoded_block, is_data, with_blocks}
-use Rattle.file_decode.specs.Keeps.{SameSource}
+use Rattle.copy_part.specs.Keeps.{SameSource}
 use Rattle.file_decode.proofs.CopyLaws.{next-block}
 
 by_frame : (o : Option BlockRefusal) (r : Result (List ℕ) BlockFault) (content : List ℕ) → unless o (faulty r) ≡ Ok content → r ≡ Ok content

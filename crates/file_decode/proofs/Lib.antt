@@ -6,7 +6,6 @@ pub mod HeaderLaws
 pub mod LaidLaws
 pub mod BlockLaws
 pub mod CopyLaws
-pub mod Keeping
 pub mod Pieces
 pub mod SourceLaws
 pub mod StopLaws

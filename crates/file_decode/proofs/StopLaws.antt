@@ -11,7 +11,7 @@ use Rattle.file_decode.specs.Decoded.{IsChange, IsFaultyAs, IsUnread, StopsReadi
 use Rattle.file_decode.specs.Decoding.{seen}
 use Rattle.file_decode.specs.Source.{IsSource, StopsAs}
 use Rattle.file_decode.specs.declared.source.Source.{Source}
-use Rattle.file_decode.proofs.Keeping.{rose_late}
+use Rattle.copy_part.proofs.Keeping.{rose_late}
 
 -- a change that a world that tells excludes
 pub change-writing : (stop : OpenStop) (new : World) → IsChange stop → (new.tells → ⊥) → StopsWriting stop new

@@ -2,4 +2,3 @@ pub mod Decoding
 pub mod Source
 pub mod Laid
 pub mod Decoded
-pub mod Keeps

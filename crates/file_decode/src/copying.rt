@@ -3,8 +3,9 @@ ghost use Rattle.std.specs.Prelude.{◌≡◌, ◌≤◌, ◌+◌, ◌++◌, [],
 ghost use Rattle.pst_outside.specs.Calls.{Rose};
 ghost use Rattle.pst_outside.specs.World.{after_write};
 ghost use Rattle.file_decode.specs.Decoding.{no_header};
-ghost use Rattle.file_decode.specs.Keeps.{IsStable, KeepsSource};
+ghost use Rattle.copy_part.specs.Keeps.{KeepsSource};
 
+use copy_part::put;
 use pst_outside::{Failed, Outside, Part, read_part};
 
 /// How many bytes a header has.
@@ -12,25 +13,6 @@ const HEADER: u64 = 564;
 
 /// How many bytes are copied at a time.
 const PIECE: usize = 65_536;
-
-/// Writes bytes into Copy.
-pub(crate) fn put<W: Outside>(w: &mut W, at: u64, bytes: &[u8]) -> Result<(), Failed>
-    ensures keeps { KeepsSource (W.view w.old) (W.view w.new) }
-    ensures cause { OnErr result (Rose (W.view w.old).disk_faults (W.view w.new).disk_faults) }
-    ensures copy { OnOk result ((W.view w.new).tells → (W.view w.new).here.copy ≡ after_write (W.view w.old).here.copy at bytes.now) }
-{
-    w.write_at(Part::Copy, at, bytes)
-}
-
-/// Makes Copy stable.
-pub(crate) fn settle<W: Outside>(w: &mut W) -> Result<(), Failed>
-    ensures keeps { KeepsSource (W.view w.old) (W.view w.new) }
-    ensures cause { OnErr result (Rose (W.view w.old).disk_faults (W.view w.new).disk_faults) }
-    ensures copy { (W.view w.new).tells → (W.view w.new).here.copy ≡ (W.view w.old).here.copy }
-    ensures stable { OnOk result (IsStable (W.view w.new)) }
-{
-    w.sync(Part::Copy)
-}
 
 /// Copies bytes of Main to the same place of Copy, as many as the buffer holds.
 fn copy_piece<W: Outside>(w: &mut W, at: u64, piece: &mut [u8]) -> Result<(), Failed>

@@ -9,12 +9,12 @@ ghost use Rattle.file_blocks.specs.Stops.{IsPlaced};
 ghost use Rattle.file_scan.specs.Parts.{AllPlaced};
 ghost use Rattle.file_decode.specs.Decoded.{IsChange, StopsWriting};
 ghost use Rattle.file_decode.specs.Decoding.{bytes_at, decoded_block, decoded_blocks, decoded_count, is_data, with_blocks};
-ghost use Rattle.file_decode.specs.Keeps.{KeepsSource};
+ghost use Rattle.copy_part.specs.Keeps.{KeepsSource};
 
-use crate::copying::put;
 use block_encoding::{Method, decode};
 use block_frame::{BlockFault, BlockView, disk_size};
 use btree_pages::BlockEntry;
+use copy_part::put;
 use file_layout::OpenStop;
 use pst_base::put_u32;
 use pst_checksum::crc;

@@ -5,14 +5,15 @@ ghost use Rattle.file_blocks.specs.Blocks.{file_of};
 ghost use Rattle.file_scan.specs.Found.{LaysBlocks};
 ghost use Rattle.file_scan.specs.Parts.{AllPlaced};
 ghost use Rattle.file_decode.specs.Decoded.{IsDecoded, StopsDecoding, StopsReading, StopsWriting};
-ghost use Rattle.file_decode.specs.Keeps.{IsStable, KeepsSource};
+ghost use Rattle.copy_part.specs.Keeps.{IsStable, KeepsSource};
 ghost use Rattle.file_decode.specs.Source.{IsSource};
 
-use crate::copying::{copy_bytes, put, settle};
+use crate::copying::copy_bytes;
 use crate::decoding::decode_blocks;
 use crate::source::{Source, open_source};
 use crate::stops::DecodeStop;
 use btree_pages::BlockEntry;
+use copy_part::{put, settle};
 use file_layout::OpenStop;
 use file_scan::scan_blocks;
 use pst_outside::{Failed, Outside, Part};

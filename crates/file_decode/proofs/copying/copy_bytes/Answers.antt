@@ -3,7 +3,7 @@ use Rattle.std.proofs.lemmas.List.{length-take, take_all}
 use Rattle.pst_outside.specs.World.{Image}
 use Rattle.file_decode.specs.Decoding.{no_header}
 use Rattle.file_decode.proofs.CopyLaws.{no-header, zeros-first}
-use Rattle.file_decode.proofs.Keeping.{keeps_along, keeps_untouched}
+use Rattle.copy_part.proofs.Keeping.{keeps_along, keeps_untouched}
 use Rattle.file_decode.proofs.Pieces.{piece_more}
 use Rattle.file_decode.proofs.copying.copy_bytes.Goals as goal
 

@@ -1,6 +1,6 @@
 use Rattle.std.proofs.Common.{◌≡◌, ◌≤◌, ◌++◌, ◌-◌, length, take, drop}
 use Rattle.file_decode.specs.Decoding.{no_header}
-use Rattle.file_decode.specs.Keeps.{KeepsSource}
+use Rattle.copy_part.specs.Keeps.{KeepsSource}
 use Rattle.file_decode.proofs.copying.copy_bytes.Given as goal
 
 abbrev pub invariant-loop-at : goal.invariant-loop-at

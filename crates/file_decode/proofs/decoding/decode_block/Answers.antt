@@ -5,7 +5,7 @@ use Rattle.file_blocks.specs.Blocks.{file_of}
 use Rattle.block_frame.specs.Block.{reading}
 use Rattle.file_decode.specs.Decoding.{decoded_block}
 use Rattle.file_decode.proofs.BlockLaws.{frame-holds, read-again}
-use Rattle.file_decode.proofs.Keeping.{keeps_along, keeps_untouched}
+use Rattle.copy_part.proofs.Keeping.{keeps_along, keeps_untouched}
 use Rattle.file_decode.proofs.StopLaws.{change-writing}
 use Rattle.file_decode.proofs.decoding.decode_block.Goals as goal
 

@@ -5,7 +5,7 @@ use Rattle.file_blocks.specs.Blocks.{file_of}
 use Rattle.file_decode.specs.Decoding.{bytes_at, decoded_block, with_blocks}
 use Rattle.file_decode.proofs.BlockLaws.{copy-data, copy-none, count-data, count-none, holds-data, holds-none, no_block, placed-here, same-file, stands-here}
 use Rattle.file_decode.proofs.CopyLaws.{none-left}
-use Rattle.file_decode.proofs.Keeping.{keeps_along}
+use Rattle.copy_part.proofs.Keeping.{keeps_along}
 use Rattle.file_decode.proofs.decoding.decode_each.Goals.{then-not-internal+in_ok-decode_block, else-not-internal}
 use Rattle.file_decode.proofs.decoding.decode_each.Goals as goal
 

@@ -2,7 +2,7 @@ use Rattle.std.proofs.Common.{◌≡◌, ◌≤◌, drop, take, count_by}
 use Rattle.file_blocks.specs.Blocks.{AllStand, file_of}
 use Rattle.file_scan.specs.Parts.{AllPlaced}
 use Rattle.file_decode.specs.Decoding.{is_data, with_blocks}
-use Rattle.file_decode.specs.Keeps.{KeepsSource}
+use Rattle.copy_part.specs.Keeps.{KeepsSource}
 use Rattle.file_decode.proofs.decoding.decode_each.Given as goal
 
 abbrev pub invariant-loop-entry : goal.invariant-loop-entry

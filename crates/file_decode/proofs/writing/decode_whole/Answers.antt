@@ -3,7 +3,7 @@ use Rattle.std.proofs.lemmas.Result.{err_from_is_err_and}
 use Rattle.pst_outside.specs.World.{Image}
 use Rattle.file_layout.proofs.Underway.{untouched_then}
 use Rattle.file_decode.specs.Source.{IsSource}
-use Rattle.file_decode.proofs.Keeping.{keeps_along, keeps_untouched}
+use Rattle.copy_part.proofs.Keeping.{keeps_along, keeps_untouched}
 use Rattle.file_decode.proofs.StopLaws.{scan-stop, source-stop, writing-stops}
 use Rattle.file_decode.proofs.writing.decode_whole.Goals as goal
 

@@ -8,7 +8,7 @@ use Rattle.file_decode.specs.Decoding.{decoded_blocks, decoded_count, decoded_fi
 use Rattle.file_decode.specs.Source.{header_in}
 use Rattle.file_decode.proofs.BlockLaws.{same-file, whole-behind}
 use Rattle.file_decode.proofs.CopyLaws.{copy-decoded}
-use Rattle.file_decode.proofs.Keeping.{keeps_along}
+use Rattle.copy_part.proofs.Keeping.{keeps_along}
 use Rattle.file_decode.proofs.writing.write_copy.Goals as goal
 
 pub returns-in_err-count-clause-keeps : goal.returns-in_err-count-clause-keeps

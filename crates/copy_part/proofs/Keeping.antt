@@ -4,7 +4,7 @@ use Rattle.pst_outside.specs.World.{Image, World, TornAt}
 use Rattle.pst_outside.specs.declared.outside.Part.TheVariants.{Copy}
 use Rattle.pst_outside.specs.Calls.{NeverFall, Rose, Untouched, Stays, StaysButRange, NoMore, Follows, Elapses}
 use Rattle.pst_outside.proofs.Moments.{goes_on, continues, at_end, started}
-use Rattle.file_decode.specs.Keeps.{SameSource, HasSourceOf, KeepsSource}
+use Rattle.copy_part.specs.Keeps.{SameSource, HasSourceOf, KeepsSource}
 
 falls_along : {a b c : World} → NeverFall a b → NeverFall b c → NeverFall a c
 falls_along p q = record { in_faults = omega (arith, p.in_faults, q.in_faults); out_faults = omega (arith, p.out_faults, q.out_faults); disk_faults = omega (arith, p.disk_faults, q.disk_faults) }
