@@ -1,0 +1,4 @@
+pub mod FitLaws
+pub mod NamedLaws
+pub mod StopLaws
+pub mod StepLaws
