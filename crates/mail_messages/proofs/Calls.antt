@@ -1,9 +1,15 @@
 -- Calls one after another: what the later ones say goes on from what the earlier ones said.
-use Rattle.std.proofs.Common.{◌≡◌, ℕ, None, Some, Result, Ok, Err, sym, ap, subst}
+use Rattle.std.proofs.Common.{◌≡◌, Bool, true, false, None, Some, Result, Ok, Err, if◌then◌else◌, sym, ap, subst}
 use Rattle.std.specs.Result.{IsErrAnd}
-use Rattle.mail_tree.specs.Changing.{Answer, ◌>>=◌}
+use Rattle.mail_tree.specs.Tree.{Tree}
+use Rattle.mail_tree.specs.Changing.{Answer, Changed, ◌>>=◌}
+use Rattle.mail_tree.specs.Folders.{Outcome}
+use Rattle.mail_draft.specs.declared.coming.Coming.{Coming}
 use Rattle.mail_draft.specs.declared.stop.Stop.{Stop}
 use Rattle.mail_draft.specs.Answers.{Says}
+use Rattle.mail_draft.specs.Desks.{Comes, coming_of}
+use Rattle.mail_draft.specs.Sight.{Changes, Sight}
+use Rattle.mail_draft.proofs.DeskCalls.{changes_at}
 use Rattle.mail_draft.proofs.Passes.{stop_says}
 
 -- the exit of a `?`
@@ -26,12 +32,6 @@ pub as_at3 : {X Y Z A B : Type 0} (view : B → A) (answer : X → Y → Z → A
     → x ≡ x' → y ≡ y' → z ≡ z' → Says view (answer x y z) result → Says view (answer x' y' z') result
 as_at3 view answer result {x} {x'} {y} {y'} {z} {z'} e e' f said = as_at view (answer x' y') result f (as_at2 view (λ a b. answer a b z) result e e' said)
 
--- the same of four equal things
-pub as_at4 : {X Y Z U A B : Type 0} (view : B → A) (answer : X → Y → Z → U → Answer A) (result : Result B Stop) {x x' : X} {y y' : Y} {z z' : Z} {u u' : U}
-    → x ≡ x' → y ≡ y' → z ≡ z' → u ≡ u' → Says view (answer x y z u) result → Says view (answer x' y' z' u') result
-as_at4 view answer result {x} {x'} {y} {y'} {z} {z'} {u} {u'} e e' f f' said =
-    as_at2 view (answer x' y') result f f' (as_at2 view (λ a b. answer a b z u) result e e' said)
-
 -- steps grouped from the right
 pub regroup : {A B C D : Type 0} (view : D → C) (answer : Answer A) (f : A → Answer B) (g : B → Answer C) (result : Result D Stop)
     → Says view ((answer >>= f) >>= g) result → Says view (answer >>= λ x. f x >>= g) result
@@ -50,19 +50,45 @@ pub ungroup3 : {A B C D E : Type 0} (view : E → D) (answer : Answer A) (f : A 
 ungroup3 view (Ok x) f g h result said = ungroup view (f x) g h result said
 ungroup3 view (Err e) f g h result said = said
 
--- two tests, then a third one before a number, and a step whose result goes on with that number
-pub steps : {A B C D : Type 0} (view : D → C) (p q r : Answer (Unit {0})) (n : ℕ) (h : Answer A) (f : ℕ → A → Answer B) (g : ℕ → B → Answer C) (result : Result D Stop)
-    → Says view (((p >>= λ u. q) >>= λ u. (r >>= λ v. Ok n) >>= λ i. h >>= λ x. let both : A × ℕ = (x, i) in Ok both) >>= λ (y : A × ℕ). f y.1 y.0 >>= g y.1) result
-    → Says view (p >>= λ u. q >>= λ v. r >>= λ w. (h >>= f n) >>= g n) result
-steps view (Ok u) (Ok v) (Ok w) n (Ok x) f g result said = said
-steps view (Ok u) (Ok v) (Ok w) n (Err e) f g result said = said
-steps view (Ok u) (Ok v) (Err e) n h f g result said = said
-steps view (Ok u) (Err e) r n h f g result said = said
-steps view (Err e) q r n h f g result said = said
-
 -- what a call gives goes into the next step, which may use that it is the answer
 pub then_is : {A B C D : Type 0} (view : B → A) (view' : D → C) (answer : Answer A) (f : A → Answer C) (y : B) (result : Result D Stop)
     → Says view answer (Ok y) → (answer ≡ Ok (view y) → Says view' (f (view y)) result) → Says view' (answer >>= f) result
-then_is view view' (Ok x) f y result first then = subst (λ z. Says view' (f z) result) first (then (ap Ok (sym first)))
-then_is view view' (Err None) f y result first then = tt
-then_is view view' (Err (Some refusal)) f y result first then = absurd first
+then_is view view' (Ok x) f y result first next = subst (λ z. Says view' (f z) result) first (next (ap Ok (sym first)))
+then_is view view' (Err None) f y result first next = tt
+then_is view view' (Err (Some refusal)) f y result first next = absurd first
+
+-- the same of what comes of a line on a desk
+pub comes_regrouped : {A B C : Type 0} {old new : Sight A} {result : Result Coming Stop} (step : Tree → Changed → Answer B) (f : Tree → Changed → B → Answer C) (h : Tree → Changed → C → Answer Outcome)
+    → Comes old new (λ T D. (step T D >>= f T D) >>= h T D) result → Comes old new (λ T D. step T D >>= λ x. f T D x >>= h T D) result
+comes_regrouped {old = old} {new = new} {result = result} step f h a = record {
+  says = λ T s. regroup (coming_of T new.changed) (step T old.changed) (f T old.changed) (h T old.changed) result (a.says T s);
+  fits = a.fits;
+}
+
+pub comes_ungrouped : {A B C : Type 0} {old new : Sight A} {result : Result Coming Stop} (step : Tree → Changed → Answer B) (f : Tree → Changed → B → Answer C) (h : Tree → Changed → C → Answer Outcome)
+    → Comes old new (λ T D. step T D >>= λ x. f T D x >>= h T D) result → Comes old new (λ T D. (step T D >>= f T D) >>= h T D) result
+comes_ungrouped {old = old} {new = new} {result = result} step f h a = record {
+  says = λ T s. ungroup (coming_of T new.changed) (step T old.changed) (f T old.changed) (h T old.changed) result (a.says T s);
+  fits = a.fits;
+}
+
+pub comes_ungrouped3 : {A B C E : Type 0} {old new : Sight A} {result : Result Coming Stop} (step : Tree → Changed → Answer B) (f : Tree → B → Answer C) (g : Tree → C → Answer E) (h : Tree → E → Answer Outcome)
+    → Comes old new (λ T D. step T D >>= λ x. f T x >>= λ y. g T y >>= h T) result → Comes old new (λ T D. ((step T D >>= f T) >>= g T) >>= h T) result
+comes_ungrouped3 {old = old} {new = new} {result = result} step f g h a = record {
+  says = λ T s. ungroup3 (coming_of T new.changed) (step T old.changed) (f T) (g T) (h T) result (a.says T s);
+  fits = a.fits;
+}
+
+-- the same at two equal things
+pub changes_at2 : {A X Y R : Type 0} {old new : Sight A} (step : X → Y → Tree → Changed → Answer Changed) {x x' : X} {y y' : Y} {result : Result R Stop}
+    → x ≡ x' → y ≡ y' → Changes old new (step x y) result → Changes old new (step x' y') result
+changes_at2 step {x} {x'} {y} {y'} e e' a = changes_at (step x') e' (changes_at (λ b. step b y) e a)
+
+-- a test that decides which of two steps is made
+pub comes_if : {A : Type 0} {old new : Sight A} {result : Result Coming Stop} (b : Bool) (one other : Tree → Changed → Answer Outcome) → b ≡ true
+    → Comes old new one result → Comes old new (λ T D. if b then one T D else other T D) result
+comes_if b one other e a = record { says = λ T s. rw e (a.says T s); fits = a.fits }
+
+pub comes_else : {A : Type 0} {old new : Sight A} {result : Result Coming Stop} (b : Bool) (one other : Tree → Changed → Answer Outcome) → b ≡ false
+    → Comes old new other result → Comes old new (λ T D. if b then one T D else other T D) result
+comes_else b one other e a = record { says = λ T s. rw e (a.says T s); fits = a.fits }

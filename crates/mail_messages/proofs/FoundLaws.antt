@@ -1,5 +1,5 @@
 -- The message that an id names has that id.
-use Rattle.std.proofs.Common.{◌≡◌, ℕ, List, Option, None, Some, Ok, Err, ◌==◌, not, is_some, subst, sym, ap, ◌∙◌}
+use Rattle.std.proofs.Common.{◌≡◌, ℕ, Option, None, Some, Ok, Err, ◌==◌, not, is_some, sym, ap, ◌∙◌}
 use Rattle.std.specs.FinMap as map
 use Rattle.std.specs.Ordering.{nat_cmp}
 use Rattle.pst_base.specs.Ids.{kind_of}
@@ -8,12 +8,11 @@ use Rattle.mapi_values.specs.Tables.{find_row}
 use Rattle.mapi_values.specs.Messages.{Mes}
 use Rattle.mail_objects.specs.declared.object.Object.{Object}
 use Rattle.mail_objects.specs.declared.object.Object.TheVariants.{Context, Table, Message, Bare}
-use Rattle.node_port.specs.Nodes.{Nodes, node_at}
-use Rattle.node_port.specs.declared.node.NodeRec.{NodeRec}
-use Rattle.mail_tree.specs.Tree.{Shown, StandsAt, Tree, object_at}
+use Rattle.mail_tree.specs.Tree.{Tree, object_at}
 use Rattle.mail_tree.specs.Changing.{Answer, ◌>>=◌, as_message, contents, found, known, message_at, newest, nothing, refused_if, table_at}
 use Rattle.mail_tree.specs.Messages.{message_in, parent_at}
 use Rattle.mail_tree.specs.Places.{find_place, is_plain}
+use Rattle.mail_draft.specs.Sight.{AreOwn}
 use Rattle.mail_messages.specs.Finding.{message_among}
 use Rattle.mail_messages.specs.Pieces.{listed_message, message_below}
 
@@ -28,9 +27,6 @@ is_message (Some (Context c)) M e = cc
 is_message (Some (Table t)) M e = cc
 is_message (Some (Bare parent)) M e = cc
 is_message (Some (Message m)) M e = cc
-
-stands_id : (q : ℕ) (node : Option NodeRec) (o : Option Object) (other : Option NodeRec) (M : Mes) → o ≡ Some (Message M) → StandsAt q node o other → M.nid ≡ q
-stands_id q node o other M e s = let t = subst (λ z. StandsAt q node z other) e s in t.1.2.message.id
 
 listed : (T : Tree) (m f : ℕ) (M : Mes) → listed_message T m f ≡ Ok M → message_at T nothing m ≡ Ok M
 unfolding listed_message
@@ -52,8 +48,8 @@ found_at T m M e =
     below T m f.0 M f.1
 
 -- the message that is found has the id
-pub its_id : {holds : Nodes → Type 0} {last : List ℕ} (T : Tree) (m : ℕ) (M : Mes) → Shown holds last T → message_in T m ≡ Ok M → M.nid ≡ m
-its_id T m M s e =
+pub its_id : (T : Tree) (m : ℕ) (M : Mes) → AreOwn T → message_in T m ≡ Ok M → M.nid ≡ m
+its_id T m M own e =
     let old : map.get (nothing.objects) m ≡ None = map.get-empty nat_cmp m in
     let known_there = ap (λ (o : Option (Option Object)). known (as_message (newest o (object_at T m)))) (sym old) ∙ found_at T m M e in
-    stands_id m (node_at s.nodes m) (object_at T m) (node_at T.others m) M (is_message (object_at T m) M known_there) (s.at m)
+    own m M (is_message (object_at T m) M known_there)

@@ -4,6 +4,7 @@ use Rattle.command_text.specs.declared.reply.CommandRefusal.TheVariants.{Limit, 
 use Rattle.command_text.specs.declared.reply.Limit.TheVariants.{Rows}
 use Rattle.command_text.specs.declared.reply.DataLine.{DataLine}
 use Rattle.command_text.specs.declared.reply.LastLine.TheVariants.{Done, Value}
+use Rattle.command_text.specs.declared.reply.Reply.{Reply}
 use Rattle.mapi_values.specs.Messages.{Mes}
 use Rattle.mapi_values.specs.Properties.{put, remove_id}
 use Rattle.mapi_values.specs.Values.{Val}
@@ -12,8 +13,8 @@ use Rattle.mail_tree.specs.declared.places.FolderPlace.{FolderPlace}
 use Rattle.mapi_values.specs.declared.value.Tag.{Tag}
 use Rattle.mail_tree.specs.Tree.{Tree}
 use Rattle.mail_tree.specs.Values.{bytes_of, is_set_protected, is_unset_protected}
-use Rattle.mail_tree.specs.Changing.{Answer, Changed, ◌>>=◌, add_shown, contents, found, nothing, put_shown, refused_if}
-use Rattle.mail_tree.specs.Settling.{settled, touched}
+use Rattle.mail_tree.specs.Changing.{Answer, Changed, ◌>>=◌, add_shown, contents, found, put_shown, refused_if}
+use Rattle.mail_tree.specs.Settling.{settled}
 use Rattle.mail_tree.specs.Ids.{message_kinds, next_index}
 use Rattle.mail_tree.specs.Names.{unless_nameless}
 use Rattle.mail_tree.specs.Folders.{Outcome, changing, listed, making, replied, unchanged, unless_full}
@@ -50,6 +51,10 @@ may_unset tag props = refused_if (is_unset_protected tag.id tag.kind props) Prot
 abbrev pub removing_value : Tree → Tag → Mes → Answer Outcome
 removing_value T tag M = may_unset tag M.props >>= λ u. changed_message T M (remove_id tag.id M.props)
 
+-- the value as a reply
+abbrev pub value_reply : Tag → List Val → Answer Reply
+value_reply tag props = found Property (value_of tag props) >>= λ v. Ok (replied (Value v))
+
 -- the value is the reply
 abbrev pub telling_value : Tree → Tag → List Val → Answer Outcome
 telling_value T tag props = found Property (value_of tag props) >>= λ v. Ok (unchanged T (replied (Value v)))
@@ -74,10 +79,6 @@ index_in T folder = unless_full T (contents folder) >>= λ u. Ok (next_index T 4
 abbrev pub making_in : Tree → ℕ → List ℕ → ℕ → List Val → Answer Outcome
 making_in T folder class time store = unless_full T (contents folder) >>= λ u. making_message T folder class time store (next_index T 4 message_kinds)
 
--- the folder of a message that is copied is put as it is
-abbrev pub home_touched : Tree → Mes → Answer Changed
-home_touched T M = touched T M.folder nothing
-
 -- a folder that has room for it gets a copy of a message
 abbrev pub copying_in : Tree → ℕ → Mes → Answer Outcome
 copying_in T folder M = unless_full T (contents folder) >>= λ u. copying T M folder (next_index T 4 message_kinds)
@@ -101,10 +102,6 @@ may_copy M = refused_if (is_overfull M.recipients || is_overfull M.attachments) 
 -- a message may be copied into a folder
 abbrev pub may_copy_into : ℕ → Mes → List FolderPlace → Answer (Unit {0})
 may_copy_into folder M places = plain_at folder Reserved places >>= λ u. may_copy M
-
--- what a copy of a message begins with: its folder is put as it is, and the copy has an index
-abbrev pub copy_start : Tree → ℕ → Mes → Answer (Changed × ℕ)
-copy_start T folder M = may_copy_into folder M T.places >>= λ u. index_in T folder >>= λ index. home_touched T M >>= λ D. Ok (D, index)
 
 -- a message is copied into a folder that is plain
 abbrev pub copying_into : Tree → ℕ → Mes → Answer Outcome

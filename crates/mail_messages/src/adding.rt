@@ -1,27 +1,22 @@
 //! New messages in a folder.
 ghost use Rattle.std.specs.Prelude.{IfErr, Ok};
-ghost use Rattle.mail_tree.specs.Knowing.{Knows};
-ghost use Rattle.mail_tree.specs.Tree.{Shown, Tree};
 ghost use Rattle.mail_tree.specs.Messages.{added_message};
-ghost use Rattle.mail_draft.specs.Drafts.{changed_of};
-ghost use Rattle.mail_draft.specs.Outcomes.{outcome_of};
 ghost use Rattle.mail_tree.specs.Changing.{contents};
 ghost use Rattle.mail_tree.specs.Folders.{unless_full};
 ghost use Rattle.mail_tree.specs.Ids.{message_kinds, next_index};
-ghost use Rattle.mail_draft.specs.Answers.{IsCalm, IsCaused, Looks, Says};
+ghost use Rattle.mail_draft.specs.Answers.{IsCalm, Says};
+ghost use Rattle.mail_draft.specs.Desks.{Comes};
+ghost use Rattle.mail_draft.specs.Sight.{Answers, Changes, Drafts, Reads};
 ghost use Rattle.mail_messages.specs.Parts.{adding, adding_row, index_in, may_grow};
 
 use crate::find::contents;
-use crate::mails::with_message;
+use crate::mails::put_message;
 use command_text::{CommandRefusal, Limit};
-use mail_draft::{Draft, Outcome, Stop, add_shown, making, next_index, settled, table_at};
+use mail_draft::on_desk::{add_shown, making, settled};
+use mail_draft::{Coming, CountingDesk, Desk, Stop};
 use mail_objects::{Mail, TableNode};
-use mail_tree::Known;
 use mapi_values::Props;
-use node_port::{Keeper, NodeReader};
 use pst_base::Nid;
-use pst_outside::Outside;
-use std::alloc::Global;
 
 /// How many rows a command may bring a table to.
 const MOST_ROWS: usize = 100_000;
@@ -38,101 +33,56 @@ fn check_growth(table: &TableNode) -> Result<(), Stop>
 }
 
 /// Checks that a folder's table of messages may get another row.
-fn unless_full<W: Outside, K: NodeReader<W>>(
-    alloc: Global,
-    keeper: &mut K,
-    w: &mut W,
-    folder: Nid,
-) -> Result<(), Stop>
-    ensures answer { (T : Tree) → Shown (K.holds keeper.old (W.view w.old)) (K.last keeper.old) T → Says (λ u. u) (unless_full T (contents folder.bits)) result }
-    ensures looks { Looks (K.holds keeper.old (W.view w.old)) (K.holds keeper.new (W.view w.new)) (K.last keeper.old) (K.last keeper.new) (K.room keeper.old) (K.room keeper.new) (W.view w.old) (W.view w.new) }
-    ensures cause { IfErr result (IsCaused K.has_disk (W.view w.old).disk_faults (W.view w.new).disk_faults) }
+fn unless_full<D: Desk>(desk: &mut D, folder: Nid) -> Result<(), Stop>
+    ensures reads { Reads (D.view desk.old) (D.view desk.new) result }
+    ensures answer { Answers (D.view desk.old) (λ u. u) (λ T c. unless_full T (contents folder.bits)) result }
 {
-    let table = table_at(alloc, keeper, w, &Draft::new(alloc), contents(folder))?;
+    let table = desk.table_before(contents(folder))?;
     check_growth(&table)
 }
 
 /// The index of the next message, which may be past the last one.
-fn next_message<W: Outside, K: Keeper<W>>(
-    alloc: Global,
-    keeper: &mut K,
-    w: &mut W,
-) -> Result<u64, Stop>
-    ensures answer { (T : Tree) → Shown (K.holds keeper.old (W.view w.old)) (K.last keeper.old) T → Says (λ n. n) (Ok (next_index T 4 message_kinds)) result }
-    ensures looks { Looks (K.holds keeper.old (W.view w.old)) (K.holds keeper.new (W.view w.new)) (K.last keeper.old) (K.last keeper.new) (K.room keeper.old) (K.room keeper.new) (W.view w.old) (W.view w.new) }
-    ensures cause { IfErr result (IsCaused K.has_disk (W.view w.old).disk_faults (W.view w.new).disk_faults) }
+fn next_message<D: CountingDesk>(desk: &mut D) -> Result<u64, Stop>
+    ensures reads { Reads (D.view desk.old) (D.view desk.new) result }
+    ensures answer { Answers (D.view desk.old) (λ n. n) (λ T c. Ok (next_index T 4 message_kinds)) result }
 {
-    next_index(alloc, keeper, w, 4, &[4])
+    desk.next_index(4, &[4])
 }
 
 /// The index of a message that is to come into a folder, which may be past the last one. Refused where the folder has no room for it.
-pub(crate) fn index_in<W: Outside, K: Keeper<W>>(
-    alloc: Global,
-    keeper: &mut K,
-    w: &mut W,
-    folder: Nid,
-) -> Result<u64, Stop>
-    ensures answer { (T : Tree) → Shown (K.holds keeper.old (W.view w.old)) (K.last keeper.old) T → Says (λ n. n) (index_in T folder.bits) result }
-    ensures looks { Looks (K.holds keeper.old (W.view w.old)) (K.holds keeper.new (W.view w.new)) (K.last keeper.old) (K.last keeper.new) (K.room keeper.old) (K.room keeper.new) (W.view w.old) (W.view w.new) }
-    ensures cause { IfErr result (IsCaused K.has_disk (W.view w.old).disk_faults (W.view w.new).disk_faults) }
+pub(crate) fn index_in<D: CountingDesk>(desk: &mut D, folder: Nid) -> Result<u64, Stop>
+    ensures reads { Reads (D.view desk.old) (D.view desk.new) result }
+    ensures answer { Answers (D.view desk.old) (λ n. n) (λ T c. index_in T folder.bits) result }
 {
-    unless_full(alloc, keeper, w, folder)?;
-    next_message(alloc, keeper, w)
+    unless_full(desk, folder)?;
+    next_message(desk)
 }
 
 /// Adds a row that shows these values of a message to its folder's table, and counts the folder anew.
-fn add_row<W: Outside, K: NodeReader<W>>(
-    alloc: Global,
-    keeper: &mut K,
-    w: &mut W,
-    known: &Known,
-    draft: Draft,
-    folder: Nid,
-    message: Nid,
-    props: &Props,
-) -> Result<Draft, Stop>
-    ensures answer { (T : Tree) → Shown (K.holds keeper.old (W.view w.old)) (K.last keeper.old) T → Knows T known.now → Says changed_of (adding_row T folder.bits message.bits props.now (changed_of draft)) result }
-    ensures looks { Looks (K.holds keeper.old (W.view w.old)) (K.holds keeper.new (W.view w.new)) (K.last keeper.old) (K.last keeper.new) (K.room keeper.old) (K.room keeper.new) (W.view w.old) (W.view w.new) }
-    ensures cause { IfErr result (IsCaused K.has_disk (W.view w.old).disk_faults (W.view w.new).disk_faults) }
+fn add_row<D: Desk>(desk: &mut D, folder: Nid, message: Nid, props: &Props) -> Result<(), Stop>
+    ensures drafts { Drafts (D.view desk.old) (D.view desk.new) result }
+    ensures answer { Changes (D.view desk.old) (D.view desk.new) (λ T. adding_row T folder.bits message.bits props.now) result }
 {
-    let draft = add_shown(alloc, keeper, w, draft, contents(folder), message, props)?;
-    settled(alloc, keeper, w, draft, &known.flags, &known.places, folder)
+    add_shown(desk, contents(folder), message, props)?;
+    settled(desk, folder)
 }
 
 /// Puts a new message, which its folder then lists.
-fn add_message<W: Outside, K: NodeReader<W>>(
-    alloc: Global,
-    keeper: &mut K,
-    w: &mut W,
-    known: &Known,
-    draft: Draft,
-    mail: Mail,
-) -> Result<Draft, Stop>
-    ensures answer { (T : Tree) → Shown (K.holds keeper.old (W.view w.old)) (K.last keeper.old) T → Knows T known.now → Says changed_of (added_message T mail (changed_of draft)) result }
-    ensures looks { Looks (K.holds keeper.old (W.view w.old)) (K.holds keeper.new (W.view w.new)) (K.last keeper.old) (K.last keeper.new) (K.room keeper.old) (K.room keeper.new) (W.view w.old) (W.view w.new) }
-    ensures cause { IfErr result (IsCaused K.has_disk (W.view w.old).disk_faults (W.view w.new).disk_faults) }
+fn add_message<D: Desk>(desk: &mut D, mail: Mail) -> Result<(), Stop>
+    ensures drafts { Drafts (D.view desk.old) (D.view desk.new) result }
+    ensures answer { Changes (D.view desk.old) (D.view desk.new) (λ T. added_message T mail) result }
 {
     let folder = mail.message().folder;
     let nid = mail.message().nid;
-    let (draft, props) = with_message(alloc, draft, mail)?;
-    add_row(alloc, keeper, w, known, draft, folder, nid, &props)
+    let props = put_message(desk, mail)?;
+    add_row(desk, folder, nid, &props)
 }
 
 /// Puts a new message with this index, and makes the changes.
-pub(crate) fn adding<W: Outside, K: Keeper<W>>(
-    alloc: Global,
-    keeper: &mut K,
-    w: &mut W,
-    known: &Known,
-    draft: Draft,
-    mail: Mail,
-    index: u64,
-) -> Result<Outcome, Stop>
-    ensures answer { (T : Tree) → Shown (K.holds keeper.old (W.view w.old)) (K.last keeper.old) T → Knows T known.now → Says (outcome_of T) (adding T mail (changed_of draft) index) result }
-    ensures looks { Looks (K.holds keeper.old (W.view w.old)) (K.holds keeper.new (W.view w.new)) (K.last keeper.old) (K.last keeper.new) (K.room keeper.old) (K.room keeper.new) (W.view w.old) (W.view w.new) }
-    ensures cause { IfErr result (IsCaused K.has_disk (W.view w.old).disk_faults (W.view w.new).disk_faults) }
+pub(crate) fn adding<D: CountingDesk>(desk: &mut D, mail: Mail, index: u64) -> Result<Coming, Stop>
+    ensures drafts { Drafts (D.view desk.old) (D.view desk.new) result }
+    ensures answer { Comes (D.view desk.old) (D.view desk.new) (λ T c. adding T mail c index) result }
 {
-    let draft = add_message(alloc, keeper, w, known, draft, mail)?;
-    let counts = keeper.counts();
-    making(alloc, keeper, w, counts, draft, None, 4, index)
+    add_message(desk, mail)?;
+    making(desk, None, 4, index)
 }

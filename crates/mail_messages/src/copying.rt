@@ -1,25 +1,22 @@
 //! `cp`
 ghost use Rattle.std.specs.Prelude.{◌≡◌, IfErr};
-ghost use Rattle.mail_tree.specs.Knowing.{Knows};
-ghost use Rattle.mail_tree.specs.Tree.{Shown, Tree};
-ghost use Rattle.mail_tree.specs.Messages.{copied_message, is_overfull};
-ghost use Rattle.mail_draft.specs.Drafts.{changed_of};
-ghost use Rattle.mail_draft.specs.Outcomes.{outcome_of};
-ghost use Rattle.mail_draft.specs.Answers.{IsCalm, IsCaused, Looks, Says};
-ghost use Rattle.mail_messages.specs.Parts.{copy_start, copying_into, home_touched, may_copy, may_copy_into};
+ghost use Rattle.mail_tree.specs.Changing.{nothing};
+ghost use Rattle.mail_tree.specs.Messages.{copied_message, copying, is_overfull};
+ghost use Rattle.mail_draft.specs.Answers.{IsCalm, Says};
+ghost use Rattle.mail_draft.specs.Desks.{Comes};
+ghost use Rattle.mail_draft.specs.Sight.{Drafts};
+ghost use Rattle.mail_messages.specs.Parts.{copying_into, may_copy, may_copy_into};
 
 use crate::adding::{adding, index_in};
 use crate::find::{check_plain, message_in};
 use crate::mails::copy_of;
 use command_text::{CommandRefusal, Limit};
-use mail_draft::{Draft, Outcome, Stop, new_id, touched};
+use mail_draft::on_desk::touched;
+use mail_draft::{Coming, CountingDesk, Stop, new_id};
 use mail_objects::Mail;
-use mail_tree::{Known, Places};
+use mail_tree::Places;
 use mapi_values::Table;
-use node_port::{Keeper, NodeReader};
 use pst_base::Nid;
-use pst_outside::Outside;
-use std::alloc::Global;
 
 /// How many rows a command may give a table.
 const MOST_ROWS: usize = 100_000;
@@ -46,21 +43,6 @@ fn check_rows(mail: &Mail) -> Result<(), Stop>
     Ok(())
 }
 
-/// The changes in which the folder of a message that is copied is put as it is.
-fn home_touched<W: Outside, K: NodeReader<W>>(
-    alloc: Global,
-    keeper: &mut K,
-    w: &mut W,
-    mail: &Mail,
-) -> Result<Draft, Stop>
-    ensures answer { (T : Tree) → Shown (K.holds keeper.old (W.view w.old)) (K.last keeper.old) T → Says changed_of (home_touched T mail.now) result }
-    ensures looks { Looks (K.holds keeper.old (W.view w.old)) (K.holds keeper.new (W.view w.new)) (K.last keeper.old) (K.last keeper.new) (K.room keeper.old) (K.room keeper.new) (W.view w.old) (W.view w.new) }
-    ensures cause { IfErr result (IsCaused K.has_disk (W.view w.old).disk_faults (W.view w.new).disk_faults) }
-{
-    let from = mail.message().folder;
-    touched(alloc, keeper, w, Draft::new(alloc), from)
-}
-
 /// Checks that a message may be copied into a folder: that one is plain, and the tables of this one aren't too long.
 fn check_copy(places: &Places, folder: Nid, mail: &Mail) -> Result<(), Stop>
     ensures answer { Says (λ u. u) (may_copy_into folder.bits mail.now places.now) result }
@@ -70,56 +52,43 @@ fn check_copy(places: &Places, folder: Nid, mail: &Mail) -> Result<(), Stop>
     check_rows(mail)
 }
 
-/// What a copy of a message in a folder begins with: the changes in which the home of the message is put as it is, and the copy's index. Refused where the folder isn't plain or has no room, or the message has tables that are too long.
-fn copy_start<W: Outside, K: Keeper<W>>(
-    alloc: Global,
-    keeper: &mut K,
-    w: &mut W,
-    places: &Places,
-    folder: Nid,
-    mail: &Mail,
-) -> Result<(Draft, u64), Stop>
-    ensures answer { (T : Tree) → Shown (K.holds keeper.old (W.view w.old)) (K.last keeper.old) T → T.places ≡ places.now → Says (λ start. (changed_of start.0, start.1)) (copy_start T folder.bits mail.now) result }
-    ensures looks { Looks (K.holds keeper.old (W.view w.old)) (K.holds keeper.new (W.view w.new)) (K.last keeper.old) (K.last keeper.new) (K.room keeper.old) (K.room keeper.new) (W.view w.old) (W.view w.new) }
-    ensures cause { IfErr result (IsCaused K.has_disk (W.view w.old).disk_faults (W.view w.new).disk_faults) }
-{
-    check_copy(places, folder, mail)?;
-    let index = index_in(alloc, keeper, w, folder)?;
-    let draft = home_touched(alloc, keeper, w, mail)?;
-    Ok((draft, index))
-}
-
-/// Copies a message into a folder that is plain.
-fn copy_into<W: Outside, K: Keeper<W>>(
-    alloc: Global,
-    keeper: &mut K,
-    w: &mut W,
-    known: &Known,
+/// Copies a message into a folder, where the copy gets this index. The folder of the message is put as it is.
+fn copying<D: CountingDesk>(
+    desk: &mut D,
     folder: Nid,
     mail: Mail,
-) -> Result<Outcome, Stop>
-    ensures answer { (T : Tree) → Shown (K.holds keeper.old (W.view w.old)) (K.last keeper.old) T → Knows T known.now → Says (outcome_of T) (copying_into T folder.bits mail) result }
-    ensures looks { Looks (K.holds keeper.old (W.view w.old)) (K.holds keeper.new (W.view w.new)) (K.last keeper.old) (K.last keeper.new) (K.room keeper.old) (K.room keeper.new) (W.view w.old) (W.view w.new) }
-    ensures cause { IfErr result (IsCaused K.has_disk (W.view w.old).disk_faults (W.view w.new).disk_faults) }
+    index: u64,
+) -> Result<Coming, Stop>
+    requires fresh { (D.view desk.old).changed ≡ nothing }
+    ensures drafts { Drafts (D.view desk.old) (D.view desk.new) result }
+    ensures answer { Comes (D.view desk.old) (D.view desk.new) (λ T c. copying T mail folder.bits index) result }
 {
-    let (draft, index) = copy_start(alloc, keeper, w, &known.places, folder, &mail)?;
+    touched(desk, mail.message().folder)?;
     let copy = copy_of(new_id(4, index), folder, mail);
-    adding(alloc, keeper, w, known, draft, copy, index)
+    adding(desk, copy, index)
+}
+
+/// Copies a message into a folder. Refused where the folder isn't plain or has no room, or the message has tables that are too long.
+fn copy_into<D: CountingDesk>(desk: &mut D, folder: Nid, mail: Mail) -> Result<Coming, Stop>
+    requires fresh { (D.view desk.old).changed ≡ nothing }
+    ensures drafts { Drafts (D.view desk.old) (D.view desk.new) result }
+    ensures answer { Comes (D.view desk.old) (D.view desk.new) (λ T c. copying_into T folder.bits mail) result }
+{
+    check_copy(desk.places(), folder, &mail)?;
+    let index = index_in(desk, folder)?;
+    copying(desk, folder, mail, index)
 }
 
 /// Copies a message with its recipients, attachments and all subnodes into a folder. Refused, in this order: the message isn't there, or the folder (`Object`), the folder isn't plain (`Reserved`), the copy or the folder's table would have too many rows (`Limit(Rows)`), an object would have too many values (`Limit(Properties)`), no index is left (`Ids`).
-pub fn copy_message<W: Outside, K: Keeper<W>>(
-    alloc: Global,
-    keeper: &mut K,
-    w: &mut W,
-    known: &Known,
+pub fn copy_message<D: CountingDesk>(
+    desk: &mut D,
     message: Nid,
     folder: Nid,
-) -> Result<Outcome, Stop>
-    ensures answer { (T : Tree) → Shown (K.holds keeper.old (W.view w.old)) (K.last keeper.old) T → Knows T known.now → Says (outcome_of T) (copied_message T message.bits folder.bits) result }
-    ensures looks { Looks (K.holds keeper.old (W.view w.old)) (K.holds keeper.new (W.view w.new)) (K.last keeper.old) (K.last keeper.new) (K.room keeper.old) (K.room keeper.new) (W.view w.old) (W.view w.new) }
-    ensures cause { IfErr result (IsCaused K.has_disk (W.view w.old).disk_faults (W.view w.new).disk_faults) }
+) -> Result<Coming, Stop>
+    requires fresh { (D.view desk.old).changed ≡ nothing }
+    ensures drafts { Drafts (D.view desk.old) (D.view desk.new) result }
+    ensures answer { Comes (D.view desk.old) (D.view desk.new) (λ T c. copied_message T message.bits folder.bits) result }
 {
-    let mail = message_in(alloc, keeper, w, &known.places, message)?;
-    copy_into(alloc, keeper, w, known, folder, mail)
+    let mail = message_in(desk, message)?;
+    copy_into(desk, folder, mail)
 }

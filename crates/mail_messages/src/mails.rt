@@ -1,13 +1,13 @@
 //! Messages with other values, in other places, and new ones.
-ghost use Rattle.std.specs.Prelude.{◌≡◌, ◌+◌, ◌++◌, IfOk, OnOk, Some, length};
+ghost use Rattle.std.specs.Prelude.{◌≡◌, ◌+◌, ◌++◌, IfOk, Ok, OnOk, Some, length};
 ghost use Rattle.mapi_values.specs.Properties.{put, remove_id};
 ghost use Rattle.mail_tree.specs.Changing.{with_object};
 ghost use Rattle.mail_tree.specs.Values.{bytes_of, finished, key_front, message_props, search_key, with_attachment_flag, with_flag, with_props};
 ghost use Rattle.mail_tree.specs.Messages.{copy_of, plain_message};
-ghost use Rattle.mail_draft.specs.Drafts.{changed_of};
+ghost use Rattle.mail_draft.specs.Sight.{Changes, Drafts};
 ghost use Rattle.mail_objects.specs.declared.object.Object.TheVariants as objects;
 
-use mail_draft::{Draft, bytes_of, number_of, put_number, put_text, put_time};
+use mail_draft::{Desk, Stop, bytes_of, number_of, put_number, put_text, put_time};
 use mail_objects::{Mail, Object};
 use mapi_values::tags::{
     ID_MESSAGE_FLAGS, ID_MESSAGE_SIZE, PID_TAG_CREATION_TIME, PID_TAG_LAST_MODIFICATION_TIME,
@@ -174,17 +174,14 @@ pub(crate) fn message_props(
     Ok(props)
 }
 
-/// The draft with a message put, and a copy of the message's values, which its row is to show.
-pub(crate) fn with_message(
-    alloc: Global,
-    draft: Draft,
-    mail: Mail,
-) -> Result<(Draft, Props), AllocError>
-    ensures put { IfOk result (λ given. changed_of given.0 ≡ with_object mail.nid (Some (objects.Message mail)) (changed_of draft)) }
-    ensures props { IfOk result (λ given. given.1 ≡ mail.props) }
+/// Puts a message at its own id, and gives a copy of its values, which its row is to show.
+pub(crate) fn put_message<D: Desk>(desk: &mut D, mail: Mail) -> Result<Props, Stop>
+    ensures drafts { Drafts (D.view desk.old) (D.view desk.new) result }
+    ensures put { Changes (D.view desk.old) (D.view desk.new) (λ T c. Ok (with_object mail.nid (Some (objects.Message mail)) c)) result }
+    ensures props { IfOk result (λ props. props ≡ mail.props) }
 {
     let nid = mail.message().nid;
-    let props = mail.message().props.copy(alloc)?;
-    let draft = draft.with(nid, Some(Object::Message(mail)))?;
-    Ok((draft, props))
+    let props = mail.message().props.copy(desk.alloc())?;
+    desk.put(nid, Some(Object::Message(mail)))?;
+    Ok(props)
 }

@@ -1,53 +1,35 @@
 //! `rm`
-ghost use Rattle.std.specs.Prelude.{IfErr};
-ghost use Rattle.mail_tree.specs.Knowing.{Knows};
-ghost use Rattle.mail_tree.specs.Tree.{Shown, Tree};
+ghost use Rattle.std.specs.Prelude.{◌≡◌};
+ghost use Rattle.mail_tree.specs.Changing.{nothing};
 ghost use Rattle.mail_tree.specs.Messages.{removed_message};
-ghost use Rattle.mail_draft.specs.Answers.{IsCaused, Looks, Says};
-ghost use Rattle.mail_draft.specs.Outcomes.{outcome_of};
+ghost use Rattle.mail_draft.specs.Desks.{Comes};
+ghost use Rattle.mail_draft.specs.Sight.{Drafts};
 ghost use Rattle.mail_messages.specs.Pieces.{removing_message};
 
 use crate::changes::settling;
 use crate::find::{contents, message_in};
-use mail_draft::{Draft, Outcome, Stop, drop_shown};
-use mail_tree::Known;
-use node_port::NodeReader;
+use mail_draft::on_desk::drop_shown;
+use mail_draft::{Coming, Desk, Stop};
 use pst_base::Nid;
-use pst_outside::Outside;
-use std::alloc::Global;
 
 /// Takes a message out of its folder.
-#[tactic(auto, unfolding(crate::specs::Pieces::removing_message))]
-fn take_out<W: Outside, K: NodeReader<W>>(
-    alloc: Global,
-    keeper: &mut K,
-    w: &mut W,
-    known: &Known,
-    message: Nid,
-    folder: Nid,
-) -> Result<Outcome, Stop>
-    ensures answer { (T : Tree) → Shown (K.holds keeper.old (W.view w.old)) (K.last keeper.old) T → Knows T known.now → Says (outcome_of T) (removing_message T message.bits folder.bits) result }
-    ensures looks { Looks (K.holds keeper.old (W.view w.old)) (K.holds keeper.new (W.view w.new)) (K.last keeper.old) (K.last keeper.new) (K.room keeper.old) (K.room keeper.new) (W.view w.old) (W.view w.new) }
-    ensures cause { IfErr result (IsCaused K.has_disk (W.view w.old).disk_faults (W.view w.new).disk_faults) }
+fn take_out<D: Desk>(desk: &mut D, message: Nid, folder: Nid) -> Result<Coming, Stop>
+    requires fresh { (D.view desk.old).changed ≡ nothing }
+    ensures drafts { Drafts (D.view desk.old) (D.view desk.new) result }
+    ensures answer { Comes (D.view desk.old) (D.view desk.new) (λ T c. removing_message T message.bits folder.bits) result }
 {
-    let draft = Draft::new(alloc).with(message, None)?;
-    let draft = drop_shown(alloc, keeper, w, draft, contents(folder), message)?;
-    settling(alloc, keeper, w, known, draft, folder)
+    desk.put(message, None)?;
+    drop_shown(desk, contents(folder), message)?;
+    settling(desk, folder)
 }
 
 /// Removes a message. Refused where it isn't there.
-pub fn remove_message<W: Outside, K: NodeReader<W>>(
-    alloc: Global,
-    keeper: &mut K,
-    w: &mut W,
-    known: &Known,
-    message: Nid,
-) -> Result<Outcome, Stop>
-    ensures answer { (T : Tree) → Shown (K.holds keeper.old (W.view w.old)) (K.last keeper.old) T → Knows T known.now → Says (outcome_of T) (removed_message T message.bits) result }
-    ensures looks { Looks (K.holds keeper.old (W.view w.old)) (K.holds keeper.new (W.view w.new)) (K.last keeper.old) (K.last keeper.new) (K.room keeper.old) (K.room keeper.new) (W.view w.old) (W.view w.new) }
-    ensures cause { IfErr result (IsCaused K.has_disk (W.view w.old).disk_faults (W.view w.new).disk_faults) }
+pub fn remove_message<D: Desk>(desk: &mut D, message: Nid) -> Result<Coming, Stop>
+    requires fresh { (D.view desk.old).changed ≡ nothing }
+    ensures drafts { Drafts (D.view desk.old) (D.view desk.new) result }
+    ensures answer { Comes (D.view desk.old) (D.view desk.new) (λ T c. removed_message T message.bits) result }
 {
-    let mail = message_in(alloc, keeper, w, &known.places, message)?;
+    let mail = message_in(desk, message)?;
     let folder = mail.message().folder;
-    take_out(alloc, keeper, w, known, message, folder)
+    take_out(desk, message, folder)
 }

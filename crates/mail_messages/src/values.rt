@@ -1,30 +1,26 @@
 //! `set` and `unset`
 ghost use Rattle.std.specs.Prelude.{◌≡◌, IfErr};
-ghost use Rattle.mail_tree.specs.Knowing.{Knows};
-ghost use Rattle.mail_tree.specs.Tree.{Shown, Tree};
+ghost use Rattle.mail_tree.specs.Changing.{nothing};
 ghost use Rattle.mail_tree.specs.Messages.{set_value, unset_value};
-ghost use Rattle.mail_draft.specs.Outcomes.{outcome_of};
 ghost use Rattle.mail_tree.specs.Values.{is_own_id, is_set_protected, is_unset_protected};
-ghost use Rattle.mail_draft.specs.Answers.{IsCalm, IsCaused, Looks, Says};
+ghost use Rattle.mail_draft.specs.Answers.{IsCalm, Says};
+ghost use Rattle.mail_draft.specs.Desks.{Comes};
+ghost use Rattle.mail_draft.specs.Sight.{Answers, Drafts, Reads};
 ghost use Rattle.mail_messages.specs.Parts.{may_put, may_set, may_unset, putting_value, removing_value};
 
 use crate::changes::change_message;
 use crate::find::message_in;
 use crate::mails::{with_value, without_value};
 use command_text::CommandRefusal;
-use mail_draft::{Outcome, Stop, bytes_of};
-use mail_names::check_named;
+use mail_draft::{Coming, Desk, Stop, bytes_of};
+use mail_names::on_desk::check_named;
 use mail_objects::Mail;
-use mail_tree::Known;
 use mapi_values::tags::{
     ID_LTP_ROW_ID, ID_LTP_ROW_VER, ID_MESSAGE_ATTACHMENTS, ID_MESSAGE_FLAGS, ID_MESSAGE_RECIPIENTS,
     ID_MESSAGE_SIZE, ID_SEARCH_KEY, PTYP_OBJECT,
 };
 use mapi_values::{Props, Tag, Value};
-use node_port::NodeReader;
 use pst_base::Nid;
-use pst_outside::Outside;
-use std::alloc::Global;
 
 /// Whether the store keeps the values of this id itself.
 fn is_own_id(id: u16) -> bool
@@ -84,87 +80,52 @@ fn check_unset(tag: Tag, mail: &Mail) -> Result<(), Stop>
 }
 
 /// Checks that a value of this id may be put into a message: it isn't the store's own, and where it needs a name it has one.
-fn check_put<W: Outside, K: NodeReader<W>>(
-    alloc: Global,
-    keeper: &mut K,
-    w: &mut W,
-    mail: &Mail,
-    id: u16,
-) -> Result<(), Stop>
-    ensures answer { (T : Tree) → Shown (K.holds keeper.old (W.view w.old)) (K.last keeper.old) T → Says (λ u. u) (may_put T id mail.now.props) result }
-    ensures looks { Looks (K.holds keeper.old (W.view w.old)) (K.holds keeper.new (W.view w.new)) (K.last keeper.old) (K.last keeper.new) (K.room keeper.old) (K.room keeper.new) (W.view w.old) (W.view w.new) }
-    ensures cause { IfErr result (IsCaused K.has_disk (W.view w.old).disk_faults (W.view w.new).disk_faults) }
+fn check_put<D: Desk>(desk: &mut D, mail: &Mail, id: u16) -> Result<(), Stop>
+    ensures reads { Reads (D.view desk.old) (D.view desk.new) result }
+    ensures answer { Answers (D.view desk.old) (λ u. u) (λ T c. may_put T id mail.now.props) result }
 {
     check_set(id, mail)?;
-    check_named(alloc, keeper, w, id)
+    check_named(desk, id)
 }
 
 /// Puts a value into this message.
-fn put_value<W: Outside, K: NodeReader<W>>(
-    alloc: Global,
-    keeper: &mut K,
-    w: &mut W,
-    known: &Known,
-    mail: Mail,
-    value: &Value,
-) -> Result<Outcome, Stop>
-    ensures answer { (T : Tree) → Shown (K.holds keeper.old (W.view w.old)) (K.last keeper.old) T → Knows T known.now → Says (outcome_of T) (putting_value T value.now mail) result }
-    ensures looks { Looks (K.holds keeper.old (W.view w.old)) (K.holds keeper.new (W.view w.new)) (K.last keeper.old) (K.last keeper.new) (K.room keeper.old) (K.room keeper.new) (W.view w.old) (W.view w.new) }
-    ensures cause { IfErr result (IsCaused K.has_disk (W.view w.old).disk_faults (W.view w.new).disk_faults) }
+fn put_value<D: Desk>(desk: &mut D, mail: Mail, value: &Value) -> Result<Coming, Stop>
+    requires fresh { (D.view desk.old).changed ≡ nothing }
+    ensures drafts { Drafts (D.view desk.old) (D.view desk.new) result }
+    ensures answer { Comes (D.view desk.old) (D.view desk.new) (λ T c. putting_value T value.now mail) result }
 {
-    check_put(alloc, keeper, w, &mail, value.id())?;
-    let changed = with_value(alloc, mail, value)?;
-    change_message(alloc, keeper, w, known, changed)
+    check_put(desk, &mail, value.id())?;
+    let changed = with_value(desk.alloc(), mail, value)?;
+    change_message(desk, changed)
 }
 
 /// Removes a value from this message.
-fn remove_value<W: Outside, K: NodeReader<W>>(
-    alloc: Global,
-    keeper: &mut K,
-    w: &mut W,
-    known: &Known,
-    mail: Mail,
-    tag: Tag,
-) -> Result<Outcome, Stop>
-    ensures answer { (T : Tree) → Shown (K.holds keeper.old (W.view w.old)) (K.last keeper.old) T → Knows T known.now → Says (outcome_of T) (removing_value T tag mail) result }
-    ensures looks { Looks (K.holds keeper.old (W.view w.old)) (K.holds keeper.new (W.view w.new)) (K.last keeper.old) (K.last keeper.new) (K.room keeper.old) (K.room keeper.new) (W.view w.old) (W.view w.new) }
-    ensures cause { IfErr result (IsCaused K.has_disk (W.view w.old).disk_faults (W.view w.new).disk_faults) }
+fn remove_value<D: Desk>(desk: &mut D, mail: Mail, tag: Tag) -> Result<Coming, Stop>
+    requires fresh { (D.view desk.old).changed ≡ nothing }
+    ensures drafts { Drafts (D.view desk.old) (D.view desk.new) result }
+    ensures answer { Comes (D.view desk.old) (D.view desk.new) (λ T c. removing_value T tag mail) result }
 {
     check_unset(tag, &mail)?;
     let changed = without_value(mail, tag.id);
-    change_message(alloc, keeper, w, known, changed)
+    change_message(desk, changed)
 }
 
 /// Puts a value into a message. Refused where the message isn't there, the id is the store's own or that of an object (`Protected`), or it is 8000h or more and no name has it (`Property`).
-pub fn set_value<W: Outside, K: NodeReader<W>>(
-    alloc: Global,
-    keeper: &mut K,
-    w: &mut W,
-    known: &Known,
-    message: Nid,
-    value: &Value,
-) -> Result<Outcome, Stop>
-    ensures answer { (T : Tree) → Shown (K.holds keeper.old (W.view w.old)) (K.last keeper.old) T → Knows T known.now → Says (outcome_of T) (set_value T message.bits value.now) result }
-    ensures looks { Looks (K.holds keeper.old (W.view w.old)) (K.holds keeper.new (W.view w.new)) (K.last keeper.old) (K.last keeper.new) (K.room keeper.old) (K.room keeper.new) (W.view w.old) (W.view w.new) }
-    ensures cause { IfErr result (IsCaused K.has_disk (W.view w.old).disk_faults (W.view w.new).disk_faults) }
+pub fn set_value<D: Desk>(desk: &mut D, message: Nid, value: &Value) -> Result<Coming, Stop>
+    requires fresh { (D.view desk.old).changed ≡ nothing }
+    ensures drafts { Drafts (D.view desk.old) (D.view desk.new) result }
+    ensures answer { Comes (D.view desk.old) (D.view desk.new) (λ T c. set_value T message.bits value.now) result }
 {
-    let mail = message_in(alloc, keeper, w, &known.places, message)?;
-    put_value(alloc, keeper, w, known, mail, value)
+    let mail = message_in(desk, message)?;
+    put_value(desk, mail, value)
 }
 
 /// Removes a value of this id and kind from a message. Refused where the message isn't there, the value is the store's own or an object (`Protected`), or there is none (`Property`).
-pub fn unset_value<W: Outside, K: NodeReader<W>>(
-    alloc: Global,
-    keeper: &mut K,
-    w: &mut W,
-    known: &Known,
-    message: Nid,
-    tag: Tag,
-) -> Result<Outcome, Stop>
-    ensures answer { (T : Tree) → Shown (K.holds keeper.old (W.view w.old)) (K.last keeper.old) T → Knows T known.now → Says (outcome_of T) (unset_value T message.bits tag) result }
-    ensures looks { Looks (K.holds keeper.old (W.view w.old)) (K.holds keeper.new (W.view w.new)) (K.last keeper.old) (K.last keeper.new) (K.room keeper.old) (K.room keeper.new) (W.view w.old) (W.view w.new) }
-    ensures cause { IfErr result (IsCaused K.has_disk (W.view w.old).disk_faults (W.view w.new).disk_faults) }
+pub fn unset_value<D: Desk>(desk: &mut D, message: Nid, tag: Tag) -> Result<Coming, Stop>
+    requires fresh { (D.view desk.old).changed ≡ nothing }
+    ensures drafts { Drafts (D.view desk.old) (D.view desk.new) result }
+    ensures answer { Comes (D.view desk.old) (D.view desk.new) (λ T c. unset_value T message.bits tag) result }
 {
-    let mail = message_in(alloc, keeper, w, &known.places, message)?;
-    remove_value(alloc, keeper, w, known, mail, tag)
+    let mail = message_in(desk, message)?;
+    remove_value(desk, mail, tag)
 }

@@ -1,20 +1,15 @@
-use Rattle.std.proofs.Common.{Ok}
-use Rattle.mapi_values.specs.Messages.{Mes}
-use Rattle.mail_draft.proofs.Passes.{then_says}
-use Rattle.mail_draft.specs.Outcomes.{outcome_of}
-use Rattle.mail_tree.specs.Folders.{listed, unchanged}
-use Rattle.mail_tree.specs.Messages.{details, message_in}
-use Rattle.mail_messages.specs.Parts.{detail_lines}
-use Rattle.mail_messages.proofs.Calls.{exits}
+use Rattle.std.proofs.Common.{◌∙◌}
+use Rattle.mail_tree.specs.Messages.{details}
+use Rattle.mail_draft.proofs.DeskCalls.{comes_exit, comes_then, comes_unchanged}
 use Rattle.mail_messages.proofs.reading.list_details.Goals as goal
 
 pub returns-in_err-mail-clause-answer : goal.returns-in_err-mail-clause-answer
 unfolding details
-returns-in_err-mail-clause-answer g c = λ T s p.
-    exits (λ (m : Mes). m) (outcome_of T) (message_in T c.args.message.bits) (λ M. Ok (unchanged T (listed (detail_lines M)))) _ _ (c.in_err-mail.ensures.answer T s p) c.from_residual.ensures.1
+returns-in_err-mail-clause-answer g c = comes_exit _ c.in_err-mail.ensures.answer c.from_residual.ensures.1
 
 pub returns-clause-answer : goal.returns-clause-answer
 unfolding details
-returns-clause-answer g c = λ T s p.
-    then_says (λ (m : Mes). m) (outcome_of T) (message_in T c.args.message.bits) (λ M. Ok (unchanged T (listed (detail_lines M)))) _ _ (c.in_ok-mail.ensures.answer T s p)
-    (c.tell_details.ensures.answer T)
+returns-clause-answer g c =
+    let coming = c.replied.ensures in
+    comes_then _ c.in_ok-mail.ensures.answer c.in_ok-mail.ensures.reads
+    (comes_unchanged c.replied.result _ (c.in_ok-mail.ensures.reads.changed ∙ c.requires.fresh) coming.places coming.last (coming.reply ∙ c.in_ok-reply.ensures))
