@@ -1,10 +1,11 @@
 #!/bin/sh
 # Makes a store of several regions with mail and a search folder in it, and has other readers of .pst files read it: libpst's `readpst` and libpff's `pffexport`, where they are installed (Debian: pst-utils and pff-tools).
+# They also read the store with its blocks encoded by each of the two methods, which `decode` then makes the store again, byte for byte.
 # Says of each what of the mail it found, and what not.
 # Needs crates/pstore/out/pstore, which ./pstore builds, or the program named by PSTORE.
 cd "$(dirname "$0")/.." || exit 1
 exec python3 - "${PSTORE:-crates/pstore/out/pstore}" <<'END'
-import base64, os, shutil, subprocess, sys, tempfile
+import base64, os, re, shutil, struct, subprocess, sys, tempfile, zlib
 
 program, folder = sys.argv[1], tempfile.mkdtemp()
 path = os.path.join(folder, "mail.pst")
@@ -37,12 +38,73 @@ def texts(of):
 def tell(reader, words, wanted):
     if not shutil.which(reader):
         return print(f"{reader:10} is not installed")
-    to = os.path.join(folder, reader)
-    os.makedirs(to)
-    done = subprocess.run([reader, *words(to), path], stdout=subprocess.PIPE, stderr=subprocess.STDOUT)
-    found = texts(to)
-    lost = [name for name, it in wanted.items() if it not in found]
-    print(f"{reader:10} status {done.returncode}, " + (f"not found: {', '.join(lost)}" if lost else f"all found: {', '.join(wanted)}"))
+    for kind, file in files.items():
+        to = os.path.join(folder, reader, kind)
+        os.makedirs(to)
+        done = subprocess.run([reader, *words(to), file], stdout=subprocess.PIPE, stderr=subprocess.STDOUT)
+        found = texts(to)
+        lost = [name for name, it in wanted.items() if it not in found]
+        print(f"{reader:10} {kind:10} status {done.returncode}, " + (f"not found: {', '.join(lost)}" if lost else f"all found: {', '.join(wanted)}"))
+
+
+# The tables of [MS-PST] 5.1.
+with open("crates/block_encoding/src/tables.rt") as it:
+    R, S, I = (bytes(int(byte, 16) for byte in re.findall("0x..", table)) for table in re.findall(r"= \[(.*?)\];", it.read(), re.S))
+
+
+def crc(data):
+    return zlib.crc32(data, 0xFFFFFFFF) ^ 0xFFFFFFFF
+
+
+def encoded(method, bid, data):
+    """The data of a block, encoded (5.1, 5.2)."""
+    if method == 1:
+        return data.translate(R)
+    word, out = (bid >> 16 & 0xFFFF) ^ (bid & 0xFFFF), bytearray()
+    for byte in data:
+        low, high = word & 0xFF, word >> 8
+        out.append(I[S[R[byte + low & 0xFF] + high & 0xFF] - high & 0xFF] - low & 0xFF)
+        word = word + 1 & 0xFFFF
+    return bytes(out)
+
+
+def block_entries(file, ib):
+    """The entries of the block tree below a page (2.2.2.7.7)."""
+    count, size, level = file[ib + 488], file[ib + 490], file[ib + 491]
+    for at in range(ib, ib + count * size, size):
+        if level:
+            yield from block_entries(file, struct.unpack_from("<Q", file, at + 16)[0])
+        else:
+            yield struct.unpack_from("<QQH", file, at)
+
+
+def encode(file, method):
+    """A file whose data blocks are encoded."""
+    out = bytearray(file)
+    for bid, ib, cb in block_entries(file, struct.unpack_from("<Q", file, 240)[0]):
+        if not bid & 2:
+            out[ib:ib + cb] = encoded(method, bid, file[ib:ib + cb])
+            struct.pack_into("<I", out, ib + (cb + 79) // 64 * 64 - 12, crc(out[ib:ib + cb]))
+    out[513] = method
+    struct.pack_into("<I", out, 524, crc(out[8:524]))
+    return bytes(out)
+
+
+def ask(*words):
+    return subprocess.run([program, *words], stdin=subprocess.DEVNULL, stdout=subprocess.PIPE, stderr=subprocess.DEVNULL).stdout.decode().strip()
+
+
+with open(path, "rb") as it:
+    store = it.read()
+files = {"plain": path}
+for name, method in {"permuted": 1, "cyclic": 2}.items():
+    files[name] = os.path.join(folder, name + ".pst")
+    with open(files[name], "wb") as it:
+        it.write(encode(store, method))
+    back = os.path.join(folder, name + ".decoded")
+    said = ask("decode", files[name], back)
+    with open(back, "rb") as it:
+        print(f"{'decode':10} {name:10} {said}: " + ("the store again" if it.read() == store else "NOT the store"))
 
 
 def lines_of(data):
