@@ -1,0 +1,4 @@
+pub mod AddLaws
+pub mod FixedLaws
+pub mod PlaceLaws
+pub mod StopLaws
