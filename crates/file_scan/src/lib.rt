@@ -13,4 +13,5 @@ mod refs;
 mod scan;
 
 pub use nodes::NodeLine;
+pub use refs::count_refs;
 pub use scan::{FoundFile, scan_blocks, scan_file, scan_nodes};

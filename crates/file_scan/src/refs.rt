@@ -54,8 +54,10 @@ fn keys_of<W: Outside>(
     keys_in(alloc, node, &mut source)
 }
 
-/// How often the nodes of these entries, which have been read, reach each block. It reads only blocks that name or list others.
-pub(crate) fn count_refs<W: Outside>(
+/// How often the nodes of these entries of the node tree, which have been read, reach each block of a file that ends at `eof` and whose block tree has the entries `blocks`. It reads only blocks that name or list others, and writes nothing.
+///
+/// `Fault` comes only where the disk failed, `Memory` where there was none, and any other stop only where something isn't as it was read.
+pub fn count_refs<W: Outside>(
     alloc: Global,
     w: &mut W,
     eof: u64,

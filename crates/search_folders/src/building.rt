@@ -150,8 +150,8 @@ fn find_in<W: Outside, K: NodeReader<W>, L: Ledger>(
     find_among(alloc, keeper, w, search, table, messages.as_slice(), steps)
 }
 
-/// Gives the table rows of the messages that the search finds in all folders in which it looks. With an `Err` some may have come.
-fn find_below<W: Outside, K: NodeReader<W>, L: Ledger>(
+/// Gives the table a row for each message that the search finds, in whichever of these places it looks; each message that is tested is counted in `steps`. With an `Err` some rows may have come: `Stop::Refused` where a folder or a message isn't of its form, `Stop::Memory` where no memory is left, else as the keeper stops.
+pub fn find_below<W: Outside, K: NodeReader<W>, L: Ledger>(
     alloc: Global,
     keeper: &mut K,
     w: &mut W,

@@ -92,8 +92,8 @@ fn with_said(alloc: Global, props: &Props, criteria: &Criteria) -> Result<Props,
     write_search(alloc, props.copy(alloc)?, criteria)
 }
 
-/// A draft in which the criteria object of a search says these criteria.
-fn saying(
+/// A draft in which the criteria object of a search, whose context is given, says these criteria, and nothing else is changed.
+pub fn saying(
     alloc: Global,
     search: Nid,
     context: Context,

@@ -17,9 +17,10 @@ mod nodes;
 mod places;
 mod telling;
 
+pub use building::find_below;
 pub use coming::Coming;
-pub use criteria::set_criteria;
+pub use criteria::{saying, set_criteria};
 pub use listing::list_folder;
 pub use making::make_search;
 pub use moving::{move_search, remove_search, rename_search};
-pub use telling::get_criteria;
+pub use telling::{criteria_at, get_criteria};

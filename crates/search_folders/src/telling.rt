@@ -80,9 +80,9 @@ pub(crate) fn unless_other(places: &Places, own: &OwnFolders, search: Nid) -> Re
     Ok(())
 }
 
-/// The criteria object of a search, and the criteria that it says.
+/// The criteria object of an own search folder, and the criteria that it says. `Stop::Refused` where the object isn't there or isn't one of this program, `Stop::Memory` where no memory is left, else as the keeper stops.
 #[tactic(auto, unfolding(crate::specs::Pieces::criteria_at))]
-pub(crate) fn criteria_at<W: Outside, K: NodeReader<W>>(
+pub fn criteria_at<W: Outside, K: NodeReader<W>>(
     alloc: Global,
     keeper: &mut K,
     w: &mut W,
