@@ -1,5 +1,5 @@
 -- Pieces written one after another.
-use Rattle.std.proofs.Common.{◌≡◌, ◌∙◌, ℕ, ◌+◌, List, [], ◌∷◌, ◌++◌, length, take, get_or, refl, sym, ap, subst, arith, append_assoc, length-append}
+use Rattle.std.proofs.Common.{◌≡◌, ◌∙◌, ℕ, ◌+◌, ◌≤◌, List, [], ◌∷◌, ◌++◌, length, take, get_or, refl, sym, ap, subst, arith, append_assoc, length-append}
 use Rattle.std.proofs.lemmas.List.{append-nil, take_all}
 use Rattle.pst_outside.specs.World.{after_write}
 use Rattle.pst_outside.proofs.Bytes.{length-after_write}
@@ -7,14 +7,23 @@ use Rattle.btree_pages.specs.declared.entry.BlockEntry.{BlockEntry}
 use Rattle.lays_kept.specs.declared.Piece.{Piece}
 use Rattle.lays_kept.specs.Kept.{HoldsEach}
 use Rattle.pst_commit.proofs.Scatter.{holds_more}
-use Rattle.copy_pieces.specs.Writes.{Adds, AddsBlocks, AreCopied, IsCopied}
+use Rattle.copy_pieces.specs.Writes.{Adds, AddsBlocks, AreCopied, EndBy, IsCopied}
 
 pub adds-none : (copy : List ℕ) → Adds copy copy []
-adds-none copy = record { longer = omega arith; holds = λ ps h. subst (HoldsEach copy) (sym (append-nil ps)) h }
+adds-none copy = record { longer = omega arith; no_longer = λ n low ends. low; holds = λ ps h. subst (HoldsEach copy) (sym (append-nil ps)) h }
+
+pub ends-front : (n : ℕ) (xs ys : List Piece) → EndBy n (xs ++ ys) → EndBy n xs
+ends-front n [] ys ends = tt
+ends-front n (x ∷ xs) ys ends = (ends.0, ends-front n xs ys ends.1)
+
+pub ends-back : (n : ℕ) (xs ys : List Piece) → EndBy n (xs ++ ys) → EndBy n ys
+ends-back n [] ys ends = ends
+ends-back n (x ∷ xs) ys ends = ends-back n xs ys ends.1
 
 pub adds-then : (a b c : List ℕ) (xs ys : List Piece) → Adds a b xs → Adds b c ys → Adds a c (xs ++ ys)
 adds-then a b c xs ys p q = record {
   longer = let s = p.longer in let t = q.longer in omega (arith, s, t);
+  no_longer = λ n low ends. q.no_longer n (p.no_longer n low (ends-front n xs ys ends)) (ends-back n xs ys ends);
   holds = λ ps h. subst (HoldsEach c) (append_assoc ps xs ys) (q.holds (ps ++ xs) (p.holds ps h));
 }
 
@@ -33,6 +42,7 @@ adds-write old new at bytes is =
     let long = ap length is ∙ length-after_write old at bytes in
     record {
       longer = omega (arith, long);
+      no_longer = λ n low ends. let end = ends.0 in omega (arith, long, low, end);
       holds = λ ps h.
           let size = length-append ps (p ∷ []) in
           let all : take (length ps + 1) (ps ++ p ∷ []) ≡ ps ++ p ∷ [] = take_all (length ps + 1) (ps ++ p ∷ []) (omega (arith, size)) in

@@ -1,13 +1,19 @@
 -- What is written into a copy.
-use Rattle.std.specs.Prelude.{◌≡◌, ◌≤◌, ℕ, List, [], ◌∷◌, ◌++◌, length, take, drop}
+use Rattle.std.specs.Prelude.{◌≡◌, ◌≤◌, ◌+◌, ℕ, List, [], ◌∷◌, ◌++◌, length, take, drop}
 use Rattle.btree_pages.specs.declared.entry.BlockEntry.{BlockEntry}
 use Rattle.lays_kept.specs.declared.Piece.{Piece}
 use Rattle.lays_kept.specs.Kept.{HoldsEach}
 use Rattle.node_layout.specs.Sealed.{IsSealed}
 
--- the copy has these pieces besides
+-- no piece ends past n
+abbrev pub EndBy : ℕ → List Piece → Type 0
+EndBy n [] = Unit {0}
+EndBy n (p ∷ ps) = (p.at + length p.bytes ≤ n) × EndBy n ps
+
+-- the copy has these pieces besides, and ends where it did or where one of them does
 pub record Adds (old new : List ℕ) (more : List Piece) : Type 0 where
   pub longer : length old ≤ length new
+  pub no_longer : (n : ℕ) → length old ≤ n → EndBy n more → length new ≤ n
   pub holds : (ps : List Piece) → HoldsEach old ps → HoldsEach new (ps ++ more)
 
 -- ---- blocks

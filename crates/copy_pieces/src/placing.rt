@@ -1,5 +1,5 @@
 //! The blocks of the copy, and where they stand.
-ghost use Rattle.std.specs.Prelude.{◌≡◌, ◌≤◌, IfOk, IfErr, OnOk, map};
+ghost use Rattle.std.specs.Prelude.{◌≡◌, ◌≤◌, Err, IfOk, IfErr, OnOk, map};
 ghost use Rattle.copy_layout.specs.Order.{InOrder};
 ghost use Rattle.file_layout.specs.Nodes.{place_of};
 ghost use Rattle.file_scan.specs.Parts.{AllShort};
@@ -73,6 +73,7 @@ pub fn place(alloc: Global, entries: &[BlockEntry], refs: &RefCounts) -> Result<
     ensures short { IfOk result (λ placed. AllShort placed.entries.items) }
     ensures fits { OnOk result (AllShort entries.now) }
     ensures stops { IfErr result (λ stop. AllShort entries.now → stop ≡ CompactStop.Memory) }
+    ensures fault { result ≡ Err CompactStop.Fault → ⊥ }
 {
     let mut placed = Vec::new(alloc);
     let mut end = FIRST;
