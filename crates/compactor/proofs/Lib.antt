@@ -1,0 +1,12 @@
+pub mod PlacedLaws
+pub mod StandLaws
+pub mod EndLaws
+pub mod BlockLaws
+pub mod TreeLaws
+pub mod MapLaws
+pub mod WholeLaws
+pub mod StepLaws
+pub mod RisingLaws
+pub mod CompactLaws
+pub mod ReadyLaws
+pub mod FindLaws

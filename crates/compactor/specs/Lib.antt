@@ -1,0 +1,5 @@
+pub mod Source
+pub mod Layout
+pub mod Compacted
+pub mod Steps
+pub mod Written
