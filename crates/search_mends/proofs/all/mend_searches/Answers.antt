@@ -1,0 +1,131 @@
+use Rattle.std.proofs.Common.{◌≡◌, ◌∙◌, ◌<◌, length, map, true, arith, ap, refl, subst, sym}
+use Rattle.std.proofs.lemmas.Result.{err_from_is_err_and}
+use Rattle.pst_base.specs.declared.ids.Nid.{Nid}
+use Rattle.search_mends.proofs.OneLaws.{falls_along, stands_here}
+use Rattle.search_mends.proofs.PlanLaws.{caused_later}
+use Rattle.search_mends.proofs.Reaching.{at_most_one, goes_on, leaves_more, leaves_none, own_at, own_is, own_length, reached_all, reached_none, still_own, stops_first, stops_one}
+use Rattle.search_mends.proofs.all.mend_searches.Goals as goal
+
+-- ---- there was no memory for the ids
+
+pub returns-in_err-own-clause-mends : goal.returns-in_err-own-clause-mends
+returns-in_err-own-clause-mends g c =
+    let p = err_from_is_err_and c.from_residual.result c.from_residual.ensures.1 in
+    rw (p.1, p.2) (λ tidy X h tells. stops_first _ _ X h)
+
+pub returns-in_err-own-clause-images : goal.returns-in_err-own-clause-images
+returns-in_err-own-clause-images g c = λ tidy X h tells.
+    let k = c.args.store.now.store.keeper in
+    let v = g.W.Outside.view c.args.w.now in
+    let stands = g.K.Keeper.stands (g.K.NodeReader.room k).found in
+    leaves_none stands v X h.settled (stands_here g.K.NodeReader.holds g.K.NodeReader.last g.K.Keeper.rests c.args.store.now v stands tidy X (λ N is. g.met.K.Keeper.held_stands k c.args.w.now N is) h)
+
+-- ---- one after another
+
+pub loop-search-init : goal.loop-search-init
+loop-search-init g c =
+    let k = c.args.store.now.store.keeper in
+    let v = g.W.Outside.view c.args.w.now in
+    let stands = g.K.Keeper.stands (g.K.NodeReader.room k).found in
+    record {
+      reached = λ tidy X h tells. reached_none _ X h;
+      images = λ tidy X h tells. leaves_none stands v X h.settled (stands_here g.K.NodeReader.holds g.K.NodeReader.last g.K.Keeper.rests c.args.store.now v stands tidy X (λ N is. g.met.K.Keeper.held_stands k c.args.w.now N is) h);
+      found = refl;
+      pins = refl;
+      told = λ t. t;
+      input = λ t. refl;
+      counts = record { in_faults = omega arith; out_faults = omega arith; disk_faults = omega arith };
+      few_stale = omega arith;
+      few_migrated = omega arith;
+    }
+
+pub loop-search-preserved : goal.loop-search-preserved
+loop-search-preserved g c =
+    let I = c.loop-search.invariant in
+    let one = c.mend_one.ensures in
+    let n = c.loop-search.search-index in
+    let ids = c.deref-search-items.result.now in
+    let h = c.loop-search-test.true in
+    record {
+      reached = λ tidy X has tells.
+          let r = I.reached tidy X has (λ disk. one.told (tells disk)) in
+          let is = own_is tidy X _ _ ids has.order has.stores.tree.knows.places has.stores.searches.own (ap (map (λ (i : Nid). i.bits)) c.deref-search-items.ensures.value ∙ c.in_ok-own.ensures) in
+          let within : n < length X.own = omega (arith, h, own_length X ids is) in
+          let at = own_at X ids n _ is h in
+          goes_on tidy X has.order _ _ (g.K.NodeReader.room c.mend_one.new.store.store.keeper) n _ _ _ _ _ within at r c.in_ok-one.one (c.in_ok-one.ensures.mends tidy r.so_far r.has_it (still_own tidy X has.order _ n _ _ _ within at r) tells) c.with-mended.ensures.stale c.with-mended.ensures.migrated;
+      images = λ tidy X has tells.
+          let before = λ (disk : g.K.NodeReader.has_disk ≡ true). one.told (tells disk) in
+          let r = I.reached tidy X has before in
+          let is = own_is tidy X _ _ ids has.order has.stores.tree.knows.places has.stores.searches.own (ap (map (λ (i : Nid). i.bits)) c.deref-search-items.ensures.value ∙ c.in_ok-own.ensures) in
+          let within : n < length X.own = omega (arith, h, own_length X ids is) in
+          let at = own_at X ids n _ is h in
+          leaves_more tidy X has.order n within r.so_far r.mended g.K.Keeper.stands _ _ _ _ _ _ I.found at one.told (I.images tidy X has before)
+          (one.images tidy r.so_far r.has_it (still_own tidy X has.order _ n _ _ _ within at r));
+      found = one.found ∙ I.found;
+      pins = one.pins ∙ I.pins;
+      told = λ t. I.told (one.told t);
+      input = λ t. one.input t ∙ I.input (one.told t);
+      counts = falls_along I.counts one.counts;
+      few_stale = omega (arith, I.few_stale, c.with-mended.ensures.stale, at_most_one c.in_ok-one.one.stale);
+      few_migrated = omega (arith, I.few_migrated, c.with-mended.ensures.migrated, at_most_one c.in_ok-one.one.first);
+    }
+
+-- ---- one stopped
+
+pub returns-in_err-one-clause-mends : goal.returns-in_err-one-clause-mends
+returns-in_err-one-clause-mends g c =
+    let p = err_from_is_err_and c.from_residual-in_err-one.result c.from_residual-in_err-one.ensures.1 in
+    let I = c.loop-search.invariant in
+    let one = c.mend_one.ensures in
+    let n = c.loop-search.search-index in
+    let ids = c.deref-search-items.result.now in
+    let h = c.loop-search-test.true in
+    rw (p.1, p.2) (λ tidy X has tells.
+    let r = I.reached tidy X has (λ disk. one.told (tells disk)) in
+    let is = own_is tidy X _ _ ids has.order has.stores.tree.knows.places has.stores.searches.own (ap (map (λ (i : Nid). i.bits)) c.deref-search-items.ensures.value ∙ c.in_ok-own.ensures) in
+    let within : n < length X.own = omega (arith, h, own_length X ids is) in
+    let at = own_at X ids n _ is h in
+    stops_one _ _ _ X n _ _ _ c.in_err-one.field-0.0 within at r (c.in_err-one.ensures.mends tidy r.so_far r.has_it (still_own tidy X has.order _ n _ _ _ within at r) tells))
+
+pub returns-in_err-one-clause-images : goal.returns-in_err-one-clause-images
+returns-in_err-one-clause-images g c = λ tidy X has tells.
+    let I = c.loop-search.invariant in
+    let one = c.mend_one.ensures in
+    let n = c.loop-search.search-index in
+    let ids = c.deref-search-items.result.now in
+    let h = c.loop-search-test.true in
+    let before = λ (disk : g.K.NodeReader.has_disk ≡ true). one.told (tells disk) in
+    let r = I.reached tidy X has before in
+    let is = own_is tidy X _ _ ids has.order has.stores.tree.knows.places has.stores.searches.own (ap (map (λ (i : Nid). i.bits)) c.deref-search-items.ensures.value ∙ c.in_ok-own.ensures) in
+    let within : n < length X.own = omega (arith, h, own_length X ids is) in
+    let at = own_at X ids n _ is h in
+    leaves_more tidy X has.order n within r.so_far r.mended g.K.Keeper.stands _ _ _ _ _ _ I.found at one.told (I.images tidy X has before)
+    (one.images tidy r.so_far r.has_it (still_own tidy X has.order _ n _ _ _ within at r))
+
+pub returns-in_err-one-clause-found : goal.returns-in_err-one-clause-found
+returns-in_err-one-clause-found g c = c.mend_one.ensures.found ∙ c.loop-search.invariant.found
+
+pub returns-in_err-one-clause-pins : goal.returns-in_err-one-clause-pins
+returns-in_err-one-clause-pins g c = c.mend_one.ensures.pins ∙ c.loop-search.invariant.pins
+
+pub returns-in_err-one-clause-told : goal.returns-in_err-one-clause-told
+returns-in_err-one-clause-told g c = λ t. c.loop-search.invariant.told (c.mend_one.ensures.told t)
+
+pub returns-in_err-one-clause-input : goal.returns-in_err-one-clause-input
+returns-in_err-one-clause-input g c = λ t. c.mend_one.ensures.input t ∙ c.loop-search.invariant.input (c.mend_one.ensures.told t)
+
+pub returns-in_err-one-clause-counts : goal.returns-in_err-one-clause-counts
+returns-in_err-one-clause-counts g c = falls_along c.loop-search.invariant.counts c.mend_one.ensures.counts
+
+pub returns-in_err-one-clause-cause : goal.returns-in_err-one-clause-cause
+returns-in_err-one-clause-cause g c =
+    let p = err_from_is_err_and c.from_residual-in_err-one.result c.from_residual-in_err-one.ensures.1 in
+    rw (p.1, p.2) (caused_later _ _ _ _ c.in_err-one.field-0.0 c.loop-search.invariant.counts.disk_faults c.in_err-one.ensures.cause)
+
+-- ---- all were mended
+
+pub returns-clause-mends : goal.returns-clause-mends
+returns-clause-mends g c = λ tidy X has tells.
+    let ids = c.deref-search-items.result.now in
+    let is = own_is tidy X _ _ ids has.order has.stores.tree.knows.places has.stores.searches.own (ap (map (λ (i : Nid). i.bits)) c.deref-search-items.ensures.value ∙ c.in_ok-own.ensures) in
+    reached_all _ X c.loop-search.search-index c.loop-search.mended (omega (arith, c.loop-search-test.false, own_length X ids is)) (c.loop-search.invariant.reached tidy X has tells)
