@@ -1,5 +1,6 @@
 -- The keeper of a file from its scan to the end of an opening.
-use Rattle.std.proofs.Common.{◌≡◌, inr, ◌∙◌, ℕ, ◌^◌, nat_le, Bool, true, false, List, take, Result, Ok, Err, IfErr, arith, refl, sym, ap, subst, ◌||◌}
+use Rattle.std.proofs.Common.{◌≡◌, ◌<◌, inr, ◌∙◌, ℕ, ◌^◌, nat_le, Bool, true, false, List, take, Result, Ok, Err, IfErr, arith, refl, sym, ap, subst, ◌||◌}
+use Rattle.std.proofs.lemmas.Bool.{leb-false}
 use Rattle.std.specs.Result.{IsErrAnd}
 use Rattle.pst_outside.specs.World.{Image, World}
 use Rattle.pst_outside.specs.Calls.{Untouched}
@@ -24,7 +25,7 @@ use Rattle.tree_look.specs.Walk.{Looks}
 use Rattle.store_open.specs.Opening.{KnowsTree, LooksTree, StopsLook, StopsTree}
 use Rattle.store_open.specs.declared.open.OpenedTree.{OpenedTree}
 use Rattle.store_open.specs.declared.stops.TreeStop.{TreeStop}
-use Rattle.file_open.specs.Opening.{IsKept, IsLooked, IsOpened, LaysNodes, Reads, ReadsFresh, StopsLooking, StopsOpening, spent_in}
+use Rattle.file_open.specs.Opening.{IsChecked, IsKept, IsLooked, IsOpened, LaysNodes, Reads, ReadsFresh, StopsLooking, StopsOpening, spent_in}
 use Rattle.file_open.specs.Stops.{of_tree}
 use Rattle.file_open.specs.declared.stops.FileRefusal.TheVariants.{Ids}
 use Rattle.file_open.specs.declared.stops.FileStop.{FileStop}
@@ -168,13 +169,14 @@ module _ {knows : Header → List ℕ → Type 0} {bytes : List ℕ} {header : H
 
   -- the tree was looked at
   pub looked : {knows' : Header → List ℕ → Type 0} {bytes' : List ℕ} {header' : Header} {room room' : Room} {now : World} (tree : OpenedTree)
-      → Looks (Holds knows bytes header mid) (Holds knows' bytes' header' now) header.indexes header'.indexes room room' mid now
+      → Looks (Holds knows bytes header mid) (Holds knows' bytes' header' now) header.indexes header'.indexes room room' mid now → room.found ≡ bytes → room'.found ≡ bytes'
       → ((N : Nodes) → Holds knows bytes header mid N → LooksTree N header.indexes tree) → IsLooked knows' bytes' header' mid.here now tree
-  looked tree looks trees =
+  looked tree looks was has trees =
       let before = made.holds is those.0 those.1 in
       let k = trees those.0 before in
       record {
         nodes = those.0;
+        front = sym has ∙ ap (λ (r : Room). r.found) looks.space ∙ was ∙ made.front;
         held = looks.stays those.0 before;
         tree = record { tree = k.tree; shows = k.shows; counters = k.counters ∙ sym looks.counters; knows = k.knows; messages = k.messages; searches = k.searches };
         reads = record {
@@ -192,24 +194,41 @@ module _ {knows : Header → List ℕ → Type 0} {bytes : List ℕ} {header : H
       }
 
 -- what is held of a store is held where its gate is closed
+still_held : {knows : Header → List ℕ → Type 0} {bytes : List ℕ} {header : Header} {N : Nodes} (mid now : World) → Holds knows bytes header mid N → SameStore mid.here now.here → now.tells → Holds knows bytes header now N
+still_held {knows} {bytes} {header} {N} mid now holds same told =
+    let held = holds.1 in
+    let stands : Stands bytes now.here N header.indexes = stands_over held.stands same in (
+      told,
+      record {
+        stands = stands;
+        own =
+            same_header (stands.file).header header (reading (take 564 (effective now.here.main now.here.side))) (stands.file).read
+            (ap (λ (f : List ℕ). reading (take 564 f)) same.store ∙ ((held.stands).file).read ∙ ap Ok held.own);
+        known = subst (knows header) (sym same.store) held.known;
+      },
+    )
+
 pub still_opened : {knows : Header → List ℕ → Type 0} {bytes : List ℕ} {header : Header} {old : Image} {mid now : World} {tree : OpenedTree} → IsOpened knows bytes header old mid tree → SameStore mid.here now.here → now.tells → IsOpened knows bytes header old now tree
-still_opened {knows} {bytes} {header} {old} {mid} {now} o same told =
-    let held = o.held.1 in
-    let stands : Stands bytes now.here o.nodes header.indexes = stands_over held.stands same in
-    record {
-      nodes = o.nodes;
-      laid = o.laid;
-      own = o.own;
-      front = o.front;
-      held = (
-        told,
-        record {
-          stands = stands;
-          own =
-              same_header (stands.file).header header (reading (take 564 (effective now.here.main now.here.side))) (stands.file).read
-              (ap (λ (f : List ℕ). reading (take 564 f)) same.store ∙ ((held.stands).file).read ∙ ap Ok held.own);
-          known = subst (knows header) (sym same.store) held.known;
-        },
-      );
-      tree = o.tree;
-    }
+still_opened {mid = mid} {now = now} o same told = record { nodes = o.nodes; laid = o.laid; own = o.own; front = o.front; held = still_held mid now o.held same told; tree = o.tree }
+
+-- ---- a check
+
+-- what a scan found is what is said of a file that was checked
+pub checked : {image : Image} {found : FoundFile} → IsFound image found → IsChecked image (record { header = found.header; next_block = found.next_block; next_page = found.next_page })
+checked is = record { opened = is.opened; m = is.nodes; lays = is.lays; blocks = is.next_block; pages = is.next_page }
+
+-- numbers are left where neither is used up
+pub numbers_left : (block page : ℕ) → (nat_le (2 ^ 61) block || nat_le (2 ^ 61) page) ≡ false → (block < 2 ^ 61) × (page < 2 ^ 61)
+numbers_left block page left =
+    let parts = or_false (nat_le (2 ^ 61) block) (nat_le (2 ^ 61) page) left in
+    (leb-false (2 ^ 61) block parts.0, leb-false (2 ^ 61) page parts.1)
+  where
+    or_false : (a b : Bool) → (a || b) ≡ false → (a ≡ false) × (b ≡ false)
+    or_false true b e = cc
+    or_false false b e = (refl, e)
+
+-- ---- a file that is opened for mending
+
+-- what was looked at of a store is so where its gate is closed
+pub still_looked : {knows : Header → List ℕ → Type 0} {bytes : List ℕ} {header : Header} {old : Image} {mid now : World} {tree : OpenedTree} → IsLooked knows bytes header old mid tree → SameStore mid.here now.here → now.tells → IsLooked knows bytes header old now tree
+still_looked {mid = mid} {now = now} o same told = record { nodes = o.nodes; front = o.front; held = still_held mid now o.held same told; tree = o.tree; reads = o.reads }

@@ -1,10 +1,10 @@
 -- What an opening answers.
-use Rattle.std.specs.Prelude.{◌≡◌, ℕ, true, false, Bool, List, take, Ok}
+use Rattle.std.specs.Prelude.{◌≡◌, ◌<◌, ◌^◌, ◌++◌, ℕ, true, false, Bool, List, take, Ok}
 use Rattle.pst_outside.specs.World.{Image, World}
 use Rattle.pst_header.specs.declared.header.Header.{Header}
 use Rattle.file_blocks.specs.Blocks.{file_of}
-use Rattle.file_layout.specs.Nodes.{Lays, NodeMap}
-use Rattle.file_layout.specs.Numbers.{is_spent}
+use Rattle.file_layout.specs.Nodes.{Lays, NodeMap, blocks_in}
+use Rattle.file_layout.specs.Numbers.{is_spent, next_block, next_page}
 use Rattle.file_layout.specs.Opening.{opening}
 use Rattle.node_port.specs.Nodes.{Nodes}
 use Rattle.lays_kept.specs.Stands.{AreThose}
@@ -15,6 +15,7 @@ use Rattle.file_scan.specs.declared.scan.FoundFile.{FoundFile}
 use Rattle.mail_searches.specs.Searching.{Searching}
 use Rattle.store_open.specs.Opening.{IsTreeRefused, KnowsTree, LooksTree, ShowsFresh, ShowsSearches}
 pub use Rattle.store_open.specs.declared.open.OpenedTree.{OpenedTree}
+use Rattle.file_open.specs.declared.open.CheckedFile.{CheckedFile}
 use Rattle.file_open.specs.declared.stops.FileRefusal.{FileRefusal}
 use Rattle.file_open.specs.declared.stops.FileRefusal.TheVariants as refusals
 use Rattle.file_open.specs.declared.stops.FileStop.{FileStop}
@@ -45,6 +46,18 @@ pub record Reads (image : Image) (X : Searching) : Type 0 where
 pub record ReadsFresh (image : Image) (X : Searching) : Type 0 where
   pub reads : Reads image X
   pub left : spent_in image reads.nodes X.tree.last reads.laid ≡ false
+
+-- The files open with this header and lay nodes, and these are their next numbers.
+pub record IsChecked (image : Image) (file : CheckedFile) : Type 0 where
+  pub opened : opening image.main image.side ≡ Ok file.header
+  pub m : NodeMap
+  pub lays : Lays file.header (file_of image) m
+  pub blocks : file.next_block ≡ next_block file.header (blocks_in lays.blocks)
+  pub pages : file.next_page ≡ next_page file.header (lays.blocks.pages ++ lays.nodes.pages)
+
+-- numbers are left
+abbrev pub HasLeft : CheckedFile → Type 0
+HasLeft file = (file.next_block < 2 ^ 61) × (file.next_page < 2 ^ 61)
 
 -- ---- why they are no such tree
 
@@ -100,9 +113,10 @@ StopsLooking image stops.Fault = Unit {0}
 StopsLooking image (stops.Changed ib stored computed) = ⊥
 StopsLooking image stops.Memory = Unit {0}
 
--- The keeper of a file that was looked at holds nodes that the files lay; they show a tree with searches that the files are read as, of which this is known.
+-- The keeper of a file that was looked at holds nodes that the files lay, with the bytes of the header that counts; they show a tree with searches that the files are read as, of which this is known.
 pub record IsLooked (knows : Header → List ℕ → Type 0) (bytes : List ℕ) (header : Header) (old : Image) (now : World) (opened : OpenedTree) : Type 0 where
   pub nodes : Nodes
+  pub front : bytes ≡ take 564 (file_of old)
   pub held : Holds knows bytes header now nodes
   pub tree : LooksTree nodes header.indexes opened
   pub reads : ReadsTree old tree.tree

@@ -2,13 +2,13 @@ use Rattle.std.proofs.Common.{◌∙◌, ap, refl, sym, subst}
 use Rattle.pst_outside.specs.World.{Image}
 use Rattle.node_port.specs.Stops.{Room}
 use Rattle.mail_searches.specs.Searching.{Searching}
-use Rattle.file_open.specs.Opening.{IsOpened, ReadsFresh, StopsOpening}
+use Rattle.file_open.specs.Opening.{IsChecked, IsOpened, ReadsFresh, StopsOpening}
 use Rattle.file_open.specs.Stops.{of_tree, of_scan}
 use Rattle.file_open.specs.declared.stops.FileRefusal.TheVariants.{Ids}
 use Rattle.file_open.specs.declared.stops.FileStop.TheVariants.{Refused}
 use Rattle.file_layout.proofs.Underway.{untouched_then}
 use Rattle.file_open.proofs.Files.{scan_stops}
-use Rattle.file_open.proofs.Keepers.{fresh, opened, passed_on, refused_tree, scanned, spent_stops}
+use Rattle.file_open.proofs.Keepers.{checked, fresh, numbers_left, opened, passed_on, refused_tree, scanned, spent_stops}
 use Rattle.file_open.proofs.open.find_file.Goals as goal
 
 pub returns-in_err-found-clause-refused : goal.returns-in_err-found-clause-refused
@@ -51,3 +51,11 @@ returns-clause-no_pins g c = ap (λ (r : Room). r.pins) c.open_store.ensures.loo
 
 pub returns-clause-same : goal.returns-clause-same
 returns-clause-same g c = untouched_then (untouched_then c.scan_file.ensures.same c.keep.ensures.same) c.open_store.ensures.looks.world
+
+pub returns-clause-checked : goal.returns-clause-checked
+returns-clause-checked g c = λ told.
+    let s = scanned c.scan_file.ensures.same c.keep.ensures.same c.in_ok-found.ensures.found c.in_ok-keeper.ensures.kept (c.open_store.ensures.looks.world.stays.told told) in
+    subst (λ (i : Image). IsChecked i (record { header = c.in_ok-found.found.header; next_block = c.in_ok-found.found.next_block; next_page = c.in_ok-found.found.next_page })) s.here (checked s.is)
+
+pub returns-clause-left : goal.returns-clause-left
+returns-clause-left g c = numbers_left c.in_ok-found.found.next_block c.in_ok-found.found.next_page (sym c.is_spent-spent.ensures ∙ c.if-spent.false)

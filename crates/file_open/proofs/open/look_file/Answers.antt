@@ -1,5 +1,6 @@
-use Rattle.std.proofs.Common.{subst}
+use Rattle.std.proofs.Common.{◌∙◌, ap, refl, subst}
 use Rattle.pst_outside.specs.World.{Image}
+use Rattle.node_port.specs.Stops.{Room}
 use Rattle.file_open.specs.Opening.{IsLooked, StopsLooking}
 use Rattle.file_open.specs.Stops.{of_tree, of_scan}
 use Rattle.file_layout.proofs.Underway.{untouched_then}
@@ -28,7 +29,10 @@ returns-clause-looked g c = λ told.
     let s = scanned c.scan_file.ensures.same c.keep.ensures.same c.in_ok-found.ensures.found c.in_ok-keeper.ensures.kept (c.look_store.ensures.looks.world.stays.told told) in
     let k = c.look_store.new.keeper in
     subst (λ (i : Image). IsLooked (g.S.NodeStore.knows k.store) k.found k.header i (g.W.Outside.view c.look_store.new.w) c.in_ok-tree.tree) s.here
-    (looked s.is s.made c.in_ok-tree.tree c.look_store.ensures.looks c.in_ok-tree.ensures.found)
+    (looked s.is s.made c.in_ok-tree.tree c.look_store.ensures.looks refl refl c.in_ok-tree.ensures.found)
 
 pub returns-clause-same : goal.returns-clause-same
 returns-clause-same g c = untouched_then (untouched_then c.scan_file.ensures.same c.keep.ensures.same) c.look_store.ensures.looks.world
+
+pub returns-clause-no_pins : goal.returns-clause-no_pins
+returns-clause-no_pins g c = ap (λ (r : Room). r.pins) c.look_store.ensures.looks.space ∙ c.in_ok-keeper.ensures.no_pins

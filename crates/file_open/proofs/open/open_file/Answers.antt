@@ -12,8 +12,8 @@ use Rattle.file_open.specs.declared.stops.FileStop.TheVariants.{Fault}
 use Rattle.file_open.proofs.Keepers.{passed_on, still_opened}
 use Rattle.file_open.proofs.open.open_file.Goals as goal
 
-pub returns-in_err-opened-clause-any_moment : goal.returns-in_err-opened-clause-any_moment
-returns-in_err-opened-clause-any_moment g c = λ settled found N last stands.
+pub returns-in_err-whole-clause-any_moment : goal.returns-in_err-whole-clause-any_moment
+returns-in_err-whole-clause-any_moment g c = λ settled found N last stands.
     quiet (λ i. (i.said ≡ (g.W.Outside.view c.args.w.now).here.said) × Stands found i N last) settled c.find_file.ensures.same (λ told. (refl, stands told))
 
 pub returns-in_err-side_len-clause-any_moment : goal.returns-in_err-side_len-clause-any_moment
@@ -39,7 +39,7 @@ returns-in_err-close_gate-clause-kept g c =
     let old = g.W.Outside.view c.args.w.now in
     let new = g.W.Outside.view c.close_gate.new.w in
     passed_on (λ s. new.tells → ((X : Searching) → ReadsFresh old.here X → ⊥) → Untouched old new) Fault c.from_residual-in_err-close_gate.result c.from_residual-in_err-close_gate.ensures.1
-    (λ told none. let read = c.in_ok-opened.ensures.reads (c.side_len.ensures.same.stays.told (c.close_gate.ensures.told told)) in absurd (none read.0 read.1))
+    (λ told none. let read = c.in_ok-whole.ensures.reads (c.side_len.ensures.same.stays.told (c.close_gate.ensures.told told)) in absurd (none read.0 read.1))
 
 pub returns-clause-any_moment : goal.returns-clause-any_moment
 returns-clause-any_moment g c = λ settled found N last stands.
@@ -49,11 +49,11 @@ returns-clause-any_moment g c = λ settled found N last stands.
     (c.close_gate.ensures.any_moment (stays_settled settled before) found N last (λ told. subst (λ (i : Image). Stands found i N last) (sym (before.stays.here told)) (stands (before.stays.told told))))
 
 pub returns-clause-reads : goal.returns-clause-reads
-returns-clause-reads g c = λ told. c.in_ok-opened.ensures.reads (c.side_len.ensures.same.stays.told (c.close_gate.ensures.told told))
+returns-clause-reads g c = λ told. c.in_ok-whole.ensures.reads (c.side_len.ensures.same.stays.told (c.close_gate.ensures.told told))
 
 pub returns-clause-opened : goal.returns-clause-opened
 returns-clause-opened g c = λ told.
     let later = c.close_gate.ensures.told told in
     let same = c.side_len.ensures.same.stays in
-    still_opened (c.in_ok-opened.ensures.opened (same.told later))
+    still_opened (c.in_ok-whole.ensures.opened (same.told later))
     (subst (λ (i : Image). SameStore i (g.W.Outside.view c.close_gate.new.w).here) (same.here later) (c.close_gate.ensures.store told)) told

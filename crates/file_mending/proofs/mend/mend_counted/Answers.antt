@@ -1,0 +1,16 @@
+use Rattle.file_mending.specs.FileMends.{StandsMendable}
+use Rattle.file_mending.proofs.Opened.{mends_then, stood}
+use Rattle.search_mends.specs.Mends.{HasMendable}
+use Rattle.file_mending.proofs.mend.mend_counted.Goals as goal
+
+pub returns-clause-mends : goal.returns-clause-mends
+returns-clause-mends g c = λ tidy X has disk.
+    let K = g.K.NodeReader in
+    let view = g.W.Outside.view in
+    let store = c.mend_searches.new.store in
+    let w = c.mend_searches.new.w in
+    let found = (K.room c.args.store.now.store.keeper).found in
+    let room = K.room store.store.keeper in
+    mends_then (HasMendable K.holds K.last g.K.Keeper.rests store (view w) tidy) (StandsMendable tidy (g.K.Keeper.stands found) g.K.Keeper.measures room (view w)) room X c.mend_searches.result
+    (stood view K.holds K.last g.K.Keeper.rests g.K.Keeper.stands g.K.Keeper.measures K.room g.met.K.Keeper.held_stands g.met.K.Keeper.held_measures found store w c.mend_searches.ensures.found tidy)
+    (c.mend_searches.ensures.mends tidy X has disk)
