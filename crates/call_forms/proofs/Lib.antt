@@ -1,11 +1,13 @@
 pub mod AnswerLaws
 pub mod Boxed
+pub mod CompactLaws
 pub mod CopyLaws
 pub mod Disks
 pub mod FileLaws
 pub mod InfoLaws
 pub mod LookLaws
 pub mod LookingLaws
+pub mod MendLaws
 pub mod NodesLaws
 pub mod Orders
 pub mod ScratchLaws

@@ -29,7 +29,7 @@ use Rattle.store_session.specs.declared.carrying.StoreStop.TheVariants as stops
 use Rattle.store_session.proofs.Carry.{rose_later, same_as}
 use Rattle.store_session.proofs.Sessions.{turns_counts, turns_told}
 use Rattle.call_forms.specs.Files.{NoneFailed}
-use Rattle.call_forms.specs.Look.{KeepsReading, LookEnds, LookEndsWell, LookRuns, LookServes, LookUnread, status_of_look}
+use Rattle.call_forms.specs.Look.{KeepsReading, LookEnds, LookEndsWell, LookRefused, LookRuns, LookServes, LookUnread, status_of_look}
 use Rattle.call_forms.specs.Info.{Says}
 use Rattle.call_forms.specs.Looking.{LookAnswers, LookRun, ReaderAnswers, ReaderStops, TellsTree}
 use Rattle.call_forms.specs.Run.{refused}
@@ -378,11 +378,17 @@ module _ {old mid : World} (call : Untouched old mid) where
     none_fresh t = ((holds t).0, λ X fresh. (holds t).1 X (fresh_reads fresh))
 
     -- they were refused, and then the line of that was said
+    pub tree_refused : {new : World} {text : List ℕ} {status : Status} → text ≡ file_line refusal → Says text Refused mid new status → LookRefused old new status
+    tree_refused is says = (refused_says refusal call none_fresh is says, λ t. (holds (says.keeps.told t)).1)
+
+    pub tree_refused_silent : LookRefused old mid Memory
+    tree_refused_silent = (refused_silent refusal call none_fresh, λ t. (holds t).1)
+
     pub look_refused : {new : World} {text : List ℕ} {status : Status} → text ≡ file_line refusal → Says text Refused mid new status → LookEnds old new status
-    look_refused is says = inl (refused_says refusal call none_fresh is says, λ t. (holds (says.keeps.told t)).1)
+    look_refused is says = inl (tree_refused is says)
 
     pub look_refused_silent : LookEnds old mid Memory
-    look_refused_silent = inl (refused_silent refusal call none_fresh, λ t. (holds t).1)
+    look_refused_silent = inl tree_refused_silent
 
 -- nothing was asked of the world
 pub look_unread : (world : World) → LookEnds world world Memory

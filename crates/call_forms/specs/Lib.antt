@@ -1,4 +1,5 @@
 pub mod Boxes
+pub mod Compact
 pub mod Copies
 pub mod Decode
 pub mod Files
@@ -6,6 +7,7 @@ pub mod Info
 pub mod Look
 pub mod Looking
 pub mod Mailboxes
+pub mod Mend
 pub mod Nodes
 pub mod Run
 pub mod Scratch

@@ -1,10 +1,12 @@
 -- How what was asked for ends.
 use Rattle.std.specs.Prelude.{◌≡◌}
 use Rattle.pst_outside.specs.World.{World}
+use Rattle.call_forms.specs.Compact.{CompactEnds}
 use Rattle.call_forms.specs.Decode.{DecodeEnds}
 use Rattle.call_forms.specs.Files.{NewEnds, RunEnds}
 use Rattle.call_forms.specs.Info.{InfoEnds}
 use Rattle.call_forms.specs.Look.{LookEnds}
+use Rattle.call_forms.specs.Mend.{MendEnds}
 use Rattle.call_forms.specs.Nodes.{NodesEnds}
 use Rattle.call_forms.specs.Scratch.{ScratchEnds}
 use Rattle.call_forms.specs.declared.exit.Status.{Status}
@@ -21,6 +23,8 @@ EndsFor (asked.Plain forms.Nodes) v w old new status = NodesEnds old new status
 EndsFor (asked.Plain forms.Run) v w old new status = RunEnds old new status
 EndsFor (asked.Plain forms.Look) v w old new status = LookEnds old new status
 EndsFor (asked.Plain forms.Decode) v w old new status = DecodeEnds old new status
+EndsFor (asked.Plain forms.Compact) v w old new status = CompactEnds old new status
+EndsFor (asked.Plain forms.Mend) v w old new status = MendEnds old new status
 EndsFor (asked.Plain forms.Scratch) v w old new status = ScratchEnds old new status × (status ≡ Memory → w ≡ v)
 EndsFor (asked.New name) v w old new status = NewEnds name old new status
 EndsFor asked.Nothing v w old new status = (status ≡ Words) × (w ≡ v)

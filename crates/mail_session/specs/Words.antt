@@ -6,7 +6,7 @@ use Rattle.std.specs.declared.string.String.{String}
 use Rattle.std.specs.Global.{Global}
 use Rattle.mail_session.specs.declared.words.Form.{Form}
 use Rattle.command_text.specs.Words.{name_of}
-use Rattle.mail_session.specs.declared.words.Form.TheVariants.{Decode, Info, Look, New, Nodes, Run, Scratch}
+use Rattle.mail_session.specs.declared.words.Form.TheVariants.{Compact, Decode, Info, Look, Mend, New, Nodes, Run, Scratch}
 
 -- the bytes of each word
 abbrev pub spelled : List (String Global) → List (List ℕ)
@@ -17,11 +17,11 @@ abbrev pub new_form : Option (List ℕ) → Option Form
 new_form None = None
 new_form (Some name) = Some New
 
--- `scratch` alone; `info`, `nodes`, `run` or `look` and a file; `new`, a file and a name; or `decode`, a file and that of the copy
+-- `scratch` alone; `info`, `nodes`, `run`, `look` or `mend` and a file; `new`, a file and a name; or `decode` or `compact`, a file and that of the copy
 abbrev pub form_of : List (List ℕ) → Option Form
 form_of (word ∷ []) = if pointwise nat_eq word (codes "scratch") then Some Scratch else None
-form_of (word ∷ file ∷ []) = if pointwise nat_eq word (codes "info") then Some Info else if pointwise nat_eq word (codes "nodes") then Some Nodes else if pointwise nat_eq word (codes "run") then Some Run else if pointwise nat_eq word (codes "look") then Some Look else None
-form_of (word ∷ file ∷ other ∷ []) = if pointwise nat_eq word (codes "new") then new_form (name_of other) else if pointwise nat_eq word (codes "decode") then Some Decode else None
+form_of (word ∷ file ∷ []) = if pointwise nat_eq word (codes "info") then Some Info else if pointwise nat_eq word (codes "nodes") then Some Nodes else if pointwise nat_eq word (codes "run") then Some Run else if pointwise nat_eq word (codes "look") then Some Look else if pointwise nat_eq word (codes "mend") then Some Mend else None
+form_of (word ∷ file ∷ other ∷ []) = if pointwise nat_eq word (codes "new") then new_form (name_of other) else if pointwise nat_eq word (codes "decode") then Some Decode else if pointwise nat_eq word (codes "compact") then Some Compact else None
 form_of words = None
 
 -- the units of the name that the third word spells, if it does

@@ -26,6 +26,10 @@ pub enum Form {
     Scratch,
     /// `decode FILE TO`
     Decode,
+    /// `compact FILE TO`
+    Compact,
+    /// `mend FILE`
+    Mend,
 }
 
 /// The form of the words, with the name that `new` is given; or that they have none.
@@ -61,8 +65,10 @@ pub(crate) fn read_words(alloc: Global, words: &[String]) -> Result<Asked, Alloc
         [word, _file] if word.as_str() == "nodes" => Ok(Asked::Plain(Form::Nodes)),
         [word, _file] if word.as_str() == "run" => Ok(Asked::Plain(Form::Run)),
         [word, _file] if word.as_str() == "look" => Ok(Asked::Plain(Form::Look)),
+        [word, _file] if word.as_str() == "mend" => Ok(Asked::Plain(Form::Mend)),
         [word, _file, name] if word.as_str() == "new" => read_new(alloc, name.as_str()),
         [word, _file, _to] if word.as_str() == "decode" => Ok(Asked::Plain(Form::Decode)),
+        [word, _file, _to] if word.as_str() == "compact" => Ok(Asked::Plain(Form::Compact)),
         _ => Ok(Asked::Nothing),
     }
 }

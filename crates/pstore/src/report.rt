@@ -7,7 +7,7 @@ use std::{io, str};
 
 /// The forms of the command line.
 const FORMS: &str =
-    "usage: pstore info|nodes|look|run FILE, pstore new FILE NAME, pstore decode FILE TO, or pstore scratch";
+    "usage: pstore info|nodes|look|run|mend FILE, pstore new FILE NAME, pstore decode|compact FILE TO, or pstore scratch";
 
 /// The text of an exit; nothing where it needs no explanation.
 pub(crate) fn report(
@@ -77,7 +77,7 @@ fn report_refusal(
     let file = word(words, 1);
     let said = str::from_utf8(world.front()).unwrap_or("");
     match said.split_whitespace().nth(1) {
-        Some("not-empty") if word(words, 0) == "decode" => eprintln!(rt;
+        Some("not-empty") if matches!(word(words, 0), "decode" | "compact") => eprintln!(rt;
             "{}: it has bytes: a copy needs a name that is free",
             word(words, 2)
         ),
@@ -121,10 +121,16 @@ fn advice(refusal: &str, is_missing: bool) -> Option<&'static str> {
         ),
         "truncated" => Some("it is shorter than its header says: a copy of it was cut short"),
         "stale" => Some(
-            "another program changed what this search folder lists: the words `look FILE` read the file all the same",
+            "another program changed what this search folder lists: the words `mend FILE` make its list anew, and `look FILE` reads the file as it is",
         ),
         "ids" => Some(
             "its numbers for blocks or pages are used up: the words `look FILE` read the file all the same",
+        ),
+        "rows" => Some(
+            "this search folder would list more than one may: its criteria have to ask for less",
+        ),
+        "full" => Some(
+            "it has no room left for what mending writes: the words `compact FILE TO` write its copy without holes",
         ),
         "busy" => Some("another session is at work on it: wait until that has ended"),
         _ => None,

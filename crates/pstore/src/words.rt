@@ -24,7 +24,7 @@ pub(crate) fn word(words: &[String], number: usize) -> &str {
 /// What is done with the file that the second word names.
 fn access(form: &str) -> Access {
     match form {
-        "new" | "run" => Access::Write,
+        "new" | "run" | "mend" => Access::Write,
         _ => Access::Read,
     }
 }
@@ -32,7 +32,7 @@ fn access(form: &str) -> Access {
 /// The file to which that of the second word is copied, where it is.
 fn copy(alloc: Global, words: &[String]) -> Result<Option<String>, AllocError> {
     match word(words, 0) {
-        "decode" => Ok(Some(String::from_str(alloc, word(words, 2))?)),
+        "decode" | "compact" => Ok(Some(String::from_str(alloc, word(words, 2))?)),
         _ => Ok(None),
     }
 }

@@ -1,9 +1,11 @@
 use Rattle.std.proofs.Common.{inr, refl, rules}
 use Rattle.call_forms.specs.declared.exit.Status.TheVariants.{Memory}
+use Rattle.call_forms.specs.Compact.{IsCompactedText, IsUnmadeText}
 use Rattle.call_forms.specs.Decode.{IsDecodedText, IsUnreadText}
 use Rattle.call_forms.proofs.CopyLaws.{copy_unread}
 use Rattle.call_forms.proofs.FileLaws.{new_unread, well_as}
 use Rattle.call_forms.proofs.LookLaws.{look_unread, look_well_as}
+use Rattle.call_forms.proofs.MendLaws.{mend_unasked}
 use Rattle.mail_session.proofs.call.run.Goals as goal
 
 pub returns-in_default-clause-new : goal.returns-in_default-clause-new
@@ -17,6 +19,12 @@ returns-clause-complete g c = λ form. well_as (g.W.Outside.view c.args.world.no
 
 pub returns-in_default-clause-decode : goal.returns-in_default-clause-decode
 returns-in_default-clause-decode g c = λ form. (Memory, c.exit.ensures.status, copy_unread IsDecodedText IsUnreadText (g.W.Outside.view c.args.world.now))
+
+pub returns-in_default-clause-compact : goal.returns-in_default-clause-compact
+returns-in_default-clause-compact g c = λ form. (Memory, c.exit.ensures.status, copy_unread IsCompactedText IsUnmadeText (g.W.Outside.view c.args.world.now))
+
+pub returns-in_default-clause-mend : goal.returns-in_default-clause-mend
+returns-in_default-clause-mend g c = λ form. (Memory, c.exit.ensures.status, mend_unasked (g.W.Outside.view c.args.world.now))
 
 pub returns-in_default-clause-look : goal.returns-in_default-clause-look
 returns-in_default-clause-look g c = λ form. (Memory, c.exit.ensures.status, look_unread (g.W.Outside.view c.args.world.now))
