@@ -410,6 +410,32 @@ def large_attachment():
     return s.bytes({2: 0x403, 3: 0x4001, 4: 0x10001, 8: 0x8000}, eof=0x4400 + 90 * REGION)
 
 
+def search(flags, version, words):
+    """The values of a criteria object of this store: messages of 0x8082 whose subject begins with some letters, of either case."""
+    restriction = bytes.fromhex("03010001001f0037001f003700") + text(words + "\0")
+    values = {(0x6801, 0x1F): text(f"PSTORE-SEARCH-0{version}"), (0x6802, 3): u32(flags), (0x6803, 0x102): u32(0x8082), (0x6804, 0x102): restriction}
+    return {**values, **({(0x6805, 3): u32(1)} if version == 2 else {})}
+
+
+def stale_searches():
+    """Two running searches of this store whose lists another program left as they were, one with criteria of the first version and a right list, and a stopped one with a list of its own."""
+    subjects = {0x200024: "invoice 1", 0x200044: "letter 2", 0x200064: "Invoice 3"}
+    messages = {nid: ({(0x001A, 0x1F): text("IPM.Note"), (0x0037, 0x1F): text(subject), (0x0E07, 3): u32(0), (0x0E08, 3): u32(10 * at)}, {}) for at, (nid, subject) in enumerate(subjects.items(), 1)}
+    searches = {
+        0x80023: ("Invoices", search(6, 2, "inv"), [0x200024, 0x200044]),
+        0x80043: ("Letters", search(6, 2, "let"), []),
+        0x80063: ("Old", search(6, 1, "inv"), [0x200024, 0x200064]),
+        0x80083: ("Stopped", search(5, 2, "inv"), [0x200044]),
+    }
+    folders = {**FOLDERS, 0x8082: ("Inbox", 0x8022), **{nid: (name, 0x8042) for nid, (name, _, _) in searches.items()}}
+    s = laid({}, messages, folders=folders, home=0x8082)
+    for nid, (_, criteria, rows) in searches.items():
+        s.node(nid + 3, [])
+        s.node(nid + 4, context(criteria)[0])
+        s.node(nid + 13, table(MESSAGE_COLUMNS, {row: messages[row][0] for row in rows})[0])
+    return s.bytes({2: 0x404, 3: 0x4004, 4: 0x10003, 8: 0x8000})
+
+
 if __name__ == "__main__":
     for name, made in (
         ("full_names.pst", full_names()),
@@ -420,6 +446,7 @@ if __name__ == "__main__":
         ("many_values.pst", many_values()),
         ("large_attachment.pst", large_attachment()),
         ("deep_folders.pst", deep_folders()),
+        ("stale_searches.pst", stale_searches()),
     ):
         with open(f"{sys.argv[1]}/{name}", "wb") as file:
             file.write(made)

@@ -8,8 +8,8 @@ use std::num::NonZeroUsize;
 use test_lines::{Trouble, Words};
 
 /// The first words of the lines about a case, but for those of its texts.
-const VERBS: [&str; 13] = [
-    "run", "takes", "says", "fails", "dead", "turns", "length", "stops", "look", "status",
+const VERBS: [&str; 14] = [
+    "run", "takes", "says", "fails", "dead", "turns", "length", "stops", "again", "look", "status",
     "changed", "writes", "has",
 ];
 
@@ -70,6 +70,8 @@ pub struct Case<'a> {
     pub writes: bool,
     /// How the case is also cut off, at each call.
     pub cuts: Vec<Cut>,
+    /// Whether the words are run once more over what a stop leaves, before that is looked at.
+    pub again: bool,
     /// The lines by which what a stop leaves is looked at.
     pub looks: Vec<u8>,
 }
@@ -99,6 +101,7 @@ impl<'a> Case<'a> {
             },
             writes: false,
             cuts: Vec::new(alloc),
+            again: false,
             looks: Vec::new(alloc),
         }
     }
@@ -139,6 +142,10 @@ impl<'a> Case<'a> {
             "run" => self.run(words.rest()),
             "has" => push(&mut self.has, words.rest()),
             "stops" => push(&mut self.cuts, Cut::Stop),
+            "again" => {
+                self.again = true;
+                Ok(())
+            }
             "writes" => {
                 self.writes = true;
                 Ok(())

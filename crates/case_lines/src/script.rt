@@ -32,6 +32,7 @@ pub struct Script<'a> {
     case: Option<Case<'a>>,
     left_main: Vec<u8>,
     left_side: Vec<u8>,
+    left_copy: Vec<u8>,
 }
 
 impl<'a> Script<'a> {
@@ -44,6 +45,7 @@ impl<'a> Script<'a> {
             case: None,
             left_main: Vec::new(alloc),
             left_side: Vec::new(alloc),
+            left_copy: Vec::new(alloc),
         }
     }
 
@@ -62,6 +64,7 @@ impl<'a> Script<'a> {
     pub fn leave(&mut self, outcome: Outcome) {
         self.left_main = outcome.main;
         self.left_side = outcome.side;
+        self.left_copy = outcome.copy;
     }
 
     /// Follows a line that begins or ends no case.
@@ -132,7 +135,7 @@ impl<'a> Script<'a> {
     /// Gives bytes a name that isn't taken: none, or those of another name.
     fn name(&mut self, words: &mut Words<'a>) -> Result<(), Trouble> {
         let name = words.word()?;
-        if name == "left" || self.find(name).is_ok() {
+        if name == "left" || name == "copied" || self.find(name).is_ok() {
             return Err(Trouble::Name);
         }
         let bytes = self.beginning(words, &self.left_main)?;
@@ -155,6 +158,7 @@ impl<'a> Script<'a> {
         }
         let bytes = match words.word()? {
             "left" => left.as_slice(),
+            "copied" => self.left_copy.as_slice(),
             name => self.find(name)?,
         };
         Ok(Vec::from_slice(self.alloc, bytes)?)

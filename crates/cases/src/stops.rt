@@ -42,7 +42,7 @@ impl Moment {
 }
 
 /// What a session over two files says to the lines by which a case looks at them.
-fn look(alloc: Global, case: &Case, main: &[u8], side: &[u8]) -> Result<Vec<u8>, AllocError> {
+fn ask(alloc: Global, case: &Case, main: &[u8], side: &[u8]) -> Result<Vec<u8>, AllocError> {
     let start = Start {
         words: "run FILE",
         main,
@@ -51,6 +51,22 @@ fn look(alloc: Global, case: &Case, main: &[u8], side: &[u8]) -> Result<Vec<u8>,
     };
     let (_, w) = call(alloc, case, start, FailPlan::none(alloc))?;
     Vec::from_slice(alloc, w.world.said())
+}
+
+/// The same of what a stop left, over which the case's words are run once more where it says so.
+fn look(alloc: Global, case: &Case, main: &[u8], side: &[u8]) -> Result<Vec<u8>, AllocError> {
+    let Some(words) = case.words.filter(|_| case.again) else {
+        return ask(alloc, case, main, side);
+    };
+    let start = Start {
+        words,
+        main,
+        side,
+        input: &[],
+    };
+    let (_, w) = call(alloc, case, start, FailPlan::none(alloc))?;
+    let (main, side) = (w.world.content(Part::Main), w.world.content(Part::Side));
+    ask(alloc, case, main, side)
 }
 
 /// Where the first n lines of an input end.
@@ -107,8 +123,9 @@ fn look_once(
     }
 }
 
-/// Whether this is what some of the case's lines leave, at least so many.
+/// Whether this is what some of the case's lines leave, at least so many. A word that answers no lines says what it did once.
 fn is_whole(looks: &[Vec<u8>], least: usize, said: &[u8]) -> bool {
+    let least = least.min(looks.len().saturating_sub(1));
     looks.iter().skip(least).any(|look| look.as_slice() == said)
 }
 
