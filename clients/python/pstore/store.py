@@ -41,6 +41,17 @@ def decode(path: str, to: str, program: Optional[str] = None) -> int:
     return int(answer([find_program(program), "decode", path, to]).split(" ")[1])
 
 
+def compact(path: str, to: str, program: Optional[str] = None) -> int:
+    """Writes the tree of a store to `to`, which has no bytes before, in a file without holes. Says how many bytes that has."""
+    return int(answer([find_program(program), "compact", path, to]).split(" ")[1])
+
+
+def mend(path: str, program: Optional[str] = None) -> Tuple[int, int]:
+    """Makes the lists of searches anew that another program left stale, so that a store can be opened again. Says how many lists those were, and how many searches of the first version were turned into such of the second."""
+    _, stale, _, migrated = answer([find_program(program), "mend", path]).split(" ")
+    return int(stale), int(migrated)
+
+
 class Store:
     """A store in a file, over one session of the program.
 

@@ -157,7 +157,7 @@ class BesideReadpst(InFolder):
         self.mail("import", "Inbox", str(self.folder / "in"))
         self.mail("export", "Inbox", str(self.folder / "ours"))
         (self.folder / "theirs").mkdir()
-        subprocess.run(["readpst", "-q", "-e", "-o", str(self.folder / "theirs"), self.file], check=True, capture_output=True)
+        subprocess.run(["readpst", "-j", "0", "-q", "-e", "-o", str(self.folder / "theirs"), self.file], check=True, capture_output=True)
         ours, theirs = (_told(self.folder / it) for it in ("ours", "theirs"))
         self.assertEqual(ours.keys(), theirs.keys())
         for ident, (sender, subject, attached) in ours.items():

@@ -4,7 +4,7 @@ import unittest
 from datetime import datetime, timezone
 from pathlib import Path
 
-from pstore import Draft, Recipient, Store, decode, errors
+from pstore import Draft, Recipient, Store, compact, decode, errors, mend
 from pstore.drafts import DraftAttachment
 from pstore.program import find_program, knows_look
 from pstore.tags import TAGS, Tag
@@ -34,6 +34,23 @@ class Stores(InFolder):
             decode(encoded, self.file)
         with Store(self.file) as store:
             self.assertEqual([len(list(it.messages())) for it in store.top.folders()], [1])
+
+    def test_a_store_is_compacted(self):
+        cases = TOP.parent.parent / "crates" / "cases" / "data"
+        self.assertEqual(compact(str(cases / "one.pst"), self.file), 271360)
+        self.assertEqual(Path(self.file).read_bytes(), (cases / "one_compact.pst").read_bytes())
+        with self.assertRaises(errors.FileNotEmpty):
+            compact(str(cases / "one.pst"), self.file)
+
+    def test_stale_searches_are_mended(self):
+        stale = TOP.parent.parent / "crates" / "cases" / "data" / "stale_searches.pst"
+        Path(self.file).write_bytes(stale.read_bytes())
+        with self.assertRaises(errors.StaleSearch):
+            Store(self.file)
+        self.assertEqual(mend(self.file), (2, 1))
+        with Store(self.file) as store:
+            found = [len(list(it.messages())) for it in store.folder("/Search Root").folders()]
+        self.assertEqual(found, [2, 1, 2, 1])
 
     def check_folders(self, store: Store):
         self.assertEqual(store.top.name, "Top of Personal Folders")
