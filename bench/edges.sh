@@ -78,7 +78,7 @@ first=$!
 exec 9>pipe
 echo 'mkdir 0x8022 Inbox' >&9
 until [ -s first ]; do sleep 0.05; done
-for word in run info nodes look; do
+for word in run info nodes look mend; do
     check "$word beside a session" "$("$pstore" $word a.pst </dev/null 2>/dev/null; echo $?)" "refused busy
 3"
 done
@@ -106,12 +106,22 @@ check "what is told of it" "$(cat told)" "none.pst: there is no such file"
 ls none.pst none.pst.gate >/dev/null 2>&1
 check "nothing is made of it" $? 2
 mkdir folder
-for word in info nodes look run; do
+for word in info nodes look run mend; do
     check "$word of a folder" "$("$pstore" $word folder </dev/null 2>told; echo $?)" 4
     check "what is told of $word of a folder" "$(head -n 1 told)" disk
 done
 check "new in the place of a folder" "$("$pstore" new folder Mail 2>told; echo $?)" 4
-check "a copy into a folder" "$("$pstore" decode plain.pst folder 2>told; echo $?)" 4
+for word in decode compact; do
+    check "a copy by $word into a folder" "$("$pstore" $word plain.pst folder 2>told; echo $?)" 4
+    check "a copy by $word where no folder is" "$("$pstore" $word plain.pst nowhere/a.pst 2>told; echo $?)" 4
+    check "a copy by $word over its file" "$("$pstore" $word plain.pst plain.pst 2>told; echo $?)" "refused not-empty
+3"
+    cp plain.pst c.pst
+    : >c.pst.gate
+    check "a copy by $word over the gate" "$("$pstore" $word c.pst c.pst.gate 2>told; echo $?)" 4
+    check "the gate is as it was" "$(wc -c <c.pst.gate)" 0
+    rm c.pst c.pst.gate
+done
 check "the folder is as it was" "$(ls -A folder | wc -l)" 0
 cp plain.pst under.pst
 mkdir under.pst.gate
@@ -119,7 +129,7 @@ check "a folder in the place of a gate" "$("$pstore" run under.pst </dev/null 2>
 cmp -s plain.pst under.pst
 check "the file beside it is as it was" $? 0
 check "a pipe" "$("$pstore" info pipe 2>told; echo $?)" 4
-for word in info nodes look run; do
+for word in info nodes look run mend; do
     check "$word of a device" "$("$pstore" $word /dev/null </dev/null 2>told; echo $?)" 4
 done
 : >e.pst
@@ -155,7 +165,7 @@ if [ "$(id -u)" = 0 ]; then
     if $as "$folder/program" info plain.pst >/dev/null 2>&1; then
         mkdir closed shut && cp plain.pst shut/a.pst && cp plain.pst.gate shut/a.pst.gate && chmod 777 closed && chmod 755 shut
         cp plain.pst n.pst && cp plain.pst.gate n.pst.gate && chmod 000 n.pst n.pst.gate
-        for word in info nodes look run; do
+        for word in info nodes look run mend; do
             check "$word of a file that may not be read" "$($as "$folder/program" $word n.pst </dev/null 2>/dev/null; echo $?)" 4
         done
         check "new in its place" "$($as "$folder/program" new n.pst Mail 2>/dev/null; echo $?)" 4
@@ -166,6 +176,7 @@ if [ "$(id -u)" = 0 ]; then
         done
         check "run of a file that may only be read" "$(echo 'mkdir 0x8022 A' | $as "$folder/program" run n.pst 2>/dev/null; echo $?)" 4
         chmod 666 n.pst
+        check "mend of a file that may only be read" "$($as "$folder/program" mend n.pst 2>/dev/null </dev/null; echo $?)" 4
         check "run where only the gate may not be written" "$(echo 'mkdir 0x8022 A' | $as "$folder/program" run n.pst 2>/dev/null; echo $?)" 4
         chmod 000 n.pst.gate
         for word in info look run; do
@@ -176,7 +187,9 @@ if [ "$(id -u)" = 0 ]; then
         check "run where no gate can be made" "$(echo 'mkdir 0x8022 A' | $as "$folder/program" run shut/a.pst 2>/dev/null; echo $?)" 4
         check "look there" "$(echo 'ls 0x8022' | $as "$folder/program" look shut/a.pst)" "ok 0"
         check "new where no file can be made" "$($as "$folder/program" new shut/b.pst Mail 2>/dev/null; echo $?)" 4
-        check "a copy where no file can be made" "$($as "$folder/program" decode plain.pst shut/b.pst 2>/dev/null; echo $?)" 4
+        for word in decode compact; do
+            check "a copy by $word where no file can be made" "$($as "$folder/program" $word plain.pst shut/b.pst 2>/dev/null; echo $?)" 4
+        done
         ls shut/b.pst shut/b.pst.gate >/dev/null 2>&1
         check "nothing is made there" $? 2
         check "after that" "$(echo 'mkdir 0x8022 A' | "$pstore" run shut/a.pst)" "ok 0x8082"
@@ -202,8 +215,11 @@ if [ "$(id -u)" = 0 ]; then
         check "what is told of it" "$(tail -n 1 told | cut -d : -f 1)" small/a.pst
         check "look on a full disk" "$(echo 'ls 0x8022' | "$pstore" look small/a.pst | tail -n 1)" "ok 1"
         check "new on a full disk" "$("$pstore" new small/b.pst Mail 2>/dev/null; echo $?)" 4
-        check "a copy to a full disk" "$("$pstore" decode plain.pst small/c.pst 2>told; echo $?)" 4
-        check "what is told of the copy" "$(tail -n 1 told | cut -d : -f 1)" small/c.pst
+        for word in decode compact; do
+            check "a copy by $word to a full disk" "$("$pstore" $word plain.pst small/c.pst 2>told; echo $?)" 4
+            check "what is told of the copy by $word" "$(tail -n 1 told | cut -d : -f 1)" small/c.pst
+            rm -f small/c.pst
+        done
         rm -f small/fill small/b.pst small/b.pst.gate small/c.pst
         check "after a full disk" "$(echo 'ls 0x8022' | "$pstore" run small/a.pst | tail -n 1)" "ok 1"
         rm small/a.pst.gate

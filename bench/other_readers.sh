@@ -1,6 +1,6 @@
 #!/bin/sh
 # Makes a store of several regions with mail and a search folder in it, and has other readers of .pst files read it: libpst's `readpst` and libpff's `pffexport`, where they are installed (Debian: pst-utils and pff-tools).
-# They also read the store with its blocks encoded by each of the two methods, which `decode` then makes the store again, byte for byte.
+# They also read the store with its blocks encoded by each of the two methods, which `decode` then makes the store again, byte for byte; and the copy without holes that `compact` makes of it, which must be the one that bench/compact_stores.py makes.
 # Says of each what of the mail it found, and what not.
 # Needs crates/pstore/out/pstore, which ./pstore builds, or the program named by PSTORE.
 cd "$(dirname "$0")/.." || exit 1
@@ -105,6 +105,14 @@ for name, method in {"permuted": 1, "cyclic": 2}.items():
     said = ask("decode", files[name], back)
     with open(back, "rb") as it:
         print(f"{'decode':10} {name:10} {said}: " + ("the store again" if it.read() == store else "NOT the store"))
+
+
+short = files["compact"] = os.path.join(folder, "short.pst")
+said = ask("compact", path, short)
+sys.path.insert(0, "bench")
+from compact_stores import Copy, Source
+with open(short, "rb") as it:
+    print(f"{'compact':10} {'plain':10} {said}: " + ("the copy of the format" if it.read() == Copy(Source(store)).made() else "NOT the copy of the format"))
 
 
 def lines_of(data):
