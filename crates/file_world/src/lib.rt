@@ -7,6 +7,7 @@
 mod disk;
 mod front;
 mod part;
+mod progress;
 mod trouble;
 mod world;
 

@@ -4,11 +4,13 @@ ghost use Rattle.std.specs.Prelude.{◌≡◌, ◌+◌, ◌-◌, ◌^◌, ◌≤
 use crate::disk::Disk;
 use crate::front::Front;
 use crate::part::Access;
+use crate::progress::Progress;
 use crate::trouble::{Cause, Device, Trouble};
 use pst_outside::{Failed, Outside, Part, fault};
 use std::alloc::AllocError;
 use std::fs::{File, Files};
-use std::io::{ErrorKind, Input, Print, Read};
+use std::io::{Eprint, ErrorKind, Input, Print, Read};
+use std::time::Clock;
 
 /// The files MAIN, MAIN with `.gate` added, and COPY, and standard input and output. A missing file has length 0 and is made at its first write, unless another program made it meanwhile. It counts each error of the system and keeps the last, and tells contracts its counts alone.
 ///
@@ -19,6 +21,7 @@ pub struct FileWorld<R: Files<File = File> + Input> {
     input: R::Reader,
     disk: Disk<R>,
     front: Front,
+    progress: Progress,
     cause: Option<Cause>,
     in_faults: u64,
     out_faults: u64,
@@ -35,7 +38,7 @@ fn noted(cause: &mut Option<Cause>, count: &mut u64, device: Device, trouble: Tr
     fault(count)
 }
 
-impl<R: Files<File = File> + Input + Print + AllocGlobal + Copy> FileWorld<R> {
+impl<R: Files<File = File> + Input + Print + Eprint + Clock + AllocGlobal + Copy> FileWorld<R> {
     ghost use Rattle.pst_outside.specs.Memory.{NoFaults};
 
     /// A world over the file of this name, with its gate beside it, both for this access, and over the file of a copy. No file is touched yet. Without a name for the copy, its part has length 0 and a write to it fails.
@@ -57,6 +60,7 @@ impl<R: Files<File = File> + Input + Print + AllocGlobal + Copy> FileWorld<R> {
             input,
             disk,
             front: Front::new(),
+            progress: Progress::new(),
             cause: None,
             in_faults: 0,
             out_faults: 0,
@@ -70,6 +74,11 @@ impl<R: Files<File = File> + Input + Print + AllocGlobal + Copy> FileWorld<R> {
         self.cause.as_ref()
     }
 
+    /// From here on standard error says once a second how many bytes were written to the copy.
+    pub fn show_progress(&mut self) {
+        self.progress.show();
+    }
+
     /// Whether MAIN was looked for and wasn't there.
     pub fn is_missing(&self) -> bool {
         self.disk.is_missing()
@@ -81,7 +90,8 @@ impl<R: Files<File = File> + Input + Print + AllocGlobal + Copy> FileWorld<R> {
     }
 }
 
-impl<R: Files<File = File> + Input + Print + AllocGlobal + Copy> Outside for FileWorld<R> {
+impl<R: Files<File = File> + Input + Print + Eprint + Clock + AllocGlobal + Copy> Outside
+    for FileWorld<R> {
     ghost use Rattle.pst_outside.specs.Sure.{silent};
 
     ghost view = { λ w. silent w.in_faults w.out_faults w.disk_faults w.written };
@@ -136,8 +146,14 @@ impl<R: Files<File = File> + Input + Print + AllocGlobal + Copy> Outside for Fil
     fn write_at(&mut self, part: Part, at: u64, bytes: &[u8]) -> Result<(), Failed> {
         self.written = self.written.saturating_add(bytes.len() as u128);
         match self.disk.write_at(part, at, bytes) {
-            Ok(()) => Ok(()),
+            Ok(()) => {
+                if part == Part::Copy {
+                    self.progress.add(&self.rt, bytes.len());
+                }
+                Ok(())
+            }
             Err(trouble) => {
+                self.progress.end(&self.rt);
                 let device = Device::Disk(part);
                 Err(noted(&mut self.cause, &mut self.disk_faults, device, trouble))
             }
@@ -145,6 +161,7 @@ impl<R: Files<File = File> + Input + Print + AllocGlobal + Copy> Outside for Fil
     }
 
     fn sync(&mut self, part: Part) -> Result<(), Failed> {
+        self.progress.end(&self.rt);
         match self.disk.sync(part) {
             Ok(()) => Ok(()),
             Err(trouble) => {

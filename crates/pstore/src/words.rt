@@ -1,6 +1,7 @@
 //! The words of the command line, and what they name.
 use file_world::{Access, FileWorld};
 use std::alloc::{AllocError, Global};
+use std::io::IsTerminal;
 use std::rt::Env;
 use std::{env, io};
 
@@ -37,12 +38,16 @@ fn copy(alloc: Global, words: &[String]) -> Result<Option<String>, AllocError> {
     }
 }
 
-/// The world over the files that the words name.
+/// The world over the files that the words name, which tells a person how far a copy is.
 pub(crate) fn world(
     rt: HostRuntime,
     words: &[String],
 ) -> Result<FileWorld<HostRuntime>, AllocError> {
     let file = String::from_str(rt.alloc(), word(words, 1))?;
     let copy = copy(rt.alloc(), words)?;
-    FileWorld::new(rt, file, copy, access(word(words, 0)))
+    let mut world = FileWorld::new(rt, file, copy, access(word(words, 0)))?;
+    if rt.stderr().is_terminal() {
+        world.show_progress();
+    }
+    Ok(world)
 }
