@@ -1,5 +1,5 @@
 #!/bin/sh
-# Prints how long `compact` takes on a store of some 500 MB in attachments and one of 40,000 small messages, beside an opening of the file (`nodes`), a copy of its bytes that is synced, and both; the least of three each, in seconds by the clock. The goal is at most 1.5 times both.
+# Prints how long `compact` takes on a store of some 500 MB in attachments and one of 40,000 small messages, beside an opening of the file (`look` without a line, which checks what `compact` checks before it copies), a copy of its bytes that is synced, and both; the least of three each, in seconds by the clock. The goal is at most 1.5 times both.
 # Needs crates/pstore/out/pstore, which ./pstore builds, or the program named by PSTORE.
 cd "$(dirname "$0")/.." || exit 1
 exec python3 - "$(readlink -f "${PSTORE:-crates/pstore/out/pstore}")" <<'END'
@@ -38,7 +38,7 @@ def took(work):
 
 
 def ask(*words):
-    subprocess.run([sys.argv[1], *words], stdout=subprocess.DEVNULL, check=True)
+    subprocess.run([sys.argv[1], *words], stdin=subprocess.DEVNULL, stdout=subprocess.DEVNULL, check=True)
 
 
 def copy():
@@ -54,7 +54,7 @@ for name, fill in ("attachments", large), ("messages", many):
         os.chdir(folder)
         ask("new", "FILE", "Mail")
         fill()
-        opening, copying, whole = took(lambda: ask("nodes", "FILE")), took(copy), took(lambda: ask("compact", "FILE", "TO"))
+        opening, copying, whole = took(lambda: ask("look", "FILE")), took(copy), took(lambda: ask("compact", "FILE", "TO"))
         most = resource.getrusage(resource.RUSAGE_CHILDREN).ru_maxrss
         sizes = [os.path.getsize(it) / 1e6 for it in ("FILE", "TO")]
         print(f"{name:12} {sizes[0]:6.1f} MB to {sizes[1]:6.1f} MB: opening {opening:6.2f}  copying {copying:6.2f}  compact {whole:6.2f}  {whole / (opening + copying):5.2f} times both; memory {most / 1e3:5.1f} MB")
