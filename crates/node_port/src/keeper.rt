@@ -143,8 +143,8 @@ pub trait Keeper<W: Outside>: NodeReader<W> {
     /// The disk is as a commit needs it at its start.
     ghost rests: { Image → Type 0 };
 
-    /// What `apply` does to the disk beside these pins, where it succeeds.
-    ghost applied: { Pins → Image → Image → Type 0 };
+    /// What `apply` of a plan of these changes does to the disk beside these pins, where it succeeds, and by writing at most so many bytes.
+    ghost applied: { Pins → List (Id × Option Rec) → ℕ → Image → Image → Type 0 };
 
     /// What room the disk has.
     ghost measures: { Image → Room → Type 0 };
@@ -186,7 +186,8 @@ pub trait Keeper<W: Outside>: NodeReader<W> {
         ensures pins { (Self.room self.new).pins ≡ (Self.room self.old).pins }
         ensures pinned { OnOk result (((W.view w.old).tells → rests (W.view w.old).here) → (Self.has_disk ≡ true → (W.view w.new).tells)
             → KeepsPins (Self.holds self.old (W.view w.old)) (Self.pinned self.old (W.view w.old)) (Self.pinned self.new (W.view w.new))) }
-        ensures applied { OnOk result ((N : Nodes) → Self.holds self.old (W.view w.old) N → ((W.view w.old).tells → rests (W.view w.old).here) → (W.view w.new).tells → applied (Self.room self.old).pins (W.view w.old).here (W.view w.new).here) }
+        ensures applied { OnOk result ((last : List ℕ) (cs : List (Id × Option Rec)) → fits self.old (W.view w.old) ready last cs → (N : Nodes) → Self.holds self.old (W.view w.old) N
+            → ((W.view w.old).tells → rests (W.view w.old).here) → (W.view w.new).tells → applied (Self.room self.old).pins cs (cost ready) (W.view w.old).here (W.view w.new).here) }
         // Nothing is pending after it, and the disk is as the next commit needs it.
         ensures rests { Settled (W.view w.old) → ((W.view w.old).tells → rests (W.view w.old).here) → OnOk result (Settled (W.view w.new) × ((W.view w.new).tells → rests (W.view w.new).here)) }
         // A crash at any moment leaves the nodes from before or those after.
@@ -213,8 +214,8 @@ pub trait Keeper<W: Outside>: NodeReader<W> {
 
 /// A keeper that can put on the disk what other readers look for beside the nodes: of a file the map of the places that are in use.
 pub trait Saver<W: Outside>: Keeper<W> {
-    /// What `save` does to the disk, where it succeeds.
-    ghost saved: { Image → Image → Type 0 };
+    /// What `save` does to the disk, where it succeeds, and by writing at most so many bytes.
+    ghost saved: { ℕ → Image → Image → Type 0 };
 
     /// How many bytes `save` writes at most.
     ghost save_cost: { Self → ℕ };
@@ -226,7 +227,7 @@ pub trait Saver<W: Outside>: Keeper<W> {
             → KeepsPins (Self.holds self.old (W.view w.old)) (Self.pinned self.old (W.view w.old)) (Self.pinned self.new (W.view w.new))) }
         ensures last { Self.last self.new ≡ Self.last self.old }
         ensures room { Self.room self.new ≡ Self.room self.old }
-        ensures saved { OnOk result ((N : Nodes) → Self.holds self.old (W.view w.old) N → ((W.view w.old).tells → Self.rests (W.view w.old).here) → (W.view w.new).tells → saved (W.view w.old).here (W.view w.new).here) }
+        ensures saved { OnOk result ((N : Nodes) → Self.holds self.old (W.view w.old) N → ((W.view w.old).tells → Self.rests (W.view w.old).here) → (W.view w.new).tells → saved (save_cost self.old) (W.view w.old).here (W.view w.new).here) }
         ensures rests { Settled (W.view w.old) → ((W.view w.old).tells → Self.rests (W.view w.old).here) → OnOk result (Settled (W.view w.new) × ((W.view w.new).tells → Self.rests (W.view w.new).here)) }
         // A crash at any moment leaves the same nodes.
         ensures any_moment { (N : Nodes) → Self.holds self.old (W.view w.old) N → Settled (W.view w.old) → ((W.view w.old).tells → Self.rests (W.view w.old).here)

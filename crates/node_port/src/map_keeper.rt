@@ -89,7 +89,7 @@ impl<W: Outside> Keeper<W> for MapKeeper {
 
     ghost rests = { λ image. Unit {0} };
 
-    ghost applied = { λ pins old new. new ≡ old };
+    ghost applied = { λ pins cs bytes old new. (new ≡ old) × (bytes ≡ 0) };
 
     ghost measures = { λ image room. room ≡ ample };
 
@@ -130,7 +130,7 @@ impl<W: Outside> Keeper<W> for MapKeeper {
 impl<W: Outside> Saver<W> for MapKeeper {
     ghost use Rattle.std.specs.Prelude.{◌≡◌};
 
-    ghost saved = { λ old new. new ≡ old };
+    ghost saved = { λ bytes old new. (new ≡ old) × (bytes ≡ 0) };
 
     ghost save_cost = { λ k. 0 };
 
