@@ -1,6 +1,7 @@
 -- What a store stands for, and what it plans.
 use Rattle.std.specs.Prelude.{◌≡◌, ℕ, true, List, Option, None, Some, Result, Ok, Err}
 use Rattle.std.specs.FinMap as map
+use Rattle.std.specs.List.{AllZip}
 use Rattle.pst_base.specs.declared.ids.Nid.{Nid}
 use Rattle.pst_outside.specs.World.{Image}
 use Rattle.command_text.specs.declared.reply.CommandRefusal.TheVariants as refusals
@@ -20,6 +21,7 @@ use Rattle.mail_tree.specs.Tree.{Shown, StandsAt, Tree, object_at}
 use Rattle.mail_draft.specs.Answers.{IsRefusal}
 use Rattle.mail_draft.specs.Outcomes.{places_after}
 use Rattle.mail_draft.specs.Unread.{flag_changes}
+use Rattle.mail_draft.specs.Written.{Writes}
 use Rattle.mail_draft.specs.declared.stop.Stop.{Stop}
 use Rattle.mail_draft.specs.declared.stop.Stop.TheVariants.{Refused, Fault, Changed, Memory}
 use Rattle.mail_store.specs.Space.{HasRoom, IsFull, WritesNodes}
@@ -41,19 +43,19 @@ StandsFor stands T = Shown (λ N. stands N T.last) T.last T
 abbrev pub ShowsTree : Nodes → Tree → Type 0
 ShowsTree N T = (q : ℕ) → StandsAt q (node_at N q) (object_at T q) (node_at T.others q)
 
--- changes of nodes that a keeper has planned make of a tree what the command comes to; without them the tree stays
+-- changes of nodes that a keeper has planned make of a tree what the command comes to, and are those of the objects that it puts or removes; without them the tree stays
 abbrev pub Carries : {R : Type 0} → (R → List ℕ → List (Nid × Option NodeRec) → Type 0) → Tree → Outcome → Option R → Type 0
 Carries fits T o None = after T o ≡ T
-Carries fits T o (Some ready) = (cs : List (Nid × Option NodeRec)) × fits ready o.last cs × ((N : Nodes) → ShowsTree N T → ShowsTree (changed N cs) (after T o))
+Carries fits T o (Some ready) = (cs : List (Nid × Option NodeRec)) × fits ready o.last cs × ((N : Nodes) → ShowsTree N T → ShowsTree (changed N cs) (after T o)) × AllZip Writes (map.entries o.changed.objects) cs
 
 -- if it writes no node, the tree stays
 abbrev pub StaysUnwritten : Tree → Outcome → Type 0
 StaysUnwritten T o = o.changed.objects ≡ map.empty → after T o ≡ T
 
--- what carrying out a plan does to the disk: what its keeper does, or nothing where there is nothing to change
-abbrev pub Alters : {R : Type 0} → (Image → Image → Type 0) → Option R → Image → Image → Type 0
-Alters applied None old new = new ≡ old
-Alters applied (Some ready) old new = applied old new
+-- what carrying out a plan does to the disk: what its keeper does, for whatever changes it has planned, or nothing where there is nothing to change
+abbrev pub Alters : {R : Type 0} → (R → List ℕ → List (Nid × Option NodeRec) → Type 0) → (List (Nid × Option NodeRec) → ℕ → Image → Image → Type 0) → (R → ℕ) → Option R → Image → Image → Type 0
+Alters fits applied cost None old new = new ≡ old
+Alters fits applied cost (Some ready) old new = (last : List ℕ) (cs : List (Nid × Option NodeRec)) → fits ready last cs → applied cs (cost ready) old new
 
 -- nodes are changed just where the command puts or removes an object
 abbrev pub ChangesNodes : {R : Type 0} → Changes → Option R → Type 0

@@ -144,11 +144,12 @@ fn apply_change<W: Outside, K: Keeper<W>>(
     ensures made { OnOk result ((T : Tree) (o : Coming) → Shown (K.holds keeper.old (W.view w.old)) (K.last keeper.old) T → Carries (K.fits keeper.old (W.view w.old)) T o change → ((W.view w.old).tells → K.rests (W.view w.old).here) → (K.has_disk ≡ true → (W.view w.new).tells)
         → Shown (K.holds keeper.new (W.view w.new)) (K.last keeper.new) (after T o)) }
     ensures cause { OnErr result (Rose (W.view w.old).disk_faults (W.view w.new).disk_faults × (K.has_disk ≡ true)) }
-    ensures rests { Settled (W.view w.old) → ((W.view w.old).tells → K.rests (W.view w.old).here) → OnOk result (Settled (W.view w.new) × ((W.view w.new).tells → K.rests (W.view w.new).here)) }
+    ensures settled { Settled (W.view w.old) → OnOk result (Settled (W.view w.new)) }
+    ensures rests { ((W.view w.old).tells → K.rests (W.view w.old).here) → OnOk result ((W.view w.new).tells → K.rests (W.view w.new).here) }
     ensures any_moment { (T : Tree) (o : Coming) → Shown (K.holds keeper.old (W.view w.old)) (K.last keeper.old) T → Carries (K.fits keeper.old (W.view w.old)) T o change
         → Settled (W.view w.old) → ((W.view w.old).tells → K.rests (W.view w.old).here)
         → LeavesOnly (W.view w.old) (W.view w.new) (λ c. (c.said ≡ (W.view w.old).here.said) × (StandsFor (K.stands (K.room keeper.old).found c) T ⊎ StandsFor (K.stands (K.room keeper.old).found c) (after T o))) }
-    ensures applied { OnOk result ((T : Tree) → Shown (K.holds keeper.old (W.view w.old)) (K.last keeper.old) T → ((W.view w.old).tells → K.rests (W.view w.old).here) → (W.view w.new).tells → Alters (K.applied (K.room keeper.old).pins) change (W.view w.old).here (W.view w.new).here) }
+    ensures applied { OnOk result ((T : Tree) → Shown (K.holds keeper.old (W.view w.old)) (K.last keeper.old) T → ((W.view w.old).tells → K.rests (W.view w.old).here) → (W.view w.new).tells → Alters (K.fits keeper.old (W.view w.old)) (K.applied (K.room keeper.old).pins) K.cost change (W.view w.old).here (W.view w.new).here) }
     ensures found { (K.room keeper.new).found ≡ (K.room keeper.old).found }
     ensures pins { (K.room keeper.new).pins ≡ (K.room keeper.old).pins }
     ensures written { (W.view w.new).written ≤ (W.view w.old).written + cost_of K.cost change }
@@ -174,12 +175,13 @@ pub fn commit<W: Outside, K: Keeper<W>>(
         → Stores (K.holds store.new.keeper (W.view w.new)) (K.last store.new.keeper) store.new.known (after T o)) }
     ensures reply { IfOk result (λ reply. reply ≡ planned.reply) }
     ensures cause { OnErr result (Rose (W.view w.old).disk_faults (W.view w.new).disk_faults × (K.has_disk ≡ true)) }
-    ensures rests { Settled (W.view w.old) → ((W.view w.old).tells → K.rests (W.view w.old).here) → OnOk result (Settled (W.view w.new) × ((W.view w.new).tells → K.rests (W.view w.new).here)) }
+    ensures settled { Settled (W.view w.old) → OnOk result (Settled (W.view w.new)) }
+    ensures rests { ((W.view w.old).tells → K.rests (W.view w.old).here) → OnOk result ((W.view w.new).tells → K.rests (W.view w.new).here) }
     // A crash at any moment leaves the tree from before or that after.
     ensures any_moment { (T : Tree) (o : Coming) → Stores (K.holds store.old.keeper (W.view w.old)) (K.last store.old.keeper) store.old.known T → PlansTo (K.fits store.old.keeper (W.view w.old)) T o planned.change planned.places planned.flags.items planned.reply
         → Settled (W.view w.old) → ((W.view w.old).tells → K.rests (W.view w.old).here)
         → LeavesOnly (W.view w.old) (W.view w.new) (λ c. (c.said ≡ (W.view w.old).here.said) × (StandsFor (K.stands (K.room store.old.keeper).found c) T ⊎ StandsFor (K.stands (K.room store.old.keeper).found c) (after T o))) }
-    ensures applied { OnOk result ((T : Tree) → Stores (K.holds store.old.keeper (W.view w.old)) (K.last store.old.keeper) store.old.known T → ((W.view w.old).tells → K.rests (W.view w.old).here) → (W.view w.new).tells → Alters (K.applied (K.room store.old.keeper).pins) planned.change (W.view w.old).here (W.view w.new).here) }
+    ensures applied { OnOk result ((T : Tree) → Stores (K.holds store.old.keeper (W.view w.old)) (K.last store.old.keeper) store.old.known T → ((W.view w.old).tells → K.rests (W.view w.old).here) → (W.view w.new).tells → Alters (K.fits store.old.keeper (W.view w.old)) (K.applied (K.room store.old.keeper).pins) K.cost planned.change (W.view w.old).here (W.view w.new).here) }
     ensures found { (K.room store.new.keeper).found ≡ (K.room store.old.keeper).found }
     ensures pins { (K.room store.new.keeper).pins ≡ (K.room store.old.keeper).pins }
     ensures written { (W.view w.new).written ≤ (W.view w.old).written + cost_of K.cost planned.change }
@@ -203,8 +205,9 @@ pub fn save<W: Outside, K: Saver<W>>(store: &mut Store<K>, w: &mut W) -> Result<
     ensures same { OnOk result ((T : Tree) → Stores (K.holds store.old.keeper (W.view w.old)) (K.last store.old.keeper) store.old.known T → ((W.view w.old).tells → K.rests (W.view w.old).here) → (K.has_disk ≡ true → (W.view w.new).tells)
         → Stores (K.holds store.new.keeper (W.view w.new)) (K.last store.new.keeper) store.new.known T) }
     ensures room { K.room store.new.keeper ≡ K.room store.old.keeper }
-    ensures saved { OnOk result ((T : Tree) → Stores (K.holds store.old.keeper (W.view w.old)) (K.last store.old.keeper) store.old.known T → ((W.view w.old).tells → K.rests (W.view w.old).here) → (W.view w.new).tells → K.saved (W.view w.old).here (W.view w.new).here) }
-    ensures rests { Settled (W.view w.old) → ((W.view w.old).tells → K.rests (W.view w.old).here) → OnOk result (Settled (W.view w.new) × ((W.view w.new).tells → K.rests (W.view w.new).here)) }
+    ensures saved { OnOk result ((T : Tree) → Stores (K.holds store.old.keeper (W.view w.old)) (K.last store.old.keeper) store.old.known T → ((W.view w.old).tells → K.rests (W.view w.old).here) → (W.view w.new).tells → K.saved (K.save_cost store.old.keeper) (W.view w.old).here (W.view w.new).here) }
+    ensures settled { Settled (W.view w.old) → OnOk result (Settled (W.view w.new)) }
+    ensures rests { ((W.view w.old).tells → K.rests (W.view w.old).here) → OnOk result ((W.view w.new).tells → K.rests (W.view w.new).here) }
     // A crash at any moment leaves the same tree.
     ensures any_moment { (T : Tree) → Stores (K.holds store.old.keeper (W.view w.old)) (K.last store.old.keeper) store.old.known T → Settled (W.view w.old) → ((W.view w.old).tells → K.rests (W.view w.old).here)
         → LeavesOnly (W.view w.old) (W.view w.new) (λ c. (c.said ≡ (W.view w.old).here.said) × StandsFor (K.stands (K.room store.old.keeper).found c) T) }

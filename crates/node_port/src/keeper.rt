@@ -188,8 +188,9 @@ pub trait Keeper<W: Outside>: NodeReader<W> {
             → KeepsPins (Self.holds self.old (W.view w.old)) (Self.pinned self.old (W.view w.old)) (Self.pinned self.new (W.view w.new))) }
         ensures applied { OnOk result ((last : List ℕ) (cs : List (Id × Option Rec)) → fits self.old (W.view w.old) ready last cs → (N : Nodes) → Self.holds self.old (W.view w.old) N
             → ((W.view w.old).tells → rests (W.view w.old).here) → (W.view w.new).tells → applied (Self.room self.old).pins cs (cost ready) (W.view w.old).here (W.view w.new).here) }
-        // Nothing is pending after it, and the disk is as the next commit needs it.
-        ensures rests { Settled (W.view w.old) → ((W.view w.old).tells → rests (W.view w.old).here) → OnOk result (Settled (W.view w.new) × ((W.view w.new).tells → rests (W.view w.new).here)) }
+        // Nothing is pending after it if nothing was, and the disk is as the next commit needs it.
+        ensures settled { Settled (W.view w.old) → OnOk result (Settled (W.view w.new)) }
+        ensures rests { ((W.view w.old).tells → rests (W.view w.old).here) → OnOk result ((W.view w.new).tells → rests (W.view w.new).here) }
         // A crash at any moment leaves the nodes from before or those after.
         ensures any_moment { (last : List ℕ) (cs : List (Id × Option Rec)) → fits self.old (W.view w.old) ready last cs → (N : Nodes) → Self.holds self.old (W.view w.old) N
             → Settled (W.view w.old) → ((W.view w.old).tells → rests (W.view w.old).here)
@@ -228,7 +229,8 @@ pub trait Saver<W: Outside>: Keeper<W> {
         ensures last { Self.last self.new ≡ Self.last self.old }
         ensures room { Self.room self.new ≡ Self.room self.old }
         ensures saved { OnOk result ((N : Nodes) → Self.holds self.old (W.view w.old) N → ((W.view w.old).tells → Self.rests (W.view w.old).here) → (W.view w.new).tells → saved (save_cost self.old) (W.view w.old).here (W.view w.new).here) }
-        ensures rests { Settled (W.view w.old) → ((W.view w.old).tells → Self.rests (W.view w.old).here) → OnOk result (Settled (W.view w.new) × ((W.view w.new).tells → Self.rests (W.view w.new).here)) }
+        ensures settled { Settled (W.view w.old) → OnOk result (Settled (W.view w.new)) }
+        ensures rests { ((W.view w.old).tells → Self.rests (W.view w.old).here) → OnOk result ((W.view w.new).tells → Self.rests (W.view w.new).here) }
         // A crash at any moment leaves the same nodes.
         ensures any_moment { (N : Nodes) → Self.holds self.old (W.view w.old) N → Settled (W.view w.old) → ((W.view w.old).tells → Self.rests (W.view w.old).here)
             → LeavesOnly (W.view w.old) (W.view w.new) (λ c. (c.said ≡ (W.view w.old).here.said) × Self.stands (Self.room self.old).found c N (Self.last self.old)) }

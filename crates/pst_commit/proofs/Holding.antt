@@ -16,7 +16,7 @@ use Rattle.lays_kept.specs.declared.Piece.{Piece}
 use Rattle.lays_kept.specs.Kept.{HoldsEach, Scattered}
 use Rattle.lays_kept.specs.Stands.{FileStands, Stands}
 use Rattle.lays_kept.proofs.Gates.{shut_file}
-use Rattle.pst_commit.specs.Commit.{IsApplied}
+use Rattle.pst_commit.specs.Commit.{IsApplied, bytes_in}
 use Rattle.pst_commit.specs.declared.store.Pin.{Pin}
 use Rattle.pst_commit.specs.Keeping.{Keeps, Holds, Comes, LooksOn, ReadsAs}
 use Rattle.pst_commit.proofs.Outcomes.{shut_stands}
@@ -87,3 +87,10 @@ pub next_becomes : {after : Header → List ℕ → Type 0} {becomes : List ℕ 
 next_becomes {after} {becomes} {costs} {held} {found} {sealed} {before} {header} {pieces} {cs} {old} {new} {N} shut comes is =
     subst (λ f. becomes f (file_of new)) (sym (shut_file old.main old.side shut))
     (subst (becomes old.main) (sym (shut_file new.main new.side is.shut ∙ is.main)) (comes.made is.mid is.file.0 is.file.1))
+
+-- and its pieces have as many bytes as is said of both files
+pub next_costs : {after : Header → List ℕ → Type 0} {becomes : List ℕ → List ℕ → Type 0} {costs : List ℕ → List ℕ → List (Nid × Option NodeRec) → ℕ → Type 0} {held : List (Pin × List Bool)} {found sealed : List ℕ} {before header : Header} {pieces : List Piece} {cs : List (Nid × Option NodeRec)} {old new : Image} {N : Nodes}
+    → IsShut old.side → Comes after becomes costs held found before old.main pieces sealed header cs N → IsApplied (λ mid. Scattered pieces old.main mid × HoldsEach mid pieces) sealed old new → costs (file_of old) (file_of new) cs (bytes_in pieces)
+next_costs {after} {becomes} {costs} {held} {found} {sealed} {before} {header} {pieces} {cs} {old} {new} {N} shut comes is =
+    subst (λ f. costs f (file_of new) cs (bytes_in pieces)) (sym (shut_file old.main old.side shut))
+    (subst (λ f. costs old.main f cs (bytes_in pieces)) (sym (shut_file new.main new.side is.shut ∙ is.main)) (comes.cost is.mid is.file.0 is.file.1))

@@ -1,5 +1,5 @@
 -- A keeper of a file before and after a save.
-use Rattle.std.proofs.Common.{Bool, ◌≡◌, ◌∙◌, ℕ, ◌*◌, ◌≤◌, min, List, length, Ok, sym, ap, subst, arith}
+use Rattle.std.proofs.Common.{Bool, ◌≡◌, ◌∙◌, ℕ, ◌+◌, ◌*◌, ◌≤◌, min, List, length, Ok, sym, ap, subst, arith}
 use Rattle.pst_outside.specs.World.{Image, World}
 use Rattle.pst_outside.proofs.Moments.{continues}
 use Rattle.pst_header.specs.declared.header.Header.{Header}
@@ -52,7 +52,7 @@ trees_then one two = record {
 }
 
 -- both headers name the same trees, and the second vouches for the maps
-pub is_saved : {knows : Header → List ℕ → Type 0} {found : List ℕ} {header mid next : Header} {old new : Image} {N : Nodes} → Keeps knows found header old N → SameTrees header mid → SameTrees mid next → mid.kept ≡ header.kept → next.kept ≡ mid.kept → Rests found next new N → HasMaps next (file_of new) → IsSaved old new
+pub is_saved : {knows : Header → List ℕ → Type 0} {found : List ℕ} {header mid next : Header} {old new : Image} {N : Nodes} → Keeps knows found header old N → SameTrees header mid → SameTrees mid next → mid.kept ≡ header.kept → next.kept ≡ mid.kept → Rests found next new N → HasMaps next (file_of new) → IsSaved (512 * regions_to header.eof + 4096) old new
 is_saved {knows} {found} {header} {mid} {next} {old} {new} {N} held one two kept_one kept_two rests maps = record {
   before = header;
   was = (held.stands).file.read ∙ ap Ok held.own;
@@ -61,4 +61,5 @@ is_saved {knows} {found} {header} {mid} {next} {old} {new} {N} held one two kept
   trees = trees_then one two;
   kept = kept_two ∙ kept_one;
   maps = maps;
+  few = omega arith;
 }

@@ -1,5 +1,5 @@
 -- What a keeper of a file's nodes holds, and what a plan of it comes to.
-use Rattle.std.specs.Prelude.{◌≡◌, ℕ, ◌+◌, ◌*◌, Bool, List, ◌++◌, length, take, drop, Option, Ok}
+use Rattle.std.specs.Prelude.{◌≡◌, ℕ, ◌+◌, ◌*◌, ◌≤◌, Bool, List, ◌++◌, length, take, drop, Option, Ok}
 use Rattle.pst_base.specs.declared.ids.Nid.{Nid}
 use Rattle.pst_outside.specs.World.{Image, World}
 use Rattle.pst_outside.specs.Calls.{Untouched}
@@ -106,6 +106,15 @@ pub record Comes (knows : Header → List ℕ → Type 0) (becomes : List ℕ �
 abbrev pub PlansFor : (before after : Header → List ℕ → Type 0) → (List ℕ → List ℕ → Type 0) → (List ℕ → List ℕ → List (Nid × Option NodeRec) → ℕ → Type 0) → List (Pin × List Bool) → List ℕ → Header → World → List Piece → List ℕ → Header → List (Nid × Option NodeRec) → Type 0
 PlansFor before after becomes costs held found old world pieces sealed header cs = (N : Nodes) → Holds before found old world N → Comes after becomes costs held found old (file_of world.here) pieces sealed header cs N
 
+-- ---- a commit
+
+-- A commit of these changes has made of the file what is said of plans. It has written the pieces, which have as many bytes as is said of both files, and the header, twice, with the gate's two bytes and its syncs.
+pub record IsCommitted (becomes : List (ℕ × List Bool) → List ℕ → List ℕ → Type 0) (costs : List ℕ → List ℕ → List (Nid × Option NodeRec) → ℕ → Type 0) (opened : List (ℕ × List Bool)) (cs : List (Nid × Option NodeRec)) (bytes : ℕ) (old new : Image) : Type 0 where
+  pub made : becomes opened (file_of old) (file_of new)
+  pub in_pieces : ℕ
+  pub cost : costs (file_of old) (file_of new) cs in_pieces
+  pub few : bytes ≤ in_pieces + 1145
+
 -- ---- a save
 
 -- The gate is shut, and the two files of an image stand for nodes under this header.
@@ -119,8 +128,8 @@ pub record CanSave (found : List ℕ) (header : Header) (end : ℕ) (world : Wor
   pub rests : world.tells → Rests found header world.here N
   pub regions : end ≡ region_end (regions_to header.eof)
 
--- A save has left the trees and numbers as they were, and the header's bytes that no field has, under a header that vouches for the maps, which are right.
-pub record IsSaved (old new : Image) : Type 0 where
+-- A save has left the trees and numbers as they were, and the header's bytes that no field has, under a header that vouches for the maps, which are right. It has written few bytes beside the map pages of all regions.
+pub record IsSaved (bytes : ℕ) (old new : Image) : Type 0 where
   pub before : Header
   pub was : reading (take 564 (file_of old)) ≡ Ok before
   pub after : Header
@@ -128,3 +137,4 @@ pub record IsSaved (old new : Image) : Type 0 where
   pub trees : SameTrees before after
   pub kept : after.kept ≡ before.kept
   pub maps : HasMaps after (file_of new)
+  pub few : bytes ≤ 512 * regions_to before.eof + 4096

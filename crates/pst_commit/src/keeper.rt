@@ -61,12 +61,11 @@ impl<W: Outside, S: NodeStore<W>> Keeper<W> for FileKeeper<S> {
     type Ready = CommitPlan<S::Adopts>;
 
     ghost use Rattle.std.specs.Prelude.{◌≡◌, ◌+◌};
-    ghost use Rattle.file_blocks.specs.Blocks.{file_of};
     ghost use Rattle.gate_file.specs.Gate.{IsShut};
     ghost use Rattle.lays_kept.specs.Stands.{Stands};
     ghost use Rattle.pst_commit.specs.Commit.{bytes_in};
     ghost use Rattle.pst_commit.specs.Held.{opened_of};
-    ghost use Rattle.pst_commit.specs.Keeping.{HasRoom, PlansFor, pins_of};
+    ghost use Rattle.pst_commit.specs.Keeping.{HasRoom, IsCommitted, PlansFor, pins_of};
     ghost use Rattle.pst_commit.specs.Laws.{held_measures, shut_on, stands_on};
 
     ghost fits = { λ k v ready last cs. (ready.header.indexes ≡ last) × PlansFor (S.knows k.store) (S.knows_after k.store ready.adopts) (S.becomes (opened_of (S.held k.store))) S.costs (S.held k.store) k.found k.header v ready.pieces.items ready.sealed ready.header cs };
@@ -75,7 +74,7 @@ impl<W: Outside, S: NodeStore<W>> Keeper<W> for FileKeeper<S> {
 
     ghost rests = { λ image. IsShut image.side };
 
-    ghost applied = { λ pins old new. S.becomes pins.opened (file_of old) (file_of new) };
+    ghost applied = { λ pins cs bytes old new. IsCommitted S.becomes S.costs pins.opened cs bytes old new };
 
     ghost measures = { HasRoom };
 

@@ -103,14 +103,15 @@ pub fn commit<W: Outside, K: Keeper<W>>(
         → StoresSearches (K.holds store.new.store.keeper (W.view w.new)) (K.last store.new.store.keeper) store.new.store.known store.new.searches (after X o)) }
     ensures reply { IfOk result (λ reply. reply ≡ planned.tree.reply) }
     ensures cause { OnErr result (Rose (W.view w.old).disk_faults (W.view w.new).disk_faults × (K.has_disk ≡ true)) }
-    ensures rests { Settled (W.view w.old) → ((W.view w.old).tells → K.rests (W.view w.old).here) → OnOk result (Settled (W.view w.new) × ((W.view w.new).tells → K.rests (W.view w.new).here)) }
+    ensures settled { Settled (W.view w.old) → OnOk result (Settled (W.view w.new)) }
+    ensures rests { ((W.view w.old).tells → K.rests (W.view w.old).here) → OnOk result ((W.view w.new).tells → K.rests (W.view w.new).here) }
     // A crash at any moment leaves the tree from before or that after.
     ensures any_moment { (X : Searching) (o : Comings) → StoresSearches (K.holds store.old.store.keeper (W.view w.old)) (K.last store.old.store.keeper) store.old.store.known store.old.searches X
         → PlansTo (K.fits store.old.store.keeper (W.view w.old)) X.tree o.outcome planned.tree.change planned.tree.places planned.tree.flags.items planned.tree.reply
         → o.own ≡ new_or_old X.own planned.own → o.searches ≡ new_or_old X.searches planned.searches
         → Settled (W.view w.old) → ((W.view w.old).tells → K.rests (W.view w.old).here)
         → LeavesOnly (W.view w.old) (W.view w.new) (λ c. (c.said ≡ (W.view w.old).here.said) × (StandsFor (K.stands (K.room store.old.store.keeper).found c) X.tree ⊎ StandsFor (K.stands (K.room store.old.store.keeper).found c) (after X o).tree)) }
-    ensures applied { OnOk result ((X : Searching) → StoresSearches (K.holds store.old.store.keeper (W.view w.old)) (K.last store.old.store.keeper) store.old.store.known store.old.searches X → ((W.view w.old).tells → K.rests (W.view w.old).here) → (W.view w.new).tells → Alters (K.applied (K.room store.old.store.keeper).pins) planned.tree.change (W.view w.old).here (W.view w.new).here) }
+    ensures applied { OnOk result ((X : Searching) → StoresSearches (K.holds store.old.store.keeper (W.view w.old)) (K.last store.old.store.keeper) store.old.store.known store.old.searches X → ((W.view w.old).tells → K.rests (W.view w.old).here) → (W.view w.new).tells → Alters (K.fits store.old.store.keeper (W.view w.old)) (K.applied (K.room store.old.store.keeper).pins) K.cost planned.tree.change (W.view w.old).here (W.view w.new).here) }
     ensures found { (K.room store.new.store.keeper).found ≡ (K.room store.old.store.keeper).found }
     ensures pins { (K.room store.new.store.keeper).pins ≡ (K.room store.old.store.keeper).pins }
     ensures written { (W.view w.new).written ≤ (W.view w.old).written + cost_of K.cost planned.tree.change }
@@ -134,8 +135,9 @@ pub fn save<W: Outside, K: Saver<W>>(store: &mut SearchStore<K>, w: &mut W) -> R
         → StoresSearches (K.holds store.new.store.keeper (W.view w.new)) (K.last store.new.store.keeper) store.new.store.known store.new.searches X) }
     ensures searches { store.new.searches ≡ store.old.searches }
     ensures room { K.room store.new.store.keeper ≡ K.room store.old.store.keeper }
-    ensures saved { OnOk result ((X : Searching) → StoresSearches (K.holds store.old.store.keeper (W.view w.old)) (K.last store.old.store.keeper) store.old.store.known store.old.searches X → ((W.view w.old).tells → K.rests (W.view w.old).here) → (W.view w.new).tells → K.saved (W.view w.old).here (W.view w.new).here) }
-    ensures rests { Settled (W.view w.old) → ((W.view w.old).tells → K.rests (W.view w.old).here) → OnOk result (Settled (W.view w.new) × ((W.view w.new).tells → K.rests (W.view w.new).here)) }
+    ensures saved { OnOk result ((X : Searching) → StoresSearches (K.holds store.old.store.keeper (W.view w.old)) (K.last store.old.store.keeper) store.old.store.known store.old.searches X → ((W.view w.old).tells → K.rests (W.view w.old).here) → (W.view w.new).tells → K.saved (K.save_cost store.old.store.keeper) (W.view w.old).here (W.view w.new).here) }
+    ensures settled { Settled (W.view w.old) → OnOk result (Settled (W.view w.new)) }
+    ensures rests { ((W.view w.old).tells → K.rests (W.view w.old).here) → OnOk result ((W.view w.new).tells → K.rests (W.view w.new).here) }
     // A crash at any moment leaves the same tree.
     ensures any_moment { (X : Searching) → StoresSearches (K.holds store.old.store.keeper (W.view w.old)) (K.last store.old.store.keeper) store.old.store.known store.old.searches X → Settled (W.view w.old) → ((W.view w.old).tells → K.rests (W.view w.old).here)
         → LeavesOnly (W.view w.old) (W.view w.new) (λ c. (c.said ≡ (W.view w.old).here.said) × StandsFor (K.stands (K.room store.old.store.keeper).found c) X.tree) }

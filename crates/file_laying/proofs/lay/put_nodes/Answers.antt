@@ -35,16 +35,18 @@ returns-in-Ok-apply-clause-made g c = λ tells.
     let mid_told = c.apply.ensures.told tells in
     let told = kept.stays.told mid_told in
     let held = holds_none (g.S.NodeStore.knows c.in-Ok.planner) c.write.result start c.args.found c.requires.first (c.requires.laid told) told c.in-Ok.ensures.known in
-    let becomes = c.in-Ok-apply.ensures.applied no_nodes (c.in-Ok-prepare.ensures.stays no_nodes held)
+    let becomes = c.in-Ok-apply.ensures.applied c.args.changes.counts.last c.args.changes.nodes.items c.in-Ok-prepare.ensures.fits no_nodes (c.in-Ok-prepare.ensures.stays no_nodes held)
     (λ t. subst (λ i. IsShut i.side) (sym (kept.stays.here t)) (c.requires.shut (kept.stays.told t))) tells in
     let pins = ap (λ (r : Room). r.pins) c.in-Ok-prepare.ensures.room ∙ ap (pins_of 0) c.in-Ok.ensures.no_pins in
     subst (λ i. g.S.NodeStore.becomes [] (file_of i) (file_of now.here)) (kept.stays.here mid_told)
-    (subst (λ (p : Pins). g.S.NodeStore.becomes p.opened (file_of mid.here) (file_of now.here)) pins becomes)
+    (subst (λ (p : Pins). g.S.NodeStore.becomes p.opened (file_of mid.here) (file_of now.here)) pins becomes.made)
 
 pub returns-in-Ok-apply-clause-rests : goal.returns-in-Ok-apply-clause-rests
 returns-in-Ok-apply-clause-rests g c = λ settled.
-    let kept = c.in-Ok-prepare.ensures.untouched in
-    c.in-Ok-apply.ensures.rests (stays_settled settled kept) (λ t. subst (λ i. IsShut i.side) (sym (kept.stays.here t)) (c.requires.shut (kept.stays.told t)))
+    let kept = c.in-Ok-prepare.ensures.untouched in (
+      c.in-Ok-apply.ensures.settled (stays_settled settled kept),
+      c.in-Ok-apply.ensures.rests (λ t. subst (λ i. IsShut i.side) (sym (kept.stays.here t)) (c.requires.shut (kept.stays.told t))),
+    )
 
 pub returns-in-Ok-apply-clause-said : goal.returns-in-Ok-apply-clause-said
 returns-in-Ok-apply-clause-said g c = λ settled tells.

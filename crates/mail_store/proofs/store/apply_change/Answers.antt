@@ -37,4 +37,4 @@ returns-in-None-clause-any_moment g c = λ T o s carries settled rests.
 pub returns-in-Some-clause-applied : goal.returns-in-Some-clause-applied
 returns-in-Some-clause-applied g c =
     let is = c.in-Some.is in
-    rw is (on_ok c.apply.result c.apply.ensures.applied (λ alters T s rests told. alters s.nodes s.held rests told))
+    rw is (on_ok c.apply.result c.apply.ensures.applied (λ alters T s rests told last cs fits. alters last cs fits s.nodes s.held rests told))

@@ -31,12 +31,13 @@ returns-clause-mends g c = λ tidy X h own tells.
     let held = stays_has g.K.NodeReader.holds g.K.NodeReader.last g.K.Keeper.rests c.args.store.now c.plan_mending.new.store tidy X c.in_ok-stale.ensures.looks c.in_ok-stale.ensures.known h in
     let p = c.in_ok-stale.ensures.answer tidy X h.stores h.order own in
     let is = mends_so tidy X f h.order own p.0 p.1 in
-    let rest = c.in_ok-_reply.ensures.rests held.settled held.at_rest in (
+    let settled = c.in_ok-_reply.ensures.settled held.settled in
+    let at_rest = c.in_ok-_reply.ensures.rests held.at_rest in (
       p.0,
       p.1,
       p.2.0,
       p.2.1,
-      record { stores = c.in_ok-_reply.ensures.made X p.0.coming held.stores p.2.2 is.own is.searches held.at_rest tells; order = is.order; settled = rest.0; at_rest = rest.1 },
+      record { stores = c.in_ok-_reply.ensures.made X p.0.coming held.stores p.2.2 is.own is.searches held.at_rest tells; order = is.order; settled = settled; at_rest = at_rest },
     )
 
 pub returns-clause-images : goal.returns-clause-images

@@ -1,14 +1,14 @@
-use Rattle.std.proofs.Common.{refl, sym, ap, subst, rules}
+use Rattle.std.proofs.Common.{refl, sym, ap, subst, rules, arith}
 use Rattle.node_port.specs.Nodes.{changed}
 use Rattle.lays_kept.specs.Kept.{HoldsEach, Scattered}
 use Rattle.lays_kept.specs.Stands.{Commits}
 use Rattle.lays_kept.proofs.Gates.{shut_file}
 use Rattle.lays_kept.proofs.Plans.{plan_commits}
-use Rattle.pst_commit.specs.Commit.{IsApplied, LeavesEither}
+use Rattle.pst_commit.specs.Commit.{IsApplied, LeavesEither, bytes_in}
 use Rattle.file_blocks.specs.Blocks.{file_of}
 use Rattle.pst_commit.specs.Held.{StandsAt, held_at, opened_of}
 use Rattle.pst_commit.specs.Keeping.{Comes, pins_of}
-use Rattle.pst_commit.proofs.Holding.{next_keeps, next_becomes}
+use Rattle.pst_commit.proofs.Holding.{next_keeps, next_becomes, next_costs}
 use Rattle.pst_commit.proofs.PinLaws.{next_pinned}
 use Rattle.pst_commit.proofs.keeper.FileKeeperKeeper.apply.Goals as goal
 
@@ -57,9 +57,7 @@ returns-clause-made g c = λ last cs fits rests disk N held.
     (told, next_keeps (g.S.NodeStore.knows c.adopt.new.self) comes (search rules) (λ file known. c.adopt.ensures.known ready.header file known) is)
 
 pub returns-clause-applied : goal.returns-clause-applied
-returns-clause-applied g c = λ N held rests told.
-    let cs = c.requires.fits.1 in
-    let fits = c.requires.fits.2 in
+returns-clause-applied g c = λ last cs fits N held rests told.
     let k = c.args.self.now in
     let old = g.W.Outside.view c.args.w.now in
     let ready = c.args.ready in
@@ -69,7 +67,7 @@ returns-clause-applied g c = λ N held rests told.
     let new = g.W.Outside.view c.apply_pieces.new.w in
     let is : IsApplied (λ mid. Scattered ready.pieces.items old.here.main mid × HoldsEach mid ready.pieces.items) ready.sealed old.here new.here
     = subst (λ ps. IsApplied (λ mid. Scattered ps old.here.main mid × HoldsEach mid ps) ready.sealed old.here new.here) c.as_slice.ensures.value (c.in_ok-apply_pieces.ensures.applied rests told) in
-    next_becomes (rests held.0) comes is
+    record { made = next_becomes (rests held.0) comes is; in_pieces = bytes_in ready.pieces.items; cost = next_costs (rests held.0) comes is; few = omega arith }
 
 pub returns-clause-pins : goal.returns-clause-pins
 returns-clause-pins g c = ap (pins_of c.args.self.now.given) c.adopt.ensures.pins
@@ -92,3 +90,6 @@ returns-clause-pinned g c = λ rests disk N held p M is.
       subst (λ h. StandsAt ready.header (file_of new.here) (held_at p h) M) (sym c.adopt.ensures.pins)
           (next_pinned (rests held.0) comes done p M is.1),
     )
+
+pub returns-clause-rests : goal.returns-clause-rests
+returns-clause-rests g c = λ rests told. (c.in_ok-apply_pieces.ensures.applied rests told).shut

@@ -151,5 +151,4 @@ returns-clause-saved g c = λ N held shut told.
     is_saved held.1 c.in_ok-unmapped.ensures.trees c.in_ok-self.ensures.trees c.in_ok-unmapped.ensures.kept c.in_ok-self.ensures.kept (last.0.rests told) (last.1 told).1
 
 pub returns-clause-rests : goal.returns-clause-rests
-returns-clause-rests g c = λ settled shut.
-    (c.in_ok-self.ensures.settled (c.in_ok-unmapped.ensures.settled settled), c.in_ok-self.ensures.shut (c.in_ok-unmapped.ensures.shut shut))
+returns-clause-rests g c = λ shut. c.in_ok-self.ensures.shut (c.in_ok-unmapped.ensures.shut shut)
