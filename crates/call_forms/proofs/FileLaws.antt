@@ -13,6 +13,7 @@ use Rattle.mail_searches.specs.Searching.{Searching, StartsSearching}
 use Rattle.file_open.specs.Opening.{IsFileRefused, ReadsFresh}
 use Rattle.file_open.specs.declared.stops.FileRefusal.{FileRefusal}
 use Rattle.file_planner.specs.Becomes.{IsMade}
+use Rattle.file_planner.specs.Cost.{IsWithin}
 use Rattle.store_session.specs.Session.{HasCause}
 use Rattle.store_session.specs.declared.session.SessionEnd.{SessionEnd}
 use Rattle.store_session.specs.declared.session.SessionEnd.TheVariants as ends
@@ -288,12 +289,12 @@ end_not_memory : (ib stored computed : ℕ) → ends.Changed ib stored computed 
 end_not_memory ib stored computed is = cc
 
 -- nothing changes under a session
-end_unchanged : (old new : World) (ib stored computed : ℕ) → Settled old → FileRunEnds (IsMade []) old new (ends.Changed ib stored computed) → ⊥
+end_unchanged : (old new : World) (ib stored computed : ℕ) → Settled old → FileRunEnds IsMade IsWithin old new (ends.Changed ib stored computed) → ⊥
 end_unchanged old new ib stored computed settled (inl unopened) = elim unopened.ends [ inl e ↦ end_not_disk ib stored computed e | inr e ↦ end_not_memory ib stored computed e ]
 end_unchanged old new ib stored computed settled (inr opened) = (opened.session settled false opened.reads).not_changed ib stored computed refl
 
 -- a session that ended so while no device failed is done, or it is at the last line, or found no memory
-ends_calmly : (old new : World) (end : SessionEnd) (status : Status) → Settled old → status ≡ status_of_end end → HasCause true old new end → FileRunEnds (IsMade []) old new end → NoneFailed old new
+ends_calmly : (old new : World) (end : SessionEnd) (status : Status) → Settled old → status ≡ status_of_end end → HasCause true old new end → FileRunEnds IsMade IsWithin old new end → NoneFailed old new
     → (status ≡ Done) ⊎ ((status ≡ Lines) ⊎ (status ≡ Memory))
 ends_calmly old new ends.Done status settled is cause runs none = inl is
 ends_calmly old new ends.Input status settled is cause runs none = absurd (none.input cause)

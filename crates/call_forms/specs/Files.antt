@@ -11,6 +11,7 @@ use Rattle.store_session.specs.Session.{HasCause}
 use Rattle.store_session.specs.declared.session.SessionEnd.{SessionEnd}
 use Rattle.store_session.specs.declared.session.SessionEnd.TheVariants as ends
 use Rattle.file_planner.specs.Becomes.{IsMade}
+use Rattle.file_planner.specs.Cost.{IsWithin}
 use Rattle.file_session.specs.FileRun.{FileRunEnds, ReadsAs, front_of}
 use Rattle.call_forms.specs.Texts.{file_line, made_line, not_empty_line}
 use Rattle.call_forms.specs.Worlds.{KeepsDisk}
@@ -43,7 +44,7 @@ pub record EndsRefused (old new : World) (status : Status) : Type 0 where
 
 -- How a call of `run FILE` ends, over any world: the files were refused; or else the status has its cause, and where the world tells, the session over them ended as `FileRunEnds` says, each of its commits making of the file what `IsMade` says.
 abbrev pub RunEnds : World → World → Status → Type 0
-RunEnds old new status = EndsRefused old new status ⊎ ((end : SessionEnd) × (status ≡ status_of_end end) × HasCause true old new end × (new.tells → FileRunEnds (IsMade []) old new end))
+RunEnds old new status = EndsRefused old new status ⊎ ((end : SessionEnd) × (status ≡ status_of_end end) × HasCause true old new end × (new.tells → FileRunEnds IsMade IsWithin old new end))
 
 -- no count of faults rose
 pub record NoneFailed (old new : World) : Type 0 where

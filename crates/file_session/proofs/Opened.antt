@@ -1,5 +1,5 @@
 -- From the opening to the end of a session over a file.
-use Rattle.std.proofs.Common.{◌≡◌, ◌∙◌, ℕ, Bool, true, false, List, ◌++◌, refl, sym, ap, subst, inl, inr}
+use Rattle.std.proofs.Common.{◌≡◌, ◌∙◌, ℕ, Bool, true, false, List, Option, ◌++◌, refl, sym, ap, subst, inl, inr}
 use Rattle.pst_outside.specs.World.{Image, World}
 use Rattle.pst_outside.specs.Calls.{LeavesOnly, Settled, Untouched}
 use Rattle.pst_outside.proofs.Moments.{continues, weaker}
@@ -7,6 +7,8 @@ use Rattle.pst_header.specs.declared.header.Header.{Header}
 use Rattle.gate_file.specs.Gate.{IsShut, SameStore}
 use Rattle.lays_kept.specs.Stands.{Stands}
 use Rattle.node_port.specs.Nodes.{Nodes}
+use Rattle.node_port.specs.declared.node.NodeRec.{NodeRec}
+use Rattle.pst_base.specs.declared.ids.Nid.{Nid}
 use Rattle.pst_commit.specs.Commit.{LeavesNodes}
 use Rattle.pst_commit.specs.Keeping.{Holds}
 use Rattle.mail_searches.specs.Searching.{Searching}
@@ -17,7 +19,7 @@ use Rattle.file_open.specs.declared.stops.FileRefusal.{FileRefusal}
 use Rattle.file_open.specs.declared.stops.FileStop.{FileStop}
 use Rattle.file_open.specs.declared.stops.FileStop.TheVariants as stops
 use Rattle.store_session.specs.Carrying.{Has, InOrder, StandsFor}
-use Rattle.store_session.specs.Disks.{Effects}
+use Rattle.store_session.specs.Disks.{Effects, Medium, medium}
 use Rattle.store_session.specs.Session.{StoreSessionEnds}
 use Rattle.store_session.specs.Turns.{IsReached, SaysTurns, StoreTurn, texts}
 use Rattle.store_session.proofs.Reached.{reached_before}
@@ -30,7 +32,7 @@ use Rattle.file_session.specs.declared.run.FileRun.TheVariants.{Refused, Ended}
 
 -- ---- a session that began behind an opening
 
-module _ (effects : Effects) (stands : Image → Searching → Type 0) (rests : Image → Type 0) (opened : Image) (first mid now : World) (X : Searching) (end : SessionEnd)
+module _ (effects : Effects) (stands : Image → Searching → Type 0) (rests : Image → Type 0) (opened : Medium) (first mid now : World) (X : Searching) (end : SessionEnd)
     (told : now.tells → mid.tells)
     (input : mid.tells → mid.input ≡ first.input)
     (said : mid.tells → mid.here.said ≡ first.here.said)
@@ -60,6 +62,7 @@ module _ (effects : Effects) (stands : Image → Searching → Type 0) (rests : 
         in_hand = s.in_hand;
         stand = s.stand;
         disk_is = s.disk_is;
+        written = s.written;
         front = λ t. subst (λ l. SaysTurns l s.turns now.here.said) (said (told t)) (s.front t);
         whole = λ no t. s.whole no t ∙ ap (λ l. l ++ texts s.turns) (said (told t));
         images = continues begins s.images (λ c t is. subst (λ l. IsReached stands l X (s.turns ++ s.last) c) (said (told t)) is);
@@ -105,7 +108,7 @@ fresh_start {image = image} o fresh =
       left = same_spent image o.nodes other.nodes o.tree.tree.tree.last fresh.0.tree.last laid other.laid ∙ fresh.1.left;
     }
 
-pub ends_opened : (knows : Header → List ℕ → Type 0) (becomes : List ℕ → List ℕ → Type 0) (bytes : List ℕ) (header : Header) (tree : OpenedTree) (first mid now : World) (end : SessionEnd)
+pub ends_opened : (knows : Header → List ℕ → Type 0) (becomes : List (ℕ × List Bool) → List ℕ → List ℕ → Type 0) (costs : List ℕ → List ℕ → List (Nid × Option NodeRec) → ℕ → Type 0) (bytes : List ℕ) (header : Header) (tree : OpenedTree) (first mid now : World) (end : SessionEnd)
     → IsOpened knows bytes header first.here mid tree
     → ((X : Searching) × ReadsFresh first.here X)
     → now.tells → (now.tells → mid.tells)
@@ -113,9 +116,9 @@ pub ends_opened : (knows : Header → List ℕ → Type 0) (becomes : List ℕ �
     → (Settled first → Settled mid) → (mid.tells → IsShut mid.here.side)
     → (Settled first → Leaving first mid)
     → ((tidy : Bool) (X : Searching) → Has (Holds knows bytes header mid) header.indexes tree.known tree.searches (λ image. IsShut image.side) mid tidy X → (true ≡ true → now.tells)
-    → StoreSessionEnds (file_effects becomes) (ReadsAs tidy bytes) (λ image. IsShut image.side) mid.here mid now X end)
-    → EndsOpened becomes first now end
-ends_opened knows becomes bytes header tree first mid now end o fresh tells told input store settled shut leaving session =
+    → StoreSessionEnds (file_effects becomes costs) (ReadsAs tidy bytes) (λ image. IsShut image.side) (medium mid) mid now X end)
+    → EndsOpened becomes costs first now end
+ends_opened knows becomes costs bytes header tree first mid now end o fresh tells told input store settled shut leaving session =
     let X : Searching = o.tree.tree in
     let shown = o.tree.shows.0 in
     let sound : InOrder false X = record {
@@ -133,7 +136,7 @@ ends_opened knows becomes bytes header tree first mid now end o fresh tells told
       start = X;
       fresh = fresh_start o fresh;
       reads = subst (λ f. ReadsAs false f first.here X) o.front (shows first.here stands, sound);
-      opened = mid.here;
+      opened = medium mid;
       store = store;
       session = λ still tidy read.
           let leaves : LeavesNodes first mid bytes o.nodes X.tree.last = leaving still bytes o.nodes X.tree.last (λ t. stands) in
@@ -148,8 +151,8 @@ ends_opened knows becomes bytes header tree first mid now end o fresh tells told
             settled = settled still;
             at_rest = shut;
           } in
-          subst (λ f. StoreSessionEnds (file_effects becomes) (ReadsAs tidy f) (λ image. IsShut image.side) mid.here first now X end) o.front
-          (session_behind (file_effects becomes) (ReadsAs tidy bytes) (λ image. IsShut image.side) mid.here first mid now X end told input (λ t. (opening.here t).0) opening (session tidy X has (λ e. tells)));
+          subst (λ f. StoreSessionEnds (file_effects becomes costs) (ReadsAs tidy f) (λ image. IsShut image.side) (medium mid) first now X end) o.front
+          (session_behind (file_effects becomes costs) (ReadsAs tidy bytes) (λ image. IsShut image.side) (medium mid) first mid now X end told input (λ t. (opening.here t).0) opening (session tidy X has (λ e. tells)));
     }
   where
     no_truth : false ≡ true → ⊥

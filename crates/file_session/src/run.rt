@@ -1,5 +1,5 @@
 //! A session over a file.
-ghost use Rattle.std.specs.Prelude.{◌≡◌, [], true};
+ghost use Rattle.std.specs.Prelude.{◌≡◌, true};
 ghost use Rattle.pst_outside.specs.Calls.{NeverFall, Untouched};
 ghost use Rattle.mail_searches.specs.Searching.{Searching};
 ghost use Rattle.file_open.specs.Opening.{IsFileRefused, ReadsFresh};
@@ -49,7 +49,7 @@ pub fn run_file<W: Outside, S: FoundStore<W> + Drop>(alloc: Global, world: &mut 
     ensures refused { (refusal : Refusals) → result ≡ FileRun.Refused refusal → Untouched (W.view world.old) (W.view world.new)
         × ((W.view world.new).tells → IsFileRefused (W.view world.old).here refusal × ((X : Searching) → ReadsFresh (W.view world.old).here X → ⊥)) }
     // The replies are those of a run from the file as it was, and a stop at any moment leaves the tree after some of its turns.
-    ensures ends { (end : End) → result ≡ FileRun.Ended end → (W.view world.new).tells → FileRunEnds (S.becomes []) (W.view world.old) (W.view world.new) end }
+    ensures ends { (end : End) → result ≡ FileRun.Ended end → (W.view world.new).tells → FileRunEnds S.becomes S.costs (W.view world.old) (W.view world.new) end }
     ensures cause { (end : End) → result ≡ FileRun.Ended end → HasCause true (W.view world.old) (W.view world.new) end }
     ensures told { (W.view world.new).tells → (W.view world.old).tells }
     ensures counts { NeverFall (W.view world.old) (W.view world.new) }

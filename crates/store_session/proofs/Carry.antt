@@ -1,5 +1,5 @@
 -- What carrying out a command comes to.
-use Rattle.std.proofs.Common.{◌≡◌, ◌⊎◌, inl, inr, ◌∙◌, ℕ, ◌≤◌, Bool, false, List, Option, None, Some, Result, Ok, Err, refl, sym, subst, ap, arith}
+use Rattle.std.proofs.Common.{◌≡◌, ◌⊎◌, inl, inr, ◌∙◌, ℕ, ◌+◌, ◌≤◌, Bool, false, List, Option, None, Some, Result, Ok, Err, refl, sym, subst, ap, arith}
 use Rattle.std.specs.FinMap as map
 use Rattle.pst_outside.specs.World.{Image, SameDisk, World}
 use Rattle.pst_outside.specs.Calls.{LeavesOnly, Rose, Settled, Untouched}
@@ -13,15 +13,18 @@ use Rattle.command_text.specs.Replies.{last_text, last_words, text}
 use Rattle.line_server.specs.declared.spoken.Spoken.{Spoken}
 use Rattle.line_server.specs.Spoken.{no_memory_text, spoken_text}
 use Rattle.node_port.specs.Nodes.{Nodes}
+use Rattle.node_port.specs.declared.node.NodeRec.{NodeRec}
+use Rattle.pst_base.specs.declared.ids.Nid.{Nid}
 use Rattle.node_port.specs.Stops.{Room}
 use Rattle.mail_draft.specs.Answers.{Looks}
 use Rattle.mail_draft.specs.declared.stop.Stop.{Stop}
 use Rattle.mail_draft.specs.declared.stop.Stop.TheVariants as stops
-use Rattle.mail_store.specs.Planning.{Alters, ChangesNodes, SameKnown, StandsFor}
+use Rattle.mail_store.specs.Planning.{Alters, Carries, ChangesNodes, SameKnown, StandsFor, cost_of}
 use Rattle.mail_store.specs.Space.{HasRoom}
 use Rattle.mail_store.proofs.StoreLaws.{shown_stands, stores_still}
 use Rattle.mail_tree.specs.Changing.{Answer}
 use Rattle.mail_tree.specs.Folders.{replied}
+use Rattle.mail_tree.specs.Tree.{Tree}
 use Rattle.mail_tree.specs.Whole.{Fine}
 use Rattle.mail_tree.specs.declared.known.Known.{Known}
 use Rattle.mail_searches.specs.Criteria.{Coming}
@@ -33,7 +36,7 @@ use Rattle.search_lists.specs.Order.{InOrder}
 use Rattle.search_laws.proofs.Joining.{stays_in_order}
 use Rattle.search_store.specs.Planning.{PlansComing}
 use Rattle.store_session.specs.Carrying.{CarriesOut, ComesTo, Has, Leaves, StandsOrdered}
-use Rattle.store_session.specs.Disks.{Commits, Effects, Moves, is_save}
+use Rattle.store_session.specs.Disks.{Becomes, Commits, Effects, Medium, Moves, SameMedium, is_save, medium}
 use Rattle.store_session.specs.Run.{CommandAnswers, Suffices, refused}
 use Rattle.store_session.specs.declared.carrying.StoreStop.{StoreStop}
 use Rattle.store_session.specs.declared.carrying.StoreStop.TheVariants.{Disk, Changed}
@@ -42,6 +45,14 @@ use Rattle.store_session.proofs.SaveLaws.{saved_after, saved_outcome}
 -- an image has its own disk
 pub same_as : {c d : Image} → d ≡ c → SameDisk c d
 same_as e = record { main = ap (λ (i : Image). i.main) e; side = ap (λ (i : Image). i.side) e; copy = ap (λ (i : Image). i.copy) e }
+
+-- what only looks leaves the disk as it is
+pub same_medium : {v w : World} → w.here ≡ v.here → w.written ≡ v.written → SameMedium (medium v) (medium w)
+same_medium {v} {w} same written = record { disk = same_as same; written = subst (λ n. n ≤ v.written) (sym written) (omega arith) }
+
+-- a disk is its own
+pub its_medium : (v : World) → SameMedium (medium v) (medium v)
+its_medium v = same_medium {v = v} {w = v} refl refl
 
 -- the text of want of memory
 pub memory_text : no_memory_text ≡ text (replied last.NoMemory)
@@ -83,23 +94,35 @@ not_formless tidy X c order e = subst (λ x. Fine x (λ o. InOrder tidy (after X
 
 module _ (effects : Effects) (X : Searching) (c : Command) where
   -- what a command other than `save` does to the disk: a refused one nothing
-  moves_refused : (r : CommandRefusal) (here new : Image) → is_save c ≡ false → outcome X c ≡ Err (Some r) → SameDisk here new → Moves effects (is_save c) (outcome X c) here new
+  moves_refused : (r : CommandRefusal) (here new : Medium) → is_save c ≡ false → outcome X c ≡ Err (Some r) → SameMedium here new → Moves effects (is_save c) (outcome X c) here new
   moves_refused r here new other e same = rw (other, e) same
 
-  moves_made : (o : Coming) (here new : Image) → is_save c ≡ false → outcome X c ≡ Ok o → Commits effects.applied o here new → Moves effects (is_save c) (outcome X c) here new
+  moves_made : (o : Coming) (here new : Medium) → is_save c ≡ false → outcome X c ≡ Ok o → Commits effects.applied o here new → Moves effects (is_save c) (outcome X c) here new
   moves_made o here new other e commits = rw (other, e) commits
 
 -- the disk behind a plan and its commit
-pub commit_makes : {R : Type 0} (applied : Image → Image → Type 0) (o : Coming) (change : Option R) (here mid new : Image) → mid ≡ here → ChangesNodes o.outcome.changed change → Alters applied change mid new → Commits applied o here new
-commit_makes applied o None here mid new same none alters = record { written = λ writes. absurd (writes none); unwritten = λ is. same_as (alters ∙ same) }
-commit_makes applied o (Some ready) here mid new same writes alters = record { written = λ is. (new, subst (λ i. applied i new) same alters, same_as refl); unwritten = λ none. absurd (writes none) }
+pub commit_makes : {R : Type 0} (fits : R → List ℕ → List (Nid × Option NodeRec) → Type 0) (applied : List (Nid × Option NodeRec) → ℕ → Image → Image → Type 0) (cost : R → ℕ) (T : Tree) (o : Coming) (change : Option R) (here mid new : World)
+    → mid.here ≡ here.here → mid.written ≡ here.written → new.written ≤ mid.written + cost_of cost change → Carries fits T o.outcome change → ChangesNodes o.outcome.changed change → Alters fits applied cost change mid.here new.here
+    → Commits applied o (medium here) (medium new)
+commit_makes fits applied cost T o None here mid new same written few carries none alters = record {
+  written = λ writes. absurd (writes none);
+  unwritten = λ is. record { disk = same_as (alters ∙ same); written = omega (arith, few, written) };
+}
+commit_makes fits applied cost T o (Some ready) here mid new same written few carries writes alters = record {
+  written = λ is. record {
+    nodes = carries.0;
+    are = carries.3;
+    disk = record { image = new.here; bytes = cost ready; made = subst (λ i. applied carries.0 (cost ready) i new.here) same (alters o.outcome.last carries.0 carries.1); same = same_as refl; few = omega (arith, few, written) };
+  };
+  unwritten = λ none. absurd (writes none);
+}
 
 module _ (room : Room) (tidy : Bool) (X : Searching) (c : Command) (order : InOrder tidy X) where
   -- a refused command comes to nothing
   never : (o : Coming) (r : CommandRefusal) → outcome X c ≡ Ok o → outcome X c ≡ Err (Some r) → ⊥
   never o r done refused_is = cc
 
-  stop_refused : {P : Type 0} (plans : Coming → P → Type 0) (effects : Effects) (told : Type 0) (here new : Image) (same : told → SameDisk here new) (refusal : CommandRefusal) (t : List ℕ) (x : Answer Coming) → outcome X c ≡ x → is_save c ≡ false
+  stop_refused : {P : Type 0} (plans : Coming → P → Type 0) (effects : Effects) (told : Type 0) (here new : Medium) (same : told → SameMedium here new) (refusal : CommandRefusal) (t : List ℕ) (x : Answer Coming) → outcome X c ≡ x → is_save c ≡ false
       → PlansComing {P = P} room plans x (Err (stops.Refused refusal)) → t ≡ refused refusal → CommandAnswers effects room X here told c t X new
   stop_refused plans effects told here new same refusal t (Ok o) e other is said = inl (inr ((o, e, (refusal, is, said), refl), same))
   stop_refused plans effects told here new same refusal t (Err (Some r)) e other is said =
@@ -112,10 +135,10 @@ module _ (room : Room) (tidy : Bool) (X : Searching) (c : Command) (order : InOr
   stop_changed plans ib stored computed (Err None) e is = not_formless tidy X c order e
 
   -- a plan that stopped
-  pub stop_carries : {P : Type 0} (plans : Coming → P → Type 0) (effects : Effects) (has : Searching → Type 0) (stands : Image → Searching → Type 0) (v w : World) (same : w.tells → SameDisk v.here w.here) (other : is_save c ≡ false) (stop : Stop) (result : Result Spoken StoreStop)
-      → ComesTo stop result → PlansComing {P = P} room plans (outcome X c) (Err stop) → has X → Leaves stands v w X X → CarriesOut has stands (λ told. CommandAnswers effects room X v.here told c) v w X result
+  pub stop_carries : {P : Type 0} (plans : Coming → P → Type 0) (effects : Effects) (has : Searching → Type 0) (stands : Image → Searching → Type 0) (v w : World) (same : w.tells → SameMedium (medium v) (medium w)) (other : is_save c ≡ false) (stop : Stop) (result : Result Spoken StoreStop)
+      → ComesTo stop result → PlansComing {P = P} room plans (outcome X c) (Err stop) → has X → Leaves stands v w X X → CarriesOut has stands (λ told. CommandAnswers effects room X (medium v) told c) v w X result
   stop_carries plans effects has stands v w same other stop (Ok spoken) (inl is) answers h leaves =
-      (X, stop_refused plans effects w.tells v.here w.here same is.0 (spoken_text spoken) (outcome X c) refl other (subst (λ s. PlansComing room plans (outcome X c) (Err s)) is.1 answers) is.2, h, leaves)
+      (X, stop_refused plans effects w.tells (medium v) (medium w) same is.0 (spoken_text spoken) (outcome X c) refl other (subst (λ s. PlansComing room plans (outcome X c) (Err s)) is.1 answers) is.2, h, leaves)
   stop_carries plans effects has stands v w same other stop (Ok spoken) (inr said) answers h leaves = (X, inr (said ∙ memory_text, (refl, same)), h, leaves)
   stop_carries plans effects has stands v w same other stop (Err Disk) is answers h leaves = (X, text (replied last.NoMemory), inr (refl, (refl, λ none. absurd none)), leaves)
   stop_carries plans effects has stands v w same other stop (Err (Changed ib stored computed)) is answers h leaves =
@@ -133,7 +156,7 @@ module _ (room : Room) (tidy : Bool) (X : Searching) (c : Command) (order : InOr
   same_outcome : (o p : Coming) → outcome X c ≡ Ok o → outcome X c ≡ Ok p → o ≡ p
   same_outcome o p e f = cc
 
-  pub made_answers : (effects : Effects) (told : Type 0) (here new : Image) (o : Coming) (reply : Reply) (t : List ℕ) → outcome X c ≡ Ok o → is_save c ≡ false → HasRoom room o.outcome.changed → reply ≡ o.outcome.reply → t ≡ text reply
+  pub made_answers : (effects : Effects) (told : Type 0) (here new : Medium) (o : Coming) (reply : Reply) (t : List ℕ) → outcome X c ≡ Ok o → is_save c ≡ false → HasRoom room o.outcome.changed → reply ≡ o.outcome.reply → t ≡ text reply
       → (told → Commits effects.applied o here new) → CommandAnswers effects room X here told c t (after X o) new
   made_answers effects told here new o reply t e other has is said commits =
       inl (inl ((o.outcome.reply, ap (stepped X) e, said ∙ ap text is), (λ p f. subst (λ (x : Coming). HasRoom room x.outcome.changed) (same_outcome o p e f) has), λ tells. moves_made effects X c o here new other e (commits tells)))
@@ -167,7 +190,7 @@ quiet_suffices room X o e none p f writes =
     absurd (writes (sym (ap (λ (x : Coming). x.outcome.changed.objects) same) ∙ none))
 
 -- `save` changes no tree
-pub saves : (effects : Effects) (told : Type 0) (here new : Image) (room : Room) (X : Searching) (reply : Reply) (t : List ℕ) → reply ≡ replied last.Done → t ≡ text reply → (told → effects.saved here new) → CommandAnswers effects room X here told Save t X new
+pub saves : (effects : Effects) (told : Type 0) (here new : Medium) (room : Room) (X : Searching) (reply : Reply) (t : List ℕ) → reply ≡ replied last.Done → t ≡ text reply → (told → Becomes effects.saved here new) → CommandAnswers effects room X here told Save t X new
 saves effects told here new room X reply t is said made =
     let e = saved_outcome X in
-    inl (inl ((replied last.Done, ap (stepped X) e ∙ ap (λ Y. Some (Y, replied last.Done)) (saved_after X), said ∙ ap text is), quiet_suffices room X _ e refl, λ tells. (new, made tells, same_as refl)))
+    inl (inl ((replied last.Done, ap (stepped X) e ∙ ap (λ Y. Some (Y, replied last.Done)) (saved_after X), said ∙ ap text is), quiet_suffices room X _ e refl, made))

@@ -14,7 +14,7 @@ use Rattle.line_server.proofs.PieceLaws.{nothing_cuts}
 use Rattle.node_port.specs.Stops.{Room}
 use Rattle.mail_searches.specs.Searching.{Searching}
 use Rattle.store_session.specs.Carrying.{IsCaused, Leaves}
-use Rattle.store_session.specs.Disks.{Effects}
+use Rattle.store_session.specs.Disks.{Effects, medium}
 use Rattle.store_session.specs.Keeping.{Keeping}
 use Rattle.store_session.specs.Lines.{StopLeaves}
 use Rattle.store_session.specs.Run.{Answers}
@@ -54,7 +54,7 @@ module _ {S W : Type 0} (view : W → World) (disk : Bool) (has : S → W → Se
   -- a session whose server wasn't stopped
   ended_as : (end : ServerEnd StoreStop) (to : SessionEnd) → (to ≡ Disk → ⊥) → (to ≡ Memory → ⊥) → ((ib stored computed : ℕ) → to ≡ Changed ib stored computed → ⊥)
       → (to ≡ Done → end ≡ server_ends.Done) → (to ≡ Input → end ≡ server_ends.Input) → (end ≡ server_ends.Output → to ≡ Output) → (to ≡ Lines → end ≡ server_ends.Lines)
-      → (e : ServerEnds view answers stops a first b now end) → (b ≡ e.behind) × (now ≡ e.last) → StoreSessionEnds effects stands rests (view first).here (view first) (view now) X to
+      → (e : ServerEnds view answers stops a first b now end) → (b ≡ e.behind) × (now ≡ e.last) → StoreSessionEnds effects stands rests (medium (view first)) (view first) (view now) X to
   ended_as end to disk_ memory changed done input output lines_ e closes =
       let turns : Turns view answers (end ≡ server_ends.Output → ⊥) e.done e.replies a first b now =
       subst (λ (s : S). Turns view answers (end ≡ server_ends.Output → ⊥) e.done e.replies a first s now) (sym closes.0) (subst (λ (x : W). Turns view answers (end ≡ server_ends.Output → ⊥) e.done e.replies a first e.behind x) (sym closes.1) e.turns) in
@@ -76,6 +76,7 @@ module _ {S W : Type 0} (view : W → World) (disk : Bool) (has : S → W → Se
         in_hand = tt;
         stand = r.stand;
         disk_is = λ no. r.disk_is;
+        written = λ no. r.written;
         front = r.front;
         whole = λ no. r.said (λ is. no (output is));
         images = subst (λ (l : List StoreTurn). LeavesOnly (view first) (view now) (IsReached stands (view first).here.said X l)) (sym (append-nil r.turns)) r.images;
@@ -97,7 +98,7 @@ module _ {S W : Type 0} (view : W → World) (disk : Bool) (has : S → W → Se
   stop_piece further stop c v Y is held = absurd is
 
   -- the disk failed
-  ended_by_disk : ServerEnds view answers stops a first b now (server_ends.Stopped store_stops.Disk) → StoreSessionEnds effects stands rests (view first).here (view first) (view now) X Disk
+  ended_by_disk : ServerEnds view answers stops a first b now (server_ends.Stopped store_stops.Disk) → StoreSessionEnds effects stands rests (medium (view first)) (view first) (view now) X Disk
   ended_by_disk e =
       let turn = e.closes.3 in
       let told : (view now).tells → (view e.last).tells = λ t. turn.hears.stays.told (turn.quiet.told t) in
@@ -107,8 +108,8 @@ module _ {S W : Type 0} (view : W → World) (disk : Bool) (has : S → W → Se
       let s = stop_piece e.closes.0 store_stops.Disk e.behind turn.heard Y turn.stopped held in
       let next : Searching = s.2.0 in
       let reply : List ℕ = s.2.1 in
-      let hand_turn : StoreTurn = record { said = reply; tree = next; disk = (view now).here } in
-      let answer : Answers effects (room e.behind) Y (view turn.heard).here ⊥ e.closes.0 reply next (view now).here = subst (λ (p : Piece). Answers effects (room e.behind) Y (view turn.heard).here ⊥ p reply next (view now).here) (sym s.1) s.2.2 in
+      let hand_turn : StoreTurn = record { said = reply; tree = next; disk = medium (view now) } in
+      let answer : Answers effects (room e.behind) Y (medium (view turn.heard)) ⊥ e.closes.0 reply next (medium (view now)) = subst (λ (p : Piece). Answers effects (room e.behind) Y (medium (view turn.heard)) ⊥ p reply next (medium (view now))) (sym s.1) s.2.2 in
       let leaves : Leaves stands (view e.last) (view now) Y next = heard_leaves view disk has stands rests effects room answers stops keeps e.behind e.last turn.heard now Y next r.holds turn.hears turn.quiet.told s.2.3 in
       let said : (view e.last).tells → (view e.last).here.said ≡ (view first).here.said ++ texts r.turns = r.said (λ is. absurd (cc)) in
       let whole : (view now).tells → (view now).here.said ≡ (view first).here.said ++ texts r.turns = λ t. (leaves.here t).0 ∙ said (told t) in
@@ -129,6 +130,7 @@ module _ {S W : Type 0} (view : W → World) (disk : Bool) (has : S → W → Se
         in_hand = ((room e.behind, r.measured, answers_on effects (room e.behind) Y (λ none. none) (λ none. absurd none) (λ none. absurd none) e.closes.0 reply next answer), tt);
         stand = r.stand;
         disk_is = λ no. absurd (no refl);
+        written = λ no. absurd (no refl);
         front = λ t. said_all (view first).here.said (view now).here.said r.turns (whole t);
         whole = λ no. whole;
         images = reached_then stands (view first).here.said X r.turns (hand_turn ∷ []) r.images (λ t. said (told t)) (commit_leaves stands Y hand_turn leaves);
@@ -153,7 +155,7 @@ module _ {S W : Type 0} (view : W → World) (disk : Bool) (has : S → W → Se
       let held : has e.behind turn.heard Y = heard_has view disk has stands rests effects room answers stops keeps e.behind e.last turn.heard Y r.holds turn.hears (λ d. turn.quiet.told (tells d)) in
       (stop_piece e.closes.0 (store_stops.Changed ib stored computed) e.behind turn.heard Y turn.stopped held).2
 
-  pub session_ends : (end : ServerEnd StoreStop) → ServerEnds view answers stops a first b now end → StoreSessionEnds effects stands rests (view first).here (view first) (view now) X (end_of end)
+  pub session_ends : (end : ServerEnd StoreStop) → ServerEnds view answers stops a first b now end → StoreSessionEnds effects stands rests (medium (view first)) (view first) (view now) X (end_of end)
   session_ends server_ends.Done e =
       ended_as server_ends.Done Done (λ is. cc) (λ is. cc) (λ ib stored computed is. cc) (λ is. refl) (λ is. absurd (cc)) (λ is. absurd (cc)) (λ is. absurd (cc)) e e.closes
   session_ends server_ends.Input e =
@@ -166,7 +168,7 @@ module _ {S W : Type 0} (view : W → World) (disk : Bool) (has : S → W → Se
   session_ends (server_ends.Stopped (store_stops.Changed ib stored computed)) e = absurd (never_changed ib stored computed e)
 
 -- there was no memory for a session
-pub ends_by_memory : (effects : Effects) (stands : Image → Searching → Type 0) (rests : Image → Type 0) (v : World) (X : Searching) → Settled v → (v.tells → rests v.here) → stands v.here X → StoreSessionEnds effects stands rests v.here v v X Memory
+pub ends_by_memory : (effects : Effects) (stands : Image → Searching → Type 0) (rests : Image → Type 0) (v : World) (X : Searching) → Settled v → (v.tells → rests v.here) → stands v.here X → StoreSessionEnds effects stands rests (medium v) v v X Memory
 ends_by_memory effects stands rests v X settled at_rest is = record {
   taken = [];
   input = λ t. refl;
@@ -184,6 +186,7 @@ ends_by_memory effects stands rests v X settled at_rest is = record {
   in_hand = tt;
   stand = is;
   disk_is = λ no t. same_as refl;
+  written = λ no. refl;
   front = λ t. said_none v.here.said v.here.said refl;
   whole = λ no t. sym (append-nil v.here.said);
   images = weaker (IsReached stands v.here.said X []) (standing stands v X settled is) (λ c told k. reached_before stands v.here.said X [] c k.0 (elim k.1 [ inl is ↦ is | inr is ↦ is ]));

@@ -90,7 +90,7 @@ reached_before stands first start turns c said is = record {
 }
 
 -- behind its commit
-reached_hand : (stands : Image → Searching → Type 0) (first : List ℕ) (start : Searching) (turn : StoreTurn) (c : Image) (n : ℕ) → c.said ≡ first ++ take n turn.said → stands c turn.tree → (0 < n → SameDisk turn.disk c) → IsReached stands first start (turn ∷ []) c
+reached_hand : (stands : Image → Searching → Type 0) (first : List ℕ) (start : Searching) (turn : StoreTurn) (c : Image) (n : ℕ) → c.said ≡ first ++ take n turn.said → stands c turn.tree → (0 < n → SameDisk turn.disk.image c) → IsReached stands first start (turn ∷ []) c
 reached_hand stands first start turn c n said after same = record {
   done = [];
   hand = turn ∷ [];
@@ -114,7 +114,7 @@ reached_commit stands first start turn c said (inr after) =
 
 -- one turn's images, from its commit and the saying of its reply
 pub turn_leaves : (stands : Image → Searching → Type 0) (X : Searching) (turn : StoreTurn) {old mid new : World} → Leaves stands old mid X turn.tree → LeavesOnly mid new (SaysSome mid turn.said) → Settled mid → stands mid.here turn.tree
-    → ((c d : Image) → SameDisk c d → stands c turn.tree → stands d turn.tree) → (new.tells → mid.tells) → (new.tells → SameDisk turn.disk mid.here) → LeavesOnly old new (IsReached stands old.here.said X (turn ∷ []))
+    → ((c d : Image) → SameDisk c d → stands c turn.tree → stands d turn.tree) → (new.tells → mid.tells) → (new.tells → SameDisk turn.disk.image mid.here) → LeavesOnly old new (IsReached stands old.here.said X (turn ∷ []))
 turn_leaves stands X turn {old} {mid} {new} leaves saying settled is on tells left =
     continues (weaker (IsReached stands old.here.said X (turn ∷ [])) leaves (λ c told k. reached_commit stands old.here.said X turn c k.0 k.1)) saying
     (λ c told some.

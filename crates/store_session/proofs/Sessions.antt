@@ -1,8 +1,8 @@
 -- Turns over a store, one after another.
-use Rattle.std.proofs.Common.{◌≡◌, ◌∙◌, ◌⊎◌, inl, inr, ℕ, Bool, true, List, [], ◌∷◌, ◌++◌, take, refl, sym, ap, subst, append_assoc}
+use Rattle.std.proofs.Common.{◌≡◌, ◌∙◌, ◌⊎◌, inl, inr, ℕ, ◌≤◌, Bool, true, List, [], ◌∷◌, ◌++◌, take, refl, sym, ap, subst, arith, append_assoc}
 use Rattle.std.proofs.lemmas.List.{append-nil}
 use Rattle.pst_outside.specs.World.{Image, SameDisk, World}
-use Rattle.pst_outside.specs.Calls.{LeavesOnly, NeverFall, Settled}
+use Rattle.pst_outside.specs.Calls.{LeavesOnly, NeverFall, Settled, StaysButSaid}
 use Rattle.pst_outside.proofs.Moments.{at_end, continues, goes_on, tells_now, weaker}
 use Rattle.command_text.specs.Replies.{last_text, last_words, text}
 use Rattle.command_text.specs.Refusals.{refusal_words}
@@ -18,11 +18,11 @@ use Rattle.node_port.specs.Stops.{Room}
 use Rattle.mail_searches.specs.Searching.{Searching}
 use Rattle.store_session.specs.Carrying.{Leaves}
 use Rattle.store_session.specs.Keeping.{Keeping}
-use Rattle.store_session.specs.Disks.{Effects}
+use Rattle.store_session.specs.Disks.{Effects, Medium, SameMedium, medium}
 use Rattle.store_session.specs.Run.{Answers, Run, refused}
 use Rattle.store_session.specs.Turns.{IsReached, SaysTurns, StandThrough, StoreTurn, disk_after, replies_of, texts, tree_after}
 use Rattle.store_session.specs.declared.carrying.StoreStop.{StoreStop}
-use Rattle.store_session.proofs.Carry.{same_as, standing}
+use Rattle.store_session.proofs.Carry.{same_as, same_medium, standing}
 use Rattle.store_session.proofs.LineLaws.{answers_on}
 use Rattle.store_session.proofs.Reached.{reached_before, reached_then, said_behind, said_front, said_none, turn_leaves}
 
@@ -61,13 +61,22 @@ turns_counts view answers whole (p ∷ ps) (r ∷ rs) a b v w turns =
 turns_counts view answers whole [] (r ∷ rs) a b v w turns = absurd turns
 turns_counts view answers whole (p ∷ ps) [] a b v w turns = absurd turns
 
+-- the disk stays when something is said
+said_medium : {v w : World} → StaysButSaid v w → w.tells → SameMedium (medium v) (medium w)
+said_medium {v} {w} stays told = record { disk = stays.here told; written = subst (λ n. n ≤ v.written) (sym stays.written) (omega arith) }
+
+-- the disk stays when input is taken
+heard_medium : {v w : World} → Listens v w → w.tells → medium w ≡ medium v
+heard_medium {v} {w} listens told = λ i. record { image = listens.stays.here told i; written = listens.stays.written i }
+
 -- What turns over a state with a tree come to, where `told` says that the disks are told.
 pub record Ran {S W : Type 0} (view : W → World) (has : S → W → Searching → Type 0) (stands : Image → Searching → Type 0) (effects : Effects) (room : S → Room) (told whole : Type 0) (pieces : List Piece) (replies : List (List ℕ)) (v : W) (b : S) (w : W) (X : Searching) : Type 0 where
   pub turns : List StoreTurn
-  pub run : Run effects told X (view v).here pieces turns
-  pub stand : StandThrough stands X (view v).here turns
-  pub disk_is : (view w).tells → SameDisk (disk_after (view v).here turns) (view w).here
-  pub measured : effects.measures (disk_after (view v).here turns) (room b)
+  pub run : Run effects told X (medium (view v)) pieces turns
+  pub stand : StandThrough stands X (medium (view v)) turns
+  pub disk_is : (view w).tells → SameDisk (disk_after (medium (view v)) turns).image (view w).here
+  pub written : (view w).written ≡ (disk_after (medium (view v)) turns).written
+  pub measured : effects.measures (disk_after (medium (view v)) turns).image (room b)
   pub replies_are : replies_of turns ≡ replies
   pub holds : has b w (tree_after X turns)
   pub images : LeavesOnly (view v) (view w) (IsReached stands (view v).here.said X turns)
@@ -78,8 +87,8 @@ pub record Ran {S W : Type 0} (view : W → World) (has : S → W → Searching 
 pub record Takes {S W : Type 0} (view : W → World) (has : S → W → Searching → Type 0) (stands : Image → Searching → Type 0) (effects : Effects) (room : S → Room) (told whole : Type 0) (piece : Piece) (reply : List ℕ) (a : S) (v : W) (b : S) (w : W) (X : Searching) : Type 0 where
   pub turn : StoreTurn
   pub reply_is : turn.said ≡ reply
-  pub disk_is : turn.disk ≡ (view w).here
-  pub answer : Answers effects (room a) X (view v).here told piece turn.said turn.tree turn.disk
+  pub disk_is : turn.disk ≡ medium (view w)
+  pub answer : Answers effects (room a) X (medium (view v)) told piece turn.said turn.tree turn.disk
   pub holds : has b w turn.tree
   pub images : LeavesOnly (view v) (view w) (IsReached stands (view v).here.said X (turn ∷ []))
   pub front : (view w).tells → (k : ℕ) × ((view w).here.said ≡ (view v).here.said ++ take k reply)
@@ -99,17 +108,17 @@ module _ {S W : Type 0} (view : W → World) (disk : Bool) (has : S → W → Se
       (λ c told k. (k.0 ∙ ap (λ (i : Image). i.said) (listens.stays.here (tells told)), k.1))
 
   answer_piece : (piece : Piece) (said : List ℕ) (a b : S) (v w : W) (X : Searching) → AnswersPiece answers piece a v said b w → has a v X → (disk ≡ true → (view w).tells)
-      → (Y : Searching) × Answers effects (room a) X (view v).here (view w).tells piece said Y (view w).here × has b w Y × Leaves stands (view v) (view w) X Y
+      → (Y : Searching) × Answers effects (room a) X (medium (view v)) (view w).tells piece said Y (medium (view w)) × has b w Y × Leaves stands (view v) (view w) X Y
   answer_piece (line bytes) said a b v w X is h tells = keeps.answered a b v w bytes said X is h tells
   answer_piece too_long said a b v w X is h tells = (
     X,
-    inl (is.0 ∙ limit_text, (refl, λ t. same_as (ap (λ x. (view x).here) is.2))),
+    inl (is.0 ∙ limit_text, (refl, λ t. same_medium {v = view v} {w = view w} (ap (λ x. (view x).here) is.2) (ap (λ x. (view x).written) is.2))),
     subst (λ x. has x w X) (sym is.1) (subst (λ x. has a x X) (sym is.2) h),
     subst (λ x. Leaves stands (view v) (view x) X X) (sym is.2) (standing stands (view v) X (keeps.settled a v X h) (keeps.here a v X h)),
   )
   answer_piece further said a b v w X is h tells = (
     X,
-    inl (is.0, (refl, λ t. same_as (ap (λ x. (view x).here) is.2))),
+    inl (is.0, (refl, λ t. same_medium {v = view v} {w = view w} (ap (λ x. (view x).here) is.2) (ap (λ x. (view x).written) is.2))),
     subst (λ x. has x w X) (sym is.1) (subst (λ x. has a x X) (sym is.2) h),
     subst (λ x. Leaves stands (view v) (view x) X X) (sym is.2) (standing stands (view v) X (keeps.settled a v X h) (keeps.here a v X h)),
   )
@@ -124,12 +133,12 @@ module _ {S W : Type 0} (view : W → World) (disk : Bool) (has : S → W → Se
       let done = answer_piece piece reply a b turn.heard turn.answered X turn.answer held (λ d. told_answered (tells d)) in
       let leaves : Leaves stands (view v) (view turn.answered) X done.0 = heard_leaves a v turn.heard turn.answered X done.0 h turn.hears told_heard done.3 in
       let settled : Settled (view turn.answered) = keeps.settled b turn.answered done.0 done.2 in
-      let made : StoreTurn = record { said = reply; tree = done.0; disk = (view w).here } in
+      let made : StoreTurn = record { said = reply; tree = done.0; disk = medium (view w) } in
       record {
         turn = made;
         reply_is = refl;
         disk_is = refl;
-        answer = answers_on effects (room a) X (λ t. told_answered (also t)) (λ t. turn.hears.stays.here (told_heard (told_answered (also t)))) (λ t. turn.says.stays.here (also t)) piece reply done.0 done.1;
+        answer = answers_on effects (room a) X (λ t. told_answered (also t)) (λ t. heard_medium turn.hears (told_heard (told_answered (also t)))) (λ t. said_medium turn.says.stays (also t)) piece reply done.0 done.1;
         holds = keeps.has_on b turn.answered w done.0 done.2 (turn.says.settled settled) (λ t. (told_answered t, turn.says.stays.here t)) tells;
         images = turn_leaves stands X made leaves turn.says.any_moment settled (keeps.here b turn.answered done.0 done.2) (λ c d same is. keeps.stands_on c d done.0 same is) told_answered (λ t. still (turn.says.stays.here t));
         front = λ t. let k = turn.says.front t in (k.0, k.2 ∙ ap (λ s. s ++ take k.0 reply) (leaves.here (told_answered t)).0);
@@ -148,6 +157,7 @@ module _ {S W : Type 0} (view : W → World) (disk : Bool) (has : S → W → Se
         run = tt;
         stand = keeps.here a v X h;
         disk_is = λ t. same_as (turns.1.stays.here t);
+        written = turns.1.stays.written;
         measured = subst (λ x. effects.measures (view v).here (room x)) (sym turns.0) (keeps.measured a v X h);
         replies_are = refl;
         holds = held;
@@ -162,9 +172,10 @@ module _ {S W : Type 0} (view : W → World) (disk : Bool) (has : S → W → Se
       record {
         turns = one.turn ∷ [];
         run = ((room a, keeps.measured a v X h, one.answer), tt);
-        stand = (keeps.here a v X h, subst (λ i. stands i one.turn.tree) (sym one.disk_is) (keeps.here turns.0 turns.1 one.turn.tree one.holds));
-        disk_is = λ t. same_as (rest.1.stays.here t ∙ sym one.disk_is);
-        measured = subst (λ x. effects.measures one.turn.disk (room x)) (sym rest.0) (subst (λ i. effects.measures i (room turns.0)) (sym one.disk_is) (keeps.measured turns.0 turns.1 one.turn.tree one.holds));
+        stand = (keeps.here a v X h, subst (λ (m : Medium). stands m.image one.turn.tree) (sym one.disk_is) (keeps.here turns.0 turns.1 one.turn.tree one.holds));
+        disk_is = λ t. same_as (rest.1.stays.here t ∙ sym (ap (λ (m : Medium). m.image) one.disk_is));
+        written = rest.1.stays.written ∙ sym (ap (λ (m : Medium). m.written) one.disk_is);
+        measured = subst (λ x. effects.measures one.turn.disk.image (room x)) (sym rest.0) (subst (λ (m : Medium). effects.measures m.image (room turns.0)) (sym one.disk_is) (keeps.measured turns.0 turns.1 one.turn.tree one.holds));
         replies_are = ap (λ l. l ∷ []) one.reply_is;
         holds = subst (λ x. has x w one.turn.tree) (sym rest.0) (heard_has turns.0 turns.1 w one.turn.tree one.holds rest.1 tells);
         images = listens_on one.images rest.1;
@@ -182,10 +193,11 @@ module _ {S W : Type 0} (view : W → World) (disk : Bool) (has : S → W → Se
       let before : (view w).tells → (view turns.1).here.said ≡ first ++ one.turn.said = λ t. one.said (λ e. absurd (cc)) (back t) ∙ ap (λ l. first ++ l) (sym one.reply_is) in
       record {
         turns = one.turn ∷ more.turns;
-        run = ((room a, keeps.measured a v X h, one.answer), subst (λ i. Run effects told Y i (q ∷ ps) more.turns) (sym one.disk_is) more.run);
-        stand = (keeps.here a v X h, subst (λ i. StandThrough stands Y i more.turns) (sym one.disk_is) more.stand);
-        disk_is = subst (λ i. (view w).tells → SameDisk (disk_after i more.turns) (view w).here) (sym one.disk_is) more.disk_is;
-        measured = subst (λ i. effects.measures (disk_after i more.turns) (room b)) (sym one.disk_is) more.measured;
+        run = ((room a, keeps.measured a v X h, one.answer), subst (λ (m : Medium). Run effects told Y m (q ∷ ps) more.turns) (sym one.disk_is) more.run);
+        stand = (keeps.here a v X h, subst (λ (m : Medium). StandThrough stands Y m more.turns) (sym one.disk_is) more.stand);
+        disk_is = subst (λ (m : Medium). (view w).tells → SameDisk (disk_after m more.turns).image (view w).here) (sym one.disk_is) more.disk_is;
+        written = subst (λ (m : Medium). (view w).written ≡ (disk_after m more.turns).written) (sym one.disk_is) more.written;
+        measured = subst (λ (m : Medium). effects.measures (disk_after m more.turns).image (room b)) (sym one.disk_is) more.measured;
         replies_are = λ i. one.reply_is i ∷ more.replies_are i;
         holds = more.holds;
         images = reached_then stands first X (one.turn ∷ []) more.turns one.images (λ t. before t ∙ ap (λ l. first ++ l) (sym (append-nil one.turn.said))) more.images;

@@ -7,7 +7,7 @@ use Rattle.node_port.specs.Pins.{Pins}
 use Rattle.node_port.specs.Stops.{Room}
 use Rattle.mail_searches.specs.Searching.{Searching}
 use Rattle.store_session.specs.Carrying.{Has, Leaves, StandsOrdered}
-use Rattle.store_session.specs.Disks.{Effects}
+use Rattle.store_session.specs.Disks.{Effects, medium}
 use Rattle.store_session.specs.Keeping.{Keeping}
 use Rattle.line_server.specs.Lines.{line}
 use Rattle.store_session.specs.Lines.{AnswersLine, StopLeaves, StopsLine}
@@ -74,7 +74,7 @@ module _ {K W : Type 0} (view : W → World) (holds : K → World → Nodes → 
         );
     answered = λ a b v w bytes said X is h tells.
         let k = is.carried tidy X h.0 tells in
-        (k.0, subst (λ p. Answers (effects p) (room a.store.store.keeper) X (view v).here (view w).tells (line bytes) said k.0 (view w).here) h.2 k.1, (k.2, is.found ∙ h.1, is.pins ∙ h.2), subst (λ f. Leaves (stands_for f tidy) (view v) (view w) X k.0) h.1 k.3);
+        (k.0, subst (λ p. Answers (effects p) (room a.store.store.keeper) X (medium (view v)) (view w).tells (line bytes) said k.0 (medium (view w))) h.2 k.1, (k.2, is.found ∙ h.1, is.pins ∙ h.2), subst (λ f. Leaves (stands_for f tidy) (view v) (view w) X k.0) h.1 k.3);
     stopped = λ a b v w bytes stop X is h tells.
         subst (λ p. StopLeaves (stands_for found tidy) (effects p) (room a.store.store.keeper) (view v) (view w) X bytes stop) h.2
         (subst (λ f. StopLeaves (stands_for f tidy) (effects (room a.store.store.keeper).pins) (room a.store.store.keeper) (view v) (view w) X bytes stop) h.1 (is.leaves tidy X h.0 tells));

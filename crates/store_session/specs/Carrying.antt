@@ -14,6 +14,7 @@ pub use Rattle.mail_store.specs.Planning.{StandsFor}
 use Rattle.mail_tree.specs.declared.known.Known.{Known}
 pub use Rattle.search_lists.specs.Order.{InOrder}
 use Rattle.search_store.specs.Planning.{StoresSearches}
+use Rattle.store_session.specs.Disks.{Medium, medium}
 use Rattle.store_session.specs.Run.{refused}
 use Rattle.store_session.specs.declared.carrying.StoreStop.{StoreStop}
 use Rattle.store_session.specs.declared.carrying.StoreStop.TheVariants.{Disk, Changed}
@@ -34,9 +35,9 @@ abbrev pub Leaves : (Image → Searching → Type 0) → World → World → Sea
 Leaves stands old new X Y = LeavesOnly old new (λ c. (c.said ≡ old.here.said) × (stands c X ⊎ stands c Y))
 
 -- What was carried out: the store has the tree after it, or the disk failed on the way to one, and nothing is told of it. That something changed never comes.
-abbrev pub CarriesOut : (Searching → Type 0) → (Image → Searching → Type 0) → (Type 0 → List ℕ → Searching → Image → Type 0) → World → World → Searching → Result Spoken StoreStop → Type 0
-CarriesOut has stands answers old new X (Ok spoken) = (Y : Searching) × answers new.tells (spoken_text spoken) Y new.here × has Y × Leaves stands old new X Y
-CarriesOut has stands answers old new X (Err Disk) = (Y : Searching) × (said : List ℕ) × answers ⊥ said Y new.here × Leaves stands old new X Y
+abbrev pub CarriesOut : (Searching → Type 0) → (Image → Searching → Type 0) → (Type 0 → List ℕ → Searching → Medium → Type 0) → World → World → Searching → Result Spoken StoreStop → Type 0
+CarriesOut has stands answers old new X (Ok spoken) = (Y : Searching) × answers new.tells (spoken_text spoken) Y (medium new) × has Y × Leaves stands old new X Y
+CarriesOut has stands answers old new X (Err Disk) = (Y : Searching) × (said : List ℕ) × answers ⊥ said Y (medium new) × Leaves stands old new X Y
 CarriesOut has stands answers old new X (Err (Changed ib stored computed)) = ⊥
 
 -- the count of the disk's faults rose where it failed, and there is a disk

@@ -7,7 +7,7 @@ use Rattle.line_server.specs.Lines.{line}
 use Rattle.node_port.specs.Stops.{Room}
 use Rattle.mail_searches.specs.Searching.{Searching}
 use Rattle.store_session.specs.Carrying.{Leaves}
-use Rattle.store_session.specs.Disks.{Effects}
+use Rattle.store_session.specs.Disks.{Effects, medium}
 use Rattle.store_session.specs.Lines.{StopLeaves}
 use Rattle.store_session.specs.Run.{Answers}
 use Rattle.store_session.specs.declared.carrying.StoreStop.{StoreStop}
@@ -21,6 +21,6 @@ pub record Keeping {S W : Type 0} (view : W → World) (disk : Bool) (has : S �
   pub stands_on : (c d : Image) (X : Searching) → SameDisk c d → stands c X → stands d X
   pub has_on : (a : S) (v w : W) (X : Searching) → has a v X → Settled (view w) → ((view w).tells → (view v).tells × SameDisk (view v).here (view w).here) → (disk ≡ true → (view w).tells) → has a w X
   pub answered : (a b : S) (v w : W) (bytes said : List ℕ) (X : Searching) → answers a v bytes said b w → has a v X → (disk ≡ true → (view w).tells)
-      → (Y : Searching) × Answers effects (room a) X (view v).here (view w).tells (line bytes) said Y (view w).here × has b w Y × Leaves stands (view v) (view w) X Y
+      → (Y : Searching) × Answers effects (room a) X (medium (view v)) (view w).tells (line bytes) said Y (medium (view w)) × has b w Y × Leaves stands (view v) (view w) X Y
   pub stopped : (a b : S) (v w : W) (bytes : List ℕ) (stop : StoreStop) (X : Searching) → stops a v bytes stop b w → has a v X → (disk ≡ true → (view w).tells)
       → StopLeaves stands effects (room a) (view v) (view w) X bytes stop

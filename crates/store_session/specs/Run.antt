@@ -1,6 +1,5 @@
 -- A run of a session over a store: the replies to lines, one after another, and the trees with their searches and the disks after them.
 use Rattle.std.specs.Prelude.{◌≡◌, ◌⊎◌, ℕ, List, [], ◌∷◌, Some, Result, Ok, Err}
-use Rattle.pst_outside.specs.World.{Image, SameDisk}
 use Rattle.command_text.specs.declared.command.Command.{Command}
 use Rattle.command_text.specs.declared.command.LineRefusal.{LineRefusal}
 use Rattle.command_text.specs.declared.reply.CommandRefusal.{CommandRefusal}
@@ -20,7 +19,7 @@ use Rattle.mail_searches.specs.Criteria.{Coming}
 use Rattle.mail_searches.specs.Searching.{Searching}
 use Rattle.mail_searches.specs.Step.{outcome, step}
 use Rattle.line_server.specs.Lines.{Piece, line, too_long, further}
-use Rattle.store_session.specs.Disks.{Effects, Moves, is_save}
+use Rattle.store_session.specs.Disks.{Effects, Medium, Moves, SameMedium, is_save}
 use Rattle.store_session.specs.Turns.{StoreTurn}
 
 -- the text of a refusal
@@ -41,46 +40,46 @@ Hinders room before c said after = (o : Coming) × (outcome before c ≡ Ok o) �
 
 -- From the tree with searches `before` and the disk `old` on, over which a keeper has this room: what is said, and the tree and the disk after it. What
 -- becomes of the disk is said where `told`.
-module _ (effects : Effects) (room : Room) (before : Searching) (old : Image) (told : Type 0) where
+module _ (effects : Effects) (room : Room) (before : Searching) (old : Medium) (told : Type 0) where
   -- nothing changed
-  abbrev pub Stays : Searching → Image → Type 0
-  Stays after new = (after ≡ before) × (told → SameDisk old new)
+  abbrev pub Stays : Searching → Medium → Type 0
+  Stays after new = (after ≡ before) × (told → SameMedium old new)
 
   -- a command was carried out, for which there was room, or hindered
-  abbrev pub CarriesCommand : Command → List ℕ → Searching → Image → Type 0
+  abbrev pub CarriesCommand : Command → List ℕ → Searching → Medium → Type 0
   CarriesCommand c said after new =
       (Steps before c said after × Suffices room before c × (told → Moves effects (is_save c) (outcome before c) old new))
-      ⊎ (Hinders room before c said after × (told → SameDisk old new))
+      ⊎ (Hinders room before c said after × (told → SameMedium old new))
 
   -- what a line asks for: its command was carried out or hindered, or the line refused, which changes nothing
-  abbrev pub Carries : Result Command LineRefusal → List ℕ → Searching → Image → Type 0
+  abbrev pub Carries : Result Command LineRefusal → List ℕ → Searching → Medium → Type 0
   Carries (Ok c) said after new = CarriesCommand c said after new
   Carries (Err refusal) said after new = (said ≡ refused (refusal_of refusal)) × Stays after new
 
   -- what is said to a command: its step, or that the file has no room for it, or that there was no memory
-  abbrev pub CommandAnswers : Command → List ℕ → Searching → Image → Type 0
+  abbrev pub CommandAnswers : Command → List ℕ → Searching → Medium → Type 0
   CommandAnswers c said after new = CarriesCommand c said after new ⊎ ((said ≡ text (replied NoMemory)) × Stays after new)
 
   -- a piece was answered: a line that is too long is answered once
-  abbrev pub Replies : Piece → List ℕ → Searching → Image → Type 0
+  abbrev pub Replies : Piece → List ℕ → Searching → Medium → Type 0
   Replies (line bytes) said after new = Carries (command bytes) said after new
   Replies too_long said after new = (said ≡ refused (Limit limits.Line)) × Stays after new
   Replies further said after new = (said ≡ []) × Stays after new
 
   -- want of memory: the line changes nothing
-  abbrev pub LacksMemory : Piece → List ℕ → Searching → Image → Type 0
+  abbrev pub LacksMemory : Piece → List ℕ → Searching → Medium → Type 0
   LacksMemory (line bytes) said after new = (said ≡ text (replied NoMemory)) × Stays after new
   LacksMemory too_long said after new = ⊥
   LacksMemory further said after new = ⊥
 
   -- the reply to a piece, and the tree and the disk after it
-  abbrev pub Answers : Piece → List ℕ → Searching → Image → Type 0
+  abbrev pub Answers : Piece → List ℕ → Searching → Medium → Type 0
   Answers piece said after new = Replies piece said after new ⊎ LacksMemory piece said after new
 
 -- These pieces were answered, one after another, from a tree and a disk on: each with the room of the disk before it.
-abbrev pub Run : Effects → Type 0 → Searching → Image → List Piece → List StoreTurn → Type 0
+abbrev pub Run : Effects → Type 0 → Searching → Medium → List Piece → List StoreTurn → Type 0
 Run effects told before old [] [] = Unit {0}
 Run effects told before old (piece ∷ pieces) (turn ∷ turns) =
-    ((room : Room) × effects.measures old room × Answers effects room before old told piece turn.said turn.tree turn.disk) × Run effects told turn.tree turn.disk pieces turns
+    ((room : Room) × effects.measures old.image room × Answers effects room before old told piece turn.said turn.tree turn.disk) × Run effects told turn.tree turn.disk pieces turns
 Run effects told before old [] (turn ∷ turns) = ⊥
 Run effects told before old (piece ∷ pieces) [] = ⊥

@@ -8,7 +8,7 @@ use Rattle.line_server.specs.declared.end.ServerEnd.TheVariants as server_ends
 use Rattle.line_server.specs.Lines.{Piece, is_quit, lines}
 use Rattle.line_server.specs.Server.{LINES}
 use Rattle.mail_searches.specs.Searching.{Searching}
-use Rattle.store_session.specs.Disks.{Effects}
+use Rattle.store_session.specs.Disks.{Effects, Medium}
 use Rattle.store_session.specs.Run.{Run}
 use Rattle.store_session.specs.Turns.{IsReached, SaysTurns, StandThrough, StoreTurn, disk_after, texts, tree_after}
 use Rattle.store_session.specs.declared.carrying.StoreStop.{StoreStop}
@@ -35,8 +35,8 @@ HasCause disk old new other = Unit {0}
 -- How a session over a store ends that had a tree with its searches at its start. Its replies are those of a run from that tree over the first of the lines
 -- that it has taken. Where the output failed, the last of the answered lines is the one in hand. `effects` says what room a disk has and
 -- what is made of it, `stands` for which trees it stands, and `rests` how it is between two commits. `opened` is the disk that the first
--- line finds.
-pub record StoreSessionEnds (effects : Effects) (stands : Image → Searching → Type 0) (rests : Image → Type 0) (opened : Image) (first now : World) (start : Searching) (end : SessionEnd) : Type 0 where
+-- line finds, with the bytes that were written before.
+pub record StoreSessionEnds (effects : Effects) (stands : Image → Searching → Type 0) (rests : Image → Type 0) (opened : Medium) (first now : World) (start : Searching) (end : SessionEnd) : Type 0 where
   -- what was taken of the input, and whether it was all
   pub taken : List ℕ
   pub input : now.tells → first.input ≡ taken ++ now.input
@@ -56,7 +56,8 @@ pub record StoreSessionEnds (effects : Effects) (stands : Image → Searching �
   pub in_hand : Run effects ⊥ (tree_after start turns) (disk_after opened turns) hand last
   -- each disk of the run stands for the tree of its place, and the last of them is the disk at the end
   pub stand : StandThrough stands start opened turns
-  pub disk_is : (end ≡ Disk → ⊥) → now.tells → SameDisk (disk_after opened turns) now.here
+  pub disk_is : (end ≡ Disk → ⊥) → now.tells → SameDisk (disk_after opened turns).image now.here
+  pub written : (end ≡ Disk → ⊥) → now.written ≡ (disk_after opened turns).written
   -- All replies were said, without that in hand, unless the output failed; then of the last a front was.
   pub front : now.tells → SaysTurns first.here.said turns now.here.said
   pub whole : (end ≡ Output → ⊥) → now.tells → now.here.said ≡ first.here.said ++ texts turns

@@ -2,12 +2,13 @@
 use Rattle.std.specs.Prelude.{◌≡◌, ℕ, ◌<◌, ◌≤◌, List, [], ◌∷◌, ◌++◌, length, take}
 use Rattle.pst_outside.specs.World.{Image, SameDisk}
 use Rattle.mail_searches.specs.Searching.{Searching}
+use Rattle.store_session.specs.Disks.{Medium}
 
 -- One turn: what was said, and the tree with its searches and the disk after it.
 pub record StoreTurn : Type 0 where
   pub said : List ℕ
   pub tree : Searching
-  pub disk : Image
+  pub disk : Medium
 
 -- the replies of some turns as one text
 abbrev pub texts : List StoreTurn → List ℕ
@@ -25,14 +26,19 @@ tree_after start [] = start
 tree_after start (turn ∷ turns) = tree_after turn.tree turns
 
 -- the disk at the end
-abbrev pub disk_after : Image → List StoreTurn → Image
+abbrev pub disk_after : Medium → List StoreTurn → Medium
 disk_after disk [] = disk
 disk_after disk (turn ∷ turns) = disk_after turn.disk turns
 
+-- its image
+abbrev pub image_after : Image → List StoreTurn → Image
+image_after image [] = image
+image_after image (turn ∷ turns) = image_after turn.disk.image turns
+
 -- each disk of a run stands for the tree of its place: the one before it, and that after each turn
-abbrev pub StandThrough : (Image → Searching → Type 0) → Searching → Image → List StoreTurn → Type 0
-StandThrough stands start disk [] = stands disk start
-StandThrough stands start disk (turn ∷ turns) = stands disk start × StandThrough stands turn.tree turn.disk turns
+abbrev pub StandThrough : (Image → Searching → Type 0) → Searching → Medium → List StoreTurn → Type 0
+StandThrough stands start disk [] = stands disk.image start
+StandThrough stands start disk (turn ∷ turns) = stands disk.image start × StandThrough stands turn.tree turn.disk turns
 
 -- What was said since `first`: the replies of all turns but the last whole, and of that a front.
 pub record SaysTurns (first : List ℕ) (turns : List StoreTurn) (now : List ℕ) : Type 0 where
@@ -53,4 +59,4 @@ pub record IsReached (stands : Image → Searching → Type 0) (first : List ℕ
   pub tree : stands c (tree_after start (done ++ hand))
   pub count : ℕ
   pub said : c.said ≡ first ++ (texts done ++ take count (texts hand))
-  pub disk : 0 < count → SameDisk (disk_after c hand) c
+  pub disk : 0 < count → SameDisk (image_after c hand) c

@@ -5,7 +5,7 @@ ghost use Rattle.mail_searches.specs.Searching.{Searching};
 ghost use Rattle.line_server.specs.Lines.{line};
 ghost use Rattle.line_server.specs.Worlds.{Quiet};
 ghost use Rattle.store_session.specs.Carrying.{CarriesOut, ComesTo, Has, IsCaused, SaysRefusal, StandsOrdered};
-ghost use Rattle.store_session.specs.Disks.{effects_of, is_save};
+ghost use Rattle.store_session.specs.Disks.{effects_of, is_save, medium};
 ghost use Rattle.store_session.specs.Run.{Answers, CommandAnswers};
 
 use crate::planning::plan_counted;
@@ -71,7 +71,7 @@ fn carry_planned<W: Outside, K: Saver<W>>(
 ) -> Result<Spoken, StoreStop>
     requires other { is_save command.now ≡ false }
     ensures carries { (tidy : Bool) (X : Searching) → Has (K.holds store.old.store.keeper (W.view world.old)) (K.last store.old.store.keeper) store.old.store.known store.old.searches K.rests (W.view world.old) tidy X → (K.has_disk ≡ true → (W.view world.new).tells)
-        → CarriesOut (Has (K.holds store.new.store.keeper (W.view world.new)) (K.last store.new.store.keeper) store.new.store.known store.new.searches K.rests (W.view world.new) tidy) (StandsOrdered tidy (K.stands (K.room store.old.store.keeper).found)) (λ told. CommandAnswers (effects_of (K.room store.old.store.keeper).pins K.measures K.applied K.saved) (K.room store.old.store.keeper) X (W.view world.old).here told command.now) (W.view world.old) (W.view world.new) X result }
+        → CarriesOut (Has (K.holds store.new.store.keeper (W.view world.new)) (K.last store.new.store.keeper) store.new.store.known store.new.searches K.rests (W.view world.new) tidy) (StandsOrdered tidy (K.stands (K.room store.old.store.keeper).found)) (λ told. CommandAnswers (effects_of (K.room store.old.store.keeper).pins K.measures K.applied K.saved) (K.room store.old.store.keeper) X (medium (W.view world.old)) told command.now) (W.view world.old) (W.view world.new) X result }
     ensures found { (K.room store.new.store.keeper).found ≡ (K.room store.old.store.keeper).found }
     ensures pins { (K.room store.new.store.keeper).pins ≡ (K.room store.old.store.keeper).pins }
     ensures cause { IfErr result (IsCaused K.has_disk (W.view world.old) (W.view world.new)) }
@@ -98,7 +98,7 @@ fn carry_save<W: Outside, K: Saver<W>>(
     world: &mut W,
 ) -> Result<Spoken, StoreStop>
     ensures carries { (tidy : Bool) (X : Searching) → Has (K.holds store.old.store.keeper (W.view world.old)) (K.last store.old.store.keeper) store.old.store.known store.old.searches K.rests (W.view world.old) tidy X → (K.has_disk ≡ true → (W.view world.new).tells)
-        → CarriesOut (Has (K.holds store.new.store.keeper (W.view world.new)) (K.last store.new.store.keeper) store.new.store.known store.new.searches K.rests (W.view world.new) tidy) (StandsOrdered tidy (K.stands (K.room store.old.store.keeper).found)) (λ told. CommandAnswers (effects_of (K.room store.old.store.keeper).pins K.measures K.applied K.saved) (K.room store.old.store.keeper) X (W.view world.old).here told Save) (W.view world.old) (W.view world.new) X result }
+        → CarriesOut (Has (K.holds store.new.store.keeper (W.view world.new)) (K.last store.new.store.keeper) store.new.store.known store.new.searches K.rests (W.view world.new) tidy) (StandsOrdered tidy (K.stands (K.room store.old.store.keeper).found)) (λ told. CommandAnswers (effects_of (K.room store.old.store.keeper).pins K.measures K.applied K.saved) (K.room store.old.store.keeper) X (medium (W.view world.old)) told Save) (W.view world.old) (W.view world.new) X result }
     ensures found { (K.room store.new.store.keeper).found ≡ (K.room store.old.store.keeper).found }
     ensures pins { (K.room store.new.store.keeper).pins ≡ (K.room store.old.store.keeper).pins }
     ensures cause { IfErr result (IsCaused K.has_disk (W.view world.old) (W.view world.new)) }
@@ -121,7 +121,7 @@ fn carry_out<W: Outside, K: Saver<W>>(
     command: &Command,
 ) -> Result<Spoken, StoreStop>
     ensures carries { (tidy : Bool) (X : Searching) → Has (K.holds store.old.store.keeper (W.view world.old)) (K.last store.old.store.keeper) store.old.store.known store.old.searches K.rests (W.view world.old) tidy X → (K.has_disk ≡ true → (W.view world.new).tells)
-        → CarriesOut (Has (K.holds store.new.store.keeper (W.view world.new)) (K.last store.new.store.keeper) store.new.store.known store.new.searches K.rests (W.view world.new) tidy) (StandsOrdered tidy (K.stands (K.room store.old.store.keeper).found)) (λ told. CommandAnswers (effects_of (K.room store.old.store.keeper).pins K.measures K.applied K.saved) (K.room store.old.store.keeper) X (W.view world.old).here told command.now) (W.view world.old) (W.view world.new) X result }
+        → CarriesOut (Has (K.holds store.new.store.keeper (W.view world.new)) (K.last store.new.store.keeper) store.new.store.known store.new.searches K.rests (W.view world.new) tidy) (StandsOrdered tidy (K.stands (K.room store.old.store.keeper).found)) (λ told. CommandAnswers (effects_of (K.room store.old.store.keeper).pins K.measures K.applied K.saved) (K.room store.old.store.keeper) X (medium (W.view world.old)) told command.now) (W.view world.old) (W.view world.new) X result }
     ensures found { (K.room store.new.store.keeper).found ≡ (K.room store.old.store.keeper).found }
     ensures pins { (K.room store.new.store.keeper).pins ≡ (K.room store.old.store.keeper).pins }
     ensures cause { IfErr result (IsCaused K.has_disk (W.view world.old) (W.view world.new)) }
@@ -143,7 +143,7 @@ pub fn answer_line<W: Outside, K: Saver<W>>(
     bytes: &[u8],
 ) -> Result<Spoken, StoreStop>
     ensures carries { (tidy : Bool) (X : Searching) → Has (K.holds store.old.store.keeper (W.view world.old)) (K.last store.old.store.keeper) store.old.store.known store.old.searches K.rests (W.view world.old) tidy X → (K.has_disk ≡ true → (W.view world.new).tells)
-        → CarriesOut (Has (K.holds store.new.store.keeper (W.view world.new)) (K.last store.new.store.keeper) store.new.store.known store.new.searches K.rests (W.view world.new) tidy) (StandsOrdered tidy (K.stands (K.room store.old.store.keeper).found)) (λ told. Answers (effects_of (K.room store.old.store.keeper).pins K.measures K.applied K.saved) (K.room store.old.store.keeper) X (W.view world.old).here told (line bytes.now)) (W.view world.old) (W.view world.new) X result }
+        → CarriesOut (Has (K.holds store.new.store.keeper (W.view world.new)) (K.last store.new.store.keeper) store.new.store.known store.new.searches K.rests (W.view world.new) tidy) (StandsOrdered tidy (K.stands (K.room store.old.store.keeper).found)) (λ told. Answers (effects_of (K.room store.old.store.keeper).pins K.measures K.applied K.saved) (K.room store.old.store.keeper) X (medium (W.view world.old)) told (line bytes.now)) (W.view world.old) (W.view world.new) X result }
     ensures found { (K.room store.new.store.keeper).found ≡ (K.room store.old.store.keeper).found }
     ensures pins { (K.room store.new.store.keeper).pins ≡ (K.room store.old.store.keeper).pins }
     ensures cause { IfErr result (IsCaused K.has_disk (W.view world.old) (W.view world.new)) }

@@ -3,7 +3,7 @@ ghost use Rattle.std.specs.Prelude.{◌≡◌, Bool, true};
 ghost use Rattle.pst_outside.specs.Calls.{NeverFall};
 ghost use Rattle.mail_searches.specs.Searching.{Searching};
 ghost use Rattle.store_session.specs.Carrying.{Has, StandsOrdered};
-ghost use Rattle.store_session.specs.Disks.{effects_of};
+ghost use Rattle.store_session.specs.Disks.{effects_of, medium};
 ghost use Rattle.store_session.specs.Session.{HasCause, StoreSessionEnds, end_of};
 
 use crate::answerer::StoreAnswerer;
@@ -65,7 +65,7 @@ pub fn run_session<W: Outside, K: Saver<W> + Drop>(
 ) -> SessionEnd
     // From a store that has a tree with its searches in order, where the world tells what a disk holds: the replies are those of a run from disk to disk, and a stop at any moment leaves the tree after some of its turns, in order with its searches, and tidy where it was so at the start.
     ensures ends { (tidy : Bool) (X : Searching) → Has (K.holds store.store.keeper (W.view world.old)) (K.last store.store.keeper) store.store.known store.searches K.rests (W.view world.old) tidy X → (K.has_disk ≡ true → (W.view world.new).tells)
-        → StoreSessionEnds (effects_of (K.room store.store.keeper).pins K.measures K.applied K.saved) (StandsOrdered tidy (K.stands (K.room store.store.keeper).found)) K.rests (W.view world.old).here (W.view world.old) (W.view world.new) X result }
+        → StoreSessionEnds (effects_of (K.room store.store.keeper).pins K.measures K.applied K.saved) (StandsOrdered tidy (K.stands (K.room store.store.keeper).found)) K.rests (medium (W.view world.old)) (W.view world.old) (W.view world.new) X result }
     ensures cause { HasCause K.has_disk (W.view world.old) (W.view world.new) result }
     ensures no_memory { result ≡ SessionEnd.Memory → world.new ≡ world.old }
     ensures told { (W.view world.new).tells → (W.view world.old).tells }

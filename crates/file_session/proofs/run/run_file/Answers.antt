@@ -1,8 +1,7 @@
-use Rattle.std.proofs.Common.{sym, subst, inl, inr, ◌∙◌, []}
+use Rattle.std.proofs.Common.{sym, subst, inl, inr, ◌∙◌}
 use Rattle.gate_file.specs.Gate.{IsShut}
-use Rattle.file_blocks.specs.Blocks.{file_of}
-use Rattle.pst_commit.specs.Keeping.{HasRoom, IsSaved}
-use Rattle.store_session.specs.Disks.{effects_of}
+use Rattle.pst_commit.specs.Keeping.{HasRoom, IsCommitted, IsSaved}
+use Rattle.store_session.specs.Disks.{effects_of, medium}
 use Rattle.store_session.specs.Session.{StoreSessionEnds}
 use Rattle.file_session.specs.FileRun.{FileRunEnds, ReadsAs}
 use Rattle.file_session.proofs.Opened.{ends_opened, ends_unopened, refused_is, same_end}
@@ -15,10 +14,10 @@ returns-in-Ok-clause-ends g c = λ end is tells.
     let now = g.W.Outside.view c.run_session.new.world in
     let told : now.tells → mid.tells = c.run_session.ensures.told in
     let o = c.in-Ok.opened.keeper in
-    subst (λ e. FileRunEnds (g.S.NodeStore.becomes []) first now e) (same_end c.run_session.result end is)
-    (inr (ends_opened (g.S.NodeStore.knows o.store) (g.S.NodeStore.becomes []) o.found o.header c.in-Ok.opened.tree first mid now c.run_session.result
+    subst (λ e. FileRunEnds g.S.NodeStore.becomes g.S.NodeStore.costs first now e) (same_end c.run_session.result end is)
+    (inr (ends_opened (g.S.NodeStore.knows o.store) g.S.NodeStore.becomes g.S.NodeStore.costs o.found o.header c.in-Ok.opened.tree first mid now c.run_session.result
     (c.in-Ok.ensures.opened (told tells)) (c.in-Ok.ensures.reads (told tells)) tells told c.in-Ok.ensures.input (c.in-Ok.ensures.store (told tells)) c.in-Ok.ensures.settled c.in-Ok.ensures.shut c.in-Ok.ensures.any_moment
-    (λ tidy X has disk. subst (λ p. StoreSessionEnds (effects_of p HasRoom (λ pins old new. g.S.NodeStore.becomes pins.opened (file_of old) (file_of new)) IsSaved) (ReadsAs tidy o.found) (λ image. IsShut image.side) mid.here mid now X c.run_session.result) c.in-Ok.ensures.no_pins
+    (λ tidy X has disk. subst (λ p. StoreSessionEnds (effects_of p HasRoom (λ pins. IsCommitted g.S.NodeStore.becomes g.S.NodeStore.costs pins.opened) IsSaved) (ReadsAs tidy o.found) (λ image. IsShut image.side) (medium mid) mid now X c.run_session.result) c.in-Ok.ensures.no_pins
     (c.run_session.ensures.ends tidy X has disk))))
 
 pub returns-in-Err-clause-refused : goal.returns-in-Err-clause-refused

@@ -1,7 +1,7 @@
 use Rattle.std.proofs.Common.{inr, refl, subst}
 use Rattle.store_session.specs.Carrying.{SaysRefusal, StandsOrdered}
 use Rattle.store_session.specs.Disks.{effects_of}
-use Rattle.store_session.proofs.Carry.{memory_text, same_as, standing, stands_here}
+use Rattle.store_session.proofs.Carry.{its_medium, memory_text, standing, stands_here}
 use Rattle.store_session.proofs.LineLaws.{command_carried, refused_carried}
 use Rattle.store_session.proofs.carrying.answer_line.Goals as goal
 
@@ -33,4 +33,4 @@ returns-in-Err-Memory-clause-carries g c = λ tidy X h tells.
     let k = c.args.store.now.store.keeper in
     let v = g.W.Outside.view c.args.world.now in
     let here = stands_here (g.K.Keeper.stands (g.K.NodeReader.room k).found) tidy X (λ N is. g.met.K.Keeper.held_stands k c.args.world.now N is) h in
-    (X, inr (memory_text, (refl, λ t. same_as refl)), h, standing (StandsOrdered tidy (g.K.Keeper.stands (g.K.NodeReader.room k).found)) v X h.settled here)
+    (X, inr (memory_text, (refl, λ t. its_medium v)), h, standing (StandsOrdered tidy (g.K.Keeper.stands (g.K.NodeReader.room k).found)) v X h.settled here)
