@@ -47,12 +47,12 @@ pub same_as : {c d : Image} → d ≡ c → SameDisk c d
 same_as e = record { main = ap (λ (i : Image). i.main) e; side = ap (λ (i : Image). i.side) e; copy = ap (λ (i : Image). i.copy) e }
 
 -- what only looks leaves the disk as it is
-pub same_medium : {v w : World} → w.here ≡ v.here → w.written ≡ v.written → SameMedium (medium v) (medium w)
-same_medium {v} {w} same written = record { disk = same_as same; written = subst (λ n. n ≤ v.written) (sym written) (omega arith) }
+pub same_medium : (v w : World) → w.here ≡ v.here → w.written ≡ v.written → SameMedium (medium v) (medium w)
+same_medium v w same written = record { disk = same_as same; written = omega (arith, written) }
 
 -- a disk is its own
 pub its_medium : (v : World) → SameMedium (medium v) (medium v)
-its_medium v = same_medium {v = v} {w = v} refl refl
+its_medium v = same_medium v v refl refl
 
 -- the text of want of memory
 pub memory_text : no_memory_text ≡ text (replied last.NoMemory)

@@ -63,7 +63,7 @@ turns_counts view answers whole (p ∷ ps) [] a b v w turns = absurd turns
 
 -- the disk stays when something is said
 said_medium : {v w : World} → StaysButSaid v w → w.tells → SameMedium (medium v) (medium w)
-said_medium {v} {w} stays told = record { disk = stays.here told; written = subst (λ n. n ≤ v.written) (sym stays.written) (omega arith) }
+said_medium {v} {w} stays told = record { disk = stays.here told; written = omega (arith, stays.written) }
 
 -- the disk stays when input is taken
 heard_medium : {v w : World} → Listens v w → w.tells → medium w ≡ medium v
@@ -112,13 +112,13 @@ module _ {S W : Type 0} (view : W → World) (disk : Bool) (has : S → W → Se
   answer_piece (line bytes) said a b v w X is h tells = keeps.answered a b v w bytes said X is h tells
   answer_piece too_long said a b v w X is h tells = (
     X,
-    inl (is.0 ∙ limit_text, (refl, λ t. same_medium {v = view v} {w = view w} (ap (λ x. (view x).here) is.2) (ap (λ x. (view x).written) is.2))),
+    inl (is.0 ∙ limit_text, (refl, λ t. same_medium (view v) (view w) (ap (λ x. (view x).here) is.2) (ap (λ x. (view x).written) is.2))),
     subst (λ x. has x w X) (sym is.1) (subst (λ x. has a x X) (sym is.2) h),
     subst (λ x. Leaves stands (view v) (view x) X X) (sym is.2) (standing stands (view v) X (keeps.settled a v X h) (keeps.here a v X h)),
   )
   answer_piece further said a b v w X is h tells = (
     X,
-    inl (is.0, (refl, λ t. same_medium {v = view v} {w = view w} (ap (λ x. (view x).here) is.2) (ap (λ x. (view x).written) is.2))),
+    inl (is.0, (refl, λ t. same_medium (view v) (view w) (ap (λ x. (view x).here) is.2) (ap (λ x. (view x).written) is.2))),
     subst (λ x. has x w X) (sym is.1) (subst (λ x. has a x X) (sym is.2) h),
     subst (λ x. Leaves stands (view v) (view x) X X) (sym is.2) (standing stands (view v) X (keeps.settled a v X h) (keeps.here a v X h)),
   )

@@ -39,10 +39,10 @@ abbrev pub effects_of : Pins → (Image → Room → Type 0) → (Pins → List 
 effects_of pins measures applied saved = record { measures = λ image room. measures image room × (room.pins ≡ pins); applied = applied pins; saved = saved }
 
 -- The old disk was made into the new one, behind which more may have been said, by writing at most as many bytes as is told.
-pub record Becomes (made : ℕ → Image → Image → Type 0) (old new : Medium) : Type 0 where
+pub record Becomes (makes : ℕ → Image → Image → Type 0) (old new : Medium) : Type 0 where
   pub image : Image
   pub bytes : ℕ
-  pub made : made bytes old.image image
+  pub made : makes bytes old.image image
   pub same : SameDisk image new.image
   pub few : new.written ≤ old.written + bytes
 

@@ -16,7 +16,7 @@ returns-in-Err-clause-carries g c = λ tidy X h tells.
     let looks = c.plan_counted.ensures.looks in
     let S = StandsOrdered tidy (g.K.Keeper.stands (g.K.NodeReader.room k).found) in
     let here = stands_here (g.K.Keeper.stands (g.K.NodeReader.room k).found) tidy X (λ N is. g.met.K.Keeper.held_stands k c.args.world.now N is) h in
-    stop_carries (g.K.NodeReader.room k) tidy X c.args.command.now h.order _ (effects_of (g.K.NodeReader.room c.args.store.now.store.keeper).pins g.K.Keeper.measures g.K.Keeper.applied g.K.Saver.saved) _ S v (g.W.Outside.view c.plan_counted.new.w) (λ t. same_medium {v = v} {w = g.W.Outside.view c.plan_counted.new.w} (looks.world.stays.here t) looks.world.stays.written) c.requires.other c.in-Err.stop c.stopped.result c.stopped.ensures (c.in-Err.ensures.answer X h.stores)
+    stop_carries (g.K.NodeReader.room k) tidy X c.args.command.now h.order _ (effects_of (g.K.NodeReader.room c.args.store.now.store.keeper).pins g.K.Keeper.measures g.K.Keeper.applied g.K.Saver.saved) _ S v (g.W.Outside.view c.plan_counted.new.w) (λ t. same_medium v (g.W.Outside.view c.plan_counted.new.w) (looks.world.stays.here t) looks.world.stays.written) c.requires.other c.in-Err.stop c.stopped.result c.stopped.ensures (c.in-Err.ensures.answer X h.stores)
     (stays_has g.K.Keeper.rests _ _ _ _ tidy X looks c.plan_counted.ensures.known h) (quiet_leaves S X X h.settled looks.world here)
 
 pub returns-in_default-clause-carries : goal.returns-in_default-clause-carries
@@ -25,7 +25,7 @@ returns-in_default-clause-carries g c = λ tidy X h tells.
     let v = g.W.Outside.view c.args.world.now in
     let looks = c.plan_counted.ensures.looks in
     let here = stands_here (g.K.Keeper.stands (g.K.NodeReader.room k).found) tidy X (λ N is. g.met.K.Keeper.held_stands k c.args.world.now N is) h in
-    (X, inr (memory_text, (refl, λ t. same_medium {v = v} {w = g.W.Outside.view c.plan_counted.new.w} (looks.world.stays.here t) looks.world.stays.written)), stays_has g.K.Keeper.rests _ _ _ _ tidy X looks c.plan_counted.ensures.known h, quiet_leaves (StandsOrdered tidy (g.K.Keeper.stands (g.K.NodeReader.room k).found)) X X h.settled looks.world here)
+    (X, inr (memory_text, (refl, λ t. same_medium v (g.W.Outside.view c.plan_counted.new.w) (looks.world.stays.here t) looks.world.stays.written)), stays_has g.K.Keeper.rests _ _ _ _ tidy X looks c.plan_counted.ensures.known h, quiet_leaves (StandsOrdered tidy (g.K.Keeper.stands (g.K.NodeReader.room k).found)) X X h.settled looks.world here)
 
 pub returns-in-Ok-commit-clause-carries : goal.returns-in-Ok-commit-clause-carries
 returns-in-Ok-commit-clause-carries g c = λ tidy X h tells.
