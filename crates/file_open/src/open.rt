@@ -1,5 +1,5 @@
 //! An opening: the scan, the keeper, the tree, the numbers, and last the gate.
-ghost use Rattle.std.specs.Prelude.{◌≡◌, ◌≤◌, ℕ, List, length, Err, IfOk, IfErr, OnOk};
+ghost use Rattle.std.specs.Prelude.{◌≡◌, ◌≤◌, ◌+◌, ℕ, List, length, Err, IfOk, IfErr, OnOk};
 ghost use Rattle.pst_outside.specs.Calls.{NeverFall, Rose, Settled, Untouched};
 ghost use Rattle.gate_file.specs.Gate.{IsShut, SameStore};
 ghost use Rattle.node_port.specs.Nodes.{Nodes};
@@ -159,6 +159,9 @@ pub fn open_file<W: Outside, S: FoundStore<W> + Drop>(
     ensures told { (W.view w.new).tells → (W.view w.old).tells }
     ensures input { (W.view w.new).tells → (W.view w.new).input ≡ (W.view w.old).input }
     ensures counts { NeverFall (W.view w.old) (W.view w.new) }
+    // Little is written, and nothing where the gate was shut already.
+    ensures written { (W.view w.new).written ≤ (W.view w.old).written + 580 }
+    ensures idle { (W.view w.new).tells → IsShut (W.view w.old).here.side → Untouched (W.view w.old) (W.view w.new) }
 {
     let whole = find_file::<W, S>(alloc, w)?;
     let side_len = side_len(w)?;
@@ -189,6 +192,9 @@ pub fn open_mendable<W: Outside, S: FoundStore<W> + Drop>(
     ensures told { (W.view w.new).tells → (W.view w.old).tells }
     ensures input { (W.view w.new).tells → (W.view w.new).input ≡ (W.view w.old).input }
     ensures counts { NeverFall (W.view w.old) (W.view w.new) }
+    // Little is written, and nothing where the gate was shut already.
+    ensures written { (W.view w.new).written ≤ (W.view w.old).written + 580 }
+    ensures idle { (W.view w.new).tells → IsShut (W.view w.old).here.side → Untouched (W.view w.old) (W.view w.new) }
 {
     let opened = look_file::<W, S>(alloc, w)?;
     let side_len = side_len(w)?;

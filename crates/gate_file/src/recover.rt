@@ -24,6 +24,8 @@ pub fn recover_gate<W: Outside>(w: &mut W, side_len: u64) -> Result<(), Failed>
     ensures any_moment { Settled (W.view w.old) → LeavesOnly (W.view w.old) (W.view w.new) (SameStore (W.view w.old).here) }
     // A gate that is shut already costs no write.
     ensures idle { (W.view w.new).tells → IsShut (W.view w.old).here.side → Untouched (W.view w.old) (W.view w.new) }
+    // What is written is a header, the 15 zeros before it, and the gate's byte.
+    ensures written { (W.view w.new).written ≤ (W.view w.old).written + 580 }
 {
     if side_len < SIDE_LEN {
         return lay_gate(w);
@@ -43,6 +45,7 @@ fn lay_gate<W: Outside>(w: &mut W) -> Result<(), Failed>
     ensures cause { OnErr result (Rose (W.view w.old).disk_faults (W.view w.new).disk_faults) }
     ensures shut { OnOk result ((W.view w.new).tells → IsShut (W.view w.new).here.side) }
     ensures settled { Settled (W.view w.old) → OnOk result (Settled (W.view w.new)) }
+    ensures written { (W.view w.new).written ≤ (W.view w.old).written + 580 }
 {
     let h = read_header(w, Part::Main, 0)?;
     disarm(w)?;
@@ -58,6 +61,7 @@ fn finish<W: Outside>(w: &mut W) -> Result<(), Failed>
     ensures cause { OnErr result (Rose (W.view w.old).disk_faults (W.view w.new).disk_faults) }
     ensures shut { OnOk result ((W.view w.new).tells → IsShut (W.view w.new).here.side) }
     ensures settled { Settled (W.view w.old) → OnOk result (Settled (W.view w.new)) }
+    ensures written { (W.view w.new).written ≤ (W.view w.old).written + 580 }
 {
     let h = read_header(w, Part::Side, 16)?;
     settle(w, &h)?;
@@ -73,6 +77,7 @@ fn close_anew<W: Outside>(w: &mut W) -> Result<(), Failed>
     ensures cause { OnErr result (Rose (W.view w.old).disk_faults (W.view w.new).disk_faults) }
     ensures shut { OnOk result ((W.view w.new).tells → IsShut (W.view w.new).here.side) }
     ensures settled { Settled (W.view w.old) → OnOk result (Settled (W.view w.new)) }
+    ensures written { (W.view w.new).written ≤ (W.view w.old).written + 580 }
 {
     let h = read_header(w, Part::Main, 0)?;
     arm(w, &h)?;

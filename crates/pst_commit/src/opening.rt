@@ -1,5 +1,5 @@
 //! The end of an opening: the gate that a stop has left is closed.
-ghost use Rattle.std.specs.Prelude.{◌≡◌, ◌≤◌, List, ℕ, length, OnOk, OnErr};
+ghost use Rattle.std.specs.Prelude.{◌≡◌, ◌≤◌, ◌+◌, List, ℕ, length, OnOk, OnErr};
 ghost use Rattle.pst_outside.specs.Calls.{Rose, NeverFall, Settled, Untouched};
 ghost use Rattle.gate_file.specs.Gate.{IsShut, SameStore};
 ghost use Rattle.node_port.specs.Nodes.{Nodes};
@@ -22,6 +22,7 @@ pub fn close_gate<W: Outside>(w: &mut W, side_len: u64) -> Result<(), Failed>
     ensures store { (W.view w.new).tells → SameStore (W.view w.old).here (W.view w.new).here }
     ensures settled { Settled (W.view w.old) → OnOk result (Settled (W.view w.new)) }
     ensures idle { (W.view w.new).tells → IsShut (W.view w.old).here.side → Untouched (W.view w.old) (W.view w.new) }
+    ensures written { (W.view w.new).written ≤ (W.view w.old).written + 580 }
     ensures any_moment { Settled (W.view w.old) → (found : List ℕ) (N : Nodes) (last : List ℕ) → ((W.view w.old).tells → Stands found (W.view w.old).here N last)
         → LeavesNodes (W.view w.old) (W.view w.new) found N last }
 {
