@@ -1,5 +1,5 @@
 -- What a line asks for.
-use Rattle.std.specs.Prelude.{ℕ, List, Option, None, Some, Result, Ok, Err, ok_or, bytes_eq, codes, if◌then◌else◌}
+use Rattle.std.specs.Prelude.{ℕ, List, [], Option, None, Some, Result, Ok, Err, ok_or, bytes_eq, codes, if◌then◌else◌}
 use Rattle.std.specs.Str.{is_utf8}
 use Rattle.value_text.specs.Forms.{value_said}
 use Rattle.value_text.specs.Hex.{hex_bytes}
@@ -41,7 +41,7 @@ list_folder rest = do
   folder ← one_id rest
   Ok (ListFolder folder)
 
--- new: the folder's id, the class, which is of the form of a name, and the time, in decimal; the class is looked at last
+-- new: the folder's id, the class, which is of the form of a name, and the time, in decimal; the class is looked at last. A line gives no further values.
 unfoldable pub new_message : List ℕ → Result Command LineRefusal
 new_message rest = do
   words ← ok_or (cut rest) Line
@@ -49,7 +49,7 @@ new_message rest = do
   others ← ok_or (cut words.1) Line
   time ← ok_or (magnitude others.1) Line
   class ← ok_or (name_of others.0) Value
-  Ok (NewMessage folder class time)
+  Ok (NewMessage folder class time [])
 
 -- set: the message's id, the tag, and the value that the rest of the line says, spaces and all
 unfoldable pub set_property : List ℕ → Result Command LineRefusal

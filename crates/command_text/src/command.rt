@@ -1,6 +1,6 @@
 //! What a line asks for.
 use crate::scope::Scope;
-use mapi_values::{Tag, Units, Value};
+use mapi_values::{Props, Tag, Units, Value};
 use pst_base::{Bytes, Nid};
 
 /// A command, one variant for each form of line, with its arguments in their order.
@@ -29,11 +29,12 @@ pub enum Command {
     ListFolder {
         folder: Nid,
     },
-    /// `new F CLASS TIME`: a new message in F.
+    /// `new F CLASS TIME`: a new message in F, with these values beside those that every new message has. A line gives none.
     NewMessage {
         folder: Nid,
         class: Units,
         time: u64,
+        values: Props,
     },
     /// `set M TAG VALUE`: the message M gets the value, in place of one with its id.
     SetProperty {

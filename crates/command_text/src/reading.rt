@@ -8,6 +8,7 @@ use crate::words::{
     as_text, cut, read_data, read_guid, read_name, read_recipient_type, read_restriction, read_row,
     read_scope, read_tag,
 };
+use mapi_values::Props;
 use pst_base::MemOr;
 use std::alloc::Global;
 use value_text::{magnitude, parse_value};
@@ -77,6 +78,7 @@ fn new_message(alloc: Global, rest: &str) -> Result<Command, MemOr<LineRefusal>>
         folder,
         class,
         time,
+        values: Props::new(alloc),
     })
 }
 

@@ -17,13 +17,13 @@ use Rattle.mail_objects.specs.declared.object.Object.TheVariants.{Context, Table
 use Rattle.mail_tree.specs.declared.places.FolderPlace.{FolderPlace}
 use Rattle.mail_tree.specs.Places.{find_place, is_plain}
 use Rattle.mail_tree.specs.Tree.{Tree, object_at}
-use Rattle.mail_tree.specs.Values.{bytes_of, finished, has_object, has_parts, is_own_id, is_set_protected, is_unset_protected, message_props, number, number_of, text, time_value, with_attachment_flag, with_flag, with_props}
+use Rattle.mail_tree.specs.Values.{bytes_of, finished, has_object, has_parts, is_own_id, is_set_protected, is_unset_protected, message_props, number, number_of, text, time_value, with_attachment_flag, with_flag, with_props, is_withheld, own_props}
 use Rattle.mail_tree.specs.Names.{unless_nameless}
 use Rattle.mail_tree.specs.Changing.{◌>>=◌, add_shown, as_message, contents, drop_shown, nothing, now_at, put_shown, with_object, within_limits, Answer, Changed}
 use Rattle.mail_tree.specs.Settling.{settled, touched}
 use Rattle.mail_tree.specs.Ids.{is_spent, message_kinds, new_id, next_index}
 use Rattle.mail_tree.specs.Folders.{Outcome, changing, making, nid, replied, unless_full}
-use Rattle.mail_tree.specs.Messages.{added_attachment, added_message, added_recipient, adding_attachment, adding_recipient, appended_data, appending, removed_attachment, spent_index, too_long, changed_message, copied_message, copy_of, copying, in_folder, is_overfull, making_message, message_in, moved_message, new_message, plain_message, remaking, removed_message, removed_recipient, set_value, spent_row, unset_value}
+use Rattle.mail_tree.specs.Messages.{added_attachment, added_message, added_recipient, adding_attachment, adding_recipient, appended_data, appending, removed_attachment, spent_index, too_long, changed_message, copied_message, copy_of, copying, in_folder, is_overfull, making_message, message_in, moved_message, new_message, plain_message, remaking, removed_message, removed_recipient, set_value, spent_row, unset_value, given_message}
 use Rattle.mail_tree.specs.Parts.{attachment_props, attachment_tags, greatest_kept, greatest_part, has_recipient, is_full, is_spent_row, is_too_long, is_wide, lengthened, new_row, next_part, next_row, part_in, part_nid, part_with, plain_part, recipient_props, recipient_tags, room_for, rows_of, with_attachment, with_bytes, with_part, with_recipient, without_attachment, without_recipient}
 use Rattle.mail_tree.specs.Step.{after}
 use Rattle.mail_tree.specs.Whole.{fits_id}
@@ -40,6 +40,8 @@ use Rattle.pst_base.specs.declared.ids.Nid.{Nid}
 use Rattle.mail_laws.proofs.MessageSteps.{Before, Keeps, fine_message_in, finished_folder, finished_id, home_of, new_message_id, fine_home}
 use Rattle.mail_laws.proofs.Keeping.{Comes, Four, no_table, KeepsAt, PutsMessage, add_keeps, drop_keeps, from_fine, if_any, if_then, if_weaker, kept_after, never_made, put_keeps, table_apart, then_changing, then_making, then_settled, if_found, if_replying, if_test}
 use Rattle.mail_tree.proofs.Settles.{store_of}
+use Rattle.std.specs.List.{list_any}
+use Rattle.mail_tree.proofs.GivenValues.{find_withheld}
 
 -- a folder is no message
 pub place_apart : (T : Tree) → Before T → (f : ℕ) (p : FolderPlace) → find_place f T.places ≡ Some p → f % 32 ≡ 4 → ⊥
@@ -171,37 +173,40 @@ pub record IsNew (folder : ℕ) (class : List ℕ) (time : ℕ) (M : Mes) : Type
   pub class_is : find 0x001A M.props ≡ Some (text 0x001A class)
   pub time_is : find 0x3007 M.props ≡ Some (time_value 0x3007 time)
 
-new_is : (m folder : ℕ) (class : List ℕ) (time : ℕ) (store : List Val) → IsNew folder class time (finished (plain_message m folder (message_props m class time store)))
-new_is m folder class time store = record {
-  folder_is = finished_folder (plain_message m folder (message_props m class time store));
-  class_is = finished_find (plain_message m folder (message_props m class time store)) 0x001A (λ e. omega arith) (λ e. omega arith);
-  time_is = finished_find (plain_message m folder (message_props m class time store)) 0x3007 (λ e. omega arith) (λ e. omega arith);
+new_is : (m folder : ℕ) (class : List ℕ) (time : ℕ) (store values : List Val) → list_any is_withheld values ≡ false → IsNew folder class time (finished (plain_message m folder (message_props m class time store values)))
+new_is m folder class time store values none = record {
+  folder_is = finished_folder (plain_message m folder (message_props m class time store values));
+  class_is = finished_find (plain_message m folder (message_props m class time store values)) 0x001A (λ e. omega arith) (λ e. omega arith) ∙ find_withheld 0x001A values (own_props m class time store) refl none;
+  time_is = finished_find (plain_message m folder (message_props m class time store values)) 0x3007 (λ e. omega arith) (λ e. omega arith) ∙ find_withheld 0x3007 values (own_props m class time store) refl none;
 }
 
-abbrev pub MadeNew : Tree → ℕ → List ℕ → ℕ → Outcome → Type 0
-MadeNew T folder class time o = (index : ℕ) × (M : Mes) × (M.nid ≡ new_id 4 index) × (now_at T nothing (new_id 4 index) ≡ None) × IsNew folder class time M × Adds T M index o
-    × ((store : Ctx) × (now_at T nothing 0x21 ≡ Some (Context store)) × (M ≡ finished (plain_message (new_id 4 index) folder (message_props (new_id 4 index) class time store.props))))
+abbrev pub MadeNew : Tree → ℕ → List ℕ → ℕ → List Val → Outcome → Type 0
+MadeNew T folder class time values o = (index : ℕ) × (M : Mes) × (M.nid ≡ new_id 4 index) × (now_at T nothing (new_id 4 index) ≡ None) × IsNew folder class time M × Adds T M index o
+    × ((store : Ctx) × (now_at T nothing 0x21 ≡ Some (Context store)) × (M ≡ finished (plain_message (new_id 4 index) folder (message_props (new_id 4 index) class time store.props values))) × (list_any is_withheld values ≡ false))
 
-pub makes : (T : Tree) (folder : ℕ) (class : List ℕ) (time : ℕ) → Before T → IfOk (new_message T folder class time) (MadeNew T folder class time)
-unfolding new_message making_message
-makes T folder class time w = elim (cases_Option (find_place folder T.places)) [
-  | inl e ↦ rw e tt
-  | inr p ↦ rw p.1 (elim (cases_Bool (is_plain p.0)) [
-    | inr plain ↦ rw plain tt
-    | inl plain ↦
-        let store = store_of w in
-        rw (plain, store.1) (if_then (λ u. Unit {0}) (MadeNew T folder class time) (unless_full T (contents folder)) _ (if_any (unless_full T (contents folder))) (λ u v. elim (cases_Bool (is_spent (next_index T 4 message_kinds))) [
-          | inl t ↦
-              let index = next_index T 4 message_kinds in
-              let N = plain_message (new_id 4 index) folder (message_props (new_id 4 index) class time store.0.props) in
-              never_made T T.places 4 index (MadeNew T folder class time) (added_message T (finished N) nothing) t
-          | inr t ↦
-              let index = next_index T 4 message_kinds in let id = new_message_id T t in
-              let N = plain_message (new_id 4 index) folder (message_props (new_id 4 index) class time store.0.props) in
-              (if_weaker (Adds T (finished N) index) (MadeNew T folder class time) (added_message T (finished N) nothing >>= making T T.places 4 index)
-              (adds T (Ok nothing) refl (finished N) p.0 index w (ap (λ x. x % 32) (finished_id N) ∙ id.0) (ap (λ x. find_place x T.places) (finished_folder N) ∙ p.1))
-              (λ o a. (index, finished N, finished_id N, id.1, new_is (new_id 4 index) folder class time store.0.props, a, (store.0, store.1, refl))))
-        ]))
+pub makes : (T : Tree) (folder : ℕ) (class : List ℕ) (time : ℕ) (values : List Val) → Before T → IfOk (new_message T folder class time values) (MadeNew T folder class time values)
+unfolding new_message given_message making_message
+makes T folder class time values w = elim (cases_Bool (list_any is_withheld values)) [
+  | inl given ↦ rw given tt
+  | inr none ↦ rw none (elim (cases_Option (find_place folder T.places)) [
+    | inl e ↦ rw e tt
+    | inr p ↦ rw p.1 (elim (cases_Bool (is_plain p.0)) [
+      | inr plain ↦ rw plain tt
+      | inl plain ↦
+          let store = store_of w in
+          rw (plain, store.1) (if_then (λ u. Unit {0}) (MadeNew T folder class time values) (unless_full T (contents folder)) _ (if_any (unless_full T (contents folder))) (λ u v. elim (cases_Bool (is_spent (next_index T 4 message_kinds))) [
+            | inl t ↦
+                let index = next_index T 4 message_kinds in
+                let N = plain_message (new_id 4 index) folder (message_props (new_id 4 index) class time store.0.props values) in
+                never_made T T.places 4 index (MadeNew T folder class time values) (added_message T (finished N) nothing) t
+            | inr t ↦
+                let index = next_index T 4 message_kinds in let id = new_message_id T t in
+                let N = plain_message (new_id 4 index) folder (message_props (new_id 4 index) class time store.0.props values) in
+                (if_weaker (Adds T (finished N) index) (MadeNew T folder class time values) (added_message T (finished N) nothing >>= making T T.places 4 index)
+                (adds T (Ok nothing) refl (finished N) p.0 index w (ap (λ x. x % 32) (finished_id N) ∙ id.0) (ap (λ x. find_place x T.places) (finished_folder N) ∙ p.1))
+                (λ o a. (index, finished N, finished_id N, id.1, new_is (new_id 4 index) folder class time store.0.props values none, a, (store.0, store.1, refl, none))))
+          ]))
+    ])
   ])
 ]
 

@@ -22,11 +22,12 @@ use Rattle.command_text.specs.declared.reply.Reply.{Reply}
 use Rattle.mail_objects.specs.Forms.{Ctx, Tbl}
 use Rattle.mail_objects.specs.declared.object.Object.{Object}
 use Rattle.mail_objects.specs.declared.object.Object.TheVariants.{Context, Message, Table, Bare}
+use Rattle.std.specs.List.{list_any}
 use Rattle.mail_tree.specs.declared.places.FolderPlace.{FolderPlace}
 use Rattle.mail_tree.specs.Places.{ROOT, children, find_place, is_deep, is_plain, is_within, moves_deep, place_id}
 use Rattle.mail_tree.specs.Tree.{Tree, object_at}
-use Rattle.mail_tree.specs.Values.{bytes_of, finished, folder_props, is_set_protected, is_unset_protected, message_props, name_of, text, with_props}
-use Rattle.command_text.specs.declared.reply.CommandRefusal.TheVariants.{Ids, Limit, Object as NoObject, Property as NoProperty}
+use Rattle.mail_tree.specs.Values.{bytes_of, finished, folder_props, is_set_protected, is_unset_protected, message_props, name_of, text, with_props, is_withheld}
+use Rattle.command_text.specs.declared.reply.CommandRefusal.TheVariants.{Ids, Limit, Object as NoObject, Property as NoProperty, Protected}
 use Rattle.mail_tree.specs.Names.{NAMES, named_property, unless_nameless}
 use Rattle.mail_laws.proofs.NameSteps.{PutsNames, puts_names_after}
 use Rattle.mail_tree.specs.Changing.{Answer, Changed, ◌>>=◌, add_shown, associated, contents, context_at, drop_shown, hierarchy, newest, nothing, now_at, put_shown, table_at, with_object, with_rows, within_limits}
@@ -34,7 +35,7 @@ use Rattle.mail_tree.specs.Columns.{contents_table, hierarchy_table}
 use Rattle.mail_tree.specs.Settling.{mirrored, settled, with_context, touched}
 use Rattle.mail_tree.specs.Ids.{folder_kinds, is_spent, is_taken, message_kinds, new_id, next_index}
 use Rattle.mail_tree.specs.Folders.{Outcome, associated_in, changing, has_associated, has_rows, made_folder, making, making_folder, moved_between, moved_folder, moving, nid, place, removed_folder, renamed_folder, replied, siblings, unchanged, unless_full, unless_named, unless_protected, with_folder, without_folder, without_node}
-use Rattle.mail_tree.specs.Messages.{added_attachment, added_message, added_recipient, adding_attachment, adding_recipient, appended_data, appending, removed_attachment, spent_index, too_long, changed_message, copied_message, copy_of, copying, in_folder, is_overfull, making_message, message_in, moved_message, new_message, plain_message, remaking, removed_message, removed_recipient, set_value, spent_row, unset_value}
+use Rattle.mail_tree.specs.Messages.{added_attachment, added_message, added_recipient, adding_attachment, adding_recipient, appended_data, appending, removed_attachment, spent_index, too_long, changed_message, copied_message, copy_of, copying, in_folder, is_overfull, making_message, message_in, moved_message, new_message, plain_message, remaking, removed_message, removed_recipient, set_value, spent_row, unset_value, given_message}
 use Rattle.mail_tree.specs.Parts.{attachment_props, attachment_tags, has_recipient, is_full, is_wide, lengthened, new_row, next_part, next_row, part_in, part_nid, part_with, plain_part, recipient_props, recipient_tags, room_for, rows_of, with_attachment, with_bytes, with_part, with_recipient, without_attachment, without_recipient}
 use Rattle.mail_tree.specs.Step.{after, outcome}
 use Rattle.mail_tree.specs.Whole.{IsWhole}
@@ -199,9 +200,9 @@ module _ (aside : ℕ → Type 0) (T : Tree) (w : Before T) (h : IsFoundBeside a
   ])
 
   -- `new`
-  makes : (folder : ℕ) (class : List ℕ) (time : ℕ) → IfOk (new_message T folder class time) After
-  unfolding new_message making_message
-  makes folder class time = elim (cases_Option (find_place folder T.places)) [
+  makes : (folder : ℕ) (class : List ℕ) (time : ℕ) (values : List Val) → IfOk (new_message T folder class time values) After
+  unfolding new_message given_message making_message
+  makes folder class time values = if_test After (list_any is_withheld values) Protected (λ u. given_message T folder class time values) (elim (cases_Option (find_place folder T.places)) [
     | inl e ↦ rw e tt
     | inr p ↦ rw p.1 (elim (cases_Bool (is_plain p.0)) [
       | inr plain ↦ rw plain tt
@@ -210,15 +211,15 @@ module _ (aside : ℕ → Type 0) (T : Tree) (w : Before T) (h : IsFoundBeside a
           rw (plain, store.1) (if_then (λ u. Unit {0}) After (unless_full T (contents folder)) _ (if_any (unless_full T (contents folder))) (λ u v. elim (cases_Bool (is_spent (next_index T 4 message_kinds))) [
             | inl t ↦
                 let index = next_index T 4 message_kinds in
-                let N = plain_message (new_id 4 index) folder (message_props (new_id 4 index) class time store.0.props) in
+                let N = plain_message (new_id 4 index) folder (message_props (new_id 4 index) class time store.0.props values) in
                 never_made T T.places 4 index After (added_message T (finished N) nothing) t
             | inr t ↦
                 let index = next_index T 4 message_kinds in
-                let N = plain_message (new_id 4 index) folder (message_props (new_id 4 index) class time store.0.props) in
+                let N = plain_message (new_id 4 index) folder (message_props (new_id 4 index) class time store.0.props values) in
                 (adds (Ok nothing) start (finished N) p.0 index (ap (λ x. x % 32) (finished_id N) ∙ (new_message_id T t).0) (ap (λ x. find_place x T.places) (finished_folder N) ∙ p.1) plain)
           ]))
     ])
-  ]
+  ])
 
   -- a message becomes another
   remakes : (m : ℕ) (M new : Mes) (reason : Option CommandRefusal) (last : LastLine) → now_at T nothing m ≡ Some (Message M) → m % 32 ≡ 4 → new.nid ≡ M.nid → new.folder ≡ M.folder → IfOk (remaking T new reason last) After
@@ -598,7 +599,7 @@ module _ (aside : ℕ → Type 0) (T : Tree) (w : Before T) (h : IsFoundBeside a
   finds_after (RenameFolder folder name) = renames folder.bits name
   finds_after (MoveFolder folder parent) = moves_folder folder.bits parent.bits
   finds_after (RemoveFolder folder) = removes_folder folder.bits
-  finds_after (NewMessage folder class time) = makes folder.bits class time
+  finds_after (NewMessage folder class time values) = makes folder.bits class time values
   finds_after (SetProperty message value) = sets message.bits value
   finds_after (UnsetProperty message tag) = unsets message.bits tag
   finds_after (MoveMessage message folder) = moves message.bits folder.bits

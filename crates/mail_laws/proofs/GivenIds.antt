@@ -29,7 +29,7 @@ use Rattle.mail_objects.specs.Forms.{Ctx}
 use Rattle.mail_tree.specs.Settling.{message_ids, mirrored, settled, with_context, touched}
 use Rattle.mail_tree.specs.Ids.{LAST_INDEX, folder_kinds, greatest, is_spent, is_used, message_kinds, new_id, next_index}
 use Rattle.mail_tree.specs.Folders.{Outcome, associated_in, changing, folder_in, folder_lines, has_associated, has_rows, listing, made_folder, making, making_folder, message_lines, moved_between, moved_folder, moving, place, removed_folder, renamed_folder, replied, siblings, unless_full, unless_named, unless_plain, unless_protected, with_folder, without_folder, replying, unless}
-use Rattle.mail_tree.specs.Messages.{added_attachment, added_message, added_recipient, adding_attachment, adding_recipient, appended_data, appending, fetched_data, removed_attachment, spent_index, too_long, changed_message, copied_message, copy_of, copying, details, in_folder, is_overfull, making_message, message_in, moved_message, new_message, plain_message, remaking, removed_message, removed_recipient, set_value, spent_row, unset_value, value_in, value_of}
+use Rattle.mail_tree.specs.Messages.{added_attachment, added_message, added_recipient, adding_attachment, adding_recipient, appended_data, appending, fetched_data, removed_attachment, spent_index, too_long, changed_message, copied_message, copy_of, copying, details, in_folder, is_overfull, making_message, message_in, moved_message, new_message, plain_message, remaking, removed_message, removed_recipient, set_value, spent_row, unset_value, value_in, value_of, given_message}
 use Rattle.mail_tree.specs.Parts.{attachment_props, attachment_tags, data_tag, has_recipient, is_full, is_wide, lengthened, new_row, next_part, next_row, part_in, part_nid, part_with, plain_part, recipient_props, recipient_tags, room_for, rows_of, with_attachment, with_bytes, with_part, with_recipient, without_attachment, without_recipient}
 use Rattle.mail_laws.specs.Stays.{Counted}
 use Rattle.mail_tree.specs.Step.{outcome}
@@ -123,17 +123,17 @@ module _ (T : Tree) where
     | inl t ↦ rw t (then_any (folder_lines T (filter (is_child f) T.places)) _ (λ folders. then_any (table_at T nothing (contents f)) _ (λ t. then_any (message_lines T (message_ids t.table)) _ (λ messages. refl))))
   ])
 
-  makes : (folder : ℕ) (class : List ℕ) (time : ℕ) → IfOk (new_message T folder class time) Right
-  unfolding new_message making_message
-  makes folder class time =
-      then_any (folder_in T folder) _ (λ p. then_any (unless_plain p) _ (λ u. then_any (context_at T nothing 0x21) _ (λ store. then_any (unless_full T (contents folder)) _ (λ v. elim (cases_Bool (is_spent (next_index T 4 message_kinds))) [
+  makes : (folder : ℕ) (class : List ℕ) (time : ℕ) (values : List Val) → IfOk (new_message T folder class time values) Right
+  unfolding new_message given_message making_message
+  makes folder class time values =
+      then_any _ _ (λ g. then_any (folder_in T folder) _ (λ p. then_any (unless_plain p) _ (λ u. then_any (context_at T nothing 0x21) _ (λ store. then_any (unless_full T (contents folder)) _ (λ v. elim (cases_Bool (is_spent (next_index T 4 message_kinds))) [
         | inl t ↦
             let m = new_id 4 (next_index T 4 message_kinds) in
-            never_made T T.places 4 (next_index T 4 message_kinds) Right (added_message T (finished (plain_message m folder (message_props m class time store.props))) nothing) t
+            never_made T T.places 4 (next_index T 4 message_kinds) Right (added_message T (finished (plain_message m folder (message_props m class time store.props values))) nothing) t
         | inr t ↦
             let m = new_id 4 (next_index T 4 message_kinds) in
-            (then_making T.places 4 message_kinds (added_message T (finished (plain_message m folder (message_props m class time store.props))) nothing) (omega arith) t)
-      ]))))
+            (then_making T.places 4 message_kinds (added_message T (finished (plain_message m folder (message_props m class time store.props values))) nothing) (omega arith) t)
+      ])))))
 
   copies : (m folder : ℕ) → IfOk (copied_message T m folder) Right
   unfolding copied_message copying
@@ -232,7 +232,7 @@ module _ (T : Tree) where
   gives_new (MoveFolder folder parent) = moves_folder folder.bits parent.bits
   gives_new (RemoveFolder folder) = removes_folder folder.bits
   gives_new (ListFolder folder) = lists_folder folder.bits
-  gives_new (NewMessage folder class time) = makes folder.bits class time
+  gives_new (NewMessage folder class time values) = makes folder.bits class time values
   gives_new (SetProperty message value) = sets message.bits value
   gives_new (UnsetProperty message tag) = unsets message.bits tag
   gives_new (GetProperty message tag) = gets message.bits tag

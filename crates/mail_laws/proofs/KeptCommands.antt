@@ -24,8 +24,8 @@ use Rattle.mail_objects.specs.declared.object.Object.TheVariants.{Context, Table
 use Rattle.mail_tree.specs.declared.places.FolderPlace.{FolderPlace}
 use Rattle.mail_tree.specs.Places.{ROOT, children, find_place, is_deep, is_plain, is_within, moves_deep, place_id}
 use Rattle.mail_tree.specs.Tree.{Tree, object_at}
-use Rattle.mail_tree.specs.Values.{bytes_of, finished, folder_props, is_set_protected, is_unset_protected, message_props, name_of, text, with_props}
-use Rattle.command_text.specs.declared.reply.CommandRefusal.TheVariants.{Ids, Limit, Object as NoObject, Property as NoProperty}
+use Rattle.mail_tree.specs.Values.{bytes_of, finished, folder_props, is_set_protected, is_unset_protected, message_props, name_of, text, with_props, is_withheld}
+use Rattle.command_text.specs.declared.reply.CommandRefusal.TheVariants.{Ids, Limit, Object as NoObject, Property as NoProperty, Protected}
 use Rattle.mail_tree.specs.Names.{NAMES, named_property, unless_nameless}
 use Rattle.mail_laws.proofs.Touches.{touched_stays}
 use Rattle.mail_laws.proofs.NameSteps.{PutsNames, puts_names_after}
@@ -34,7 +34,7 @@ use Rattle.mail_tree.specs.Columns.{contents_table, hierarchy_table}
 use Rattle.mail_tree.specs.Settling.{mirrored, settled, with_context, touched}
 use Rattle.mail_tree.specs.Ids.{folder_kinds, is_spent, is_taken, message_kinds, new_id, next_index}
 use Rattle.mail_tree.specs.Folders.{Outcome, associated_in, changing, has_associated, has_rows, made_folder, making, making_folder, moved_between, moved_folder, moving, place, removed_folder, renamed_folder, replied, siblings, unchanged, unless_full, unless_named, unless_protected, without_folder, without_node, with_folder}
-use Rattle.mail_tree.specs.Messages.{added_attachment, added_message, added_recipient, adding_attachment, adding_recipient, appended_data, appending, removed_attachment, spent_index, too_long, changed_message, copied_message, copy_of, copying, in_folder, is_overfull, making_message, message_in, moved_message, new_message, plain_message, remaking, removed_message, removed_recipient, set_value, spent_row, unset_value}
+use Rattle.mail_tree.specs.Messages.{added_attachment, added_message, added_recipient, adding_attachment, adding_recipient, appended_data, appending, removed_attachment, spent_index, too_long, changed_message, copied_message, copy_of, copying, in_folder, is_overfull, making_message, message_in, moved_message, new_message, plain_message, remaking, removed_message, removed_recipient, set_value, spent_row, unset_value, given_message}
 use Rattle.mail_tree.specs.Parts.{attachment_props, attachment_tags, has_recipient, is_full, is_wide, lengthened, new_row, next_part, next_row, part_in, part_nid, part_with, plain_part, recipient_props, recipient_tags, room_for, rows_of, with_attachment, with_bytes, with_part, with_recipient, without_attachment, without_recipient}
 use Rattle.mail_laws.specs.ComesAndGoes.{takes}
 use Rattle.mail_laws.specs.Stays.{StaysFolder, gives_name, adds_name}
@@ -208,9 +208,9 @@ module _ (T : Tree) (whole : IsWhole T) (scope : Scope) where
     ])
   ])
 
-  makes : (folder : ℕ) (class : List ℕ) (time : ℕ) → scope.brings (new_id 4 (next_index T 4 message_kinds)) ≡ true → IfOk (new_message T folder class time) After
-  unfolding new_message making_message
-  makes folder class time brings = elim (cases_Option (find_place folder T.places)) [
+  makes : (folder : ℕ) (class : List ℕ) (time : ℕ) (values : List Val) → scope.brings (new_id 4 (next_index T 4 message_kinds)) ≡ true → IfOk (new_message T folder class time values) After
+  unfolding new_message given_message making_message
+  makes folder class time values brings = if_test After (list_any is_withheld values) Protected (λ u. given_message T folder class time values) (elim (cases_Option (find_place folder T.places)) [
     | inl e ↦ rw e tt
     | inr p ↦ rw p.1 (elim (cases_Bool (is_plain p.0)) [
       | inr plain ↦ rw plain tt
@@ -219,16 +219,16 @@ module _ (T : Tree) (whole : IsWhole T) (scope : Scope) where
           rw (plain, store.1) (if_then (λ u. Unit {0}) After (unless_full T (contents folder)) _ (if_any (unless_full T (contents folder))) (λ u v. elim (cases_Bool (is_spent (next_index T 4 message_kinds))) [
             | inl t ↦
                 let index = next_index T 4 message_kinds in
-                let N = plain_message (new_id 4 index) folder (message_props (new_id 4 index) class time store.0.props) in
+                let N = plain_message (new_id 4 index) folder (message_props (new_id 4 index) class time store.0.props values) in
                 never_made T T.places 4 index After (added_message T (finished N) nothing) t
             | inr t ↦
                 let index = next_index T 4 message_kinds in
-                let N = plain_message (new_id 4 index) folder (message_props (new_id 4 index) class time store.0.props) in
+                let N = plain_message (new_id 4 index) folder (message_props (new_id 4 index) class time store.0.props values) in
                 let id = new_message_free T t in
                 (adds (Ok nothing) none_yet (finished N) p.0 index (ap (λ x. x % 32) (finished_id N) ∙ id.0) (subst (Free T) (sym (finished_id N)) id.1) (subst (λ x. scope.brings x ≡ true) (sym (finished_id N)) brings) (ap (λ x. find_place x T.places) (finished_folder N) ∙ p.1) plain)
           ]))
     ])
-  ]
+  ])
 
   remakes : (m : ℕ) (M new : Mes) (reason : Option CommandRefusal) (last : LastLine) → now_at T nothing m ≡ Some (Message M) → m % 32 ≡ 4 → new.nid ≡ M.nid → new.folder ≡ M.folder → IfOk (remaking T new reason last) After
   unfolding remaking
@@ -460,7 +460,7 @@ module _ (T : Tree) (whole : IsWhole T) (scope : Scope) where
 -- what each command may bring
 abbrev pub brings_of : Tree → Command → ℕ → Bool
 brings_of T (MakeFolder parent name) q = index_of q == index_of (new_id 2 (next_index T 2 folder_kinds))
-brings_of T (NewMessage folder class time) q = q == new_id 4 (next_index T 4 message_kinds)
+brings_of T (NewMessage folder class time values) q = q == new_id 4 (next_index T 4 message_kinds)
 brings_of T (CopyMessage message folder) q = q == new_id 4 (next_index T 4 message_kinds)
 brings_of T other q = false
 
@@ -475,7 +475,7 @@ kept_after T w (MakeFolder parent name) = makes_folder T w (scope_of T (MakeFold
 kept_after T w (RenameFolder folder name) = renames T w (scope_of T (RenameFolder folder name)) folder.bits name (eq-eqb folder.bits folder.bits refl)
 kept_after T w (MoveFolder folder parent) = moves_folder T w (scope_of T (MoveFolder folder parent)) folder.bits parent.bits
 kept_after T w (RemoveFolder folder) = removes_folder T w (scope_of T (RemoveFolder folder)) folder.bits (λ q e. eq-eqb (index_of q) (index_of folder.bits) e)
-kept_after T w (NewMessage folder class time) = makes T w (scope_of T (NewMessage folder class time)) folder.bits class time (eq-eqb (new_id 4 (next_index T 4 message_kinds)) (new_id 4 (next_index T 4 message_kinds)) refl)
+kept_after T w (NewMessage folder class time values) = makes T w (scope_of T (NewMessage folder class time values)) folder.bits class time values (eq-eqb (new_id 4 (next_index T 4 message_kinds)) (new_id 4 (next_index T 4 message_kinds)) refl)
 kept_after T w (SetProperty message value) = sets T w (scope_of T (SetProperty message value)) message.bits value
 kept_after T w (UnsetProperty message tag) = unsets T w (scope_of T (UnsetProperty message tag)) message.bits tag
 kept_after T w (MoveMessage message folder) = moves T w (scope_of T (MoveMessage message folder)) message.bits folder.bits

@@ -172,9 +172,9 @@ module _ (T : Tree) (w : IsWhole T) where
       let c = MakeFolder parent name in let N = new_id 2 (next_index T 2 folder_kinds) in
       both (Kept c) (MadeFolder T parent.bits name) Brought (made_folder T parent.bits name) (kept_after T w c) (makes_folder T parent.bits name (before T w)) (λ o k r.
       replied_comes c o N r.0 k r.1 (was_nothing T r.0 r.2) (subst IsSome (sym (after_is T o r.0 ∙ r.4.1)) refl) (λ q e. eqb-true (index_of q) (index_of N) e))
-  brings (NewMessage folder class time) =
-      let c = NewMessage folder class time in let N = new_id 4 (next_index T 4 message_kinds) in
-      both (Kept c) (MadeNew T folder.bits class time) Brought (new_message T folder.bits class time) (kept_after T w c) (makes T folder.bits class time (before T w)) (λ o k r.
+  brings (NewMessage folder class time values) =
+      let c = NewMessage folder class time values in let N = new_id 4 (next_index T 4 message_kinds) in
+      both (Kept c) (MadeNew T folder.bits class time values) Brought (new_message T folder.bits class time values) (kept_after T w c) (makes T folder.bits class time values (before T w)) (λ o k r.
       message_comes c o N r.0 r.1 k r.2 r.3 r.5 (λ q e. eqb-true q N e))
   brings (CopyMessage message folder) =
       let c = CopyMessage message folder in let N = new_id 4 (next_index T 4 message_kinds) in

@@ -16,17 +16,18 @@ use Rattle.command_text.specs.declared.reply.LastLine.TheVariants.{Attached, Don
 use Rattle.mail_objects.specs.Forms.{Tbl}
 use Rattle.mail_objects.specs.declared.object.Object.{Object}
 use Rattle.mail_objects.specs.declared.object.Object.TheVariants.{Table, Message}
+use Rattle.std.specs.List.{list_any}
 use Rattle.mail_tree.specs.declared.places.FolderPlace.{FolderPlace}
 use Rattle.mail_tree.specs.Places.{find_place, is_plain}
 use Rattle.mail_tree.specs.Tree.{Tree}
-use Rattle.mail_tree.specs.Values.{bytes_of, finished, is_set_protected, is_unset_protected, message_props, with_props}
-use Rattle.command_text.specs.declared.reply.CommandRefusal.TheVariants.{Ids, Limit, Object as NoObject, Property as NoProperty}
+use Rattle.mail_tree.specs.Values.{bytes_of, finished, is_set_protected, is_unset_protected, message_props, with_props, is_withheld}
+use Rattle.command_text.specs.declared.reply.CommandRefusal.TheVariants.{Ids, Limit, Object as NoObject, Property as NoProperty, Protected}
 use Rattle.named_props.specs.Finding.{is_property_named}
 use Rattle.mail_tree.specs.Names.{names_in, unless_nameless}
 use Rattle.mail_tree.specs.Changing.{Answer, Changed, ◌>>=◌, add_shown, contents, drop_shown, nothing, now_at, overfills, put_shown, shown_row, with_object, with_rows, within_limits}
 use Rattle.mail_tree.specs.Settling.{settled, touched}
 use Rattle.mail_tree.specs.Folders.{Outcome, changing, making, replied, unless_full, replying, nid}
-use Rattle.mail_tree.specs.Messages.{added_attachment, added_message, added_recipient, adding_attachment, adding_recipient, appended_data, appending, fetched_data, removed_attachment, spent_index, too_long, changed_message, copied_message, copy_of, copying, details, in_folder, is_overfull, making_message, message_in, moved_message, new_message, parent_at, plain_message, remaking, removed_message, removed_recipient, set_value, spent_row, unset_value, value_in, value_of}
+use Rattle.mail_tree.specs.Messages.{added_attachment, added_message, added_recipient, adding_attachment, adding_recipient, appended_data, appending, fetched_data, removed_attachment, spent_index, too_long, changed_message, copied_message, copy_of, copying, details, in_folder, is_overfull, making_message, message_in, moved_message, new_message, parent_at, plain_message, remaking, removed_message, removed_recipient, set_value, spent_row, unset_value, value_in, value_of, given_message}
 use Rattle.mail_tree.specs.Parts.{attachment_props, attachment_tags, data_tag, has_recipient, is_full, is_wide, lengthened, new_row, next_part, next_row, part_in, part_nid, part_with, plain_part, recipient_props, recipient_tags, room_for, rows_of, with_attachment, with_bytes, with_part, with_recipient, without_attachment, without_recipient}
 use Rattle.mail_tree.specs.Ids.{is_spent, message_kinds, new_id, next_index}
 use Rattle.mail_tree.specs.Whole.{AreWhole, Fine}
@@ -305,36 +306,36 @@ fine_making : (T : Tree) (a : Answer Changed) (kind index : ℕ) → Fine a (Lea
 fine_making T a kind index fine stood = fine_limits (Leaves T) (Keeps T) T (Some (nid (new_id kind index))) a _ fine stood (λ D w. after_test (Keeps T) (is_spent index) Ids _ (λ left. w))
 
 -- `new`
-fine_made : (T : Tree) (folder : ℕ) (p : FolderPlace) (class : List ℕ) (time : ℕ) (store : List Val) → Before T → find_place folder T.places ≡ Some p → is_plain p ≡ true
-    → Fine (making_message T folder class time store (next_index T 4 message_kinds)) (Keeps T)
+fine_made : (T : Tree) (folder : ℕ) (p : FolderPlace) (class : List ℕ) (time : ℕ) (store values : List Val) → Before T → find_place folder T.places ≡ Some p → is_plain p ≡ true
+    → Fine (making_message T folder class time store values (next_index T 4 message_kinds)) (Keeps T)
 unfolding making_message
-fine_made T folder p class time store w found plain = elim (cases_Bool (is_spent (next_index T 4 message_kinds))) [
+fine_made T folder p class time store values w found plain = elim (cases_Bool (is_spent (next_index T 4 message_kinds))) [
   | inl t ↦
       let m = new_id 4 (next_index T 4 message_kinds) in
-      let M = plain_message m folder (message_props m class time store) in
+      let M = plain_message m folder (message_props m class time store values) in
       refused_later T T.places 4 (next_index T 4 message_kinds) (Keeps T) (added_message T (finished M) nothing) t
       (fine_planned T (finished M) nothing p w (ap (λ x. x % 32) (finished_id M) ∙ new_id_kind 4 (next_index T 4 message_kinds) (omega arith)) (ap (λ x. find_place x T.places) (finished_folder M) ∙ found) plain)
       (message_comes T (IsNew (Some (nid m))) (finished M) nothing (subst (IsNew (Some (nid m))) (sym (finished_id M)) (own_new m)) (none_stood T (IsNew (Some (nid m)))))
   | inr t ↦
       let m = new_id 4 (next_index T 4 message_kinds) in
       let id = new_message_id T t in
-      let M = plain_message m folder (message_props m class time store) in
+      let M = plain_message m folder (message_props m class time store values) in
       (fine_making T (added_message T (finished M) nothing) 4 (next_index T 4 message_kinds)
       (fine_added T nothing (finished M) p w (ap (λ x. x % 32) (finished_id M) ∙ id.0) (ap (now_at T nothing) (finished_id M) ∙ id.1) (ap (λ x. find_place x T.places) (finished_folder M) ∙ found) plain)
       (message_comes T (IsNew (Some (nid m))) (finished M) nothing (subst (IsNew (Some (nid m))) (sym (finished_id M)) (own_new m)) (none_stood T (IsNew (Some (nid m))))))
 ]
 
-pub fine_new : (T : Tree) (folder : ℕ) (class : List ℕ) (time : ℕ) → Before T → Fine (new_message T folder class time) (Keeps T)
-unfolding new_message
-fine_new T folder class time w = elim (cases_Option (find_place folder T.places)) [
+pub fine_new : (T : Tree) (folder : ℕ) (class : List ℕ) (time : ℕ) (values : List Val) → Before T → Fine (new_message T folder class time values) (Keeps T)
+unfolding new_message given_message
+fine_new T folder class time values w = after_test (Keeps T) (list_any is_withheld values) Protected (λ u. given_message T folder class time values) (λ none. elim (cases_Option (find_place folder T.places)) [
   | inl e ↦ rw e tt
   | inr p ↦ rw p.1 (elim (cases_Bool (is_plain p.0)) [
     | inr plain ↦ rw plain tt
     | inl plain ↦
         let store = store_of w in let t = messages_of w folder p.0 p.1 plain in
-        rw (plain, store.1) (fine_then (λ u. Unit {0}) (Keeps T) (unless_full T (contents folder)) _ (fine_unless_full T (contents folder) t.0 t.1) (λ u v. fine_made T folder p.0 class time store.0.props w p.1 plain))
+        rw (plain, store.1) (fine_then (λ u. Unit {0}) (Keeps T) (unless_full T (contents folder)) _ (fine_unless_full T (contents folder) t.0 t.1) (λ u v. fine_made T folder p.0 class time store.0.props values w p.1 plain))
   ])
-]
+])
 
 -- `cp`
 fine_copying : (T : Tree) (m : ℕ) (M : Mes) (folder : ℕ) (p : FolderPlace) → Before T → now_at T nothing m ≡ Some (Message M) → find_place folder T.places ≡ Some p → is_plain p ≡ true

@@ -19,11 +19,12 @@ use Rattle.command_text.specs.declared.reply.Reply.{Reply}
 use Rattle.mail_objects.specs.Forms.{Ctx, Tbl}
 use Rattle.mail_objects.specs.declared.object.Object.{Object}
 use Rattle.mail_objects.specs.declared.object.Object.TheVariants.{Context, Table, Message}
+use Rattle.std.specs.List.{list_any}
 use Rattle.mail_tree.specs.declared.places.FolderPlace.{FolderPlace}
 use Rattle.mail_tree.specs.Places.{ROOT, children, find_place, is_child, is_deep, is_plain, is_within, moves_deep, place_id}
 use Rattle.mail_tree.specs.Tree.{Tree}
-use Rattle.mail_tree.specs.Values.{bytes_of, finished, folder_props, is_set_protected, is_unset_protected, message_props, name_of, text, with_props}
-use Rattle.command_text.specs.declared.reply.CommandRefusal.TheVariants.{Ids, Limit, Object as NoObject, Property as NoProperty}
+use Rattle.mail_tree.specs.Values.{bytes_of, finished, folder_props, is_set_protected, is_unset_protected, message_props, name_of, text, with_props, is_withheld}
+use Rattle.command_text.specs.declared.reply.CommandRefusal.TheVariants.{Ids, Limit, Object as NoObject, Property as NoProperty, Protected}
 use Rattle.mail_tree.specs.Names.{NAMES, named_property, unless_nameless}
 use Rattle.mail_laws.proofs.NameSteps.{PutsNames, puts_names_after}
 use Rattle.mail_tree.specs.Changing.{Answer, Changed, ◌>>=◌, add_shown, associated, beside, contents, context_at, drop_shown, hierarchy, nothing, now_at, put_shown, table_at, with_object, within_limits}
@@ -31,7 +32,7 @@ use Rattle.mail_tree.specs.Columns.{contents_table, hierarchy_table}
 use Rattle.mail_tree.specs.Settling.{message_ids, mirrored, settled, with_context, touched}
 use Rattle.mail_tree.specs.Ids.{folder_kinds, is_spent, is_taken, message_kinds, new_id, next_index}
 use Rattle.mail_tree.specs.Folders.{Outcome, associated_in, changing, folder_lines, has_associated, has_rows, listing, made_folder, making, making_folder, moved_between, moved_folder, place, removed_folder, without_folder, without_node, message_lines, moving, renamed_folder, replied, siblings, unless_full, unless_named, unless_protected, with_folder}
-use Rattle.mail_tree.specs.Messages.{added_attachment, added_message, added_recipient, adding_attachment, adding_recipient, appended_data, appending, fetched_data, removed_attachment, spent_index, too_long, changed_message, copied_message, copy_of, copying, details, in_folder, is_overfull, making_message, message_in, moved_message, new_message, plain_message, remaking, removed_message, removed_recipient, set_value, spent_row, unset_value, value_in, value_of}
+use Rattle.mail_tree.specs.Messages.{added_attachment, added_message, added_recipient, adding_attachment, adding_recipient, appended_data, appending, fetched_data, removed_attachment, spent_index, too_long, changed_message, copied_message, copy_of, copying, details, in_folder, is_overfull, making_message, message_in, moved_message, new_message, plain_message, remaking, removed_message, removed_recipient, set_value, spent_row, unset_value, value_in, value_of, given_message}
 use Rattle.mail_tree.specs.Parts.{attachment_props, attachment_tags, data_tag, has_recipient, is_full, is_wide, lengthened, new_row, next_part, next_row, part_in, part_nid, part_with, plain_part, recipient_props, recipient_tags, room_for, rows_of, with_attachment, with_bytes, with_part, with_recipient, without_attachment, without_recipient}
 use Rattle.mail_laws.specs.Laws.{Shows}
 use Rattle.mail_tree.proofs.AfterTree.{puts_object}
@@ -150,9 +151,9 @@ module _ (T : Tree) (w : Before T) (s : AreShownBut (λ x. ⊥) T.places (now_at
     ])
   ])
 
-  makes : (folder : ℕ) (class : List ℕ) (time : ℕ) → IfOk (new_message T folder class time) After
-  unfolding new_message making_message
-  makes folder class time = elim (cases_Option (find_place folder T.places)) [
+  makes : (folder : ℕ) (class : List ℕ) (time : ℕ) (values : List Val) → IfOk (new_message T folder class time values) After
+  unfolding new_message given_message making_message
+  makes folder class time values = if_test After (list_any is_withheld values) Protected (λ u. given_message T folder class time values) (elim (cases_Option (find_place folder T.places)) [
     | inl e ↦ rw e tt
     | inr p ↦ rw p.1 (elim (cases_Bool (is_plain p.0)) [
       | inr plain ↦ rw plain tt
@@ -161,15 +162,15 @@ module _ (T : Tree) (w : Before T) (s : AreShownBut (λ x. ⊥) T.places (now_at
           rw (plain, store.1) (if_then (λ u. Unit {0}) After (unless_full T (contents folder)) _ (if_any (unless_full T (contents folder))) (λ u v. elim (cases_Bool (is_spent (next_index T 4 message_kinds))) [
             | inl t ↦
                 let index = next_index T 4 message_kinds in
-                let N = plain_message (new_id 4 index) folder (message_props (new_id 4 index) class time store.0.props) in
+                let N = plain_message (new_id 4 index) folder (message_props (new_id 4 index) class time store.0.props values) in
                 never_made T T.places 4 index After (added_message T (finished N) nothing) t
             | inr t ↦
                 let index = next_index T 4 message_kinds in
-                let N = plain_message (new_id 4 index) folder (message_props (new_id 4 index) class time store.0.props) in
+                let N = plain_message (new_id 4 index) folder (message_props (new_id 4 index) class time store.0.props values) in
                 (adds (Ok nothing) starts (finished N) p.0 index (ap (λ x. x % 32) (finished_id N) ∙ (new_message_id T t).0) (ap (λ x. find_place x T.places) (finished_folder N) ∙ p.1))
           ]))
     ])
-  ]
+  ])
 
   remakes : (m : ℕ) (M new : Mes) (reason : Option CommandRefusal) (last : LastLine) → now_at T nothing m ≡ Some (Message M) → m % 32 ≡ 4 → new.nid ≡ M.nid → new.folder ≡ M.folder → IfOk (remaking T new reason last) After
   unfolding remaking Shows_now
@@ -467,7 +468,7 @@ module _ (T : Tree) (w : Before T) (s : AreShownBut (λ x. ⊥) T.places (now_at
   mirrored_after (MoveFolder folder parent) = moves_folder folder.bits parent.bits
   mirrored_after (RemoveFolder folder) = removes_folder folder.bits
   mirrored_after (ListFolder folder) = lists_folder folder.bits
-  mirrored_after (NewMessage folder class time) = makes folder.bits class time
+  mirrored_after (NewMessage folder class time values) = makes folder.bits class time values
   mirrored_after (SetProperty message value) = sets message.bits value
   mirrored_after (UnsetProperty message tag) = unsets message.bits tag
   mirrored_after (GetProperty message tag) = gets message.bits tag

@@ -77,7 +77,7 @@ module _ (T : Tree) (w : IsWhole T) (D : ℕ → Type 0) (shown : (k : ℕ) (M :
   mirror_after (RenameFolder folder name) = both_hold T (RenameFolder folder name) w (Renamed T folder.bits name) Mirror (renames_folder T folder.bits name (before T w)) (λ o k r. placed folder.bits (Some r.0) o k r.2)
   mirror_after (MoveFolder folder parent) = both_hold T (MoveFolder folder parent) w (Placed T folder.bits (Some (place folder.bits parent.bits))) Mirror (moves_folder T folder.bits parent.bits (before T w)) (λ o k r. placed folder.bits (Some (place folder.bits parent.bits)) o k r)
   mirror_after (RemoveFolder folder) = both_hold T (RemoveFolder folder) w (Placed T folder.bits None) Mirror (removes_folder T folder.bits (before T w)) (λ o k r. placed folder.bits None o k r)
-  mirror_after (NewMessage folder class time) = both_hold T (NewMessage folder class time) w (MadeNew T folder.bits class time) Mirror (makes T folder.bits class time (before T w)) (λ o k r.
+  mirror_after (NewMessage folder class time values) = both_hold T (NewMessage folder class time values) w (MadeNew T folder.bits class time values) Mirror (makes T folder.bits class time values (before T w)) (λ o k r.
       changes r.1.nid (Some r.1) o k r.5.changes_it (λ M d e. subst MirrorsAttachments (sym r.6.2 ∙ same_Some r.1 M e) (bare (new_id 4 r.0) folder.bits _)))
   mirror_after (SetProperty message value) = both_hold T (SetProperty message value) w _ Mirror (sets T message.bits value (before T w)) (λ o k r. revalued message.bits (λ M. put value M.props) o k r.0)
   mirror_after (UnsetProperty message tag) = both_hold T (UnsetProperty message tag) w _ Mirror (unsets T message.bits tag (before T w)) (λ o k r. revalued message.bits (λ M. remove_id tag.id M.props) o k r.0)

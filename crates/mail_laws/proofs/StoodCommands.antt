@@ -28,7 +28,7 @@ use Rattle.mail_objects.specs.Forms.{Ctx}
 use Rattle.mail_tree.specs.Settling.{message_ids, mirrored, settled, with_context, touched}
 use Rattle.mail_tree.specs.Ids.{folder_kinds, is_spent, message_kinds, new_id, next_index}
 use Rattle.mail_tree.specs.Folders.{Outcome, associated_in, changing, folder_in, folder_lines, has_associated, has_rows, listing, made_folder, making, making_folder, message_lines, moved_between, moved_folder, moving, place, removed_folder, renamed_folder, replied, siblings, unless_full, unless_named, unless_plain, unless_protected, with_folder, without_folder, replying, unless, nid, made_id}
-use Rattle.mail_tree.specs.Messages.{added_attachment, added_message, added_recipient, adding_attachment, adding_recipient, appended_data, appending, fetched_data, removed_attachment, spent_index, too_long, changed_message, copied_message, copy_of, copying, details, in_folder, is_overfull, making_message, message_in, moved_message, new_message, plain_message, remaking, removed_message, removed_recipient, set_value, spent_row, unset_value, value_in, value_of}
+use Rattle.mail_tree.specs.Messages.{added_attachment, added_message, added_recipient, adding_attachment, adding_recipient, appended_data, appending, fetched_data, removed_attachment, spent_index, too_long, changed_message, copied_message, copy_of, copying, details, in_folder, is_overfull, making_message, message_in, moved_message, new_message, plain_message, remaking, removed_message, removed_recipient, set_value, spent_row, unset_value, value_in, value_of, given_message}
 use Rattle.mail_tree.specs.Parts.{attachment_props, attachment_tags, data_tag, has_recipient, is_full, is_wide, lengthened, new_row, next_part, next_row, part_in, part_nid, part_with, plain_part, recipient_props, recipient_tags, room_for, rows_of, with_attachment, with_bytes, with_part, with_recipient, without_attachment, without_recipient}
 use Rattle.mail_tree.specs.Step.{outcome}
 use Rattle.mail_laws.proofs.Keeping.{if_any, if_test, if_then, from_fine}
@@ -107,12 +107,12 @@ module _ (T : Tree) (w : Before T) where
     | inl t ↦ rw t (then_any (folder_lines T (filter (is_child f) T.places)) _ (λ folders. then_any (table_at T nothing (contents f)) _ (λ t. then_any (message_lines T (message_ids t.table)) _ (λ messages. quiet))))
   ])
 
-  makes : (folder : ℕ) (class : List ℕ) (time : ℕ) → IfOk (new_message T folder class time) Right
-  unfolding new_message making_message
-  makes folder class time =
-      then_any (folder_in T folder) _ (λ p. then_any (unless_plain p) _ (λ u. then_any (context_at T nothing 0x21) _ (λ store. then_any (unless_full T (contents folder)) _ (λ v.
-      let index = next_index T 4 message_kinds in let m = new_id 4 index in let M = plain_message m folder (message_props m class time store.props) in let New = IsNew (Some (nid m)) in
-      then_making T.places 4 index (added_message T (finished M) nothing) (message_comes T New (finished M) nothing (subst New (sym (finished_id M)) (own_new m)) (none_stood T New))))))
+  makes : (folder : ℕ) (class : List ℕ) (time : ℕ) (values : List Val) → IfOk (new_message T folder class time values) Right
+  unfolding new_message given_message making_message
+  makes folder class time values =
+      then_any _ _ (λ g. then_any (folder_in T folder) _ (λ p. then_any (unless_plain p) _ (λ u. then_any (context_at T nothing 0x21) _ (λ store. then_any (unless_full T (contents folder)) _ (λ v.
+      let index = next_index T 4 message_kinds in let m = new_id 4 index in let M = plain_message m folder (message_props m class time store.props values) in let New = IsNew (Some (nid m)) in
+      then_making T.places 4 index (added_message T (finished M) nothing) (message_comes T New (finished M) nothing (subst New (sym (finished_id M)) (own_new m)) (none_stood T New)))))))
 
   copies : (m folder : ℕ) → IfOk (copied_message T m folder) Right
   unfolding copied_message copying
@@ -217,7 +217,7 @@ module _ (T : Tree) (w : Before T) where
   command_stood (MoveFolder folder parent) = moves_folder folder.bits parent.bits
   command_stood (RemoveFolder folder) = removes_folder folder.bits
   command_stood (ListFolder folder) = lists_folder folder.bits
-  command_stood (NewMessage folder class time) = makes folder.bits class time
+  command_stood (NewMessage folder class time values) = makes folder.bits class time values
   command_stood (SetProperty message value) = sets message.bits value
   command_stood (UnsetProperty message tag) = unsets message.bits tag
   command_stood (GetProperty message tag) = gets message.bits tag

@@ -123,7 +123,7 @@ module _ (T : Tree) (w : Before T) (clear : HasNoStray T) where
   stays_clear (RemoveFolder folder) =
       both (Placed T folder.bits None) (λ o. IsPlain T folder.bits) (Clear T) (removed_folder T folder.bits)
       (removes_folder T folder.bits w) (plain_goes T folder.bits w clear) (λ o k is. let two = is.0 in clear_placed T folder.bits None o clear k (λ three. absurd (omega arith)) (λ p e plain. absurd (none-some p e)))
-  stays_clear (NewMessage folder class time) = if_weaker (MadeNew T folder.bits class time) (Clear T) (new_message T folder.bits class time) (makes T folder.bits class time w) (λ o k. changes_one _ _ o k.5.changes_it)
+  stays_clear (NewMessage folder class time values) = if_weaker (MadeNew T folder.bits class time values) (Clear T) (new_message T folder.bits class time values) (makes T folder.bits class time values w) (λ o k. changes_one _ _ o k.5.changes_it)
   stays_clear (SetProperty message value) = if_weaker _ (Clear T) (set_value T message.bits value) (sets T message.bits value w) (λ o k. changes_one _ _ o k.0.3)
   stays_clear (UnsetProperty message tag) = if_weaker _ (Clear T) (unset_value T message.bits tag) (unsets T message.bits tag w) (λ o k. changes_one _ _ o k.0.3)
   stays_clear (MoveMessage message folder) = if_weaker (Moved T message.bits folder.bits) (Clear T) (moved_message T message.bits folder.bits) (moves T message.bits folder.bits w) (λ o k. changes_one _ _ o k.2)

@@ -65,7 +65,7 @@ Copies = (T : Tree) (m folder : Nid) → IsWhole T → IfOk (outcome T (CopyMess
 
 -- after `new` there is a message with the id that is replied, in that folder, of that class and time
 abbrev pub MakesMessage : Type 0
-MakesMessage = (T : Tree) (folder : Nid) (class : List ℕ) (time : ℕ) → IsWhole T → IfOk (outcome T (NewMessage folder class time)) (λ o. (n : Nid) × (M : Mes) × (o.reply ≡ replied (Made n))
+MakesMessage = (T : Tree) (folder : Nid) (class : List ℕ) (time : ℕ) (values : List Val) → IsWhole T → IfOk (outcome T (NewMessage folder class time values)) (λ o. (n : Nid) × (M : Mes) × (o.reply ≡ replied (Made n))
     × (object_at T n.bits ≡ None) × OnlyMessage T (after T o) n.bits (Some M) × (M.folder ≡ folder.bits) × (find 0x001A M.props ≡ Some (text 0x001A class)) × (find 0x3007 M.props ≡ Some (time_value 0x3007 time)))
 
 -- after `set` the message has the value, but for a bit of its flags that follows its attachments, and its other values but for its size, and all else that it had
@@ -190,7 +190,7 @@ CountsStay = (T : Tree) (c : Command) → IsWhole T → Counts T → IfOk (outco
 
 -- the counts of each folder in which a message or a folder came, changed or went are right after the command, whatever they were; those of a new folder too
 pub record CountsAnew : Type 0 where
-  pub makes : (T : Tree) (folder : Nid) (class : List ℕ) (time : ℕ) → IsWhole T → IfOk (outcome T (NewMessage folder class time)) (λ o. CountsOf (after T o) folder.bits)
+  pub makes : (T : Tree) (folder : Nid) (class : List ℕ) (time : ℕ) (values : List Val) → IsWhole T → IfOk (outcome T (NewMessage folder class time values)) (λ o. CountsOf (after T o) folder.bits)
   pub copies : (T : Tree) (m folder : Nid) → IsWhole T → IfOk (outcome T (CopyMessage m folder)) (λ o. CountsOf (after T o) folder.bits)
   pub sets : (T : Tree) (m : Nid) (v : Val) → IsWhole T → IfOk (outcome T (SetProperty m v)) (λ o. (M : Mes) × (message_with T m.bits ≡ Some M) × CountsOf (after T o) M.folder)
   pub unsets : (T : Tree) (m : Nid) (tag : Tag) → IsWhole T → IfOk (outcome T (UnsetProperty m tag)) (λ o. (M : Mes) × (message_with T m.bits ≡ Some M) × CountsOf (after T o) M.folder)

@@ -11,7 +11,7 @@ pub fn tell_rightly()
     ensures { TellRightly }
 {}
 
-/// `new` makes a message of the class and the time that it is told, without flags, of its size and with a search key, and with no other value, no recipient and no attachment.
+/// `new` makes a message of the class and the time that it is told, without flags, of its size and with a search key, with the values that it is given, and with no other value, no recipient and no attachment.
 pub fn makes_bare_message()
     ensures { MakesBareMessage }
 {}

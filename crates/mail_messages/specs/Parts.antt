@@ -1,5 +1,6 @@
 -- Commands on messages, part by part.
 use Rattle.std.specs.Prelude.{ℕ, ◌==◌, ◌++◌, List, length, map, nat_le, not, is_some, Ok, if◌then◌else◌, ◌||◌}
+use Rattle.std.specs.List.{list_any}
 use Rattle.command_text.specs.declared.reply.CommandRefusal.TheVariants.{Limit, Property, Protected, Reserved}
 use Rattle.command_text.specs.declared.reply.Limit.TheVariants.{Rows}
 use Rattle.command_text.specs.declared.reply.DataLine.{DataLine}
@@ -12,7 +13,7 @@ use Rattle.mail_objects.specs.Forms.{Tbl}
 use Rattle.mail_tree.specs.declared.places.FolderPlace.{FolderPlace}
 use Rattle.mapi_values.specs.declared.value.Tag.{Tag}
 use Rattle.mail_tree.specs.Tree.{Tree}
-use Rattle.mail_tree.specs.Values.{bytes_of, is_set_protected, is_unset_protected}
+use Rattle.mail_tree.specs.Values.{bytes_of, is_set_protected, is_unset_protected, is_withheld}
 use Rattle.mail_tree.specs.Changing.{Answer, Changed, ◌>>=◌, add_shown, contents, found, put_shown, refused_if}
 use Rattle.mail_tree.specs.Settling.{settled}
 use Rattle.mail_tree.specs.Ids.{message_kinds, next_index}
@@ -75,9 +76,13 @@ adding T m D index = added_message T m D >>= making T T.places 4 index
 abbrev pub index_in : Tree → ℕ → Answer ℕ
 index_in T folder = unless_full T (contents folder) >>= λ u. Ok (next_index T 4 message_kinds)
 
--- a folder that has room for it gets a new message of this class and time, in a store of these values
-abbrev pub making_in : Tree → ℕ → List ℕ → ℕ → List Val → Answer Outcome
-making_in T folder class time store = unless_full T (contents folder) >>= λ u. making_message T folder class time store (next_index T 4 message_kinds)
+-- a new message may be given these values
+abbrev pub may_give : List Val → Answer (Unit {0})
+may_give values = refused_if (list_any is_withheld values) Protected
+
+-- a folder that has room for it gets a new message of this class and time, in a store of these values, given those
+abbrev pub making_in : Tree → ℕ → List ℕ → ℕ → List Val → List Val → Answer Outcome
+making_in T folder class time store values = unless_full T (contents folder) >>= λ u. making_message T folder class time store values (next_index T 4 message_kinds)
 
 -- a folder that has room for it gets a copy of a message
 abbrev pub copying_in : Tree → ℕ → Mes → Answer Outcome

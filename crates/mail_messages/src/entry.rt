@@ -14,7 +14,7 @@ use crate::on_desk;
 use mail_draft::{Draft, Outcome, Seen, Stop, StoreDesk};
 use mail_objects::Mail;
 use mail_tree::{Flags, Known, Places};
-use mapi_values::{Tag, Units, Value};
+use mapi_values::{Props, Tag, Units, Value};
 use node_port::{Keeper, NodeReader};
 use pst_base::Nid;
 use pst_outside::Outside;
@@ -408,14 +408,15 @@ fn made<W: Outside, K: Keeper<W>>(
     folder: Nid,
     class: &Units,
     time: u64,
+    values: &Props,
 ) -> Result<Outcome, Stop>
     requires fresh { changed_of desk.old.draft.now ≡ nothing }
     ensures names { (desk.new.keeper.ghost_name ≡ desk.old.keeper.ghost_name) × (desk.new.world.ghost_name ≡ desk.old.world.ghost_name) × (desk.new.seen.ghost_name ≡ desk.old.seen.ghost_name) × (desk.new.draft.ghost_name ≡ desk.old.draft.ghost_name) }
-    ensures answer { (T : Tree) → Showing (K.holds desk.old.keeper.now (W.view desk.old.world.now)) (K.last desk.old.keeper.now) desk.old.places.now desk.old.flags.now desk.old.seen.now T → Says (outcome_of T) (new_message T folder.bits class.now time) result }
+    ensures answer { (T : Tree) → Showing (K.holds desk.old.keeper.now (W.view desk.old.world.now)) (K.last desk.old.keeper.now) desk.old.places.now desk.old.flags.now desk.old.seen.now T → Says (outcome_of T) (new_message T folder.bits class.now time values.now) result }
     ensures looks { Looks (K.holds desk.old.keeper.now (W.view desk.old.world.now)) (K.holds desk.new.keeper.now (W.view desk.new.world.now)) (K.last desk.old.keeper.now) (K.last desk.new.keeper.now) (K.room desk.old.keeper.now) (K.room desk.new.keeper.now) (W.view desk.old.world.now) (W.view desk.new.world.now) }
     ensures cause { IfErr result (IsCaused K.has_disk (W.view desk.old.world.now).disk_faults (W.view desk.new.world.now).disk_faults) }
 {
-    let coming = on_desk::new_message(desk, folder, class, time)?;
+    let coming = on_desk::new_message(desk, folder, class, time, values)?;
     let draft = replace(desk.draft, Draft::new(desk.alloc));
     Ok(Outcome {
         draft,
@@ -425,7 +426,7 @@ fn made<W: Outside, K: Keeper<W>>(
     })
 }
 
-/// A new message of a class and a time in a folder. Refused, in this order: the folder isn't there (`Object`) or isn't plain (`Reserved`), its table would have too many rows (`Limit(Rows)`), a folder would have too many values (`Limit(Properties)`), no index is left (`Ids`).
+/// A new message of a class and a time in a folder, with these values beside those that each new message has. Refused, in this order: a value is one that a new message has of its own or the store keeps itself, its id needs a name, or it is an object (`Protected`), the folder isn't there (`Object`) or isn't plain (`Reserved`), its table would have too many rows (`Limit(Rows)`), a folder or the message would have too many values (`Limit(Properties)`), no index is left (`Ids`).
 pub fn new_message<W: Outside, K: Keeper<W>>(
     alloc: Global,
     keeper: &mut K,
@@ -434,8 +435,9 @@ pub fn new_message<W: Outside, K: Keeper<W>>(
     folder: Nid,
     class: &Units,
     time: u64,
+    values: &Props,
 ) -> Result<Outcome, Stop>
-    ensures answer { (T : Tree) → Shown (K.holds keeper.old (W.view w.old)) (K.last keeper.old) T → Knows T known.now → Says (outcome_of T) (new_message T folder.bits class.now time) result }
+    ensures answer { (T : Tree) → Shown (K.holds keeper.old (W.view w.old)) (K.last keeper.old) T → Knows T known.now → Says (outcome_of T) (new_message T folder.bits class.now time values.now) result }
     ensures looks { Looks (K.holds keeper.old (W.view w.old)) (K.holds keeper.new (W.view w.new)) (K.last keeper.old) (K.last keeper.new) (K.room keeper.old) (K.room keeper.new) (W.view w.old) (W.view w.new) }
     ensures cause { IfErr result (IsCaused K.has_disk (W.view w.old).disk_faults (W.view w.new).disk_faults) }
 {
@@ -450,7 +452,7 @@ pub fn new_message<W: Outside, K: Keeper<W>>(
         draft: &mut draft,
         alloc,
     };
-    made(&mut desk, folder, class, time)
+    made(&mut desk, folder, class, time, values)
 }
 
 /// What `cp` comes to on a desk over a keeper, whose draft is taken.

@@ -12,6 +12,7 @@ mod details;
 mod ending;
 mod entry;
 mod find;
+mod giving;
 mod mails;
 mod making;
 mod moving;

@@ -7,6 +7,7 @@ ghost use Rattle.mail_tree.specs.Messages.{copy_of, plain_message};
 ghost use Rattle.mail_draft.specs.Sight.{Changes, Drafts};
 ghost use Rattle.mail_objects.specs.declared.object.Object.TheVariants as objects;
 
+use crate::giving::put_values;
 use mail_draft::{Desk, Stop, bytes_of, number_of, put_number, put_text, put_time};
 use mail_objects::{Mail, Object};
 use mapi_values::tags::{
@@ -150,7 +151,7 @@ fn search_key(alloc: Global, message: Nid, store: &Props) -> Result<Bytes, Alloc
     Ok(Bytes::from_vec(bytes))
 }
 
-/// The values of a new message, but for its size.
+/// The values of a new message that is given these, but for its size.
 #[tactic(auto, unfolding(mapi_values::specs::Values::fits, mapi_values::specs::Values::in_field))]
 pub(crate) fn message_props(
     alloc: Global,
@@ -158,8 +159,9 @@ pub(crate) fn message_props(
     class: &Units,
     time: u64,
     store: &Props,
+    values: &Props,
 ) -> Result<Props, AllocError>
-    ensures { IfOk result (λ p. p ≡ message_props message.bits class.now time store.now) }
+    ensures { IfOk result (λ p. p ≡ message_props message.bits class.now time store.now values.now) }
 {
     let mut props = Props::new(alloc);
     put_text(alloc, &mut props, PID_TAG_MESSAGE_CLASS.id, class)?;
@@ -171,6 +173,7 @@ pub(crate) fn message_props(
         kind: PTYP_BINARY,
     };
     props.put(Value::new(tag, search_key(alloc, message, store)?))?;
+    put_values(alloc, &mut props, values.values())?;
     Ok(props)
 }
 

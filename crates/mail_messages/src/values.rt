@@ -23,7 +23,7 @@ use mapi_values::{Props, Tag, Value};
 use pst_base::Nid;
 
 /// Whether the store keeps the values of this id itself.
-fn is_own_id(id: u16) -> bool
+pub(crate) fn is_own_id(id: u16) -> bool
     ensures { result ≡ is_own_id id }
 {
     matches!(

@@ -43,7 +43,7 @@ stands_in T f parent = holds_of (λ p. p == parent) (parent_in T.places f)
 
 -- The messages that a command touches, where it comes to this: the one that it names or makes, and all within a folder that moves.
 abbrev pub touched : Tree → Command → Outcome → Answer (List Touch)
-touched T (NewMessage folder class time) o = Ok (made T o o.reply.last)
+touched T (NewMessage folder class time values) o = Ok (made T o o.reply.last)
 touched T (CopyMessage message folder) o = Ok (made T o o.reply.last)
 touched T (SetProperty message value) o = Ok (touch_at T o message.bits ∷ [])
 touched T (UnsetProperty message tag) o = Ok (touch_at T o message.bits ∷ [])

@@ -28,7 +28,7 @@ use Rattle.mail_tree.specs.Changing.{Answer, Changed, ◌>>=◌, add_shown, cont
 use Rattle.mail_tree.specs.Settling.{counted, message_ids, mirrored, settled, table_as_is, touched, unread_among, with_context}
 use Rattle.mail_tree.specs.Ids.{folder_kinds, is_spent, message_kinds, new_id, next_index}
 use Rattle.mail_tree.specs.Folders.{Outcome, associated_in, changing, folder_in, folder_lines, has_associated, has_rows, listing, made_folder, making, making_folder, message_lines, moved_between, moved_folder, moving, place, removed_folder, renamed_folder, replied, replying, siblings, unless, unless_full, unless_named, unless_plain, unless_protected, with_folder, without_folder}
-use Rattle.mail_tree.specs.Messages.{added_attachment, added_message, added_recipient, adding_attachment, adding_recipient, appended_data, appending, fetched_data, removed_attachment, spent_index, too_long, changed_message, copied_message, copy_of, copying, details, in_folder, is_overfull, making_message, message_in, moved_message, new_message, plain_message, remaking, removed_message, removed_recipient, set_value, spent_row, unset_value, value_in, value_of}
+use Rattle.mail_tree.specs.Messages.{added_attachment, added_message, added_recipient, adding_attachment, adding_recipient, appended_data, appending, fetched_data, removed_attachment, spent_index, too_long, changed_message, copied_message, copy_of, copying, details, in_folder, is_overfull, making_message, message_in, moved_message, new_message, plain_message, remaking, removed_message, removed_recipient, set_value, spent_row, unset_value, value_in, value_of, given_message}
 use Rattle.mail_tree.specs.Names.{NAMES, found_or_added, is_name, named_property, no_room, unless_nameless, with_another}
 use Rattle.named_props.specs.Finding.{name_at}
 use Rattle.named_props.specs.Holding.{names_of, written}
@@ -159,13 +159,13 @@ module _ (T : Tree) where
   adds : (m : Mes) (D : Changed) → IfOk (added_message T m D) WritesNodes
   adds m D = settles T.places m.folder _
 
-  makes : (folder : ℕ) (class : List ℕ) (time : ℕ) → IfOk (new_message T folder class time) Right
-  unfolding new_message making_message
-  makes folder class time =
-      then_any (folder_in T folder) _ (λ p. then_any (unless_plain p) _ (λ u. then_any (context_at T nothing 0x21) _ (λ store. then_any (unless_full T (contents folder)) _ (λ v.
+  makes : (folder : ℕ) (class : List ℕ) (time : ℕ) (values : List Val) → IfOk (new_message T folder class time values) Right
+  unfolding new_message given_message making_message
+  makes folder class time values =
+      then_any _ _ (λ g. then_any (folder_in T folder) _ (λ p. then_any (unless_plain p) _ (λ u. then_any (context_at T nothing 0x21) _ (λ store. then_any (unless_full T (contents folder)) _ (λ v.
       let index = next_index T 4 message_kinds in
-      let m = finished (plain_message (new_id 4 index) folder (message_props (new_id 4 index) class time store.props)) in
-      then_making T.places 4 index (added_message T m nothing) (adds m nothing)))))
+      let m = finished (plain_message (new_id 4 index) folder (message_props (new_id 4 index) class time store.props values)) in
+      then_making T.places 4 index (added_message T m nothing) (adds m nothing))))))
 
   copies : (m folder : ℕ) → IfOk (copied_message T m folder) Right
   unfolding copied_message copying
@@ -260,7 +260,7 @@ module _ (T : Tree) where
   right (MoveFolder folder parent) = moves_folder folder.bits parent.bits
   right (RemoveFolder folder) = removes_folder folder.bits
   right (ListFolder folder) = lists_folder folder.bits
-  right (NewMessage folder class time) = makes folder.bits class time
+  right (NewMessage folder class time values) = makes folder.bits class time values
   right (SetProperty message value) = sets message.bits value
   right (UnsetProperty message tag) = unsets message.bits tag
   right (GetProperty message tag) = gets message.bits tag

@@ -47,7 +47,8 @@ pub fn outcome<W: Outside, K: Keeper<W>>(
             folder,
             class,
             time,
-        } => new_message(alloc, keeper, w, known, *folder, class, *time),
+            values,
+        } => new_message(alloc, keeper, w, known, *folder, class, *time, values),
         Command::SetProperty { message, value } => {
             set_value(alloc, keeper, w, known, *message, value)
         }

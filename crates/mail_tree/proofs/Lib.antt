@@ -1,6 +1,7 @@
 pub mod AfterLaws
 pub mod PlaceLaws
 pub mod KeyedFinds
+pub mod GivenValues
 pub mod OneList
 pub mod FineLaws
 pub mod StoodLaws

@@ -1,5 +1,6 @@
 -- The commands on messages: what each refuses, in its order, and what it changes.
 use Rattle.std.specs.Prelude.{ℕ, ◌==◌, Bool, not, nat_lt, List, [], ◌++◌, length, map, Option, None, Some, Ok, if◌then◌else◌, ◌||◌}
+use Rattle.std.specs.List.{list_any}
 use Rattle.std.specs.Option.{option_map, option_and_then, is_some}
 use Rattle.pst_base.specs.Ids.{kind_of}
 use Rattle.node_port.specs.Nodes.{node_at}
@@ -21,7 +22,7 @@ use Rattle.mail_objects.specs.declared.object.Object.{Object as Obj}
 use Rattle.mail_objects.specs.declared.object.Object.TheVariants as objects
 use Rattle.mail_tree.specs.Places.{find_place, is_plain}
 use Rattle.mail_tree.specs.Tree.{Tree, object_at}
-use Rattle.mail_tree.specs.Values.{bytes_of, finished, is_set_protected, is_unset_protected, length_of, message_props, number_of, text_of, with_props}
+use Rattle.mail_tree.specs.Values.{bytes_of, finished, is_set_protected, is_unset_protected, is_withheld, length_of, message_props, number_of, text_of, with_props}
 use Rattle.mail_tree.specs.Changing.{Answer, Changed, ◌>>=◌, add_shown, contents, context_at, drop_shown, found, message_at, nothing, put_shown, refused_if, table_at, with_object}
 use Rattle.mail_tree.specs.Settling.{settled, touched}
 use Rattle.mail_tree.specs.Parts.{attachment_props, attachment_tags, data_tag, has_recipient, is_full, is_spent_row, is_too_long, is_wide, lengthened, new_row, next_part, next_row, part_in, part_nid, part_with, plain_part, recipient_props, recipient_tags, room_for, rows_of, with_attachment, with_bytes, with_part, with_recipient, without_attachment, without_recipient}
@@ -69,15 +70,19 @@ abbrev pub plain_message : ℕ → ℕ → List Val → Mes
 plain_message m folder props = record { nid = m; folder = folder; props = props; recipients = None; attachments = None; parts = []; kept = [] }
 
 -- a new message of this index
-unfoldable pub making_message : Tree → ℕ → List ℕ → ℕ → List Val → ℕ → Answer Outcome
-making_message T folder class time store index =
+unfoldable pub making_message : Tree → ℕ → List ℕ → ℕ → List Val → List Val → ℕ → Answer Outcome
+making_message T folder class time store values index =
     let m = new_id 4 index in
-    added_message T (finished (plain_message m folder (message_props m class time store))) nothing >>= making T T.places 4 index
+    added_message T (finished (plain_message m folder (message_props m class time store values))) nothing >>= making T T.places 4 index
+
+-- a new message with values that it may be given
+unfoldable pub given_message : Tree → ℕ → List ℕ → ℕ → List Val → Answer Outcome
+given_message T folder class time values = folder_in T folder >>= λ p. unless_plain p >>= λ u. context_at T nothing 0x21 >>= λ store. unless_full T (contents folder) >>= λ v.
+    making_message T folder class time store.props values (next_index T 4 message_kinds)
 
 -- `new`
-unfoldable pub new_message : Tree → ℕ → List ℕ → ℕ → Answer Outcome
-new_message T folder class time = folder_in T folder >>= λ p. unless_plain p >>= λ u. context_at T nothing 0x21 >>= λ store. unless_full T (contents folder) >>= λ v.
-    making_message T folder class time store.props (next_index T 4 message_kinds)
+unfoldable pub new_message : Tree → ℕ → List ℕ → ℕ → List Val → Answer Outcome
+new_message T folder class time values = refused_if (list_any is_withheld values) Protected >>= λ u. given_message T folder class time values
 
 -- `set`
 unfoldable pub set_value : Tree → ℕ → Val → Answer Outcome

@@ -92,9 +92,18 @@ key_front (Some key) = if nat_le 12 (length key) then take 12 key else replicate
 abbrev pub search_key : ℕ → List Val → List ℕ
 search_key m store = little_bytes 4 m ++ key_front (bytes_of 0x0FF9 0x0102 store)
 
--- the values of a new message, but for its size
-abbrev pub message_props : ℕ → List ℕ → ℕ → List Val → List Val
-message_props m class time store = text 0x001A class ∷ number 0x0E07 0 ∷ time_value 0x3007 time ∷ time_value 0x3008 time ∷ value 0x300B 0x0102 (search_key m store) ∷ []
+-- values put one after another, each in place of the one of its id
+abbrev pub put_all : List Val → List Val → List Val
+put_all [] props = props
+put_all (v ∷ vs) props = put_all vs (put v props)
+
+-- the values that each new message has, but for its size
+abbrev pub own_props : ℕ → List ℕ → ℕ → List Val → List Val
+own_props m class time store = text 0x001A class ∷ number 0x0E07 0 ∷ time_value 0x3007 time ∷ time_value 0x3008 time ∷ value 0x300B 0x0102 (search_key m store) ∷ []
+
+-- the values of a new message that is given these, but for its size
+abbrev pub message_props : ℕ → List ℕ → ℕ → List Val → List Val → List Val
+message_props m class time store values = put_all values (own_props m class time store)
 
 -- an entry id of this length names the node in its last 4 bytes
 abbrev pub names_node : ℕ → Option (List ℕ) → Bool
@@ -108,6 +117,14 @@ is_special f store = names_node f (bytes_of 0x35E0 0x0102 store) || (names_node 
 -- a value that the store keeps itself
 abbrev pub is_own_id : ℕ → Bool
 is_own_id id = (id == 0x0E08) || ((id == 0x0E12) || ((id == 0x0E13) || ((id == 0x300B) || ((id == 0x67F2) || (id == 0x67F3)))))
+
+-- the class, the flags or a time, which a new message has of its own
+abbrev pub is_new_id : ℕ → Bool
+is_new_id id = (id == 0x001A) || ((id == 0x0E07) || ((id == 0x3007) || (id == 0x3008)))
+
+-- a value that a new message may not be given: one of an id that it has of its own or that the store keeps itself, one of an id that needs a name, or an object
+abbrev pub is_withheld : Val → Bool
+is_withheld v = is_new_id v.id || (is_own_id v.id || (nat_le 0x8000 v.id || (v.kind == 0x000D)))
 
 -- there is an object, which another program embedded, under this id
 abbrev pub has_object : ℕ → List Val → Bool

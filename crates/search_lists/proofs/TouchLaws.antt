@@ -183,7 +183,7 @@ touches_all T (MoveFolder folder parent) w = let b = before T w in let c = MoveF
 touches_all T (RemoveFolder folder) w = let b = before T w in both_hold T (RemoveFolder folder) w (places.Placed T folder.bits None) (Touches T (RemoveFolder folder)) (places.removes_folder T folder.bits b)
     (λ o k r. went T o folder.bits (subst (AreWhole o.places) (after_now T o) k) (places.only_place T folder.bits None o b k r))
 touches_all T (ListFolder folder) w = reading T (ListFolder folder) (reads_only T (ListFolder folder) refl)
-touches_all T (NewMessage folder class time) w = let b = before T w in both_hold T (NewMessage folder class time) w (effects.MadeNew T folder.bits class time) (Touches T (NewMessage folder class time)) (effects.makes T folder.bits class time b)
+touches_all T (NewMessage folder class time values) w = let b = before T w in both_hold T (NewMessage folder class time values) w (effects.MadeNew T folder.bits class time values) (Touches T (NewMessage folder class time values)) (effects.makes T folder.bits class time values b)
     (λ o k r. made_one T o (new_id 4 r.0) (Some r.1) r.5.reply_is (effects.only_message T (new_id 4 r.0) (Some r.1) o b k (subst (λ x. effects.Changes T x (Some r.1) o) r.2 r.5.changes_it)))
 touches_all T (SetProperty message value) w = let b = before T w in both_hold T (SetProperty message value) w _ (Touches T (SetProperty message value)) (effects.sets T message.bits value b)
     (λ o k r. one_touch T o message.bits (Some (with_props r.0.1 r.0.0)) (effects.only_message T message.bits (Some (with_props r.0.1 r.0.0)) o b k r.0.3))

@@ -14,7 +14,7 @@ use Rattle.mail_objects.specs.declared.object.Object.{Object}
 use Rattle.mail_tree.specs.Changing.{Answer, Changed, ◌>>=◌, as_message, contents, context_at, found, known, message_at, newest, nothing, now_at, refused_if, table_at, within_limits}
 use Rattle.mail_tree.specs.Folders.{Outcome, folder_in, making, unless_full, unless_plain}
 use Rattle.mail_tree.specs.Ids.{LAST_INDEX, greatest, is_spent, is_taken, is_used, message_kinds, new_id, next_index}
-use Rattle.mail_tree.specs.Messages.{added_attachment, added_recipient, appended_data, copied_message, copying, making_message, message_in, moved_message, new_message, parent_at, removed_attachment, removed_message, removed_recipient, set_value, unset_value}
+use Rattle.mail_tree.specs.Messages.{added_attachment, added_recipient, appended_data, copied_message, copying, making_message, message_in, moved_message, new_message, parent_at, removed_attachment, removed_message, removed_recipient, set_value, unset_value, given_message}
 use Rattle.mail_tree.specs.Places.{find_place, is_plain}
 use Rattle.mail_tree.specs.Step.{outcome}
 use Rattle.mail_tree.specs.Tree.{Tree, object_at}
@@ -110,10 +110,10 @@ module _ (T : Tree) where
   then_making : (a : Answer Changed) → IfOk (a >>= making T T.places 4 (next_index T 4 message_kinds)) New
   then_making a = if_next New a _ made_new
 
-  new_is_new : (folder : ℕ) (class : List ℕ) (time : ℕ) → IfOk (new_message T folder class time) New
-  unfolding new_message making_message
-  new_is_new folder class time =
-      if_next New (folder_in T folder) _ (λ p. if_next New (unless_plain p) _ (λ u. if_next New (context_at T nothing 0x21) _ (λ store. if_next New (unless_full T (contents folder)) _ (λ v. then_making _))))
+  new_is_new : (folder : ℕ) (class : List ℕ) (time : ℕ) (values : List Val) → IfOk (new_message T folder class time values) New
+  unfolding new_message given_message making_message
+  new_is_new folder class time values =
+      if_next New _ _ (λ g. if_next New (folder_in T folder) _ (λ p. if_next New (unless_plain p) _ (λ u. if_next New (context_at T nothing 0x21) _ (λ store. if_next New (unless_full T (contents folder)) _ (λ v. then_making _)))))
 
   copy_is_new : (m folder : ℕ) → IfOk (copied_message T m folder) New
   unfolding copied_message copying
@@ -127,7 +127,7 @@ module _ (T : Tree) where
   stood (MoveFolder folder parent) = always (outcome T (MoveFolder folder parent))
   stood (RemoveFolder folder) = always (outcome T (RemoveFolder folder))
   stood (ListFolder folder) = always (outcome T (ListFolder folder))
-  stood (NewMessage folder class time) = new_is_new folder.bits class time
+  stood (NewMessage folder class time values) = new_is_new folder.bits class time values
   stood (SetProperty message value) = after_message message.bits _
   stood (UnsetProperty message tag) = after_message message.bits _
   stood (GetProperty message tag) = always (outcome T (GetProperty message tag))

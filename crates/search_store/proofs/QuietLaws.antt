@@ -172,7 +172,7 @@ module _ (X : Searching) where
   right_all (RenameFolder folder name) = either (is_own X.own folder.bits) _ _ (right_staying (renamed_search X.tree folder.bits name) (right_renamed X.tree folder.bits name)) (right_plain (RenameFolder folder name))
   right_all (MoveFolder folder parent) = either (is_own X.own folder.bits) _ _ (right_staying (moved_search X.tree folder.bits parent.bits) (right_moved X.tree folder.bits parent.bits)) (right_plain (MoveFolder folder parent))
   right_all (RemoveFolder folder) = either (is_own X.own folder.bits) _ _ (right_removes folder.bits) (right_plain (RemoveFolder folder))
-  right_all (NewMessage folder class time) = right_plain (NewMessage folder class time)
+  right_all (NewMessage folder class time values) = right_plain (NewMessage folder class time values)
   right_all (SetProperty message value) = right_plain (SetProperty message value)
   right_all (UnsetProperty message tag) = right_plain (UnsetProperty message tag)
   right_all (GetProperty message tag) = right_plain (GetProperty message tag)

@@ -36,7 +36,7 @@ both_right T w F G o k = (
 pub returns : goal.returns
 unfolding outcome
 returns c = record {
-  makes = λ T folder class time w. let b = before T w in if_weaker (Ends T b (λ x. Unit {0}) (any T) folder.bits) _ (new_message T folder.bits class time) (makes T b (λ x. Unit {0}) (any T) folder.bits class time) (λ o k. right T b folder.bits o k);
+  makes = λ T folder class time values w. let b = before T w in if_weaker (Ends T b (λ x. Unit {0}) (any T) folder.bits) _ (new_message T folder.bits class time values) (makes T b (λ x. Unit {0}) (any T) folder.bits class time values) (λ o k. right T b folder.bits o k);
   copies = λ T m folder w. let b = before T w in if_weaker (Ends T b (λ x. Unit {0}) (any T) folder.bits) _ (copied_message T m.bits folder.bits) (copies T b (λ x. Unit {0}) (any T) m.bits folder.bits) (λ o k. right T b folder.bits o k);
   sets = λ T m v w. let b = before T w in if_weaker (Home T b (λ x. Unit {0}) (any T) m.bits) _ (set_value T m.bits v) (sets T b (λ x. Unit {0}) (any T) m.bits v) (λ o k. home T b m.bits o k);
   unsets = λ T m tag w. let b = before T w in if_weaker (Home T b (λ x. Unit {0}) (any T) m.bits) _ (unset_value T m.bits tag) (unsets T b (λ x. Unit {0}) (any T) m.bits tag) (λ o k. home T b m.bits o k);

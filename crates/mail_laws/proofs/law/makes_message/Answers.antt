@@ -10,5 +10,5 @@ use Rattle.mail_laws.proofs.law.makes_message.Goals as goal
 
 pub returns : goal.returns
 unfolding outcome
-returns c T folder class time w = let b = before T w in both_hold T (NewMessage folder class time) w (MadeNew T folder.bits class time) _ (makes T folder.bits class time b)
+returns c T folder class time values w = let b = before T w in both_hold T (NewMessage folder class time values) w (MadeNew T folder.bits class time values) _ (makes T folder.bits class time values b)
     (λ o k r. (nid (new_id 4 r.0), r.1, r.5.reply_is, was_nothing T (new_id 4 r.0) r.3, only_message T (new_id 4 r.0) (Some r.1) o b k (subst (λ x. Changes T x (Some r.1) o) r.2 r.5.changes_it), r.4.folder_is, r.4.class_is, r.4.time_is))

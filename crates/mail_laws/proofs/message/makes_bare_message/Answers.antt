@@ -14,7 +14,7 @@ use Rattle.mail_laws.proofs.message.makes_bare_message.Goals as goal
 
 pub returns : goal.returns
 unfolding outcome
-returns c T folder class time w = if_weaker (MadeNew T folder.bits class time) _ (new_message T folder.bits class time) (makes T folder.bits class time (before T w)) (λ o r.
+returns c T folder class time values w = if_weaker (MadeNew T folder.bits class time values) _ (new_message T folder.bits class time values) (makes T folder.bits class time values (before T w)) (λ o r.
     let m = new_id 4 r.0 in (
       nid m,
       r.1,
@@ -22,5 +22,5 @@ returns c T folder class time w = if_weaker (MadeNew T folder.bits class time) _
       r.5.reply_is,
       ap (λ g. as_message (g m)) (sym (after_now T o)) ∙ ap (λ q. as_message (now_at T o.changed q)) (sym r.2) ∙ r.5.changes_it.here,
       ap (λ g. g 0x21) (sym (now_nothing T)) ∙ r.6.1,
-      subst (IsNewMessage m folder.bits class time r.6.0.props) (sym r.6.2) (new_values m folder.bits class time r.6.0.props),
+      subst (IsNewMessage m folder.bits class time r.6.0.props values) (sym r.6.2) (new_values m folder.bits class time r.6.0.props values r.6.3),
     ))
