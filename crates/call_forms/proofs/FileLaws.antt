@@ -128,7 +128,7 @@ reads_on {a = a} {b = b} {X = X} same h =
     (record { nodes = s.nodes; held = subst (λ f. Stands f b s.nodes X.tree.last) (sym (front_on same)) held; at = s.at; counters = s.counters }, h.1)
 
 -- nothing is pending behind calls that keep the disk, where nothing was
-settled_after : {mid new : World} → Settled mid → KeepsDisk mid new → Settled new
+pub settled_after : {mid new : World} → Settled mid → KeepsDisk mid new → Settled new
 settled_after {mid} {new} settled keeps c left =
     let same : SameDisk mid.here c = elim (at_end keeps.disk c left) [ inl here ↦ here | inr was ↦ subst (λ i. SameDisk i c) (settled was.0 was.1) was.2 ] in
     let here : SameDisk mid.here new.here = keeps.same (tells_now new c left) in

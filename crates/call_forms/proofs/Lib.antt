@@ -4,6 +4,7 @@ pub mod CompactLaws
 pub mod CopyLaws
 pub mod Disks
 pub mod FileLaws
+pub mod FillLaws
 pub mod InfoLaws
 pub mod LookLaws
 pub mod LookingLaws

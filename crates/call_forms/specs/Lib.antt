@@ -3,6 +3,7 @@ pub mod Compact
 pub mod Copies
 pub mod Decode
 pub mod Files
+pub mod Fill
 pub mod Info
 pub mod Look
 pub mod Looking

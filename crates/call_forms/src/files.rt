@@ -13,7 +13,7 @@ use std::alloc::{AllocError, Global};
 use store_session::SessionEnd;
 
 /// The status of a session that ended so.
-fn status_of_end(end: SessionEnd) -> Status
+pub(crate) fn status_of_end(end: SessionEnd) -> Status
     ensures { result ≡ status_of_end end }
 {
     match end {

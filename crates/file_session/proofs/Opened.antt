@@ -1,5 +1,5 @@
 -- From the opening to the end of a session over a file.
-use Rattle.std.proofs.Common.{◌≡◌, ◌∙◌, ℕ, Bool, true, false, List, Option, ◌++◌, refl, sym, ap, subst, inl, inr}
+use Rattle.std.proofs.Common.{◌≡◌, ◌∙◌, ℕ, ◌+◌, ◌≤◌, Bool, true, false, List, Option, ◌++◌, refl, sym, ap, subst, inl, inr}
 use Rattle.pst_outside.specs.World.{Image, World}
 use Rattle.pst_outside.specs.Calls.{LeavesOnly, Settled, Untouched}
 use Rattle.pst_outside.proofs.Moments.{continues, weaker}
@@ -22,6 +22,7 @@ use Rattle.store_session.specs.Carrying.{Has, InOrder, StandsFor}
 use Rattle.store_session.specs.Disks.{Effects, Medium, medium}
 use Rattle.store_session.specs.Session.{StoreSessionEnds}
 use Rattle.store_session.specs.Turns.{IsReached, SaysTurns, StoreTurn, texts}
+use Rattle.store_session.proofs.Carry.{same_medium}
 use Rattle.store_session.proofs.Reached.{reached_before}
 use Rattle.store_session.specs.declared.session.SessionEnd.{SessionEnd}
 use Rattle.store_session.specs.declared.session.SessionEnd.TheVariants.{Disk, Changed, Memory}
@@ -108,17 +109,22 @@ fresh_start {image = image} o fresh =
       left = same_spent image o.nodes other.nodes o.tree.tree.tree.last fresh.0.tree.last laid other.laid ∙ fresh.1.left;
     }
 
-pub ends_opened : (knows : Header → List ℕ → Type 0) (becomes : List (ℕ × List Bool) → List ℕ → List ℕ → Type 0) (costs : List ℕ → List ℕ → List (Nid × Option NodeRec) → ℕ → Type 0) (bytes : List ℕ) (header : Header) (tree : OpenedTree) (first mid now : World) (end : SessionEnd)
+-- What an opening gives that gave a keeper.
+pub record StartsOpened (knows : Header → List ℕ → Type 0) (bytes : List ℕ) (header : Header) (tree : OpenedTree) (first mid : World) : Type 0 where
+  pub start : Searching
+  pub reads : ReadsAs false (front_of first.here) first.here start
+  pub fresh : ReadsFresh first.here start
+  pub front : bytes ≡ front_of first.here
+  pub opening : Settled first → (tidy : Bool) → ReadsAs tidy (front_of first.here) first.here start → LeavesOnly first mid (λ c. (c.said ≡ first.here.said) × ReadsAs tidy bytes c start)
+  pub has : Settled first → (tidy : Bool) → ReadsAs tidy (front_of first.here) first.here start → Has (Holds knows bytes header mid) header.indexes tree.known tree.searches (λ image. IsShut image.side) mid tidy start
+
+pub starts_opened : (knows : Header → List ℕ → Type 0) (bytes : List ℕ) (header : Header) (tree : OpenedTree) (first mid : World)
     → IsOpened knows bytes header first.here mid tree
     → ((X : Searching) × ReadsFresh first.here X)
-    → now.tells → (now.tells → mid.tells)
-    → (mid.tells → mid.input ≡ first.input) → SameStore first.here mid.here
     → (Settled first → Settled mid) → (mid.tells → IsShut mid.here.side)
     → (Settled first → Leaving first mid)
-    → ((tidy : Bool) (X : Searching) → Has (Holds knows bytes header mid) header.indexes tree.known tree.searches (λ image. IsShut image.side) mid tidy X → (true ≡ true → now.tells)
-    → StoreSessionEnds (file_effects becomes costs) (ReadsAs tidy bytes) (λ image. IsShut image.side) (medium mid) mid now X end)
-    → EndsOpened becomes costs first now end
-ends_opened knows becomes costs bytes header tree first mid now end o fresh tells told input store settled shut leaving session =
+    → StartsOpened knows bytes header tree first mid
+starts_opened knows bytes header tree first mid o fresh settled shut leaving =
     let X : Searching = o.tree.tree in
     let shown = o.tree.shows.0 in
     let sound : InOrder false X = record {
@@ -136,27 +142,45 @@ ends_opened knows becomes costs bytes header tree first mid now end o fresh tell
       start = X;
       fresh = fresh_start o fresh;
       reads = subst (λ f. ReadsAs false f first.here X) o.front (shows first.here stands, sound);
-      opened = medium mid;
-      store = store;
-      session = λ still tidy read.
-          let leaves : LeavesNodes first mid bytes o.nodes X.tree.last = leaving still bytes o.nodes X.tree.last (λ t. stands) in
-          let order : InOrder tidy X = read.1 in
-          let opening : LeavesOnly first mid (λ c. (c.said ≡ first.here.said) × ReadsAs tidy bytes c X) = leaves_tree tidy bytes first mid o.nodes X shows order leaves in
-          let has : Has (Holds knows bytes header mid) header.indexes tree.known tree.searches (λ image. IsShut image.side) mid tidy X = record {
-            stores = record {
-              tree = record { shown = record { nodes = o.nodes; held = o.held; at = shown.at; counters = o.tree.counters }; knows = o.tree.knows };
-              searches = o.tree.searches;
-            };
-            order = order;
-            settled = settled still;
-            at_rest = shut;
-          } in
-          subst (λ f. StoreSessionEnds (file_effects becomes costs) (ReadsAs tidy f) (λ image. IsShut image.side) (medium mid) first now X end) o.front
-          (session_behind (file_effects becomes costs) (ReadsAs tidy bytes) (λ image. IsShut image.side) (medium mid) first mid now X end told input (λ t. (opening.here t).0) opening (session tidy X has (λ e. tells)));
+      front = o.front;
+      opening = λ still tidy read. leaves_tree tidy bytes first mid o.nodes X shows read.1 (leaving still bytes o.nodes X.tree.last (λ t. stands));
+      has = λ still tidy read. record {
+        stores = record {
+          tree = record { shown = record { nodes = o.nodes; held = o.held; at = shown.at; counters = o.tree.counters }; knows = o.tree.knows };
+          searches = o.tree.searches;
+        };
+        order = read.1;
+        settled = settled still;
+        at_rest = shut;
+      };
     }
   where
     no_truth : false ≡ true → ⊥
     no_truth e = cc
+
+pub ends_opened : (knows : Header → List ℕ → Type 0) (becomes : List (ℕ × List Bool) → List ℕ → List ℕ → Type 0) (costs : List ℕ → List ℕ → List (Nid × Option NodeRec) → ℕ → Type 0) (bytes : List ℕ) (header : Header) (tree : OpenedTree) (first mid now : World) (end : SessionEnd)
+    → StartsOpened knows bytes header tree first mid
+    → now.tells → (now.tells → mid.tells)
+    → (mid.tells → mid.input ≡ first.input) → SameStore first.here mid.here
+    → mid.written ≤ first.written + 580 → (IsShut first.here.side → Untouched first mid)
+    → ((tidy : Bool) (X : Searching) → Has (Holds knows bytes header mid) header.indexes tree.known tree.searches (λ image. IsShut image.side) mid tidy X → (true ≡ true → now.tells)
+    → StoreSessionEnds (file_effects becomes costs) (ReadsAs tidy bytes) (λ image. IsShut image.side) (medium mid) mid now X end)
+    → EndsOpened becomes costs first now end
+ends_opened knows becomes costs bytes header tree first mid now end s tells told input store written idle session =
+    let X : Searching = s.start in
+    record {
+      start = X;
+      fresh = s.fresh;
+      reads = s.reads;
+      opened = medium mid;
+      store = store;
+      opening = written;
+      idle = λ shut. let same = idle shut in same_medium first mid (same.stays.here (told tells)) same.stays.written;
+      session = λ still tidy read.
+          let opening : LeavesOnly first mid (λ c. (c.said ≡ first.here.said) × ReadsAs tidy bytes c X) = s.opening still tidy read in
+          subst (λ f. StoreSessionEnds (file_effects becomes costs) (ReadsAs tidy f) (λ image. IsShut image.side) (medium mid) first now X end) s.front
+          (session_behind (file_effects becomes costs) (ReadsAs tidy bytes) (λ image. IsShut image.side) (medium mid) first mid now X end told input (λ t. (opening.here t).0) opening (session tidy X (s.has still tidy read) (λ e. tells)));
+    }
 
 -- ---- one that gave none
 
@@ -197,26 +221,28 @@ disk_memory is = cc
 
 pub ends_unopened : (first now : World) (stop : FileStop) (end : SessionEnd) → unopened stop ≡ Ended end → now.tells
     → StopsOpening first.here stop → (now.tells → now.input ≡ first.input) → (now.tells → SameStore first.here now.here) → ((stop ≡ stops.Fault → ⊥) → Untouched first now)
-    → (((X : Searching) → ReadsFresh first.here X → ⊥) → Untouched first now) → (Settled first → Leaving first now)
+    → (((X : Searching) → ReadsFresh first.here X → ⊥) → Untouched first now) → (Settled first → Leaving first now) → now.written ≤ first.written + 580
     → EndsUnopened first now end
-ends_unopened first now (stops.Refused refusal) end is tells why input store clean kept leaving = absurd (no_end refusal end is)
-ends_unopened first now stops.Fault end is tells why input store clean kept leaving = record {
+ends_unopened first now (stops.Refused refusal) end is tells why input store clean kept leaving written = absurd (no_end refusal end is)
+ends_unopened first now stops.Fault end is tells why input store clean kept leaving written = record {
   ends = inl (sym (same_end Disk end is));
   input = input;
   said = λ t. (store t).said;
   memory = λ m. absurd (disk_memory (same_end Disk end is ∙ m));
   no_tree = kept;
   store = store;
+  written = written;
   images = λ still. still_reads (front_of first.here) first now (leaving still);
 }
-ends_unopened first now (stops.Changed ib stored computed) end is tells why input store clean kept leaving = absurd why
-ends_unopened first now stops.Memory end is tells why input store clean kept leaving = record {
+ends_unopened first now (stops.Changed ib stored computed) end is tells why input store clean kept leaving written = absurd why
+ends_unopened first now stops.Memory end is tells why input store clean kept leaving written = record {
   ends = inr (sym (same_end Memory end is));
   input = input;
   said = λ t. (store t).said;
   memory = λ m. clean memory_fault;
   no_tree = kept;
   store = store;
+  written = written;
   images = λ still. still_reads (front_of first.here) first now (leaving still);
 }
 

@@ -1,5 +1,5 @@
 -- How a session over a file ends. What is said of a stop, and of the session behind the opening, is said where nothing was pending at the start.
-use Rattle.std.specs.Prelude.{◌≡◌, ◌⊎◌, Bool, false, List, Option, ℕ, take}
+use Rattle.std.specs.Prelude.{◌≡◌, ◌⊎◌, ◌+◌, ◌≤◌, Bool, false, List, Option, ℕ, take}
 use Rattle.pst_base.specs.declared.ids.Nid.{Nid}
 use Rattle.pst_outside.specs.World.{Image, World}
 use Rattle.pst_outside.specs.Calls.{LeavesOnly, Settled, Untouched}
@@ -12,7 +12,7 @@ use Rattle.pst_commit.specs.Keeping.{HasRoom, IsCommitted, IsSaved}
 use Rattle.mail_searches.specs.Searching.{Searching}
 use Rattle.file_open.specs.Opening.{ReadsFresh}
 use Rattle.store_session.specs.Carrying.{StandsOrdered}
-use Rattle.store_session.specs.Disks.{Effects, Medium, effects_of}
+use Rattle.store_session.specs.Disks.{Effects, Medium, SameMedium, effects_of, medium}
 use Rattle.store_session.specs.Session.{StoreSessionEnds}
 use Rattle.store_session.specs.declared.session.SessionEnd.{SessionEnd}
 use Rattle.store_session.specs.declared.session.SessionEnd.TheVariants.{Disk, Memory}
@@ -33,6 +33,8 @@ pub record EndsUnopened (first now : World) (end : SessionEnd) : Type 0 where
   pub memory : end ≡ Memory → Untouched first now
   pub no_tree : ((X : Searching) → ReadsFresh first.here X → ⊥) → Untouched first now
   pub store : now.tells → SameStore first.here now.here
+  -- at most the gate was closed
+  pub written : now.written ≤ first.written + 580
   pub images : Settled first → (tidy : Bool) (X : Searching) → ReadsAs tidy (front_of first.here) first.here X → LeavesOnly first now (λ c. (c.said ≡ first.here.said) × ReadsAs tidy (front_of first.here) c X)
 
 -- What is told of files from turn to turn: their room, where nothing is held beside what they lay, what a commit makes of their bytes and how many it writes, and what a save does.
@@ -47,6 +49,9 @@ pub record EndsOpened (becomes : List (ℕ × List Bool) → List ℕ → List �
   -- the disk that the first line finds: the store is as it was
   pub opened : Medium
   pub store : SameStore first.here opened.image
+  -- at most the gate was closed, and nothing was written where it was shut
+  pub opening : opened.written ≤ first.written + 580
+  pub idle : IsShut first.here.side → SameMedium (medium first) opened
   pub session : Settled first → (tidy : Bool) → ReadsAs tidy (front_of first.here) first.here start
       → StoreSessionEnds (file_effects becomes costs) (ReadsAs tidy (front_of first.here)) (λ image. IsShut image.side) opened first now start end
 

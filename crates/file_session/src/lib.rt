@@ -9,4 +9,4 @@ mod make;
 mod run;
 
 pub use make::{FileMade, make_file};
-pub use run::{FileRun, run_file};
+pub use run::{FileRun, run_file, unopened};

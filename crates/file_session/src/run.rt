@@ -25,7 +25,7 @@ pub enum FileRun {
 }
 
 /// The end of a session whose opening gave nothing.
-fn unopened(stop: FileStop) -> FileRun
+pub fn unopened(stop: FileStop) -> FileRun
     ensures { result ≡ unopened stop }
 {
     match stop {

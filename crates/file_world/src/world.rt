@@ -38,6 +38,11 @@ fn noted(cause: &mut Option<Cause>, count: &mut u64, device: Device, trouble: Tr
     fault(count)
 }
 
+/// Whether what was written is the byte by which a commit's header counts.
+fn opens_gate(part: Part, at: u64, bytes: &[u8]) -> bool {
+    part == Part::Side && at == 0 && matches!(bytes, [1])
+}
+
 impl<R: Files<File = File> + Input + Print + Eprint + Clock + AllocGlobal + Copy> FileWorld<R> {
     ghost use Rattle.pst_outside.specs.Memory.{NoFaults};
 
@@ -75,8 +80,13 @@ impl<R: Files<File = File> + Input + Print + Eprint + Clock + AllocGlobal + Copy
     }
 
     /// From here on standard error says once a second how many bytes were written to the copy.
-    pub fn show_progress(&mut self) {
-        self.progress.show();
+    pub fn show_copied(&mut self) {
+        self.progress.show_copied();
+    }
+
+    /// From here on standard error says once a second how many messages of a large input were made, and how many in a second.
+    pub fn show_messages(&mut self) {
+        self.progress.show_messages();
     }
 
     /// Whether MAIN was looked for and wasn't there.
@@ -107,6 +117,7 @@ impl<R: Files<File = File> + Input + Print + Eprint + Clock + AllocGlobal + Copy
     }
 
     fn say(&mut self, piece: &[u8]) -> Result<usize, Failed> {
+        self.progress.end(&self.rt);
         let trouble = match self.rt.write_some(piece) {
             Ok(0) if !piece.is_empty() => Trouble::System(ErrorKind::WriteZero.into()),
             Ok(n) => {
@@ -148,7 +159,9 @@ impl<R: Files<File = File> + Input + Print + Eprint + Clock + AllocGlobal + Copy
         match self.disk.write_at(part, at, bytes) {
             Ok(()) => {
                 if part == Part::Copy {
-                    self.progress.add(&self.rt, bytes.len());
+                    self.progress.add_copied(&self.rt, bytes.len());
+                } else if opens_gate(part, at, bytes) {
+                    self.progress.add_commit(&self.rt);
                 }
                 Ok(())
             }
@@ -161,7 +174,7 @@ impl<R: Files<File = File> + Input + Print + Eprint + Clock + AllocGlobal + Copy
     }
 
     fn sync(&mut self, part: Part) -> Result<(), Failed> {
-        self.progress.end(&self.rt);
+        self.progress.end_copy(&self.rt);
         match self.disk.sync(part) {
             Ok(()) => Ok(()),
             Err(trouble) => {

@@ -4,6 +4,7 @@ use Rattle.pst_outside.specs.World.{World}
 use Rattle.call_forms.specs.Compact.{CompactEnds}
 use Rattle.call_forms.specs.Decode.{DecodeEnds}
 use Rattle.call_forms.specs.Files.{NewEnds, RunEnds}
+use Rattle.call_forms.specs.Fill.{FillEnds}
 use Rattle.call_forms.specs.Info.{InfoEnds}
 use Rattle.call_forms.specs.Look.{LookEnds}
 use Rattle.call_forms.specs.Mend.{MendEnds}
@@ -25,6 +26,8 @@ EndsFor (asked.Plain forms.Look) v w old new status = LookEnds old new status
 EndsFor (asked.Plain forms.Decode) v w old new status = DecodeEnds old new status
 EndsFor (asked.Plain forms.Compact) v w old new status = CompactEnds old new status
 EndsFor (asked.Plain forms.Mend) v w old new status = MendEnds old new status
+EndsFor (asked.Plain forms.Fill) v w old new status = (status ≡ Words) × (w ≡ v)
 EndsFor (asked.Plain forms.Scratch) v w old new status = ScratchEnds old new status × (status ≡ Memory → w ≡ v)
 EndsFor (asked.New name) v w old new status = NewEnds name old new status
+EndsFor (asked.Fill seed count) v w old new status = FillEnds seed count old new status
 EndsFor asked.Nothing v w old new status = (status ≡ Words) × (w ≡ v)

@@ -5,8 +5,9 @@ ghost use Rattle.mail_session.specs.Ends.{EndsFor};
 ghost use Rattle.call_forms.specs.Compact.{CompactEnds};
 ghost use Rattle.call_forms.specs.Decode.{DecodeEnds};
 ghost use Rattle.call_forms.specs.Files.{EndsWell, NewEnds, RunEnds};
-ghost use Rattle.mail_session.specs.Words.{form_of, spelled, third_name};
+ghost use Rattle.mail_session.specs.Words.{fill_numbers, form_of, spelled, third_name};
 ghost use Rattle.call_forms.specs.Statuses.{EndsAs};
+ghost use Rattle.call_forms.specs.Fill.{FillEnds};
 ghost use Rattle.call_forms.specs.Info.{InfoEnds};
 ghost use Rattle.call_forms.specs.Look.{LookEnds, LookEndsWell};
 ghost use Rattle.call_forms.specs.Mend.{MendEnds};
@@ -15,8 +16,8 @@ ghost use Rattle.call_forms.specs.Scratch.{ScratchEnds};
 
 use crate::words::{Asked, Form, read_words};
 use call_forms::{
-    Exit, Status, look_lines, make, run_lines, say_compacted, say_decoded, say_info, say_mended,
-    say_nodes, serve_memory,
+    Exit, Status, look_lines, make, run_lines, say_compacted, say_decoded, say_filled, say_info,
+    say_mended, say_nodes, serve_memory,
 };
 use pst_base::{Ledger, Steps};
 use pst_outside::Outside;
@@ -35,14 +36,15 @@ fn answer<W: Outside>(alloc: Global, world: &mut W, asked: Asked) -> Status
         Asked::Plain(Form::Compact) => say_compacted(alloc, world),
         Asked::Plain(Form::Mend) => say_mended(alloc, world),
         Asked::Plain(Form::Scratch) => serve_memory(alloc, world),
-        Asked::Plain(Form::New) | Asked::Nothing => Status::Words,
+        Asked::Plain(Form::New | Form::Fill) | Asked::Nothing => Status::Words,
+        Asked::Fill { seed, count } => say_filled(alloc, world, seed, count),
         Asked::New(name) => make(alloc, world, &name),
     }
 }
 
 /// Does what the words of the command line ask for, over a world, and answers how it ended. The words are those without the program's name.
 ///
-/// Status 2 comes exactly where the words have none of the forms, and then nothing was asked of the world; where there is no memory to read the name of `new`, 7 may come in its place. The other statuses come as `CompactEnds`, `DecodeEnds`, `InfoEnds`, `LookEnds`, `MendEnds`, `NewEnds`, `NodesEnds`, `RunEnds` and `ScratchEnds` say.
+/// Status 2 comes exactly where the words have none of the forms, and then nothing was asked of the world; where there is no memory to read the name of `new`, 7 may come in its place. The other statuses come as `CompactEnds`, `DecodeEnds`, `FillEnds`, `InfoEnds`, `LookEnds`, `MendEnds`, `NewEnds`, `NodesEnds`, `RunEnds` and `ScratchEnds` say.
 pub fn run<W: Outside, L: Ledger>(
     alloc: Global,
     words: &[String],
@@ -72,6 +74,8 @@ pub fn run<W: Outside, L: Ledger>(
     ensures compact { form_of (spelled words.now) ≡ Some Form.Compact → EndsAs (CompactEnds (W.view world.old) (W.view world.new)) result.status }
     // `mend`: each stale list is made anew and each criteria object of the first version turned, of the tree that the files are read as whatever its searches list; a stop at any moment leaves files that are read as the tree with the first searches mended.
     ensures mend { form_of (spelled words.now) ≡ Some Form.Mend → EndsAs (MendEnds (W.view world.old) (W.view world.new)) result.status }
+    // `fill`: the commands of a large input are carried out in turn over the tree that the files are read as, and a stop at any moment since the call's start leaves files that are read as the tree after some of them.
+    ensures fill { (seed count : ℕ) → form_of (spelled words.now) ≡ Some Form.Fill → fill_numbers (spelled words.now) ≡ Some (seed, count) → EndsAs (FillEnds seed count (W.view world.old) (W.view world.new)) result.status }
     // `scratch`: the replies are those of a plain tree whose running searches list what filtering lists.
     ensures scratch { form_of (spelled words.now) ≡ Some Form.Scratch → EndsAs (ScratchEnds (W.view world.old) (W.view world.new)) result.status }
     ensures no_memory { form_of (spelled words.now) ≡ Some Form.Scratch → result.status ≡ 7 → world.new ≡ world.old }

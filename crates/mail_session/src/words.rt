@@ -1,13 +1,15 @@
 //! The words of the command line.
 ghost use Rattle.std.specs.Prelude.{◌≡◌, true, IfOk, OnErr};
-ghost use Rattle.mail_session.specs.Words.{spelled};
-ghost use Rattle.mail_session.specs.Asking.{AsksFor, NamesNew, is_naming};
+ghost use Rattle.mail_session.specs.Words.{numbers_of, spelled, within};
+ghost use Rattle.mail_session.specs.Asking.{AsksFor, FillsWith, NamesNew, is_naming};
+ghost use Rattle.value_text.specs.Numbers.{magnitude};
 ghost use Rattle.command_text.specs.Words.{name_of};
 
 use command_text::read_name;
 use mapi_values::Units;
 use pst_base::MemOr;
 use std::alloc::{AllocError, Global};
+use value_text::magnitude;
 
 /// What the words ask for.
 #[derive(Clone, Copy, Debug, PartialEq, Eq)]
@@ -30,15 +32,19 @@ pub enum Form {
     Compact,
     /// `mend FILE`
     Mend,
+    /// `fill FILE SEED COUNT`
+    Fill,
 }
 
-/// The form of the words, with the name that `new` is given; or that they have none.
+/// The form of the words, with the name that `new` is given and the numbers that `fill` is; or that they have none.
 #[derive(Debug, Drop)]
 pub(crate) enum Asked {
     /// A form without more.
     Plain(Form),
     /// `new FILE NAME`, with the name.
     New(Units),
+    /// `fill FILE SEED COUNT`, with both numbers.
+    Fill { seed: u32, count: u16 },
     /// No form.
     Nothing,
 }
@@ -51,6 +57,32 @@ fn read_new(alloc: Global, name: &str) -> Result<Asked, AllocError>
         Ok(name) => Ok(Asked::New(name)),
         Err(MemOr::Refused(_)) => Ok(Asked::Nothing),
         Err(MemOr::Memory) => Err(AllocError),
+    }
+}
+
+/// A number in decimal, if it is one of these.
+fn number_in(text: &str, low: u64, high: u64) -> Option<u64>
+    ensures { result ≡ within low high (magnitude text.now) }
+{
+    match magnitude(text) {
+        Some(number) if low <= number && number <= high => Some(number),
+        _ => None,
+    }
+}
+
+/// What a seed and a count ask for.
+fn read_fill(seed: &str, count: &str) -> Asked
+    ensures { FillsWith (numbers_of seed.now count.now) result }
+{
+    let Some(seed) = number_in(seed, 0, u64::from(u32::MAX)) else {
+        return Asked::Nothing;
+    };
+    let Some(count) = number_in(count, 1, 2000) else {
+        return Asked::Nothing;
+    };
+    Asked::Fill {
+        seed: seed as u32,
+        count: count as u16,
     }
 }
 
@@ -69,6 +101,9 @@ pub(crate) fn read_words(alloc: Global, words: &[String]) -> Result<Asked, Alloc
         [word, _file, name] if word.as_str() == "new" => read_new(alloc, name.as_str()),
         [word, _file, _to] if word.as_str() == "decode" => Ok(Asked::Plain(Form::Decode)),
         [word, _file, _to] if word.as_str() == "compact" => Ok(Asked::Plain(Form::Compact)),
+        [word, _file, seed, count] if word.as_str() == "fill" => {
+            Ok(read_fill(seed.as_str(), count.as_str()))
+        }
         _ => Ok(Asked::Nothing),
     }
 }

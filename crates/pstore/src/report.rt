@@ -7,7 +7,7 @@ use std::{io, str};
 
 /// The forms of the command line.
 const FORMS: &str =
-    "usage: pstore info|nodes|look|run|mend FILE, pstore new FILE NAME, pstore decode|compact FILE TO, or pstore scratch";
+    "usage: pstore info|nodes|look|run|mend FILE, pstore new FILE NAME, pstore fill FILE SEED COUNT, pstore decode|compact FILE TO, or pstore scratch";
 
 /// The text of an exit; nothing where it needs no explanation.
 pub(crate) fn report(

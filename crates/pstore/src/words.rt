@@ -25,7 +25,7 @@ pub(crate) fn word(words: &[String], number: usize) -> &str {
 /// What is done with the file that the second word names.
 fn access(form: &str) -> Access {
     match form {
-        "new" | "run" | "mend" => Access::Write,
+        "new" | "run" | "mend" | "fill" => Access::Write,
         _ => Access::Read,
     }
 }
@@ -38,7 +38,7 @@ fn copy(alloc: Global, words: &[String]) -> Result<Option<String>, AllocError> {
     }
 }
 
-/// The world over the files that the words name, which tells a person how far a copy is.
+/// The world over the files that the words name, which tells a person how far a copy or a large input is.
 pub(crate) fn world(
     rt: HostRuntime,
     words: &[String],
@@ -47,7 +47,10 @@ pub(crate) fn world(
     let copy = copy(rt.alloc(), words)?;
     let mut world = FileWorld::new(rt, file, copy, access(word(words, 0)))?;
     if rt.stderr().is_terminal() {
-        world.show_progress();
+        match word(words, 0) {
+            "fill" => world.show_messages(),
+            _ => world.show_copied(),
+        }
     }
     Ok(world)
 }

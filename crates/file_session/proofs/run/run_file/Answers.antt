@@ -4,7 +4,7 @@ use Rattle.pst_commit.specs.Keeping.{HasRoom, IsCommitted, IsSaved}
 use Rattle.store_session.specs.Disks.{effects_of, medium}
 use Rattle.store_session.specs.Session.{StoreSessionEnds}
 use Rattle.file_session.specs.FileRun.{FileRunEnds, ReadsAs}
-use Rattle.file_session.proofs.Opened.{ends_opened, ends_unopened, refused_is, same_end}
+use Rattle.file_session.proofs.Opened.{ends_opened, ends_unopened, refused_is, same_end, starts_opened}
 use Rattle.file_session.proofs.run.run_file.Goals as goal
 
 pub returns-in-Ok-clause-ends : goal.returns-in-Ok-clause-ends
@@ -14,9 +14,10 @@ returns-in-Ok-clause-ends g c = λ end is tells.
     let now = g.W.Outside.view c.run_session.new.world in
     let told : now.tells → mid.tells = c.run_session.ensures.told in
     let o = c.in-Ok.opened.keeper in
+    let start = starts_opened (g.S.NodeStore.knows o.store) o.found o.header c.in-Ok.opened.tree first mid (c.in-Ok.ensures.opened (told tells)) (c.in-Ok.ensures.reads (told tells)) c.in-Ok.ensures.settled c.in-Ok.ensures.shut c.in-Ok.ensures.any_moment in
     subst (λ e. FileRunEnds g.S.NodeStore.becomes g.S.NodeStore.costs first now e) (same_end c.run_session.result end is)
     (inr (ends_opened (g.S.NodeStore.knows o.store) g.S.NodeStore.becomes g.S.NodeStore.costs o.found o.header c.in-Ok.opened.tree first mid now c.run_session.result
-    (c.in-Ok.ensures.opened (told tells)) (c.in-Ok.ensures.reads (told tells)) tells told c.in-Ok.ensures.input (c.in-Ok.ensures.store (told tells)) c.in-Ok.ensures.settled c.in-Ok.ensures.shut c.in-Ok.ensures.any_moment
+    start tells told c.in-Ok.ensures.input (c.in-Ok.ensures.store (told tells)) c.in-Ok.ensures.written (c.in-Ok.ensures.idle (told tells))
     (λ tidy X has disk. subst (λ p. StoreSessionEnds (effects_of p HasRoom (λ pins. IsCommitted g.S.NodeStore.becomes g.S.NodeStore.costs pins.opened) IsSaved) (ReadsAs tidy o.found) (λ image. IsShut image.side) (medium mid) mid now X c.run_session.result) c.in-Ok.ensures.no_pins
     (c.run_session.ensures.ends tidy X has disk))))
 
@@ -27,4 +28,4 @@ returns-in-Err-clause-refused g c = λ refusal is.
 pub returns-in-Err-clause-ends : goal.returns-in-Err-clause-ends
 returns-in-Err-clause-ends g c = λ end is tells.
     inl (ends_unopened (g.W.Outside.view c.args.world.now) (g.W.Outside.view c.open_file.new.w) c.in-Err.stop end (sym c.unopened.ensures ∙ is) tells
-    (c.in-Err.ensures.refused tells) c.in-Err.ensures.input c.in-Err.ensures.store c.in-Err.ensures.clean (c.in-Err.ensures.kept tells) c.in-Err.ensures.any_moment)
+    (c.in-Err.ensures.refused tells) c.in-Err.ensures.input c.in-Err.ensures.store c.in-Err.ensures.clean (c.in-Err.ensures.kept tells) c.in-Err.ensures.any_moment c.in-Err.ensures.written)

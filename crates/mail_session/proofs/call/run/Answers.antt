@@ -4,6 +4,7 @@ use Rattle.call_forms.specs.Compact.{IsCompactedText, IsUnmadeText}
 use Rattle.call_forms.specs.Decode.{IsDecodedText, IsUnreadText}
 use Rattle.call_forms.proofs.CopyLaws.{copy_unread}
 use Rattle.call_forms.proofs.FileLaws.{new_unread, well_as}
+use Rattle.call_forms.proofs.FillLaws.{fill_unasked}
 use Rattle.call_forms.proofs.LookLaws.{look_unread, look_well_as}
 use Rattle.call_forms.proofs.MendLaws.{mend_unasked}
 use Rattle.mail_session.proofs.call.run.Goals as goal
@@ -34,3 +35,6 @@ returns-in_default-clause-look_complete g c = λ form. (Memory, c.exit.ensures.s
 
 pub returns-clause-look_complete : goal.returns-clause-look_complete
 returns-clause-look_complete g c = λ form. look_well_as (g.W.Outside.view c.args.world.now) (g.W.Outside.view c.answer.new.world) c.exit-2.result.status (search (rules, form))
+
+pub returns-in_default-clause-fill : goal.returns-in_default-clause-fill
+returns-in_default-clause-fill g c = λ seed count form numbers. (Memory, c.exit.ensures.status, fill_unasked seed count (g.W.Outside.view c.args.world.now))

@@ -1,0 +1,61 @@
+-- One command, planned and committed.
+use Rattle.std.proofs.Common.{◌≡◌, ◌⊎◌, inl, inr, ◌∙◌, ℕ, Bool, List, [], ◌∷◌, Option, None, Some, Result, Ok, Err, refl, sym, subst, ap}
+use Rattle.pst_outside.specs.World.{Image, World}
+use Rattle.pst_outside.specs.Calls.{LeavesOnly, Settled, Untouched}
+use Rattle.pst_outside.proofs.Moments.{quiet, weaker}
+use Rattle.command_text.specs.declared.command.Command.{Command}
+use Rattle.node_port.specs.Pins.{Pins}
+use Rattle.node_port.specs.Stops.{Room}
+use Rattle.mail_draft.specs.declared.stop.Stop.{Stop}
+use Rattle.mail_draft.specs.declared.stop.Stop.TheVariants as stops
+use Rattle.mail_tree.specs.Changing.{Answer}
+use Rattle.mail_tree.specs.Whole.{Fine}
+use Rattle.mail_searches.specs.Criteria.{Coming}
+use Rattle.mail_searches.specs.Searching.{Searching}
+use Rattle.mail_searches.specs.Step.{after, outcome}
+use Rattle.search_lists.specs.Order.{InOrder}
+use Rattle.search_laws.proofs.Joining.{stays_in_order}
+use Rattle.search_store.specs.Planning.{PlansComing}
+use Rattle.store_session.specs.Carrying.{Leaves}
+use Rattle.store_session.specs.Disks.{Effects, SameMedium, medium}
+use Rattle.store_filling.specs.Doing.{CommandEnds, TurnsSo}
+use Rattle.store_filling.specs.Filling.{FillTurn, IsFilled}
+use Rattle.store_filling.proofs.Turns.{filled_none, filled_one}
+
+-- an answer of a command on a tree in order is one
+pub not_formless : (tidy : Bool) (X : Searching) (c : Command) → InOrder tidy X → outcome X c ≡ Err None → ⊥
+not_formless tidy X c order e = subst (λ x. Fine x (λ o. InOrder tidy (after X o))) e (stays_in_order tidy X c order)
+
+module _ {R : Type 0} (effects : Effects) (has : Searching → Type 0) (is : R → FillTurn → Type 0) (tidy : Bool) (X : Searching) (c : Command) (order : InOrder tidy X) (old new : World) (room : Room) (measured : effects.measures old.here room) where
+  -- a plan that stopped
+  stopped : {P : Type 0} (plans : Coming → P → Type 0) (x : Answer Coming) → outcome X c ≡ x → (stop : Stop) → PlansComing {P = P} room plans x (Err stop) → has X → (new.tells → SameMedium (medium old) (medium new)) → TurnsSo effects has is c X old new (Err stop) []
+  stopped plans (Ok o) e (stops.Refused r) p h same = ((refl, h, same), inr (room, measured, (o, e, p)))
+  stopped plans (Err (Some q)) e (stops.Refused r) p h same = ((refl, h, same), inl (e ∙ ap (λ y. Err (Some y)) (sym p)))
+  stopped plans (Err None) e (stops.Refused r) p h same = absurd (not_formless tidy X c order e)
+  stopped plans x e stops.Fault p h same = inl refl
+  stopped plans (Ok o) e (stops.Changed ib stored computed) p h same = p
+  stopped plans (Err (Some q)) e (stops.Changed ib stored computed) p h same = p
+  stopped plans (Err None) e (stops.Changed ib stored computed) p h same = not_formless tidy X c order e
+  stopped plans x e stops.Memory p h same = (refl, h, same)
+
+  pub plan_stopped : {P : Type 0} (stands : Image → Searching → Type 0) (plans : Coming → P → Type 0) (stop : Stop) → PlansComing {P = P} room plans (outcome X c) (Err stop) → has X → (new.tells → SameMedium (medium old) (medium new))
+      → LeavesOnly old new (IsFilled stands old.here.said X []) → CommandEnds effects stands has is c X old new (Err stop)
+  plan_stopped stands plans stop p h same images = record { turns = []; so = stopped plans (outcome X c) refl stop p h same; images = images }
+
+-- a call that only looks leaves no other image
+pub looks_leave : (stands : Image → Searching → Type 0) {v w : World} (X : Searching) → Settled v → Untouched v w → stands v.here X → LeavesOnly v w (IsFilled stands v.here.said X [])
+looks_leave stands {v} {w} X settled same is = quiet (IsFilled stands v.here.said X []) settled same (λ told. filled_none stands v.here.said X [] v.here refl is)
+
+-- what leaves the tree before or after a turn leaves it so
+pub turn_leaves : (stands : Image → Searching → Type 0) {old new : World} (X : Searching) (turn : FillTurn) → Leaves stands old new X turn.tree → LeavesOnly old new (IsFilled stands old.here.said X (turn ∷ []))
+turn_leaves stands {old} {new} X turn leaves = weaker (IsFilled stands old.here.said X (turn ∷ [])) leaves (λ c told is. here c is.0 is.1)
+  where
+    here : (c : Image) → c.said ≡ old.here.said → stands c X ⊎ stands c turn.tree → IsFilled stands old.here.said X (turn ∷ []) c
+    here c said (inl is) = filled_none stands old.here.said X (turn ∷ []) c said is
+    here c said (inr is) = filled_one stands old.here.said X turn c said is
+
+-- the same over the pins and the first header that a keeper had
+pub ends_over : {R : Type 0} (effects : Pins → Effects) (stands : List ℕ → Image → Searching → Type 0) (has : Searching → Type 0) (is : R → FillTurn → Type 0) (c : Command) (X : Searching) (old new : World) (result : Result R Stop) {p q : Pins} {f g : List ℕ} → p ≡ q → f ≡ g
+    → CommandEnds (effects p) (stands f) has is c X old new result → CommandEnds (effects q) (stands g) has is c X old new result
+ends_over effects stands has is c X old new result {p} {q} {f} {g} e d ends =
+    subst (λ (x : Pins). CommandEnds (effects x) (stands g) has is c X old new result) e (subst (λ (x : List ℕ). CommandEnds (effects p) (stands x) has is c X old new result) d ends)

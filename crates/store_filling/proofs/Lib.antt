@@ -1,0 +1,4 @@
+pub mod Commits
+pub mod CountLaws
+pub mod Ending
+pub mod Turns

@@ -1,0 +1,5 @@
+use Rattle.store_filling.proofs.doing.do_command.Given as goal
+
+-- the ledger of each count is that of its own token
+abbrev pub ghosts-plan_counted : goal.ghosts-plan_counted
+ghosts-plan_counted g a = record { name = a.blank.name; parts = a.blank.parts }
