@@ -1,22 +1,29 @@
 -- One command, planned and committed.
-use Rattle.std.proofs.Common.{◌≡◌, ◌⊎◌, inl, inr, ◌∙◌, ℕ, Bool, List, [], ◌∷◌, Option, None, Some, Result, Ok, Err, refl, sym, subst, ap}
+use Rattle.std.proofs.Common.{◌≡◌, ◌⊎◌, inl, inr, ◌∙◌, ℕ, ◌≤◌, arith, Bool, List, [], ◌∷◌, Option, None, Some, Result, Ok, Err, refl, sym, subst, ap}
 use Rattle.pst_outside.specs.World.{Image, World}
-use Rattle.pst_outside.specs.Calls.{LeavesOnly, Settled, Untouched}
+use Rattle.pst_outside.specs.Calls.{LeavesOnly, Rose, Settled, Untouched}
 use Rattle.pst_outside.proofs.Moments.{quiet, weaker}
 use Rattle.command_text.specs.declared.command.Command.{Command}
+use Rattle.line_server.specs.Worlds.{Quiet}
+use Rattle.line_server.proofs.Hearing.{falls_along}
+use Rattle.node_port.specs.Nodes.{Nodes}
 use Rattle.node_port.specs.Pins.{Pins}
 use Rattle.node_port.specs.Stops.{Room}
+use Rattle.mail_draft.specs.Answers.{IsCaused}
 use Rattle.mail_draft.specs.declared.stop.Stop.{Stop}
 use Rattle.mail_draft.specs.declared.stop.Stop.TheVariants as stops
 use Rattle.mail_tree.specs.Changing.{Answer}
+use Rattle.mail_tree.specs.declared.known.Known.{Known}
 use Rattle.mail_tree.specs.Whole.{Fine}
 use Rattle.mail_searches.specs.Criteria.{Coming}
 use Rattle.mail_searches.specs.Searching.{Searching}
 use Rattle.mail_searches.specs.Step.{after, outcome}
+use Rattle.mail_searches.specs.declared.known.KnownSearches.{KnownSearches}
 use Rattle.search_lists.specs.Order.{InOrder}
 use Rattle.search_laws.proofs.Joining.{stays_in_order}
 use Rattle.search_store.specs.Planning.{PlansComing}
-use Rattle.store_session.specs.Carrying.{Leaves}
+use Rattle.store_session.specs.Carrying.{Has, Leaves, StandsOrdered}
+use Rattle.store_session.proofs.Carry.{stands_here}
 use Rattle.store_session.specs.Disks.{Effects, SameMedium, medium}
 use Rattle.store_filling.specs.Doing.{CommandEnds, TurnsSo}
 use Rattle.store_filling.specs.Filling.{FillTurn, IsFilled}
@@ -59,3 +66,26 @@ pub ends_over : {R : Type 0} (effects : Pins → Effects) (stands : List ℕ →
     → CommandEnds (effects p) (stands f) has is c X old new result → CommandEnds (effects q) (stands g) has is c X old new result
 ends_over effects stands has is c X old new result {p} {q} {f} {g} e d ends =
     subst (λ (x : Pins). CommandEnds (effects x) (stands g) has is c X old new result) e (subst (λ (x : List ℕ). CommandEnds (effects p) (stands x) has is c X old new result) d ends)
+
+-- ---- calls, one after another
+
+pub quiet_along : {a b c : World} → Quiet a b → Quiet b c → Quiet a c
+quiet_along p q = record { counts = falls_along p.counts q.counts; told = λ t. p.told (q.told t); input = λ t. q.input t ∙ p.input (q.told t) }
+
+-- a call that only looks is quiet
+pub quiet_looks : {a b : World} → Untouched a b → Quiet a b
+quiet_looks same = record { counts = same.counts; told = same.stays.told; input = same.stays.input }
+
+pub caused_later : (disk : Bool) (a b n : ℕ) (stop : Stop) → a ≤ b → IsCaused disk b n stop → IsCaused disk a n stop
+caused_later disk a b n (stops.Refused refusal) le c = tt
+caused_later disk a b n stops.Fault le c = (rose c.0, c.1)
+  where
+    rose : Rose b n → Rose a n
+    rose r = omega (arith, le, r)
+caused_later disk a b n (stops.Changed ib stored computed) le c = tt
+caused_later disk a b n stops.Memory le c = tt
+
+-- what a store has is seen of its disk
+pub seen_so : {holds : Nodes → Type 0} {last : List ℕ} {known : Known} {of_searches : KnownSearches} {rests : Image → Type 0} {v : World} (stands : Image → Nodes → List ℕ → Type 0) (tidy : Bool)
+    → ((N : Nodes) → holds N → stands v.here N last) → (Y : Searching) → Has holds last known of_searches rests v tidy Y → StandsOrdered tidy stands v.here Y × Settled v × (v.tells → rests v.here)
+seen_so stands tidy held Y h = (stands_here stands tidy Y held h, h.settled, h.at_rest)

@@ -1,11 +1,12 @@
 -- What is counted behind the commands.
-use Rattle.std.proofs.Common.{◌≡◌, ◌⊎◌, inl, inr, ◌∙◌, ℕ, ◌≤◌, Bool, List, [], ◌∷◌, None, Some, Result, Ok, Err, refl, ap, sym}
+use Rattle.std.proofs.Common.{◌≡◌, ◌⊎◌, inl, inr, ◌∙◌, ℕ, ◌≤◌, Bool, List, [], ◌∷◌, None, Some, Result, Ok, Err, refl, ap, subst, sym}
 use Rattle.pst_base.specs.declared.ids.Nid.{Nid}
 use Rattle.command_text.specs.declared.command.Command.TheVariants.{ListFolder}
 use Rattle.command_text.specs.declared.reply.DataLine.{DataLine}
 use Rattle.node_port.specs.Nodes.{Nodes}
 use Rattle.node_port.specs.Stops.{Room}
-use Rattle.pst_outside.specs.World.{World}
+use Rattle.pst_outside.specs.World.{Image, World}
+use Rattle.pst_outside.proofs.Moments.{stays_settled}
 use Rattle.mail_draft.specs.Answers.{Looks, Says}
 use Rattle.mail_draft.proofs.Looking.{shown_still}
 use Rattle.mail_draft.specs.declared.stop.Stop.{Stop}
@@ -20,6 +21,7 @@ use Rattle.search_folders.specs.Comings.{coming_of}
 use Rattle.search_folders.specs.declared.coming.Coming.{Coming}
 use Rattle.search_lists.specs.Order.{InOrder}
 use Rattle.search_store.specs.Planning.{StoresSearches}
+use Rattle.store_session.specs.Carrying.{Has}
 use Rattle.store_filling.specs.Counts.{CountsSo, ListsSo}
 use Rattle.store_filling.specs.declared.commands.Made.{Made}
 use Rattle.store_filling.specs.declared.counting.FillCounts.{FillCounts}
@@ -63,3 +65,12 @@ uncounted_folder X made (stops.Refused refusal) is = inr is
 uncounted_folder X made stops.Fault is = tt
 uncounted_folder X made (stops.Changed ib stored computed) is = is
 uncounted_folder X made stops.Memory is = tt
+
+pub has_on : {holds holds' : Nodes → Type 0} {last last' : List ℕ} {room room' : Room} {v w : World} (rests : Image → Type 0) (known : Known) (searches : KnownSearches) (tidy : Bool) (X : Searching) → Looks holds holds' last last' room room' v w
+    → Has holds last known searches rests v tidy X → Has holds' last' known searches rests w tidy X
+has_on rests known searches tidy X looks h = record {
+  stores = stores_on known searches X looks h.stores;
+  order = h.order;
+  settled = stays_settled h.settled looks.world;
+  at_rest = λ told. subst rests (sym (looks.world.stays.here told)) (h.at_rest (looks.world.stays.told told));
+}

@@ -110,6 +110,12 @@ pub fn fill_store<W: Outside, K: Saver<W>>(
         Ok(made) => made,
         Err(stop) => return Err(stop),
     };
-    let SearchStore { store, searches } = store;
-    count_filled(alloc, &mut store.keeper, w, &store.known, searches, made)
+    count_filled(
+        alloc,
+        &mut store.store.keeper,
+        w,
+        &store.store.known,
+        &store.searches,
+        made,
+    )
 }

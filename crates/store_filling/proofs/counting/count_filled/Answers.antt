@@ -1,4 +1,5 @@
 use Rattle.std.proofs.Common.{◌∙◌, ap}
+use Rattle.std.specs.Prelude.{min}
 use Rattle.mail_draft.proofs.Looking.{looks_then}
 use Rattle.store_filling.proofs.CountLaws.{stores_on, uncounted_folder, uncounted_search}
 use Rattle.store_filling.proofs.counting.count_filled.Goals as goal
