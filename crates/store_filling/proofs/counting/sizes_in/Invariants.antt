@@ -5,4 +5,4 @@ use Rattle.store_filling.proofs.counting.sizes_in.Given as goal
 
 -- those before are summed
 abbrev pub invariant-loop-line : goal.invariant-loop-line
-invariant-loop-line l = min (l.sum + sizes_in (drop l.line-index l.line-items)) (2 ^ 64 - 1) ≡ min (sizes_in l.lines) (2 ^ 64 - 1)
+invariant-loop-line l = min (l.sum + sizes_in (drop l.line-index l.lines)) (2 ^ 64 - 1) ≡ min (sizes_in l.lines) (2 ^ 64 - 1)
