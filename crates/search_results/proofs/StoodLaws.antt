@@ -7,6 +7,7 @@ use Rattle.node_port.specs.Nodes.{node_at}
 use Rattle.pst_base.specs.Ids.{kind_of, nid_of}
 use Rattle.mapi_values.specs.Messages.{Mes}
 use Rattle.mapi_values.specs.Tables.{find_row}
+use Rattle.mapi_values.specs.Values.{Val}
 use Rattle.command_text.specs.declared.command.Command.{Command}
 use Rattle.command_text.specs.declared.command.Command.TheVariants.{MakeFolder, RenameFolder, MoveFolder, RemoveFolder, ListFolder, NewMessage, SetProperty, UnsetProperty, GetProperty, ListProperties, MoveMessage, CopyMessage, RemoveMessage, AddRecipient, RemoveRecipient, AddAttachment, AppendData, RemoveAttachment, FetchData, NameProperty, MakeSearch, SetCriteria, GetCriteria, Save, Quit}
 use Rattle.command_text.specs.declared.reply.CommandRefusal.TheVariants.{Object as NoObject}
