@@ -1,5 +1,5 @@
 -- Mending a search leaves the tree in order.
-use Rattle.std.proofs.Common.{◌≡◌, ◌∙◌, ℕ, ◌%◌, ◌<◌, ◌==◌, ◌&&◌, Bool, true, false, not, List, [], ◌∷◌, Option, None, Some, Ok, Err, IfOk, IsSome, is_some, ap, arith, refl, subst, sym, inl, inr, if◌then◌else◌}
+use Rattle.std.proofs.Common.{◌≡◌, ◌∙◌, ℕ, ◌%◌, ◌<◌, ◌==◌, ◌&&◌, ◌||◌, Bool, true, false, not, List, [], ◌∷◌, Option, None, Some, Ok, Err, IfOk, IsSome, is_some, ap, arith, refl, subst, sym, inl, inr, if◌then◌else◌}
 use Rattle.std.specs.Prelude.{nat_eq}
 use Rattle.std.specs.Cmp.Lexicographic.{pointwise}
 use Rattle.std.specs.Option.{option_and_then, option_map}
@@ -16,17 +16,20 @@ use Rattle.command_text.specs.declared.reply.CommandRefusal.TheVariants as refus
 use Rattle.command_text.specs.declared.reply.LastLine.TheVariants.{Done}
 use Rattle.mail_objects.specs.Forms.{Ctx, Tbl}
 use Rattle.mail_objects.specs.declared.object.Object.TheVariants.{Context, Table}
-use Rattle.mail_tree.specs.Changing.{Answer, Changed, ◌>>=◌, as_context, as_message, as_table, beside, context_at, nothing, now_at, refused_if, table_at, with_rows}
+use Rattle.mail_tree.specs.declared.places.FolderPlace.{FolderPlace}
+use Rattle.mail_tree.specs.Changing.{Answer, Changed, ◌>>=◌, as_context, as_message, as_table, beside, context_at, hierarchy, nothing, now_at, refused_if, table_at, with_rows}
 use Rattle.mail_tree.specs.Folders.{Outcome, changing, replied}
 use Rattle.mail_tree.specs.Found.{IsFoundBeside}
+use Rattle.mail_tree.specs.Places.{ROOT, find_place}
 use Rattle.mail_tree.specs.Settling.{with_context}
 use Rattle.mail_tree.specs.Step as tree
 use Rattle.mail_tree.specs.Tree.{Tree, object_at}
-use Rattle.mail_tree.specs.Whole.{Fine, IsWhole}
+use Rattle.mail_tree.specs.Whole.{AreWhole, Fine, IsWhole}
 use Rattle.mail_tree.proofs.AfterTree.{after_now, now_nothing}
 use Rattle.mail_tree.proofs.FineLaws.{after_context, after_table, after_test, fine_then, fine_weaker}
 use Rattle.mail_tree.proofs.KindsOfPuts.{beside_kind}
 use Rattle.mail_tree.proofs.Nearly.{Puts}
+use Rattle.mail_tree.proofs.Settles.{folders_of}
 use Rattle.mail_tree.proofs.StoodLaws.{AreStood, IsNew, after_limits, fine_stood, none_stood, values_stood}
 use Rattle.mail_laws.specs.Laws.{Counts, Mirrors}
 use Rattle.mail_store.proofs.QuietLaws.{quiet}
@@ -44,8 +47,9 @@ use Rattle.search_laws.proofs.SettingObject.{counts_after_object, found_after_ob
 use Rattle.search_mending.proofs.RowLaws.{Rows, stood_ascends, stood_ids}
 use Rattle.search_mending.proofs.SaysLaws.{says_turned}
 use Rattle.search_mending.proofs.StayLaws.{Listed, Others, found_key, results_listed, results_stood, same_lists, same_results, same_wrong, texts_same}
+use Rattle.search_mending.proofs.TouchLaws.{HasNodes, IsAsIs, order_same, search_stays}
 use Rattle.search_mending.specs.Laws.{IsAsBefore, IsElsewhere, IsMendable, IsMended, Mends, MendsInOrder}
-use Rattle.search_mending.specs.Mending.{Mending, can_hold_any, is_first, is_of_first, is_stale, list_anew, list_if_wrong, list_of_any, lists_right, lists_wrong, mended_search, mending, mending_with, turned, with_list, with_other_rows, with_stood}
+use Rattle.search_mending.specs.Mending.{Mending, can_hold_any, is_first, is_of_first, is_stale, list_anew, list_if_wrong, list_of_any, lists_right, lists_wrong, mended_search, mending, mending_with, search_as_is, touched_if, turned, with_list, with_other_rows, with_stood}
 
 -- an answer is fine, and has a fact besides
 fine-with : {A : Type 0} (P Q R : A → Type 0) (a : Answer A) → Fine a P → IfOk a Q → ((x : A) → P x → Q x → R x) → Fine a R
@@ -231,6 +235,42 @@ module _ (tidy : Bool) (X : Searching) (f : ℕ) (order : IsMendable tidy X) (ow
         none = λ e. cc;
       })
 
+  -- all nodes of the search stand there
+  nodes-there : (list : Option Tbl) (k : Crit) (D1 D : Changed) → Turns k D1 → Sets list D1 D → HasNodes T D f
+  nodes-there list k D1 D turns sets =
+      let w = subst (AreWhole T.places) (sym (after_now T (said D))) (sets.keeps.whole turns.whole).objects in
+      let p = placed-there (find_place f T.places) (order.searches.placed f own) in
+      let c = w.contexts f p.0 p.1 in
+      let no_root : f ≡ ROOT → ⊥ = λ e. omega (arith, e, kind) in
+      let up = w.parents f p.0 p.1 no_root in
+      let u = folders_of w p.0.parent.bits up.0 up.1 up.2 in
+      let old = order.searches.tables f own in
+      let before : now_at T D1 (results f) ≡ Some (Table old.0) = turns.others (results f) (λ e. omega (arith, e, list-kind, node)) ∙ old.1 in
+      record {
+        values = (c.0, c.1, (u.0, ap (λ q. now_at T D (hierarchy q)) (c.2 no_root) ∙ u.1));
+        criteria = (turns.here.0, sets.keeps.criteria (criteria_node f) node ∙ turns.here.1);
+        list = sets.keeps.tables (results f) old.0 list-kind before;
+      }
+    where
+      placed-there : (found : Option FolderPlace) → IsSome found → (p : FolderPlace) × (found ≡ Some p)
+      placed-there (Some p) there = (p, refl)
+      placed-there None there = cc
+
+  -- and stay as they are where they are put again
+  sets-same : (list : Option Tbl) (D1 D D' : Changed) → Sets list D1 D → IsAsIs T D D' → Sets list D1 D'
+  sets-same list D1 D D' sets still = record {
+    keeps = order_same T (said D1) D D' still sets.keeps;
+    stood = still.stood sets.stood;
+    others = λ q other. ap (λ at. at q) still.now ∙ sets.others q other;
+    here = λ t e. ap (λ at. at (results f)) still.now ∙ sets.here t e;
+    none = λ e. ap (λ at. at (results f)) still.now ∙ sets.none e;
+  }
+
+  touched-fine : (b : Bool) (list : Option Tbl) (k : Crit) (D1 D : Changed) → Turns k D1 → Sets list D1 D → Fine (touched_if b T f D) (Sets list D1)
+  touched-fine false list k D1 D turns sets = sets
+  touched-fine true list k D1 D turns sets =
+      fine_weaker (IsAsIs T D) (Sets list D1) (search_as_is T f D) (search_stays T f D (nodes-there list k D1 D turns sets)) (λ D' still. sets-same list D1 D D' sets still)
+
   -- What was made of a search.
   module _ (list : Option Tbl) (c : Ctx) (k : Crit) (D1 D : Changed) (has : HasList list) (h : HasCriteria (c, k)) (turns : Turns k D1) (sets : Sets list D1 D) where
     abbrev Y : Searching
@@ -374,10 +414,13 @@ module _ (tidy : Bool) (X : Searching) (f : ℕ) (order : IsMendable tidy X) (ow
       let k = p.1 in
       let made : Outcome → Mending = mending X list k in
       let Facts : Changed → Type 0 = λ D. (D1 : Changed) × Turns k D1 × Sets list D1 D in
-      fine_then (λ o. Mends tidy X f (made o)) (Mends tidy X f) (turned f p.0 k >>= with_list T f list >>= changing T (replied Done)) _
-      (fine_then Facts (λ o. Mends tidy X f (made o)) (turned f p.0 k >>= with_list T f list) (changing T (replied Done))
+      let b = is_some list || is_first k.version in
+      fine_then (λ o. Mends tidy X f (made o)) (Mends tidy X f) (turned f p.0 k >>= with_list T f list >>= touched_if b T f >>= changing T (replied Done)) _
+      (fine_then Facts (λ o. Mends tidy X f (made o)) (turned f p.0 k >>= with_list T f list >>= touched_if b T f) (changing T (replied Done))
+      (fine_then Facts Facts (turned f p.0 k >>= with_list T f list) (touched_if b T f)
       (fine_then (Turns k) Facts (turned f p.0 k) (with_list T f list) (turned-fine p.0 k h) (λ D1 turns.
       fine_weaker (Sets list D1) Facts (with_list T f list D1) (sets-fine list has k D1 turns) (λ D sets. (D1, turns, sets))))
+      (λ D facts. fine_weaker (Sets list facts.0) Facts (touched_if b T f D) (touched-fine b list k facts.0 D facts.1 facts.2) (λ D' sets. (facts.0, facts.1, sets))))
       (λ D facts. after_limits (λ o. Mends tidy X f (made o)) T None D _ facts.2.stood (mends list p.0 k facts.0 D has h facts.1 facts.2)))
       (λ o is. is)
 

@@ -1,5 +1,5 @@
 -- What mending a search comes to: a stale list is built anew, and a criteria object of the first version becomes one of the second.
-use Rattle.std.specs.Prelude.{ℕ, ◌&&◌, Bool, true, false, not, nat_eq, List, map, Option, None, Some, Ok, if◌then◌else◌}
+use Rattle.std.specs.Prelude.{ℕ, ◌&&◌, Bool, true, false, not, nat_eq, List, map, Option, None, Some, Ok, if◌then◌else◌, ◌||◌}
 use Rattle.std.specs.Cmp.Lexicographic.{pointwise}
 use Rattle.std.specs.Option.{is_some, option_and_then}
 use Rattle.mapi_values.specs.Tables.{find_row}
@@ -13,9 +13,9 @@ use Rattle.search_obj.specs.declared.criteria.Version.TheVariants.{First, Second
 use Rattle.command_text.specs.declared.reply.CommandRefusal.TheVariants as refusals
 use Rattle.command_text.specs.declared.reply.LastLine.TheVariants.{Done}
 use Rattle.mail_objects.specs.Forms.{Ctx, Tbl}
-use Rattle.mail_tree.specs.Changing.{Answer, Changed, ◌>>=◌, as_context, as_table, nothing, refused_if, table_at}
+use Rattle.mail_tree.specs.Changing.{Answer, Changed, ◌>>=◌, as_context, as_table, context_at, hierarchy, nothing, refused_if, table_at}
 use Rattle.mail_tree.specs.Folders.{Outcome, changing, replied}
-use Rattle.mail_tree.specs.Settling.{with_context}
+use Rattle.mail_tree.specs.Settling.{context_as_is, table_as_is, with_context}
 use Rattle.mail_tree.specs.Tree.{Tree, object_at}
 use Rattle.mail_searches.specs.Building.{built_rows}
 use Rattle.mail_searches.specs.Criteria.{Coming, can_hold}
@@ -93,6 +93,20 @@ turned f c k = if is_first k.version
     then (refused_if (not (can_hold_any k.set)) refusals.Criteria >>= λ u. Ok (with_context (criteria_node f) c (written (migrated k) c.props) nothing))
     else Ok nothing
 
+-- ---- what is written
+
+-- the table that lists a search folder is put as it is
+unfoldable pub listed_as_is : Tree → ℕ → Changed → Answer Changed
+listed_as_is T f D = context_at T D f >>= λ c. table_as_is T (hierarchy c.parent) D
+
+-- the nodes of a search are put as they are: its values, its criteria object, its list, and the table that lists it
+unfoldable pub search_as_is : Tree → ℕ → Changed → Answer Changed
+search_as_is T f D = context_as_is T f D >>= context_as_is T (criteria_node f) >>= table_as_is T (results f) >>= listed_as_is T f
+
+-- the same where the search is mended
+abbrev pub touched_if : Bool → Tree → ℕ → Changed → Answer Changed
+touched_if b T f D = if b then search_as_is T f D else Ok D
+
 -- ---- both
 
 -- What mending a search comes to: whether its list was stale, whether its object was of the first version, and the rest as of a command.
@@ -105,9 +119,9 @@ pub record Mending : Type 0 where
 abbrev pub mending : Searching → Option Tbl → Crit → Outcome → Mending
 mending X list k o = record { stale = is_some list; first = is_first k.version; coming = record { outcome = o; own = X.own; searches = X.searches } }
 
--- the list and the object of this search folder are mended, if both keep to the limits on what a command writes
+-- The list and the object of this search folder are mended. All nodes of a search that is mended are written, each once, also those that stay as they are; they keep to the limits on what a command writes, or it is refused.
 unfoldable pub mending_with : Searching → ℕ → Option Tbl → Ctx × Crit → Answer Mending
-mending_with X f list p = turned f p.0 p.1 >>= with_list X.tree f list >>= changing X.tree (replied Done) >>= λ o. Ok (mending X list p.1 o)
+mending_with X f list p = turned f p.0 p.1 >>= with_list X.tree f list >>= touched_if (is_some list || is_first p.1.version) X.tree f >>= changing X.tree (replied Done) >>= λ o. Ok (mending X list p.1 o)
 
 -- What mending the search of an own search folder comes to; where it is neither stale nor of the first version, nothing changes.
 unfoldable pub mended_search : Searching → ℕ → Answer Mending

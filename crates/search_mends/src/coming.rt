@@ -11,6 +11,7 @@ ghost use Rattle.search_mending.specs.Mending.{mended_search, mending_with, with
 ghost use Rattle.search_mends.specs.Mendings.{mending_of};
 
 use crate::listing::list_of_any;
+use crate::touching::touched_if;
 use crate::turning::{is_first, turned};
 use mail_draft::{Draft, Outcome, Stop, changing};
 use mail_objects::{Context, TableNode};
@@ -52,7 +53,7 @@ fn with_list<W: Outside, K: NodeReader<W>>(
     }
 }
 
-/// What mending a search comes to that is to get this list, if it is to get one, and whose criteria object and criteria are given. Refused where what is written passes a limit.
+/// What mending a search comes to that is to get this list, if it is to get one, and whose criteria object and criteria are given. Where it is mended all its nodes are written, also those that stay as they are. Refused where what is written passes a limit.
 fn mending_with<W: Outside, K: NodeReader<W>>(
     alloc: Global,
     keeper: &mut K,
@@ -70,7 +71,8 @@ fn mending_with<W: Outside, K: NodeReader<W>>(
     let stale = list.is_some();
     let first = is_first(&criteria);
     let turned = turned(alloc, search, context, criteria)?;
-    let draft = with_list(alloc, keeper, w, known, search, list, turned)?;
+    let listed = with_list(alloc, keeper, w, known, search, list, turned)?;
+    let draft = touched_if(alloc, keeper, w, listed, search, stale || first)?;
     let outcome = changing(alloc, keeper, w, draft)?;
     Ok(SearchMending {
         stale,

@@ -1,0 +1,20 @@
+use Rattle.std.proofs.Common.{◌∙◌, ap}
+use Rattle.mail_tree.specs.Changing.{hierarchy}
+use Rattle.mail_tree.specs.Settling.{table_as_is}
+use Rattle.mail_draft.specs.Drafts.{changed_of}
+use Rattle.mail_draft.proofs.Looking.{shown_still}
+use Rattle.mail_draft.proofs.Passes.{stop_says, then_says}
+use Rattle.mail_draft.proofs.SettleLaws.{says_at}
+use Rattle.mail_folders.proofs.Steps.{stopped}
+use Rattle.search_mending.specs.Mending.{listed_as_is}
+use Rattle.search_mends.proofs.touching.listed_as_is.Goals as goal
+
+pub returns-in_err-context-clause-answer : goal.returns-in_err-context-clause-answer
+unfolding listed_as_is
+returns-in_err-context-clause-answer g c = λ T s. stopped _ _ _ _ c.from_residual.ensures.1 (stop_says _ _ _ _ _ (c.in_err-context.ensures.answer T s))
+
+pub returns-clause-answer : goal.returns-clause-answer
+unfolding listed_as_is
+returns-clause-answer g c = λ T s.
+    then_says _ _ _ _ _ _ (c.in_ok-context.ensures.answer T s)
+    (says_at changed_of (λ q. table_as_is T q (changed_of c.args.draft)) _ _ _ (c.hierarchy-table.ensures ∙ ap hierarchy c.parent.ensures) (c.table_as_is.ensures.answer T (shown_still T c.in_ok-context.ensures.looks s)))
