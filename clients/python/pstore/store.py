@@ -6,7 +6,7 @@ import subprocess
 from typing import Iterator, List, Optional, Sequence, Tuple, Union
 
 from .drafts import Draft
-from .errors import NotFound, PstoreError, Refusal, end_of, file_refusal_of
+from .errors import NotFound, PstoreError, Refusal, end_of, file_refusal_of, refusal_of
 from .folders import Folder
 from .messages import Message
 from .program import find_program
@@ -31,6 +31,8 @@ def answer(words: List[str]) -> str:
     said, text = done.stdout.decode("utf-8").strip(), done.stderr.decode("utf-8", "replace").strip()
     if said.startswith("refused "):
         raise file_refusal_of(words[2], said.partition(" ")[2], text)
+    if said.startswith("no "):
+        raise refusal_of(" ".join(words[1:]), said.partition(" ")[2])
     if done.returncode:
         raise end_of(done.returncode, text)
     return said
@@ -50,6 +52,12 @@ def mend(path: str, program: Optional[str] = None) -> Tuple[int, int]:
     """Makes the lists of searches anew that another program left stale, so that a store can be opened again. Says how many lists those were, and how many searches of the first version were turned into such of the second."""
     _, stale, _, migrated = answer([find_program(program), "mend", path]).split(" ")
     return int(stale), int(migrated)
+
+
+def fill(path: str, seed: int, count: int, program: Optional[str] = None) -> Tuple[int, int]:
+    """Makes a large input to try a store with: the folder `Fill SEED` with so many messages, from 1 to 2,000, and the search `Find SEED` over it. Says how many messages the search lists, and how many bytes those of the folder have."""
+    said = answer([find_program(program), "fill", path, str(seed), str(count)]).split(" ")
+    return int(said[3]), int(said[5])
 
 
 class Store:

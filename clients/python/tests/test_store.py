@@ -4,7 +4,7 @@ import unittest
 from datetime import datetime, timezone
 from pathlib import Path
 
-from pstore import Draft, Recipient, Store, compact, decode, errors, mend
+from pstore import Draft, Recipient, Store, compact, decode, errors, fill, mend
 from pstore.drafts import DraftAttachment
 from pstore.program import find_program, knows_look
 from pstore.tags import TAGS, Tag
@@ -51,6 +51,17 @@ class Stores(InFolder):
         with Store(self.file) as store:
             found = [len(list(it.messages())) for it in store.folder("/Search Root").folders()]
         self.assertEqual(found, [2, 1, 2, 1])
+
+    def test_a_store_is_filled(self):
+        Store.create(self.file).close()
+        words = ["letter", "letter", "invoice"]  # by (1 + I) mod 3: 1, 2, 0
+        sizes = [52 + 2 * len(f"{words[i % 3]} {i}") + 2 * 250 * i for i in range(30)]
+        self.assertEqual(fill(self.file, 1, 30), (10, sum(sizes)))
+        with self.assertRaises(errors.NameTakenRefusal):
+            fill(self.file, 1, 30)
+        with Store(self.file) as store:
+            self.assertEqual([it.subject for it in store.folder("/Search Root/Find 1").messages()][:2], ["invoice 2", "invoice 5"])
+            self.assertEqual(len(list(store.folder("Fill 1").messages())), 30)
 
     def check_folders(self, store: Store):
         self.assertEqual(store.top.name, "Top of Personal Folders")
