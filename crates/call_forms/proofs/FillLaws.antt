@@ -77,10 +77,10 @@ no_fault count end text is e = subst (λ (x : Ends). IsFillText count x text) e 
 
 -- ---- the disk while something is said
 
-disk_then : (mid new : World) → KeepsDisk mid new → new.tells → SameMedium (medium mid) (medium new)
+pub disk_then : (mid new : World) → KeepsDisk mid new → new.tells → SameMedium (medium mid) (medium new)
 disk_then mid new keeps t = record { disk = keeps.same t; written = omega (arith, keeps.written) }
 
-medium_then : (a b c : Medium) → SameMedium a b → SameMedium b c → SameMedium a c
+pub medium_then : (a b c : Medium) → SameMedium a b → SameMedium b c → SameMedium a c
 medium_then a b c p q = record { disk = same_disk p.disk q.disk; written = omega (arith, p.written, q.written) }
 
 reads_there : (tidy : Bool) (found : List ℕ) (a b : Image) (Y : Searching) → SameDisk a b → ReadsAs tidy found a Y → ReadsAs tidy found b Y

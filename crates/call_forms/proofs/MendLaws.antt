@@ -11,7 +11,11 @@ use Rattle.file_layout.specs.Nodes.{Lays, NodeMap}
 use Rattle.line_server.proofs.Hearing.{falls_along, falls_started}
 use Rattle.mail_draft.proofs.Looking.{untouched_same}
 use Rattle.node_port.specs.Stops.{Room}
-use Rattle.pst_commit.specs.Keeping.{HasRoom, IsMeasured}
+use Rattle.node_port.specs.Pins.{no_pins}
+use Rattle.pst_commit.specs.Keeping.{HasRoom, IsCommitted, IsMeasured}
+use Rattle.file_planner.specs.Becomes.{IsMade}
+use Rattle.file_planner.specs.Cost.{IsWithin}
+use Rattle.store_session.specs.Disks.{Medium, medium}
 use Rattle.pst_commit.specs.Laws.{stands_on}
 use Rattle.mail_searches.specs.Searching.{Searching}
 use Rattle.mail_tree.specs.Changing.{Answer}
@@ -20,7 +24,8 @@ use Rattle.search_lists.specs.Order.{InOrder}
 use Rattle.search_mending.specs.Laws.{IsMendable}
 use Rattle.search_mending.specs.Mended.{mended}
 use Rattle.search_mending.proofs.AllLaws.{mends_all}
-use Rattle.search_mends.specs.Mends.{MendedSoFar, MendsSearches, StopsBefore}
+use Rattle.search_mends.specs.Mends.{MendRun, MendedSoFar, MendsSearches, StopsBefore, disk_mended}
+use Rattle.search_mends.proofs.Runs.{turns_still}
 use Rattle.search_mends.specs.Stops.{IsCaused, StopsMending, UnlessFault}
 use Rattle.search_mends.specs.declared.all.Mended.{Mended}
 use Rattle.search_mends.specs.declared.stop.MendStop.{MendStop}
@@ -37,6 +42,7 @@ use Rattle.call_forms.specs.declared.exit.ChangedAt.{ChangedAt}
 use Rattle.call_forms.specs.declared.exit.Status.{Status}
 use Rattle.call_forms.specs.declared.exit.Status.TheVariants.{Done, Refused, Disk, Output, Memory, Changed}
 use Rattle.call_forms.proofs.InfoLaws.{meant-output}
+use Rattle.call_forms.proofs.FillLaws.{disk_then, medium_then}
 
 -- what a mending comes to
 abbrev Ends : Type 0
@@ -61,6 +67,19 @@ room_there a b room same h =
     let f = file_there same in
     let now = subst (Measures h.header h.m room) (sym f) (h.lays, (h.used, h.measured)) in
     record { header = h.header; read = ap (λ file. reading (take 564 file)) f ∙ h.read; m = h.m; lays = now.0; used = now.1.0; measured = now.1.1 }
+
+-- searches were mended from disk to disk
+abbrev Ran : World → Medium → Searching → Searching → Type 0
+Ran now opened X Y = MendRun (IsCommitted IsMade IsWithin no_pins.opened) now.tells X opened Y (medium now)
+
+-- and the last disk is the same behind what only says
+ran_then : (mid new : World) (opened : Medium) (X Y : Searching) → KeepsDisk mid new → Ran mid opened X Y → Ran new opened X Y
+ran_then mid new opened X Y keeps r = record {
+  turns = r.turns;
+  run = turns_still (IsCommitted IsMade IsWithin no_pins.opened) X opened r.turns keeps.told r.run;
+  tree = r.tree;
+  disk = λ t. medium_then (disk_mended opened r.turns) (medium mid) (medium new) (r.disk (keeps.told t)) (disk_then mid new keeps t);
+}
 
 -- ---- what is said, in one form
 
@@ -162,7 +181,7 @@ no_change room X (f ∷ rest) ib stored computed is = is
 
 -- ---- nothing is said
 
-module _ {old mid : World} (end : Ends) (counts : NeverFall old mid) (input : mid.tells → mid.input ≡ old.input) (cause : IfErr end (IsCaused true old.disk_faults mid.disk_faults)) (ends : mid.tells → FileMendEnds old mid end) where
+module _ {old mid : World} (end : Ends) (counts : NeverFall old mid) (input : mid.tells → mid.input ≡ old.input) (cause : IfErr end (IsCaused true old.disk_faults mid.disk_faults)) (ends : mid.tells → FileMendEnds IsMade IsWithin old mid end) where
   quiet_said : (P : Ends → Type 0) (status : Status) → IsQuiet end status → ((at : ChangedAt) → end ≡ Err (stops.Changed at.ib at.stored at.computed) → ⊥) → SaysMended P status []
   quiet_said P status q never = elim q [
     | inl m ↦ subst (λ (s : Status). SaysMended P s []) (sym m) refl
@@ -181,18 +200,22 @@ module _ {old mid : World} (end : Ends) (counts : NeverFall old mid) (input : mi
   unopened_changed : (at : ChangedAt) → IsUnopened end → end ≡ Err (stops.Changed at.ib at.stored at.computed) → ⊥
   unopened_changed at un is = subst IsUnopened is un
 
-  quiet_tree : (tidy : Bool) (found : List ℕ) (X : Searching) (status : Status) → IsQuiet end status → mid.tells → MendsFiles tidy found old mid X end → MendsTree tidy found old mid X status
+  quiet_tree : (tidy : Bool) (found : List ℕ) (X : Searching) (status : Status) → IsQuiet end status → mid.tells → MendsFiles IsMade IsWithin tidy found old mid X end → MendsTree tidy found old mid X status
   quiet_tree tidy found X status q t f = record {
     images = weaker (IsPartMended tidy found old mid X) f.images (λ c told is. inl is);
+    opened = f.opened;
+    store = f.store;
+    opening = f.opening;
+    idle = f.idle;
     said = (
       [],
-      quiet_said (MendsIn tidy found mid.here X) status q (never_changed (λ Y. ReadsMendable tidy found mid.here Y × Settled mid × HasRoom mid.here f.room) f.room X f.mends),
+      quiet_said (MendsIn tidy found f.opened mid X) status q (never_changed (λ Y. (ReadsMendable tidy found mid.here Y × Settled mid × HasRoom mid.here f.room) × Ran mid f.opened X Y) f.room X f.mends),
       (f.images.here t).0 ∙ sym (append-nil old.here.said),
     );
     fresh = λ is. absurd (quiet_done status q is);
   }
 
-  quiet_told : (status : Status) → IsQuiet end status → mid.tells → FileMendEnds old mid end → MendUnread old mid status ⊎ MendRead old mid status
+  quiet_told : (status : Status) → IsQuiet end status → mid.tells → FileMendEnds IsMade IsWithin old mid end → MendUnread old mid status ⊎ MendRead old mid status
   quiet_told status q t (inl u) =
       let un = unopened_is end u.ends in
       inl (record {
@@ -275,24 +298,28 @@ module _ {old mid : World} (end : Ends) (counts : NeverFall old mid) (input : mi
         (mends.so_far, mends.mended, ((f mends.so_far mends.has_it).0, fresh))
     fresh_end tidy found P room X order f (Err stop) means mends is = absurd (refused_done (sym means.0 ∙ is))
 
-    said_tree : (tidy : Bool) (found : List ℕ) (X : Searching) → new.tells → IsMendable tidy X → MendsFiles tidy found old mid X end → MendsTree tidy found old new X status
+    said_tree : (tidy : Bool) (found : List ℕ) (X : Searching) → new.tells → IsMendable tidy X → MendsFiles IsMade IsWithin tidy found old mid X end → MendsTree tidy found old new X status
     said_tree tidy found X t order f =
         let there = says.keeps.told t in
-        let at_mid : Searching → Type 0 = λ Y. ReadsMendable tidy found mid.here Y × Settled mid × HasRoom mid.here f.room in
-        let at_new : Searching → Type 0 = λ Y. ReadsMendable tidy found new.here Y × HasRoom new.here f.room in
+        let at_mid : Searching → Type 0 = λ Y. (ReadsMendable tidy found mid.here Y × Settled mid × HasRoom mid.here f.room) × Ran mid f.opened X Y in
+        let at_new : Searching → Type 0 = λ Y. (ReadsMendable tidy found new.here Y × HasRoom new.here f.room) × Ran new f.opened X Y in
         let same : SameDisk mid.here new.here = says.keeps.same t in
         let later : MendsSearches at_new f.room X end =
-        mends_then at_mid at_new f.room X end (λ Y h. (reads_there tidy found mid.here new.here Y same h.0, room_there mid.here new.here f.room same h.2)) f.mends in
-        let settled : Settled mid = settled_mid at_mid f.room X (λ Y h. h.1) end means f.mends in
+        mends_then at_mid at_new f.room X end (λ Y h. ((reads_there tidy found mid.here new.here Y same h.0.0, room_there mid.here new.here f.room same h.0.2), ran_then mid new f.opened X Y says.keeps h.1)) f.mends in
+        let settled : Settled mid = settled_mid at_mid f.room X (λ Y h. h.0.1) end means f.mends in
         record {
           images = continues (weaker (IsPartMended tidy found old new X) f.images (λ c told is. inl is)) says.keeps.disk (λ c told has. inr (disk_of_end c settled told has));
-          said = said_text (MendsIn tidy found new.here X) (f.room, later) t (f.images.here there).0;
+          opened = f.opened;
+          store = f.store;
+          opening = f.opening;
+          idle = f.idle;
+          said = said_text (MendsIn tidy found f.opened new X) (f.room, later) t (f.images.here there).0;
           fresh = λ is.
-              fresh_end tidy found at_new f.room X order (λ Y h. h.0) end means later
+              fresh_end tidy found at_new f.room X order (λ Y h. h.0.0) end means later
               (elim says.failed [ inl m ↦ sym m ∙ is | inr o ↦ absurd (output_done (sym o.0 ∙ is)) ]);
         }
 
-    said_told : new.tells → FileMendEnds old mid end → MendUnread old new status ⊎ MendRead old new status
+    said_told : new.tells → FileMendEnds IsMade IsWithin old mid end → MendUnread old new status ⊎ MendRead old new status
     said_told t (inl u) = absurd (not_meant end meant text means (unopened_is end u.ends))
     said_told t (inr o) = inr (record {
       start = o.start;
@@ -319,7 +346,7 @@ module _ {old mid : World} (end : Ends) (counts : NeverFall old mid) (input : mi
 -- ---- both
 
 pub mend_serves : {W : Type 0} (view : W → World) (old : World) (v w : W) (end : Ends) (status : Status) → NeverFall old (view v) → ((view v).tells → (view v).input ≡ old.input) → IfErr end (IsCaused true old.disk_faults (view v).disk_faults)
-    → ((view v).tells → FileMendEnds old (view v) end) → SaysEnd end v w (view v) (view w) status → MendServes old (view w) status
+    → ((view v).tells → FileMendEnds IsMade IsWithin old (view v) end) → SaysEnd end v w (view v) (view w) status → MendServes old (view w) status
 mend_serves view old v w end status counts input cause ends s = elim (spoken end v w (view v) (view w) status s) [
   | inl it ↦ said_serves end counts input cause ends it.2 it.3
   | inr q ↦ subst (λ x. MendServes old (view x) status) (sym q.1) (quiet_serves end counts input cause ends status q.0)

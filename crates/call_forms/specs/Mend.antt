@@ -1,13 +1,18 @@
 -- What `mend` says and how it ends.
-use Rattle.std.specs.Prelude.{◌≡◌, ◌⊎◌, ℕ, Bool, false, List, [], ◌++◌, codes, take, Result, Ok, Err}
+use Rattle.std.specs.Prelude.{◌≡◌, ◌⊎◌, ◌+◌, ◌≤◌, ℕ, Bool, false, List, [], ◌++◌, codes, take, Result, Ok, Err}
 use Rattle.std.specs.Fmt.{decimal}
 use Rattle.pst_outside.specs.World.{Image, SameDisk, World}
 use Rattle.pst_outside.specs.Calls.{LeavesOnly, NeverFall, Rose, Settled}
 use Rattle.node_port.specs.Stops.{Room}
-use Rattle.pst_commit.specs.Keeping.{HasRoom}
+use Rattle.gate_file.specs.Gate.{IsShut, SameStore}
+use Rattle.node_port.specs.Pins.{no_pins}
+use Rattle.pst_commit.specs.Keeping.{HasRoom, IsCommitted}
+use Rattle.file_planner.specs.Becomes.{IsMade}
+use Rattle.file_planner.specs.Cost.{IsWithin}
+use Rattle.store_session.specs.Disks.{Medium, SameMedium, medium}
 use Rattle.mail_searches.specs.Searching.{Searching}
 use Rattle.search_mending.specs.Mended.{mended}
-use Rattle.search_mends.specs.Mends.{MendedSoFar, MendsSearches}
+use Rattle.search_mends.specs.Mends.{MendRun, MendedSoFar, MendsSearches}
 use Rattle.search_mends.specs.declared.all.Mended.{Mended}
 use Rattle.search_mends.specs.declared.stop.MendStop.{MendStop}
 use Rattle.search_mends.specs.declared.stop.MendStop.TheVariants.{Rows, Full, Ids, Fault}
@@ -62,9 +67,10 @@ SaysMended mends other said = ⊥
 
 -- ---- how it ends
 
--- mending the tree in files that are read so came to this, over files with some room
-abbrev pub MendsIn : Bool → List ℕ → Image → Searching → Result Mended MendStop → Type 0
-MendsIn tidy found image X end = (room : Room) × MendsSearches (λ Y. ReadsMendable tidy found image Y × HasRoom image room) room X end
+-- Mending the tree in files that are read so came to this, over files with some room. Each search that was mended took the files to the next, from those that the opening left on, as a commit of just the nodes that it puts makes them.
+abbrev pub MendsIn : Bool → List ℕ → Medium → World → Searching → Result Mended MendStop → Type 0
+MendsIn tidy found opened now X end =
+    (room : Room) × MendsSearches (λ Y. (ReadsMendable tidy found now.here Y × HasRoom now.here room) × MendRun (IsCommitted IsMade IsWithin no_pins.opened) now.tells X opened Y (medium now)) room X end
 
 -- Before anything is said, the image is read as the tree with the searches of the first of its own search folders mended. Later it has the disk of the end.
 abbrev pub IsPartMended : Bool → List ℕ → World → World → Searching → Image → Type 0
@@ -73,7 +79,12 @@ IsPartMended tidy found old new X c = ((c.said ≡ old.here.said) × MendedSoFar
 -- Of files that are read as the tree, with nothing pending: a stop at any moment leaves them with the first searches mended, and all of them once anything was said. What is said is what mending came to. Where all is mended, the files are read as the mended tree, each running search of which lists what filtering lists.
 pub record MendsTree (tidy : Bool) (found : List ℕ) (old new : World) (X : Searching) (status : Status) : Type 0 where
   pub images : LeavesOnly old new (IsPartMended tidy found old new X)
-  pub said : (text : List ℕ) × SaysMended (MendsIn tidy found new.here X) status text × (new.here.said ≡ old.here.said ++ text)
+  -- the disk that the first search finds: the store is as it was, and at most the gate was closed
+  pub opened : Medium
+  pub store : SameStore old.here opened.image
+  pub opening : opened.written ≤ old.written + 580
+  pub idle : IsShut old.here.side → SameMedium (medium old) opened
+  pub said : (text : List ℕ) × SaysMended (MendsIn tidy found opened new X) status text × (new.here.said ≡ old.here.said ++ text)
   pub fresh : status ≡ Done → (Y : Searching) × (mended X ≡ Ok Y) × ReadsAs tidy found new.here Y
 
 -- the files weren't read, as the disk failed or there was no memory: nothing was said, and a stop at any moment leaves the tree that they were read as

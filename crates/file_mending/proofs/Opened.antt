@@ -1,5 +1,5 @@
 -- From the opening of a file to the end of the mending of its searches.
-use Rattle.std.proofs.Common.{◌≡◌, ◌∙◌, ℕ, Bool, true, false, List, [], ◌++◌, length, take, Result, Ok, Err, IfErr, refl, sym, ap, subst, inl, inr, arith}
+use Rattle.std.proofs.Common.{◌≡◌, ◌∙◌, ℕ, ◌+◌, ◌≤◌, Bool, true, false, List, [], ◌++◌, length, take, Result, Ok, Err, IfErr, refl, sym, ap, subst, inl, inr, arith}
 use Rattle.std.proofs.Math.Seq.{take-append_seam}
 use Rattle.pst_outside.specs.World.{Image, World}
 use Rattle.pst_outside.specs.Calls.{LeavesOnly, NeverFall, Rose, Settled, Untouched}
@@ -10,7 +10,10 @@ use Rattle.lays_kept.specs.Stands.{Stands}
 use Rattle.node_port.specs.Nodes.{Nodes}
 use Rattle.node_port.specs.Stops.{Room}
 use Rattle.pst_commit.specs.Commit.{LeavesNodes}
-use Rattle.pst_commit.specs.Keeping.{HasRoom, Holds}
+use Rattle.node_port.specs.Pins.{no_pins}
+use Rattle.pst_commit.specs.Keeping.{HasRoom, Holds, IsCommitted}
+use Rattle.store_session.specs.Disks.{medium}
+use Rattle.store_session.proofs.Carry.{same_medium}
 use Rattle.mail_store.specs.Planning.{StandsFor}
 use Rattle.mail_tree.specs.Changing.{Answer}
 use Rattle.mail_tree.specs.Whole.{Fine}
@@ -21,7 +24,7 @@ use Rattle.search_mending.specs.Mended.{mended_all}
 use Rattle.search_mending.proofs.AllLaws.{front_in_order}
 use Rattle.search_store.specs.Planning.{StoresSearches}
 use Rattle.search_store.specs.declared.store.SearchStore.{SearchStore}
-use Rattle.search_mends.specs.Mends.{HasMendable, LeavesMended, MendedSoFar, MendsSearches}
+use Rattle.search_mends.specs.Mends.{HasMendable, LeavesMended, MendRun, MendedSoFar, MendsSearches}
 use Rattle.search_mends.specs.Stops.{IsCaused, UnlessFault}
 use Rattle.search_mends.specs.declared.all.Mended.{Mended}
 use Rattle.search_mends.specs.declared.stop.MendStop.{MendStop}
@@ -31,7 +34,7 @@ use Rattle.file_open.specs.Opening.{IsFileRefused, IsLooked, OpenedTree, ReadsTr
 use Rattle.file_open.specs.declared.stops.FileRefusal.{FileRefusal}
 use Rattle.file_open.specs.declared.stops.FileStop.{FileStop}
 use Rattle.file_open.specs.declared.stops.FileStop.TheVariants as stops
-use Rattle.file_mending.specs.FileMends.{MendOpened, MendUnopened, MendsFiles, ReadsMendable, StandsMendable, front_of, unopened}
+use Rattle.file_mending.specs.FileMends.{Becomes, Costs, MendOpened, MendUnopened, MendsFiles, ReadsMendable, StandsMendable, front_of, unopened}
 use Rattle.file_mending.specs.declared.mend.FileMend.{FileMend}
 use Rattle.file_mending.specs.declared.mend.FileMend.TheVariants.{Refused, Ended}
 
@@ -101,15 +104,16 @@ leaves_tree : (tidy : Bool) (found : List ℕ) (first mid : World) (N : Nodes) (
 leaves_tree tidy found first mid N X shows order leaves =
     weaker (λ c. (c.said ≡ first.here.said) × ReadsMendable tidy found c X) leaves (λ c t is. (is.0, (shows c is.1, order)))
 
-pub ends_mended : (knows : Header → List ℕ → Type 0) (bytes : List ℕ) (header : Header) (tree : OpenedTree) (first mid now : World) (end : Result Mended MendStop) (room : Room)
+pub ends_mended : (becomes : Becomes) (costs : Costs) (knows : Header → List ℕ → Type 0) (bytes : List ℕ) (header : Header) (tree : OpenedTree) (first mid now : World) (end : Result Mended MendStop) (room : Room)
     → IsLooked knows bytes header first.here mid tree
-    → SameStore first.here mid.here
+    → now.tells → (now.tells → mid.tells) → SameStore first.here mid.here
+    → mid.written ≤ first.written + 580 → (IsShut first.here.side → Untouched first mid)
     → (Settled first → Settled mid) → (mid.tells → IsShut mid.here.side)
     → (Settled first → Leaving first mid)
     → ((tidy : Bool) (X : Searching) → StoresSearches (Holds knows bytes header mid) header.indexes tree.known tree.searches X → IsMendable tidy X → Settled mid → (mid.tells → IsShut mid.here.side)
-    → MendsSearches (StandsMendable tidy (Stands bytes) HasRoom room now) room X end × LeavesMended (Stands bytes) mid now X)
-    → MendOpened first now end
-ends_mended knows bytes header tree first mid now end room o store settled shut leaving mending =
+    → MendsSearches (λ Y. StandsMendable tidy (Stands bytes) HasRoom room now Y × MendRun (IsCommitted becomes costs no_pins.opened) now.tells X (medium mid) Y (medium now)) room X end × LeavesMended (Stands bytes) mid now X)
+    → MendOpened becomes costs first now end
+ends_mended becomes costs knows bytes header tree first mid now end room o tells told store written idle settled shut leaving mending =
     let X : Searching = o.tree.tree in
     let shown = o.reads.shows in
     let N : Nodes = o.reads.nodes in
@@ -137,9 +141,13 @@ ends_mended knows bytes header tree first mid now end room o store settled shut 
           let both = mending tidy X stores order (settled still) shut in
           let begins : LeavesOnly first mid (λ c. (c.said ≡ first.here.said) × MendedSoFar (ReadsMendable tidy bytes c) X) =
           weaker (λ c. (c.said ≡ first.here.said) × MendedSoFar (ReadsMendable tidy bytes c) X) opening (λ c t is. (is.0, none_yet (ReadsMendable tidy bytes c) X is.1)) in
-          subst (λ f. MendsFiles tidy f first now X end) o.front (record {
+          subst (λ f. MendsFiles becomes costs tidy f first now X end) o.front (record {
             images = continues begins both.1 (λ c t is. (is.0 ∙ store.said, so_far_reads tidy bytes c X order is.1));
             room = room;
+            opened = medium mid;
+            store = store;
+            opening = written;
+            idle = λ closed. let same = idle closed in same_medium first mid (same.stays.here (told tells)) same.stays.written;
             mends = both.0;
           });
     }

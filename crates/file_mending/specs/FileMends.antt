@@ -1,15 +1,20 @@
 -- How the mending of the searches of a file ends. What is said of a stop, and of the mending behind the opening, is said where nothing was pending at the start.
-use Rattle.std.specs.Prelude.{◌≡◌, ◌⊎◌, ℕ, Bool, false, List, take, Result, Err}
+use Rattle.std.specs.Prelude.{◌≡◌, ◌⊎◌, ◌+◌, ◌≤◌, ℕ, Bool, false, List, Option, take, Result, Err}
+use Rattle.pst_base.specs.declared.ids.Nid.{Nid}
+use Rattle.gate_file.specs.Gate.{IsShut, SameStore}
 use Rattle.pst_outside.specs.World.{Image, World}
 use Rattle.pst_outside.specs.Calls.{LeavesOnly, Settled, Untouched}
 use Rattle.lays_kept.specs.Stands.{Stands}
 use Rattle.node_port.specs.Nodes.{Nodes}
 use Rattle.node_port.specs.Stops.{Room}
-use Rattle.pst_commit.specs.Keeping.{HasRoom}
+use Rattle.node_port.specs.Pins.{no_pins}
+use Rattle.node_port.specs.declared.node.NodeRec.{NodeRec}
+use Rattle.pst_commit.specs.Keeping.{HasRoom, IsCommitted}
+use Rattle.store_session.specs.Disks.{Medium, SameMedium, medium}
 use Rattle.mail_store.specs.Planning.{StandsFor}
 use Rattle.mail_searches.specs.Searching.{Searching}
 use Rattle.search_mending.specs.Laws.{IsMendable}
-use Rattle.search_mends.specs.Mends.{MendedSoFar, MendsSearches}
+use Rattle.search_mends.specs.Mends.{MendRun, MendedSoFar, MendsSearches}
 use Rattle.search_mends.specs.declared.all.Mended.{Mended}
 use Rattle.search_mends.specs.declared.stop.MendStop.{MendStop}
 use Rattle.search_mends.specs.declared.stop.MendStop.TheVariants as mends
@@ -41,22 +46,34 @@ pub record MendUnopened (first now : World) (end : Result Mended MendStop) : Typ
   pub images : Settled first → (tidy : Bool) (X : Searching) → ReadsMendable tidy (front_of first.here) first.here X
       → LeavesOnly first now (λ c. (c.said ≡ first.here.said) × ReadsMendable tidy (front_of first.here) c X)
 
--- Of the two files, which were read as the tree: a stop at any moment leaves them with the searches of the first of its own search folders mended, and mending came to its end, or stopped, over files with this room.
-pub record MendsFiles (tidy : Bool) (found : List ℕ) (first now : World) (X : Searching) (end : Result Mended MendStop) : Type 0 where
+-- what a commit makes of a file beside which nothing is held, and how many bytes its pieces have
+abbrev pub Becomes : Type 1
+Becomes = List (ℕ × List Bool) → List ℕ → List ℕ → Type 0
+
+abbrev pub Costs : Type 1
+Costs = List ℕ → List ℕ → List (Nid × Option NodeRec) → ℕ → Type 0
+
+-- Of the two files, which were read as the tree: a stop at any moment leaves them with the searches of the first of its own search folders mended, and mending came to its end, or stopped, over files with this room. Unless the disk failed, each search that was mended took the files to the next as a commit of just the nodes that it puts.
+pub record MendsFiles (becomes : Becomes) (costs : Costs) (tidy : Bool) (found : List ℕ) (first now : World) (X : Searching) (end : Result Mended MendStop) : Type 0 where
   pub images : LeavesOnly first now (λ c. (c.said ≡ first.here.said) × MendedSoFar (ReadsMendable tidy found c) X)
   pub room : Room
-  pub mends : MendsSearches (StandsMendable tidy (Stands found) HasRoom room now) room X end
+  -- the disk that the first search finds: the store is as it was, and at most the gate was closed
+  pub opened : Medium
+  pub store : SameStore first.here opened.image
+  pub opening : opened.written ≤ first.written + 580
+  pub idle : IsShut first.here.side → SameMedium (medium first) opened
+  pub mends : MendsSearches (λ Y. StandsMendable tidy (Stands found) HasRoom room now Y × MendRun (IsCommitted becomes costs no_pins.opened) now.tells X opened Y (medium now)) room X end
 
 -- The files were opened as a tree with its searches, whatever these list and whether numbers are left, and so their mending ended.
-pub record MendOpened (first now : World) (end : Result Mended MendStop) : Type 0 where
+pub record MendOpened (becomes : Becomes) (costs : Costs) (first now : World) (end : Result Mended MendStop) : Type 0 where
   pub start : Searching
   pub reads : ReadsTree first.here start
   pub stands : ReadsMendable false (front_of first.here) first.here start
-  pub mends : Settled first → (tidy : Bool) → ReadsMendable tidy (front_of first.here) first.here start → MendsFiles tidy (front_of first.here) first now start end
+  pub mends : Settled first → (tidy : Bool) → ReadsMendable tidy (front_of first.here) first.here start → MendsFiles becomes costs tidy (front_of first.here) first now start end
 
 -- how the mending of files ends that weren't refused
-abbrev pub FileMendEnds : World → World → Result Mended MendStop → Type 0
-FileMendEnds first now end = MendUnopened first now end ⊎ MendOpened first now end
+abbrev pub FileMendEnds : Becomes → Costs → World → World → Result Mended MendStop → Type 0
+FileMendEnds becomes costs first now end = MendUnopened first now end ⊎ MendOpened becomes costs first now end
 
 -- for each stop of the opening
 abbrev pub unopened : FileStop → FileMend

@@ -2,7 +2,8 @@
 ghost use Rattle.std.specs.Prelude.{◌≡◌, Bool, true, Result as Answers, IfErr};
 ghost use Rattle.pst_outside.specs.Calls.{NeverFall, Untouched};
 ghost use Rattle.mail_searches.specs.Searching.{Searching};
-ghost use Rattle.search_mends.specs.Mends.{HasMendable, LeavesMended, MendsSearches};
+ghost use Rattle.store_session.specs.Disks.{medium};
+ghost use Rattle.search_mends.specs.Mends.{HasMendable, LeavesMended, MendRun, MendsSearches};
 ghost use Rattle.search_mends.specs.Stops.{IsCaused};
 ghost use Rattle.search_mends.specs.declared.all.Mended.{Mended as Count};
 ghost use Rattle.search_mends.specs.declared.stop.MendStop.{MendStop as Stops};
@@ -62,7 +63,8 @@ fn mend_counted<W: Outside, K: Keeper<W>, L: Ledger>(
     requires parts { blank.parts ≡ L.parts }
     requires some { blank.parts ≡ 1 }
     ensures mends { (tidy : Bool) (X : Searching) → HasMendable K.holds K.last K.rests store.old (W.view w.old) tidy X → (K.has_disk ≡ true → (W.view w.new).tells)
-        → MendsSearches (StandsMendable tidy (K.stands (K.room store.old.store.keeper).found) K.measures (K.room store.new.store.keeper) (W.view w.new)) (K.room store.new.store.keeper) X result }
+        → MendsSearches (λ Y. StandsMendable tidy (K.stands (K.room store.old.store.keeper).found) K.measures (K.room store.new.store.keeper) (W.view w.new) Y
+        × MendRun (K.applied (K.room store.old.store.keeper).pins) (W.view w.new).tells X (medium (W.view w.old)) Y (medium (W.view w.new))) (K.room store.new.store.keeper) X result }
     ensures images { (tidy : Bool) (X : Searching) → HasMendable K.holds K.last K.rests store.old (W.view w.old) tidy X → (K.has_disk ≡ true → (W.view w.new).tells)
         → LeavesMended (K.stands (K.room store.old.store.keeper).found) (W.view w.old) (W.view w.new) X }
     ensures told { (W.view w.new).tells → (W.view w.old).tells }
@@ -81,7 +83,7 @@ fn mend_counted<W: Outside, K: Keeper<W>, L: Ledger>(
 pub fn mend_file<W: Outside, S: FoundStore<W> + Drop>(alloc: Global, world: &mut W) -> FileMend
     ensures refused { (refusal : Refusals) → result ≡ FileMend.Refused refusal → Untouched (W.view world.old) (W.view world.new)
         × ((W.view world.new).tells → IsFileRefused (W.view world.old).here refusal × ((X : Searching) → ReadsTree (W.view world.old).here X → ⊥)) }
-    ensures ends { (end : Answers Count Stops) → result ≡ FileMend.Ended end → (W.view world.new).tells → FileMendEnds (W.view world.old) (W.view world.new) end }
+    ensures ends { (end : Answers Count Stops) → result ≡ FileMend.Ended end → (W.view world.new).tells → FileMendEnds S.becomes S.costs (W.view world.old) (W.view world.new) end }
     ensures cause { (end : Answers Count Stops) → result ≡ FileMend.Ended end → IfErr end (IsCaused true (W.view world.old).disk_faults (W.view world.new).disk_faults) }
     ensures told { (W.view world.new).tells → (W.view world.old).tells }
     ensures input { (W.view world.new).tells → (W.view world.new).input ≡ (W.view world.old).input }

@@ -5,3 +5,4 @@ pub mod MendingLaws
 pub mod PlanLaws
 pub mod OneLaws
 pub mod Reaching
+pub mod Runs

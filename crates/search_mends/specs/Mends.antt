@@ -1,9 +1,11 @@
 -- What mending the searches of a store over a keeper comes to.
-use Rattle.std.specs.Prelude.{◌≡◌, ◌⊎◌, ℕ, Bool, List, [], ◌∷◌, ◌++◌, count_by, Result, Ok, Err}
+use Rattle.std.specs.Prelude.{◌≡◌, ◌⊎◌, ℕ, Bool, List, [], ◌∷◌, ◌++◌, count_by, Option, Result, Ok, Err}
+use Rattle.pst_base.specs.declared.ids.Nid.{Nid}
 use Rattle.pst_outside.specs.World.{Image, World}
 use Rattle.pst_outside.specs.Calls.{LeavesOnly, Settled}
 use Rattle.node_port.specs.Nodes.{Nodes}
 use Rattle.node_port.specs.Stops.{Room}
+use Rattle.node_port.specs.declared.node.NodeRec.{NodeRec}
 use Rattle.mail_store.specs.Planning.{StandsFor}
 use Rattle.mail_searches.specs.Searching.{Searching}
 use Rattle.mail_searches.specs.Step.{after}
@@ -17,6 +19,7 @@ use Rattle.search_mends.specs.declared.stop.MendStop.{MendStop}
 use Rattle.search_mends.specs.declared.stop.MendStop.TheVariants.{Memory}
 use Rattle.search_store.specs.Planning.{StoresSearches}
 use Rattle.search_store.specs.declared.store.SearchStore.{SearchStore}
+use Rattle.store_session.specs.Disks.{Commits, Medium, SameMedium, medium}
 
 -- A store over a keeper has the tree with its searches, which is in order but for what these list, and tidy if `tidy`; nothing is pending, and the disk is as a commit needs it.
 pub record HasMendable {K : Type 0} (holds : K → World → Nodes → Type 0) (last : K → List ℕ) (rests : Image → Type 0) (store : SearchStore K) (world : World) (tidy : Bool) (X : Searching) : Type 0 where
@@ -24,6 +27,47 @@ pub record HasMendable {K : Type 0} (holds : K → World → Nodes → Type 0) (
   pub order : IsMendable tidy X
   pub settled : Settled world
   pub at_rest : world.tells → rests world.here
+
+-- ---- from disk to disk
+
+-- A search that was mended: its folder, and the tree with its searches and the disk after it.
+pub record MendTurn : Type 0 where
+  pub folder : ℕ
+  pub tree : Searching
+  pub disk : Medium
+
+-- From the tree and the disk before it on, mending the search of its folder came to this turn: a commit of its nodes takes the disk to the next. What becomes of the disk is said where `told`.
+pub record MendsTo (applied : List (Nid × Option NodeRec) → ℕ → Image → Image → Type 0) (told : Type 0) (before : Searching) (old : Medium) (turn : MendTurn) : Type 0 where
+  pub mending : Mending
+  pub mends : mended_search before turn.folder ≡ Ok mending
+  pub tree : turn.tree ≡ after before mending.coming
+  pub disk : told → Commits applied mending.coming old turn.disk
+
+-- one after another
+abbrev pub MendTurns : (List (Nid × Option NodeRec) → ℕ → Image → Image → Type 0) → Type 0 → Searching → Medium → List MendTurn → Type 0
+MendTurns applied told before old [] = Unit {0}
+MendTurns applied told before old (turn ∷ turns) = MendsTo applied told before old turn × MendTurns applied told turn.tree turn.disk turns
+
+-- the tree and the disk at the end
+abbrev pub tree_mended : Searching → List MendTurn → Searching
+tree_mended before [] = before
+tree_mended before (turn ∷ turns) = tree_mended turn.tree turns
+
+abbrev pub disk_mended : Medium → List MendTurn → Medium
+disk_mended old [] = old
+disk_mended old (turn ∷ turns) = disk_mended turn.disk turns
+
+-- Searches were mended one after another, each by one commit, from a tree and a disk to these.
+pub record MendRun (applied : List (Nid × Option NodeRec) → ℕ → Image → Image → Type 0) (told : Type 0) (before : Searching) (old : Medium) (now : Searching) (new : Medium) : Type 0 where
+  pub turns : List MendTurn
+  pub run : MendTurns applied told before old turns
+  pub tree : tree_mended before turns ≡ now
+  pub disk : told → SameMedium (disk_mended old turns) new
+
+-- mending the search of this folder, if it was mended, took the disk to the next
+abbrev pub CommitsOne : (List (Nid × Option NodeRec) → ℕ → Image → Image → Type 0) → World → World → Searching → ℕ → Result WasMended MendStop → Type 0
+CommitsOne applied old new X f (Ok one) = (m : Mending) × (mended_search X f ≡ Ok m) × (new.tells → Commits applied m.coming (medium old) (medium new))
+CommitsOne applied old new X f (Err stop) = UnlessFault (new.tells → SameMedium (medium old) (medium new)) stop
 
 -- ---- one search
 

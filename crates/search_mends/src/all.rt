@@ -3,7 +3,8 @@ ghost use Rattle.std.specs.Prelude.{◌≡◌, ◌<◌, ◌≤◌, ◌+◌, ◌^
 ghost use Rattle.pst_outside.specs.Calls.{NeverFall};
 ghost use Rattle.mail_tree.specs.Places.{place_id};
 ghost use Rattle.mail_searches.specs.Searching.{Searching, is_own};
-ghost use Rattle.search_mends.specs.Mends.{HasMendable, LeavesMended, MendsSearches};
+ghost use Rattle.store_session.specs.Disks.{medium};
+ghost use Rattle.search_mends.specs.Mends.{HasMendable, LeavesMended, MendRun, MendsSearches};
 ghost use Rattle.search_mends.specs.Stops.{IsCaused};
 
 use crate::one::{WasMended, mend_one};
@@ -70,7 +71,7 @@ pub fn mend_searches<W: Outside, K: Keeper<W>, L: Ledger>(
 ) -> Result<Mended, MendStop>
     ensures mends { (tidy : Bool) (X : Searching) → HasMendable K.holds K.last K.rests store.old (W.view w.old) tidy X
         → (K.has_disk ≡ true → (W.view w.new).tells)
-        → MendsSearches (HasMendable K.holds K.last K.rests store.new (W.view w.new) tidy) (K.room store.new.store.keeper) X result }
+        → MendsSearches (λ Y. HasMendable K.holds K.last K.rests store.new (W.view w.new) tidy Y × MendRun (K.applied (K.room store.old.store.keeper).pins) (W.view w.new).tells X (medium (W.view w.old)) Y (medium (W.view w.new))) (K.room store.new.store.keeper) X result }
     ensures images { (tidy : Bool) (X : Searching) → HasMendable K.holds K.last K.rests store.old (W.view w.old) tidy X
         → (K.has_disk ≡ true → (W.view w.new).tells) → LeavesMended (K.stands (K.room store.old.store.keeper).found) (W.view w.old) (W.view w.new) X }
     ensures found { (K.room store.new.store.keeper).found ≡ (K.room store.old.store.keeper).found }

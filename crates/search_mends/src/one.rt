@@ -2,7 +2,7 @@
 ghost use Rattle.std.specs.Prelude.{◌≡◌, Bool, true, IfErr};
 ghost use Rattle.pst_outside.specs.Calls.{NeverFall};
 ghost use Rattle.mail_searches.specs.Searching.{Searching, is_own};
-ghost use Rattle.search_mends.specs.Mends.{HasMendable, LeavesOne, MendsOne};
+ghost use Rattle.search_mends.specs.Mends.{CommitsOne, HasMendable, LeavesOne, MendsOne};
 ghost use Rattle.search_mends.specs.Stops.{IsCaused};
 
 use crate::planning::{PlannedMending, plan_mending};
@@ -33,6 +33,8 @@ pub(crate) fn mend_one<W: Outside, K: Keeper<W>, L: Ledger>(
         → MendsOne (HasMendable K.holds K.last K.rests store.new (W.view w.new) tidy) (K.room store.new.store.keeper) X search.bits result }
     ensures images { (tidy : Bool) (X : Searching) → HasMendable K.holds K.last K.rests store.old (W.view w.old) tidy X
         → is_own X.own search.bits ≡ true → LeavesOne (K.stands (K.room store.old.store.keeper).found) (W.view w.old) (W.view w.new) X search.bits }
+    ensures disk { (tidy : Bool) (X : Searching) → HasMendable K.holds K.last K.rests store.old (W.view w.old) tidy X
+        → is_own X.own search.bits ≡ true → CommitsOne (K.applied (K.room store.old.store.keeper).pins) (W.view w.old) (W.view w.new) X search.bits result }
     ensures found { (K.room store.new.store.keeper).found ≡ (K.room store.old.store.keeper).found }
     ensures pins { (K.room store.new.store.keeper).pins ≡ (K.room store.old.store.keeper).pins }
     ensures told { (W.view w.new).tells → (W.view w.old).tells }

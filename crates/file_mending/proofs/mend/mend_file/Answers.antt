@@ -1,6 +1,11 @@
 use Rattle.std.proofs.Common.{◌∙◌, Err, IfErr, ap, inl, inr, sym, subst, true}
 use Rattle.search_mends.specs.Stops.{IsCaused}
-use Rattle.file_mending.specs.FileMends.{FileMendEnds}
+use Rattle.lays_kept.specs.Stands.{Stands}
+use Rattle.node_port.specs.Pins.{Pins}
+use Rattle.pst_commit.specs.Keeping.{HasRoom, IsCommitted}
+use Rattle.store_session.specs.Disks.{medium}
+use Rattle.search_mends.specs.Mends.{MendRun, MendsSearches}
+use Rattle.file_mending.specs.FileMends.{FileMendEnds, StandsMendable}
 use Rattle.file_mending.proofs.Opened.{ends_caused, ends_mended, ends_unmended, refused_is, same_end, stop_caused}
 use Rattle.file_mending.proofs.mend.mend_file.Goals as goal
 
@@ -25,11 +30,15 @@ returns-in-Ok-clause-ends g c = λ end is tells.
     let o = c.in-Ok.opened in
     let told = c.mend_counted.ensures.told tells in
     let call = c.mend_counted.ensures in
-    subst (λ e. FileMendEnds first now e) (same_end c.mend_counted.result end is)
-    (inr (ends_mended (g.S.NodeStore.knows o.keeper.store) o.keeper.found o.keeper.header o.tree first mid now c.mend_counted.result _
-    (c.in-Ok.ensures.looked told) (c.in-Ok.ensures.store told) c.in-Ok.ensures.settled c.in-Ok.ensures.shut c.in-Ok.ensures.any_moment
+    let pins = c.in-Ok.ensures.no_pins in
+    let becomes = g.S.NodeStore.becomes in
+    let costs = g.S.NodeStore.costs in
+    subst (λ e. FileMendEnds becomes costs first now e) (same_end c.mend_counted.result end is)
+    (inr (ends_mended becomes costs (g.S.NodeStore.knows o.keeper.store) o.keeper.found o.keeper.header o.tree first mid now c.mend_counted.result _
+    (c.in-Ok.ensures.looked told) tells c.mend_counted.ensures.told (c.in-Ok.ensures.store told) c.in-Ok.ensures.written (c.in-Ok.ensures.idle told) c.in-Ok.ensures.settled c.in-Ok.ensures.shut c.in-Ok.ensures.any_moment
     (λ tidy X stores order settled rests. (
-      call.mends tidy X (record { stores = stores; order = order; settled = settled; at_rest = rests }) (λ e. tells),
+      subst (λ (p : Pins). MendsSearches (λ Y. StandsMendable tidy (Stands o.keeper.found) HasRoom _ now Y × MendRun (IsCommitted becomes costs p.opened) now.tells X (medium mid) Y (medium now)) _ X c.mend_counted.result) pins
+          (call.mends tidy X (record { stores = stores; order = order; settled = settled; at_rest = rests }) (λ e. tells)),
       call.images tidy X (record { stores = stores; order = order; settled = settled; at_rest = rests }) (λ e. tells),
     ))))
 

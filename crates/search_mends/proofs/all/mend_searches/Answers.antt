@@ -1,9 +1,12 @@
-use Rattle.std.proofs.Common.{◌≡◌, ◌∙◌, ◌<◌, length, map, true, arith, ap, refl, subst, sym}
+use Rattle.std.proofs.Common.{◌≡◌, ◌∙◌, ◌<◌, length, map, true, Ok, Err, arith, ap, refl, subst, sym}
 use Rattle.std.proofs.lemmas.Result.{err_from_is_err_and}
 use Rattle.pst_base.specs.declared.ids.Nid.{Nid}
 use Rattle.search_mends.proofs.OneLaws.{falls_along, stands_here}
 use Rattle.search_mends.proofs.PlanLaws.{caused_later}
 use Rattle.search_mends.proofs.Reaching.{at_most_one, goes_on, leaves_more, leaves_none, own_at, own_is, own_length, reached_all, reached_none, still_own, stops_first, stops_one}
+use Rattle.store_session.specs.Disks.{medium}
+use Rattle.search_mends.specs.Mends.{CommitsOne}
+use Rattle.search_mends.proofs.Runs.{each_ran, one_runs, one_stops, run_ends, run_none}
 use Rattle.search_mends.proofs.all.mend_searches.Goals as goal
 
 -- ---- there was no memory for the ids
@@ -11,7 +14,9 @@ use Rattle.search_mends.proofs.all.mend_searches.Goals as goal
 pub returns-in_err-own-clause-mends : goal.returns-in_err-own-clause-mends
 returns-in_err-own-clause-mends g c =
     let p = err_from_is_err_and c.from_residual.result c.from_residual.ensures.1 in
-    rw (p.1, p.2) (λ tidy X h tells. stops_first _ _ X h)
+    let v = g.W.Outside.view c.args.w.now in
+    let applied = g.K.Keeper.applied (g.K.NodeReader.room c.args.store.now.store.keeper).pins in
+    rw (p.1, p.2) (λ tidy X h tells. stops_first _ _ X (h, run_ends applied X X (medium v) v (run_none applied v.tells X (medium v))))
 
 pub returns-in_err-own-clause-images : goal.returns-in_err-own-clause-images
 returns-in_err-own-clause-images g c = λ tidy X h tells.
@@ -28,7 +33,7 @@ loop-search-init g c =
     let v = g.W.Outside.view c.args.w.now in
     let stands = g.K.Keeper.stands (g.K.NodeReader.room k).found in
     record {
-      reached = λ tidy X h tells. reached_none _ X h;
+      reached = λ tidy X h tells. reached_none _ X (h, run_none (g.K.Keeper.applied (g.K.NodeReader.room k).pins) v.tells X (medium v));
       images = λ tidy X h tells. leaves_none stands v X h.settled (stands_here g.K.NodeReader.holds g.K.NodeReader.last g.K.Keeper.rests c.args.store.now v stands tidy X (λ N is. g.met.K.Keeper.held_stands k c.args.w.now N is) h);
       found = refl;
       pins = refl;
@@ -52,7 +57,11 @@ loop-search-preserved g c =
           let is = own_is tidy X _ _ ids has.order has.stores.tree.knows.places has.stores.searches.own (ap (map (λ (i : Nid). i.bits)) c.deref-search-items.ensures.value ∙ c.in_ok-own.ensures) in
           let within : n < length X.own = omega (arith, h, own_length X ids is) in
           let at = own_at X ids n _ is h in
-          goes_on tidy X has.order _ _ (g.K.NodeReader.room c.mend_one.new.store.store.keeper) n _ _ _ _ _ within at r c.in_ok-one.one (c.in_ok-one.ensures.mends tidy r.so_far r.has_it (still_own tidy X has.order _ n _ _ _ within at r) tells) c.with-mended.ensures.stale c.with-mended.ensures.migrated;
+          let own = still_own tidy X has.order _ n _ _ _ within at r in
+          let room = g.K.NodeReader.room c.mend_one.new.store.store.keeper in
+          let disk = subst (λ pins. CommitsOne (g.K.Keeper.applied pins) _ _ r.so_far _ (Ok c.in_ok-one.one)) I.pins (c.in_ok-one.ensures.disk tidy r.so_far r.has_it.0 own) in
+          let made = one_runs (g.K.Keeper.applied (g.K.NodeReader.room c.args.store.now.store.keeper).pins) _ room X r.so_far (medium (g.W.Outside.view c.args.w.now)) _ _ _ c.in_ok-one.one one.told r.has_it.1 disk (c.in_ok-one.ensures.mends tidy r.so_far r.has_it.0 own tells) in
+          goes_on tidy X has.order _ _ room n _ _ _ _ _ within at r c.in_ok-one.one made c.with-mended.ensures.stale c.with-mended.ensures.migrated;
       images = λ tidy X has tells.
           let before = λ (disk : g.K.NodeReader.has_disk ≡ true). one.told (tells disk) in
           let r = I.reached tidy X has before in
@@ -60,7 +69,7 @@ loop-search-preserved g c =
           let within : n < length X.own = omega (arith, h, own_length X ids is) in
           let at = own_at X ids n _ is h in
           leaves_more tidy X has.order n within r.so_far r.mended g.K.Keeper.stands _ _ _ _ _ _ I.found at one.told (I.images tidy X has before)
-          (one.images tidy r.so_far r.has_it (still_own tidy X has.order _ n _ _ _ within at r));
+          (one.images tidy r.so_far r.has_it.0 (still_own tidy X has.order _ n _ _ _ within at r));
       found = one.found ∙ I.found;
       pins = one.pins ∙ I.pins;
       told = λ t. I.told (one.told t);
@@ -85,7 +94,11 @@ returns-in_err-one-clause-mends g c =
     let is = own_is tidy X _ _ ids has.order has.stores.tree.knows.places has.stores.searches.own (ap (map (λ (i : Nid). i.bits)) c.deref-search-items.ensures.value ∙ c.in_ok-own.ensures) in
     let within : n < length X.own = omega (arith, h, own_length X ids is) in
     let at = own_at X ids n _ is h in
-    stops_one _ _ _ X n _ _ _ c.in_err-one.field-0.0 within at r (c.in_err-one.ensures.mends tidy r.so_far r.has_it (still_own tidy X has.order _ n _ _ _ within at r) tells))
+    let own = still_own tidy X has.order _ n _ _ _ within at r in
+    let stop = c.in_err-one.field-0.0 in
+    let disk = subst (λ pins. CommitsOne (g.K.Keeper.applied pins) _ _ r.so_far _ (Err stop)) I.pins (c.in_err-one.ensures.disk tidy r.so_far r.has_it.0 own) in
+    stops_one _ _ _ X n _ _ _ stop within at r
+    (one_stops (g.K.Keeper.applied (g.K.NodeReader.room c.args.store.now.store.keeper).pins) _ _ X r.so_far (medium (g.W.Outside.view c.args.w.now)) _ _ _ stop one.told r.has_it.1 disk (c.in_err-one.ensures.mends tidy r.so_far r.has_it.0 own tells)))
 
 pub returns-in_err-one-clause-images : goal.returns-in_err-one-clause-images
 returns-in_err-one-clause-images g c = λ tidy X has tells.
@@ -100,7 +113,7 @@ returns-in_err-one-clause-images g c = λ tidy X has tells.
     let within : n < length X.own = omega (arith, h, own_length X ids is) in
     let at = own_at X ids n _ is h in
     leaves_more tidy X has.order n within r.so_far r.mended g.K.Keeper.stands _ _ _ _ _ _ I.found at one.told (I.images tidy X has before)
-    (one.images tidy r.so_far r.has_it (still_own tidy X has.order _ n _ _ _ within at r))
+    (one.images tidy r.so_far r.has_it.0 (still_own tidy X has.order _ n _ _ _ within at r))
 
 pub returns-in_err-one-clause-found : goal.returns-in_err-one-clause-found
 returns-in_err-one-clause-found g c = c.mend_one.ensures.found ∙ c.loop-search.invariant.found
@@ -128,4 +141,5 @@ pub returns-clause-mends : goal.returns-clause-mends
 returns-clause-mends g c = λ tidy X has tells.
     let ids = c.deref-search-items.result.now in
     let is = own_is tidy X _ _ ids has.order has.stores.tree.knows.places has.stores.searches.own (ap (map (λ (i : Nid). i.bits)) c.deref-search-items.ensures.value ∙ c.in_ok-own.ensures) in
-    reached_all _ X c.loop-search.search-index c.loop-search.mended (omega (arith, c.loop-search-test.false, own_length X ids is)) (c.loop-search.invariant.reached tidy X has tells)
+    each_ran (g.K.Keeper.applied (g.K.NodeReader.room c.args.store.now.store.keeper).pins) _ X (medium (g.W.Outside.view c.args.w.now)) (g.W.Outside.view c.loop-search.w) c.loop-search.mended
+    (reached_all _ X c.loop-search.search-index c.loop-search.mended (omega (arith, c.loop-search-test.false, own_length X ids is)) (c.loop-search.invariant.reached tidy X has tells))

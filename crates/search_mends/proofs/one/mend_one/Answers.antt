@@ -1,7 +1,9 @@
 use Rattle.std.proofs.Common.{◌≡◌, ◌⊎◌, subst, sym}
 use Rattle.std.proofs.lemmas.Result.{err_from_is_err_and}
 use Rattle.pst_outside.specs.Calls.{LeavesOnly}
-use Rattle.mail_store.specs.Planning.{StandsFor}
+use Rattle.mail_store.specs.Planning.{Alters, StandsFor}
+use Rattle.node_port.specs.Stops.{Room}
+use Rattle.store_session.proofs.Carry.{commit_makes, same_medium}
 use Rattle.mail_searches.specs.Step.{after}
 use Rattle.search_mends.specs.Stops.{StopsMending}
 use Rattle.search_mends.proofs.OneLaws.{commit_leaves, plan_leaves, stands_here, stays_has}
@@ -81,3 +83,33 @@ pub returns-in_err-_reply-clause-mends : goal.returns-in_err-_reply-clause-mends
 returns-in_err-_reply-clause-mends g c =
     let p = err_from_is_err_and c.from_residual-in_err-_reply.result c.from_residual-in_err-_reply.ensures.1 in
     rw (p.1, p.2) (λ tidy X h own tells. (tt, tt))
+
+pub returns-in_err-stale-clause-disk : goal.returns-in_err-stale-clause-disk
+returns-in_err-stale-clause-disk g c =
+    let p = err_from_is_err_and c.from_residual.result c.from_residual.ensures.1 in
+    let v = g.W.Outside.view c.args.w.now in
+    let mid = g.W.Outside.view c.plan_mending.new.w in
+    let looks = c.in_err-stale.ensures.looks in
+    rw (p.1, p.2) (λ tidy X h own. unless_fault c.in_err-stale.field-0.0 (λ t. same_medium v mid (looks.world.stays.here t) looks.world.stays.written))
+
+pub returns-clause-disk : goal.returns-clause-disk
+returns-clause-disk g c = λ tidy X h own.
+    let v = g.W.Outside.view c.args.w.now in
+    let mid = g.W.Outside.view c.plan_mending.new.w in
+    let new = g.W.Outside.view c.commit.new.w in
+    let room = g.K.NodeReader.room c.args.store.now.store.keeper in
+    let looks = c.in_ok-stale.ensures.looks in
+    let held = stays_has g.K.NodeReader.holds g.K.NodeReader.last g.K.Keeper.rests c.args.store.now c.plan_mending.new.store tidy X looks c.in_ok-stale.ensures.known h in
+    let p = c.in_ok-stale.ensures.answer tidy X h.stores h.order own in
+    let is = p.2.2 in (
+      p.0,
+      p.1,
+      λ t. commit_makes (g.K.Keeper.fits c.plan_mending.new.store.store.keeper mid) (g.K.Keeper.applied room.pins) g.K.Keeper.cost X.tree p.0.coming _ v mid new
+          (looks.world.stays.here (c.commit.ensures.told t)) looks.world.stays.written c.commit.ensures.written is.carries is.changes
+          (subst (λ (r : Room). Alters (g.K.Keeper.fits c.plan_mending.new.store.store.keeper mid) (g.K.Keeper.applied r.pins) g.K.Keeper.cost c.in_ok-stale.tree.change mid.here new.here) looks.space (c.in_ok-_reply.ensures.applied X held.stores held.at_rest t)),
+    )
+
+pub returns-in_err-_reply-clause-disk : goal.returns-in_err-_reply-clause-disk
+returns-in_err-_reply-clause-disk g c =
+    let p = err_from_is_err_and c.from_residual-in_err-_reply.result c.from_residual-in_err-_reply.ensures.1 in
+    rw (p.1, p.2) (λ tidy X h own. tt)
