@@ -2,7 +2,7 @@ use Rattle.std.proofs.Common.{◌≡◌, refl, sym, subst}
 use Rattle.pst_outside.specs.World.{Image}
 use Rattle.pst_outside.specs.Calls.{Untouched}
 use Rattle.pst_outside.proofs.Moments.{quiet, stays_settled}
-use Rattle.gate_file.specs.Gate.{SameStore}
+use Rattle.gate_file.specs.Gate.{IsShut, SameStore}
 use Rattle.file_layout.proofs.Underway.{untouched_then}
 use Rattle.lays_kept.specs.Stands.{Stands}
 use Rattle.pst_commit.proofs.Resaved.{nodes_then}
@@ -57,3 +57,16 @@ returns-clause-opened g c = λ told.
     let same = c.side_len.ensures.same.stays in
     still_opened (c.in_ok-whole.ensures.opened (same.told later))
     (subst (λ (i : Image). SameStore i (g.W.Outside.view c.close_gate.new.w).here) (same.here later) (c.close_gate.ensures.store told)) told
+
+pub returns-in_err-side_len-clause-idle : goal.returns-in_err-side_len-clause-idle
+returns-in_err-side_len-clause-idle g c = λ told shut. untouched_then c.find_file.ensures.same c.side_len.ensures.same
+
+pub returns-in_err-close_gate-clause-idle : goal.returns-in_err-close_gate-clause-idle
+returns-in_err-close_gate-clause-idle g c = λ told shut.
+    let before = untouched_then c.find_file.ensures.same c.side_len.ensures.same in
+    untouched_then before (c.close_gate.ensures.idle told (subst (λ (i : Image). IsShut i.side) (sym (before.stays.here (c.close_gate.ensures.told told))) shut))
+
+pub returns-clause-idle : goal.returns-clause-idle
+returns-clause-idle g c = λ told shut.
+    let before = untouched_then c.find_file.ensures.same c.side_len.ensures.same in
+    untouched_then before (c.close_gate.ensures.idle told (subst (λ (i : Image). IsShut i.side) (sym (before.stays.here (c.close_gate.ensures.told told))) shut))

@@ -5,5 +5,5 @@ use Rattle.store_filling.proofs.counting.lines_of.Goals as goal
 pub returns-in-Ok-clause-answer : goal.returns-in-Ok-clause-answer
 returns-in-Ok-clause-answer g c = λ tidy X s order. lists_lines tidy X c.args.folder order c.in-Ok.coming (c.in-Ok.ensures.answer X s.tree.shown s.tree.knows s.searches)
 
-pub returns-in-Err-clause-answer : goal.returns-in-Err-clause-answer
-returns-in-Err-clause-answer g c = λ tidy X s order. lists_none tidy X c.args.folder order c.in-Err.stop (c.in-Err.ensures.answer X s.tree.shown s.tree.knows s.searches)
+pub returns-clause-answer : goal.returns-clause-answer
+returns-clause-answer g c = λ tidy X s order. lists_none tidy X c.args.folder order c.in-Err.stop (c.in-Err.ensures.answer X s.tree.shown s.tree.knows s.searches)

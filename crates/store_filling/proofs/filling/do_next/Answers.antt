@@ -1,4 +1,4 @@
-use Rattle.std.proofs.Common.{[], ◌∙◌, ap, refl, subst, sym}
+use Rattle.std.proofs.Common.{◌≡◌, [], ◌∙◌, ap, refl, subst, sym}
 use Rattle.command_text.specs.declared.command.Command.{Command}
 use Rattle.command_text.specs.declared.reply.Reply.{Reply}
 use Rattle.store_session.specs.Carrying.{Has, StandsOrdered}
@@ -37,8 +37,8 @@ returns-in-Ok-do_command-clause-ends g c = λ tidy X h tells.
     (λ turn is. c.made_after.ensures ∙ ap (λ (r : Reply). made_after place r made) (sym is))
     (subst (λ (x : Command). CommandEnds effects S _ (λ (r : Reply) (turn : FillTurn). turn.reply ≡ r) x X v new _) c.in-Ok.ensures (c.in-Ok-do_command.ensures.ends tidy X h tells))
 
-pub returns-in-Err-do_command-clause-ends : goal.returns-in-Err-do_command-clause-ends
-returns-in-Err-do_command-clause-ends g c = λ tidy X h tells.
+pub returns-clause-ends : goal.returns-clause-ends
+returns-clause-ends g c = λ tidy X h tells.
     let k = c.args.store.now.store.keeper in
     let v = g.W.Outside.view c.args.w.now in
     let new = g.W.Outside.view c.do_command.new.w in
