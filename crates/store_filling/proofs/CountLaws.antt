@@ -1,5 +1,7 @@
 -- What is counted behind the commands.
-use Rattle.std.proofs.Common.{◌≡◌, ◌⊎◌, inl, inr, ◌∙◌, ℕ, ◌≤◌, Bool, List, [], ◌∷◌, None, Some, Result, Ok, Err, refl, ap, subst, sym}
+use Rattle.std.proofs.Common.{◌≡◌, ◌⊎◌, inl, inr, ◌∙◌, ℕ, ◌+◌, ◌-◌, ◌^◌, ◌≤◌, arith, drop, length, Bool, List, [], ◌∷◌, None, Some, Result, Ok, Err, refl, ap, subst, sym}
+use Rattle.std.specs.Prelude.{min}
+use Rattle.std.proofs.lemmas.List.{drop_all}
 use Rattle.pst_base.specs.declared.ids.Nid.{Nid}
 use Rattle.command_text.specs.declared.command.Command.TheVariants.{ListFolder}
 use Rattle.command_text.specs.declared.reply.DataLine.{DataLine}
@@ -22,7 +24,7 @@ use Rattle.search_folders.specs.declared.coming.Coming.{Coming}
 use Rattle.search_lists.specs.Order.{InOrder}
 use Rattle.search_store.specs.Planning.{StoresSearches}
 use Rattle.store_session.specs.Carrying.{Has}
-use Rattle.store_filling.specs.Counts.{CountsSo, ListsSo}
+use Rattle.store_filling.specs.Counts.{CountsSo, ListsSo, sizes_in}
 use Rattle.store_filling.specs.declared.commands.Made.{Made}
 use Rattle.store_filling.specs.declared.counting.FillCounts.{FillCounts}
 use Rattle.store_filling.proofs.Commits.{not_formless}
@@ -74,3 +76,7 @@ has_on rests known searches tidy X looks h = record {
   settled = stays_settled h.settled looks.world;
   at_rest = λ told. subst rests (sym (looks.world.stays.here told)) (h.at_rest (looks.world.stays.told told));
 }
+
+-- all were summed
+pub summed_all : (lines : List DataLine) (i sum : ℕ) → length lines ≤ i → sum ≤ 2 ^ 64 - 1 → min (sum + sizes_in (drop i lines)) (2 ^ 64 - 1) ≡ min (sizes_in lines) (2 ^ 64 - 1) → sum ≡ min (sizes_in lines) (2 ^ 64 - 1)
+summed_all lines i sum le most is = let none : sizes_in (drop i lines) ≡ 0 = ap sizes_in (drop_all i lines le) in omega (arith, none, most, is)

@@ -44,11 +44,11 @@ no_refusal (Ok x) q (stops.Refused refusal) e said = absurd said
 no_refusal (Ok x) q stops.Fault e said = inl refl
 no_refusal (Ok x) q (stops.Changed ib stored computed) e said = absurd said
 no_refusal (Ok x) q stops.Memory e said = inr refl
-no_refusal (Err none) q stop e said = cc
+no_refusal (Err why) q stop e said = cc
 
 told_places : (a : Answer (ℕ × ℕ)) (q : ℕ × ℕ) (p : FillPlaces) → a ≡ Ok q → Says (λ (p : FillPlaces). (p.folder.bits, p.search.bits)) a (Ok p) → a ≡ Ok (p.folder.bits, p.search.bits)
 told_places (Ok x) q p e said = ap Ok (sym said)
-told_places (Err none) q p e said = cc
+told_places (Err why) q p e said = cc
 
 -- as they were found
 pub places_are : (T : Tree) (p : FillPlaces) → IsWhole T → Says (λ (p : FillPlaces). (p.folder.bits, p.search.bits)) (fill_places T) (Ok p) → fill_places T ≡ Ok (p.folder.bits, p.search.bits)
@@ -93,16 +93,16 @@ module _ (effects : Effects) (stands : Image → Searching → Type 0) (rests : 
   module _ (places : FillPlaces) (are : fill_places start.tree ≡ Ok (places.folder.bits, places.search.bits)) (mid : World) (opens : LeavesOnly first mid (IsFilled stands first.here.said start [])) where
     -- the commands stopped
     stops_as : (now : World) (stop : Stop) (turns hand : List FillTurn) → StopsSo effects has places seed count start mid now stop turns hand → EndsSo effects places seed count start (medium mid) turns (Err stop)
-    stops_as now (stops.Refused refusal) turns hand so = inl so.1
+    stops_as now (stops.Refused refusal) turns hand so = inl (so.1, so.2)
     stops_as now stops.Fault turns hand so = tt
     stops_as now (stops.Changed ib stored computed) turns hand so = so
     stops_as now stops.Memory turns hand so = tt
 
     calm : (now : World) (stop : Stop) (turns hand : List FillTurn) → (◌≡◌ {A = Result FillCounts Stop} (Err stop) (Err stops.Fault) → ⊥) → StopsSo effects has places seed count start mid now stop turns hand → StaysAt has start mid now turns hand
-    calm now (stops.Refused refusal) turns hand no so = so.0
-    calm now stops.Fault turns hand no so = absurd (no refl)
-    calm now (stops.Changed ib stored computed) turns hand no so = absurd so
-    calm now stops.Memory turns hand no so = so
+    calm now (stops.Refused refusal) turns hand unless so = so.0
+    calm now stops.Fault turns hand unless so = absurd (unless refl)
+    calm now (stops.Changed ib stored computed) turns hand unless so = absurd so
+    calm now stops.Memory turns hand unless so = so
 
     pub ends_stopped : (now : World) (stop : Stop) → (now.tells → mid.tells) → StopsWithin effects stands has places seed count start mid now stop → Seen stands rests has now → StoreFillEnds effects stands rests (medium mid) first now start seed count (Err stop)
     ends_stopped now stop tells s seen = record {

@@ -103,16 +103,16 @@ module _ {R S : Type 0} (effects : Effects) (stands : Image → Searching → Ty
   pub ends_stopped : (stop : Stop) → CommandEnds effects stands has is c X old new (Err stop) → CommandEnds effects stands has gives c X old new (Err stop)
   ends_stopped stop ends = record { turns = ends.turns; so = stops_too stop ends.turns ends.so; images = ends.images }
 
+few : (hand : List FillTurn) → hand ≡ [] → length hand ≤ 1
+few hand e = omega (arith, ap length e)
+
 -- ---- the commands so far
 
 -- none yet
 pub filled_to_none : (effects : Effects) (stands : Image → Searching → Type 0) (has : Searching → Type 0) (places : FillPlaces) (seed : ℕ) (X : Searching) (v : World) → has X → Settled v → stands v.here X → FilledTo effects stands has places seed 0 nothing_made X v v
 filled_to_none effects stands has places seed X v h settled is = record { turns = []; run = tt; len = refl; made_is = refl; disk = refl; has_it = h; images = leaves_none stands v X settled is }
 
-module _ (effects : Effects) (stands : Image → Searching → Type 0) (has has' : Searching → Type 0) (places : FillPlaces) (seed n : ℕ) (X : Searching) {old mid new : World} (tells : new.tells → mid.tells) where
-  at_place : (made : Made) (f : FilledTo effects stands has places seed n made X old mid) → fill_command places seed n made ≡ fill_command places seed (length f.turns) (made_at 0 nothing_made f.turns)
-  at_place made f = let a = sym f.len in let b = sym f.made_is in rw (← f.len, ← f.made_is) refl
-
+module _ (effects : Effects) (stands : Image → Searching → Type 0) (has has' : Searching → Type 0) (places : FillPlaces) (seed n : ℕ) (X : Searching) (old mid new : World) (tells : new.tells → mid.tells) where
   -- and the next one
   pub filled_to_next : (made next : Made) (f : FilledTo effects stands has places seed n made X old mid)
       → CommandEnds effects stands has' (λ (m : Made) (turn : FillTurn). m ≡ made_after n turn.reply made) (fill_command places seed n made) (tree_at X f.turns) mid new (Ok next) → FilledTo effects stands has' places seed (n + 1) next X old new
@@ -136,13 +136,10 @@ module _ (effects : Effects) (stands : Image → Searching → Type 0) (has has'
   at_stop : (count : ℕ) (stop : Stop) (made : Made) (f : FilledTo effects stands has places seed n made X old mid) (hand : List FillTurn) → n < commands_of count
       → TurnsSo effects has' (λ (m : Made) (turn : FillTurn). m ≡ made_after n turn.reply made) (fill_command places seed n made) (tree_at X f.turns) mid new (Err stop) hand → StopsSo effects has' places seed count X old new stop f.turns hand
   at_stop count (stops.Refused refusal) made f hand less so =
-      ((so.0.0, so.0.1, λ t. rw (f.disk) (so.0.2 t)), (omega (arith, less, f.len), rw (f.len, f.made_is, f.disk) so.1))
+      ((so.0.0, so.0.1, λ t. rw (f.disk) (so.0.2 t)), omega (arith, less, f.len), rw (f.len, f.made_is, f.disk) so.1)
   at_stop count stops.Fault made f hand less so = tt
   at_stop count (stops.Changed ib stored computed) made f hand less so = so
   at_stop count stops.Memory made f hand less so = (so.0, so.1, λ t. rw (f.disk) (so.2 t))
-
-  few : (hand : List FillTurn) → hand ≡ [] → length hand ≤ 1
-  few hand e = omega (arith, ap length e)
 
   in_hand : (stop : Stop) (made : Made) (f : FilledTo effects stands has places seed n made X old mid) (hand : List FillTurn)
       → TurnsSo effects has' (λ (m : Made) (turn : FillTurn). m ≡ made_after n turn.reply made) (fill_command places seed n made) (tree_at X f.turns) mid new (Err stop) hand

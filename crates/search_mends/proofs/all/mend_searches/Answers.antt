@@ -5,7 +5,9 @@ use Rattle.search_mends.proofs.OneLaws.{falls_along, stands_here}
 use Rattle.search_mends.proofs.PlanLaws.{caused_later}
 use Rattle.search_mends.proofs.Reaching.{at_most_one, goes_on, leaves_more, leaves_none, own_at, own_is, own_length, reached_all, reached_none, still_own, stops_first, stops_one}
 use Rattle.store_session.specs.Disks.{medium}
-use Rattle.search_mends.specs.Mends.{CommitsOne}
+use Rattle.mail_searches.specs.Searching.{Searching}
+use Rattle.node_port.specs.Pins.{Pins}
+use Rattle.search_mends.specs.Mends.{CommitsOne, HasMendable, MendRun}
 use Rattle.search_mends.proofs.Runs.{each_ran, one_runs, one_stops, run_ends, run_none}
 use Rattle.search_mends.proofs.all.mend_searches.Goals as goal
 
@@ -59,8 +61,11 @@ loop-search-preserved g c =
           let at = own_at X ids n _ is h in
           let own = still_own tidy X has.order _ n _ _ _ within at r in
           let room = g.K.NodeReader.room c.mend_one.new.store.store.keeper in
-          let disk = subst (λ pins. CommitsOne (g.K.Keeper.applied pins) _ _ r.so_far _ (Ok c.in_ok-one.one)) I.pins (c.in_ok-one.ensures.disk tidy r.so_far r.has_it.0 own) in
-          let made = one_runs (g.K.Keeper.applied (g.K.NodeReader.room c.args.store.now.store.keeper).pins) _ room X r.so_far (medium (g.W.Outside.view c.args.w.now)) _ _ _ c.in_ok-one.one one.told r.has_it.1 disk (c.in_ok-one.ensures.mends tidy r.so_far r.has_it.0 own tells) in
+          let mid = g.W.Outside.view c.loop-search.w in
+          let new = g.W.Outside.view c.mend_one.new.w in
+          let has-new : Searching → Type 0 = HasMendable g.K.NodeReader.holds g.K.NodeReader.last g.K.Keeper.rests c.mend_one.new.store new tidy in
+          let disk = subst (λ (p : Pins). CommitsOne (g.K.Keeper.applied p) mid new r.so_far _ (Ok c.in_ok-one.one)) I.pins (c.in_ok-one.ensures.disk tidy r.so_far r.has_it.0 own) in
+          let made = one_runs (g.K.Keeper.applied (g.K.NodeReader.room c.args.store.now.store.keeper).pins) has-new room X r.so_far (medium (g.W.Outside.view c.args.w.now)) _ mid new c.in_ok-one.one one.told r.has_it.1 disk (c.in_ok-one.ensures.mends tidy r.so_far r.has_it.0 own tells) in
           goes_on tidy X has.order _ _ room n _ _ _ _ _ within at r c.in_ok-one.one made c.with-mended.ensures.stale c.with-mended.ensures.migrated;
       images = λ tidy X has tells.
           let before = λ (disk : g.K.NodeReader.has_disk ≡ true). one.told (tells disk) in
@@ -96,9 +101,15 @@ returns-in_err-one-clause-mends g c =
     let at = own_at X ids n _ is h in
     let own = still_own tidy X has.order _ n _ _ _ within at r in
     let stop = c.in_err-one.field-0.0 in
-    let disk = subst (λ pins. CommitsOne (g.K.Keeper.applied pins) _ _ r.so_far _ (Err stop)) I.pins (c.in_err-one.ensures.disk tidy r.so_far r.has_it.0 own) in
-    stops_one _ _ _ X n _ _ _ stop within at r
-    (one_stops (g.K.Keeper.applied (g.K.NodeReader.room c.args.store.now.store.keeper).pins) _ _ X r.so_far (medium (g.W.Outside.view c.args.w.now)) _ _ _ stop one.told r.has_it.1 disk (c.in_err-one.ensures.mends tidy r.so_far r.has_it.0 own tells)))
+    let mid = g.W.Outside.view c.loop-search.w in
+    let new = g.W.Outside.view c.mend_one.new.w in
+    let room = g.K.NodeReader.room c.mend_one.new.store.store.keeper in
+    let applied = g.K.Keeper.applied (g.K.NodeReader.room c.args.store.now.store.keeper).pins in
+    let first = medium (g.W.Outside.view c.args.w.now) in
+    let has-new : Searching → Type 0 = HasMendable g.K.NodeReader.holds g.K.NodeReader.last g.K.Keeper.rests c.mend_one.new.store new tidy in
+    let disk = subst (λ (p : Pins). CommitsOne (g.K.Keeper.applied p) mid new r.so_far _ (Err stop)) I.pins (c.in_err-one.ensures.disk tidy r.so_far r.has_it.0 own) in
+    stops_one _ (λ Z. has-new Z × MendRun applied new.tells X first Z (medium new)) room X n _ _ _ stop within at r
+    (one_stops applied has-new room X r.so_far first _ mid new stop one.told r.has_it.1 disk (c.in_err-one.ensures.mends tidy r.so_far r.has_it.0 own tells)))
 
 pub returns-in_err-one-clause-images : goal.returns-in_err-one-clause-images
 returns-in_err-one-clause-images g c = λ tidy X has tells.

@@ -1,4 +1,5 @@
-use Rattle.std.proofs.Common.{◌≡◌, [], ◌∙◌, ap, refl, subst, sym}
+use Rattle.std.proofs.Common.{◌≡◌, [], Ok, Err, ◌∙◌, ap, refl, subst, sym}
+use Rattle.mail_searches.specs.Searching.{Searching}
 use Rattle.command_text.specs.declared.command.Command.{Command}
 use Rattle.command_text.specs.declared.reply.Reply.{Reply}
 use Rattle.store_session.specs.Carrying.{Has, StandsOrdered}
@@ -31,11 +32,13 @@ returns-in-Ok-do_command-clause-ends g c = λ tidy X h tells.
     let effects = effects_of room.pins g.K.Keeper.measures g.K.Keeper.applied g.K.Saver.saved in
     let S = StandsOrdered tidy (g.K.Keeper.stands room.found) in
     let reply : Reply = c.in-Ok-do_command.reply in
+    let last = c.do_command.new.store in
+    let has : Searching → Type 0 = Has (g.K.NodeReader.holds last.store.keeper new) (g.K.NodeReader.last last.store.keeper) last.store.known last.searches g.K.Keeper.rests new tidy in
     let place = c.args.place in
     let made = c.args.made in
-    ends_given effects S _ (λ (r : Reply) (turn : FillTurn). turn.reply ≡ r) (λ (next : Made) (turn : FillTurn). next ≡ made_after place turn.reply made) _ X v new reply c.made_after.result
+    ends_given effects S has (λ (r : Reply) (turn : FillTurn). turn.reply ≡ r) (λ (next : Made) (turn : FillTurn). next ≡ made_after place turn.reply made) _ X v new reply c.made_after.result
     (λ turn is. c.made_after.ensures ∙ ap (λ (r : Reply). made_after place r made) (sym is))
-    (subst (λ (x : Command). CommandEnds effects S _ (λ (r : Reply) (turn : FillTurn). turn.reply ≡ r) x X v new _) c.in-Ok.ensures (c.in-Ok-do_command.ensures.ends tidy X h tells))
+    (subst (λ (x : Command). CommandEnds effects S has (λ (r : Reply) (turn : FillTurn). turn.reply ≡ r) x X v new (Ok reply)) c.in-Ok.ensures (c.in-Ok-do_command.ensures.ends tidy X h tells))
 
 pub returns-clause-ends : goal.returns-clause-ends
 returns-clause-ends g c = λ tidy X h tells.
@@ -47,5 +50,7 @@ returns-clause-ends g c = λ tidy X h tells.
     let S = StandsOrdered tidy (g.K.Keeper.stands room.found) in
     let place = c.args.place in
     let made = c.args.made in
-    ends_stopped effects S _ (λ (r : Reply) (turn : FillTurn). turn.reply ≡ r) (λ (next : Made) (turn : FillTurn). next ≡ made_after place turn.reply made) _ X v new c.in-Err-do_command.stop
-    (subst (λ (x : Command). CommandEnds effects S _ (λ (r : Reply) (turn : FillTurn). turn.reply ≡ r) x X v new _) c.in-Ok.ensures (c.in-Err-do_command.ensures.ends tidy X h tells))
+    let last = c.do_command.new.store in
+    let has : Searching → Type 0 = Has (g.K.NodeReader.holds last.store.keeper new) (g.K.NodeReader.last last.store.keeper) last.store.known last.searches g.K.Keeper.rests new tidy in
+    ends_stopped effects S has (λ (r : Reply) (turn : FillTurn). turn.reply ≡ r) (λ (next : Made) (turn : FillTurn). next ≡ made_after place turn.reply made) _ X v new c.in-Err-do_command.stop
+    (subst (λ (x : Command). CommandEnds effects S has (λ (r : Reply) (turn : FillTurn). turn.reply ≡ r) x X v new (Err c.in-Err-do_command.stop)) c.in-Ok.ensures (c.in-Err-do_command.ensures.ends tidy X h tells))
