@@ -1,4 +1,4 @@
-use Rattle.std.proofs.Common.{◌≡◌, ◌∙◌, ◌<◌, length, map, true, Ok, Err, arith, ap, refl, subst, sym}
+use Rattle.std.proofs.Common.{◌≡◌, ◌∙◌, ◌<◌, ℕ, get_or, length, map, true, Ok, Err, arith, ap, refl, subst, sym}
 use Rattle.std.proofs.lemmas.Result.{err_from_is_err_and}
 use Rattle.pst_base.specs.declared.ids.Nid.{Nid}
 use Rattle.search_mends.proofs.OneLaws.{falls_along, stands_here}
@@ -64,8 +64,9 @@ loop-search-preserved g c =
           let mid = g.W.Outside.view c.loop-search.w in
           let new = g.W.Outside.view c.mend_one.new.w in
           let has-new : Searching → Type 0 = HasMendable g.K.NodeReader.holds g.K.NodeReader.last g.K.Keeper.rests c.mend_one.new.store new tidy in
-          let disk = subst (λ (p : Pins). CommitsOne (g.K.Keeper.applied p) mid new r.so_far _ (Ok c.in_ok-one.one)) I.pins (c.in_ok-one.ensures.disk tidy r.so_far r.has_it.0 own) in
-          let made = one_runs (g.K.Keeper.applied (g.K.NodeReader.room c.args.store.now.store.keeper).pins) has-new room X r.so_far (medium (g.W.Outside.view c.args.w.now)) _ mid new c.in_ok-one.one one.told r.has_it.1 disk (c.in_ok-one.ensures.mends tidy r.so_far r.has_it.0 own tells) in
+          let f : ℕ = (get_or ids n (record { bits = 0 })).bits in
+          let disk = subst (λ (p : Pins). CommitsOne (g.K.Keeper.applied p) mid new r.so_far f (Ok c.in_ok-one.one)) I.pins (c.in_ok-one.ensures.disk tidy r.so_far r.has_it.0 own) in
+          let made = one_runs (g.K.Keeper.applied (g.K.NodeReader.room c.args.store.now.store.keeper).pins) has-new room X r.so_far (medium (g.W.Outside.view c.args.w.now)) f mid new c.in_ok-one.one one.told r.has_it.1 disk (c.in_ok-one.ensures.mends tidy r.so_far r.has_it.0 own tells) in
           goes_on tidy X has.order _ _ room n _ _ _ _ _ within at r c.in_ok-one.one made c.with-mended.ensures.stale c.with-mended.ensures.migrated;
       images = λ tidy X has tells.
           let before = λ (disk : g.K.NodeReader.has_disk ≡ true). one.told (tells disk) in
@@ -107,9 +108,10 @@ returns-in_err-one-clause-mends g c =
     let applied = g.K.Keeper.applied (g.K.NodeReader.room c.args.store.now.store.keeper).pins in
     let first = medium (g.W.Outside.view c.args.w.now) in
     let has-new : Searching → Type 0 = HasMendable g.K.NodeReader.holds g.K.NodeReader.last g.K.Keeper.rests c.mend_one.new.store new tidy in
-    let disk = subst (λ (p : Pins). CommitsOne (g.K.Keeper.applied p) mid new r.so_far _ (Err stop)) I.pins (c.in_err-one.ensures.disk tidy r.so_far r.has_it.0 own) in
+    let f : ℕ = (get_or ids n (record { bits = 0 })).bits in
+    let disk = subst (λ (p : Pins). CommitsOne (g.K.Keeper.applied p) mid new r.so_far f (Err stop)) I.pins (c.in_err-one.ensures.disk tidy r.so_far r.has_it.0 own) in
     stops_one _ (λ Z. has-new Z × MendRun applied new.tells X first Z (medium new)) room X n _ _ _ stop within at r
-    (one_stops applied has-new room X r.so_far first _ mid new stop one.told r.has_it.1 disk (c.in_err-one.ensures.mends tidy r.so_far r.has_it.0 own tells)))
+    (one_stops applied has-new room X r.so_far first f mid new stop one.told r.has_it.1 disk (c.in_err-one.ensures.mends tidy r.so_far r.has_it.0 own tells)))
 
 pub returns-in_err-one-clause-images : goal.returns-in_err-one-clause-images
 returns-in_err-one-clause-images g c = λ tidy X has tells.

@@ -106,7 +106,7 @@ returns-clause-disk g c = λ tidy X h own.
       p.1,
       λ t. commit_makes (g.K.Keeper.fits c.plan_mending.new.store.store.keeper mid) (g.K.Keeper.applied room.pins) g.K.Keeper.cost X.tree p.0.coming _ v mid new
           (looks.world.stays.here (c.commit.ensures.told t)) looks.world.stays.written c.commit.ensures.written is.carries is.changes
-          (subst (λ (r : Room). Alters (g.K.Keeper.fits c.plan_mending.new.store.store.keeper mid) (g.K.Keeper.applied r.pins) g.K.Keeper.cost c.in_ok-stale.tree.change mid.here new.here) looks.space (c.in_ok-_reply.ensures.applied X held.stores held.at_rest t)),
+          (subst (λ (r : Room). Alters (g.K.Keeper.fits c.plan_mending.new.store.store.keeper mid) (g.K.Keeper.applied r.pins) g.K.Keeper.cost c.in_ok-stale.field-0.tree.change mid.here new.here) looks.space (c.in_ok-_reply.ensures.applied X held.stores held.at_rest t)),
     )
 
 pub returns-in_err-_reply-clause-disk : goal.returns-in_err-_reply-clause-disk
