@@ -148,7 +148,7 @@ module _ (seed count : ℕ) {old mid : World} (end : Ends) (counts : NeverFall o
     said_tree : (tidy : Bool) (found : List ℕ) (X : Searching) → new.tells → FillsBehind IsMade IsWithin tidy found old mid X seed count end → FillsTree tidy found old new X seed count status
     said_tree tidy found X t f =
         let s = f.ends in
-        let no = no_fault count end text is in
+        let calm = no_fault count end text is in
         let there = says.keeps.told t in
         let turns : List FillTurn = s.came.turns in
         record {
@@ -168,7 +168,7 @@ module _ (seed count : ℕ) {old mid : World} (end : Ends) (counts : NeverFall o
             none_in_hand = s.came.none_in_hand;
             ends = s.came.ends;
           };
-          images = continues (weaker (λ c. IsFilled (ReadsAs tidy found) old.here.said X (turns ++ s.came.hand) c ⊎ SameDisk new.here c) s.images (λ c told i. inl i)) says.keeps.disk (λ c told has. inr (disk_of_end c (s.settled no) told has));
+          images = continues (weaker (λ c. IsFilled (ReadsAs tidy found) old.here.said X (turns ++ s.came.hand) c ⊎ SameDisk new.here c) s.images (λ c told i. inl i)) says.keeps.disk (λ c told has. inr (disk_of_end c (s.settled calm) told has));
           ends_as = λ n. reads_there tidy found mid.here new.here (tree_at X turns) (says.keeps.same t) (s.ends_as n);
           disk_is = λ n. medium_then (disk_at f.opened turns) (medium mid) (medium new) (s.disk_is n there) (disk_then mid new says.keeps t);
           settled = λ n. settled_after (s.settled n) says.keeps;
