@@ -10,7 +10,7 @@ use Rattle.lays_kept.specs.Stands.{Stands}
 use Rattle.node_port.specs.Nodes.{Nodes}
 use Rattle.node_port.specs.Stops.{Room}
 use Rattle.pst_commit.specs.Commit.{LeavesNodes}
-use Rattle.node_port.specs.Pins.{no_pins}
+use Rattle.node_port.specs.Pins.{Pins, no_pins}
 use Rattle.pst_commit.specs.Keeping.{HasRoom, Holds, IsCommitted}
 use Rattle.store_session.specs.Disks.{medium}
 use Rattle.store_session.proofs.Carry.{same_medium}
@@ -91,6 +91,13 @@ stood view holds last rests stands measures room held_stands held_measures found
       h.settled,
       held_measures k w s.nodes s.held,
     )
+
+-- the same run over the pins that a keeper had
+pub mends_over : (becomes : Becomes) (costs : Costs) (tidy : Bool) (found : List ℕ) (room : Room) (mid now : World) (X : Searching) (end : Result Mended MendStop) {p q : Pins} → p ≡ q
+    → MendsSearches (λ Y. StandsMendable tidy (Stands found) HasRoom room now Y × MendRun (IsCommitted becomes costs p.opened) now.tells X (medium mid) Y (medium now)) room X end
+    → MendsSearches (λ Y. StandsMendable tidy (Stands found) HasRoom room now Y × MendRun (IsCommitted becomes costs q.opened) now.tells X (medium mid) Y (medium now)) room X end
+mends_over becomes costs tidy found room mid now X end e m =
+    subst (λ (p : Pins). MendsSearches (λ Y. StandsMendable tidy (Stands found) HasRoom room now Y × MendRun (IsCommitted becomes costs p.opened) now.tells X (medium mid) Y (medium now)) room X end) e m
 
 -- ---- an opening that gave a keeper
 

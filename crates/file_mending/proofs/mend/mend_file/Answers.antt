@@ -6,7 +6,7 @@ use Rattle.pst_commit.specs.Keeping.{HasRoom, IsCommitted}
 use Rattle.store_session.specs.Disks.{medium}
 use Rattle.search_mends.specs.Mends.{MendRun, MendsSearches}
 use Rattle.file_mending.specs.FileMends.{FileMendEnds, StandsMendable}
-use Rattle.file_mending.proofs.Opened.{ends_caused, ends_mended, ends_unmended, refused_is, same_end, stop_caused}
+use Rattle.file_mending.proofs.Opened.{ends_caused, ends_mended, ends_unmended, mends_over, refused_is, same_end, stop_caused}
 use Rattle.file_mending.proofs.mend.mend_file.Goals as goal
 
 pub returns-in-Err-clause-refused : goal.returns-in-Err-clause-refused
@@ -37,8 +37,7 @@ returns-in-Ok-clause-ends g c = λ end is tells.
     (inr (ends_mended becomes costs (g.S.NodeStore.knows o.keeper.store) o.keeper.found o.keeper.header o.tree first mid now c.mend_counted.result _
     (c.in-Ok.ensures.looked told) tells c.mend_counted.ensures.told (c.in-Ok.ensures.store told) c.in-Ok.ensures.written (c.in-Ok.ensures.idle told) c.in-Ok.ensures.settled c.in-Ok.ensures.shut c.in-Ok.ensures.any_moment
     (λ tidy X stores order settled rests. (
-      subst (λ (p : Pins). MendsSearches (λ Y. StandsMendable tidy (Stands o.keeper.found) HasRoom _ now Y × MendRun (IsCommitted becomes costs p.opened) now.tells X (medium mid) Y (medium now)) _ X c.mend_counted.result) pins
-          (call.mends tidy X (record { stores = stores; order = order; settled = settled; at_rest = rests }) (λ e. tells)),
+      mends_over becomes costs tidy o.keeper.found _ mid now X c.mend_counted.result pins (call.mends tidy X (record { stores = stores; order = order; settled = settled; at_rest = rests }) (λ e. tells)),
       call.images tidy X (record { stores = stores; order = order; settled = settled; at_rest = rests }) (λ e. tells),
     ))))
 
