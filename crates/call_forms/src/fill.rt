@@ -99,11 +99,13 @@ pub fn say_filled<W: Outside>(alloc: Global, world: &mut W, seed: u32, count: u1
     ensures { FillEnds seed count (W.view world.old) (W.view world.new) result }
 {
     match fill_file::<W, FilePlanner>(alloc, world, seed, count) {
-        FileFill::Unopened(FileRun::Refused(refusal)) => match file_line(alloc, refusal) {
-            Ok(text) => say(world, text.as_bytes(), Status::Refused),
-            Err(AllocError) => Status::Memory,
+        FileFill::Unopened(run) => match run {
+            FileRun::Refused(refusal) => match file_line(alloc, refusal) {
+                Ok(text) => say(world, text.as_bytes(), Status::Refused),
+                Err(AllocError) => Status::Memory,
+            },
+            FileRun::Ended(end) => status_of_end(end),
         },
-        FileFill::Unopened(FileRun::Ended(end)) => status_of_end(end),
         FileFill::Ended(end) => say_end(alloc, world, count, end),
     }
 }
