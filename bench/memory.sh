@@ -13,6 +13,7 @@ set 0x200024 0x0037001f Invoice
 rcpt 0x200024 1 a@b.example Ann
 attach 0x200024 a.bin 0001
 append 0x200024 0x8025 02
+pin
 name 0820060000000000c000000000000046 0x8501
 mksearch 0x8042 Find
 criteria 0x80023 0x6 0x8082 081f003700
@@ -20,6 +21,10 @@ new 0x8082 IPM.Note 1
 cp 0x200024 0x8062
 rm 0x200024
 ls 0x8082
+at 1 ls 0x8082
+at 1 get 0x200024 0x0037001f
+at 1 props 0x200024
+unpin 1
 save
 quit""".split("\n")
 LOOKS = ["ls 0x122", "ls 0x8022", "ls 0x8042", "ls 0x8062", "ls 0x8082", "ls 0x80023", "getcriteria 0x80023", "props 0x200024", "props 0x200044", "props 0x200064"]

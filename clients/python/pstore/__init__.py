@@ -13,11 +13,11 @@ from .folders import Folder
 from .messages import Attachment, Message
 from .replies import Recipient, Reply
 from .session import Session
-from .store import Store, compact, decode, fill, join_path, mend, split_path
+from .store import Pin, Store, compact, decode, fill, join_path, mend, split_path
 from .tags import TAGS, Tag
 
 __all__ = [
-    "Attachment", "Draft", "DraftAttachment", "FileRefusal", "Folder", "Message", "NotFound", "PstoreError", "Recipient",
+    "Attachment", "Draft", "DraftAttachment", "FileRefusal", "Folder", "Message", "NotFound", "Pin", "PstoreError", "Recipient",
     "Refusal", "Reply", "Session", "SessionEnded", "Store", "TAGS", "Tag", "compact", "decode", "fill", "join_path", "mend", "split_path",
 ]  # fmt: skip
 __version__ = "1.0"

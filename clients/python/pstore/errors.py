@@ -77,6 +77,12 @@ class SearchLimitRefusal(LimitRefusal):
     kind = "limit searches"
 
 
+class PinLimitRefusal(LimitRefusal):
+    """16 pins are open, or the session has given all numbers of pins."""
+
+    kind = "limit pins"
+
+
 class NameLimitRefusal(LimitRefusal):
     """There is no room for another named property."""
 
@@ -87,6 +93,12 @@ class LineRefusal(Refusal):
     """The line is none of the forms, or the program doesn't know it."""
 
     kind = "line"
+
+
+class NoPin(Refusal):
+    """No pin of that number is open."""
+
+    kind = "pin"
 
 
 class ValueRefusal(Refusal):

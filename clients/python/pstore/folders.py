@@ -13,13 +13,13 @@ from .tags import BYTE_TEXT, TEXT, Tag, Value, tag_of, value_of
 
 if TYPE_CHECKING:
     from .drafts import Draft
-    from .store import Store
+    from .store import Tree
 
 
 class Folder:
     """A folder. `kind` is `folder`, `search` for a search folder, or `foreign` for one of another program."""
 
-    def __init__(self, store: "Store", listing: ListedFolder) -> None:
+    def __init__(self, store: "Tree", listing: ListedFolder) -> None:
         self.store, self.id, self.kind, self.name = store, listing.id, listing.kind, listing.name
 
     def __repr__(self) -> str:

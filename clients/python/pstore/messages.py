@@ -16,7 +16,7 @@ from .tags import BINARY, BYTE_TEXT, READ, TEXT, Tag, Value, tag_of, value_of
 
 if TYPE_CHECKING:
     from .folders import Folder
-    from .store import Store
+    from .store import Tree
 
 PIECE = 500_000
 """How many bytes of an attachment one line carries: as hex they have to fit a line."""
@@ -58,7 +58,7 @@ class Message:
     sender, sender_address, sent, received, created = _Named(), _Named(), _Named(), _Named(), _Named()
     to, cc, headers, message_id, flags = _Named(), _Named(), _Named(), _Named(), _Named()
 
-    def __init__(self, store: "Store", ident: int, listing: Optional[ListedMessage] = None) -> None:
+    def __init__(self, store: "Tree", ident: int, listing: Optional[ListedMessage] = None) -> None:
         self.store, self.id, self.listing = store, ident, listing
         self._details: Optional[Details] = None
 

@@ -25,7 +25,40 @@ AHEAD = 1000
 """How many lines `pipeline` sends before it takes the first reply. More would only keep more replies in memory."""
 
 
-class Session:
+class Lines:
+    """Lines, sent one by one or many ahead, and their replies."""
+
+    def send(self, line: str) -> Pending:
+        """Sends a line ahead. What is answered comes as a `Reply`, or as the exception of its refusal."""
+        raise NotImplementedError
+
+    def ask(self, line: str) -> Reply:
+        """Sends a line and waits for its reply."""
+        return self.send(line).result()
+
+    def ask_all(self, lines: Iterable[str]) -> List[Reply]:
+        """Sends lines ahead, and gives their replies.
+
+        Where some are refused, the rest is answered all the same; then the first refusal is raised.
+        """
+        answers = list(self.pipeline(lines))
+        for it in answers:
+            if isinstance(it, Refusal):
+                raise it
+        return answers
+
+    def pipeline(self, lines: Iterable[str]) -> Iterator[Union[Reply, Refusal]]:
+        """Sends lines ahead, and gives what each is answered, refusals too, in order."""
+        sent: Deque[Pending] = deque()
+        for line in lines:
+            sent.append(self.send(line))
+            if len(sent) >= AHEAD:
+                yield _answer(sent.popleft())
+        while sent:
+            yield _answer(sent.popleft())
+
+
+class Session(Lines):
     """A program that answers lines.
 
     A thread reads what the program says as soon as it says it. So the program never waits for a reader, and a caller
@@ -63,30 +96,9 @@ class Session:
                 pass  # The program is gone. The reader learns why, and tells all who wait.
         return pending
 
-    def ask(self, line: str) -> Reply:
-        """Sends a line and waits for its reply."""
-        return self.send(line).result()
-
-    def ask_all(self, lines: Iterable[str]) -> List[Reply]:
-        """Sends lines ahead, and gives their replies.
-
-        Where some are refused, the rest is answered all the same; then the first refusal is raised.
-        """
-        answers = list(self.pipeline(lines))
-        for it in answers:
-            if isinstance(it, Refusal):
-                raise it
-        return answers
-
-    def pipeline(self, lines: Iterable[str]) -> Iterator[Union[Reply, Refusal]]:
-        """Sends lines ahead, and gives what each is answered, refusals too, in order."""
-        sent: Deque[Pending] = deque()
-        for line in lines:
-            sent.append(self.send(line))
-            if len(sent) >= AHEAD:
-                yield _answer(sent.popleft())
-        while sent:
-            yield _answer(sent.popleft())
+    def at(self, pin: int) -> "PinnedLines":
+        """The lines that a pin answers."""
+        return PinnedLines(self, pin)
 
     def close(self) -> None:
         """Ends the session with `quit` and waits for the program.
@@ -165,6 +177,16 @@ class Session:
         """What the program said on standard error, as one line."""
         self._errors.seek(0)
         return "; ".join(self._errors.read().decode("utf-8", "replace").split("\n")).strip("; ")
+
+
+class PinnedLines(Lines):
+    """The lines of a session as one of its pins answers them: `ls`, `get`, `props`, `fetch` and `getcriteria`. All others are refused."""
+
+    def __init__(self, session: Session, pin: int) -> None:
+        self._session, self._pin = session, pin
+
+    def send(self, line: str) -> Pending:
+        return self._session.send(f"at {self._pin} {line}")
 
 
 def _answer(pending: Pending) -> Union[Reply, Refusal]:

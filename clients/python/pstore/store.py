@@ -11,7 +11,7 @@ from .folders import Folder
 from .messages import Message
 from .program import find_program
 from .replies import ListedFolder
-from .session import Session
+from .session import Lines, Session
 from .spelling import spell
 
 ROOT = 0x122
@@ -60,50 +60,16 @@ def fill(path: str, seed: int, count: int, program: Optional[str] = None) -> Tup
     return int(said[3]), int(said[5])
 
 
-class Store:
-    """A store in a file, over one session of the program.
+class Tree:
+    """The folders and messages of a store, as lines of a session tell them.
 
     Paths of folders, as `Inbox/Lists`, begin at the top of the user's folders, and with a `/` at the root above it. A
     slash in a name is written `\\/`; a list of names needs no such care.
     """
 
-    def __init__(self, path: str, program: Optional[str] = None) -> None:
-        self._open("run", path, program)
-
-    @classmethod
-    def look(cls, path: str, program: Optional[str] = None) -> "Store":
-        """Opens a store for reading alone: nothing is written, and a file that can't be written will do."""
-        store = cls.__new__(cls)
-        store._open("look", path, program)
-        return store
-
-    @classmethod
-    def create(cls, path: str, name: str = "Mail", program: Optional[str] = None) -> "Store":
-        """Lays a new store in a file that has no bytes, and opens it."""
-        answer([find_program(program), "new", path, spell(name)])
-        return cls(path, program)
-
-    def _open(self, word: str, path: str, program: Optional[str]) -> None:
-        self.path = path
-        self.session = Session([word, path], program)
-        try:
-            self.root = Folder(self, ListedFolder(ROOT, "folder", ""))
-            self.top = self._find_top()
-        except PstoreError:
-            try:
-                self.session.close()
-            except PstoreError:
-                pass
-            raise
-
-    def _find_top(self) -> Folder:
-        """The folder that holds the user's.
-
-        Which one it is stands in a value that no line reads, so it goes by its usual id, then by its usual names.
-        """
-        folders = [it for it in self.root.folders() if it.kind == "folder"]
-        usual = [it for it in folders if it.id == TOP] or [it for it in folders if it.name.lower() in TOP_NAMES]
-        return (usual or [self.root])[0]
+    session: Lines
+    root: Folder
+    top: Folder
 
     def folder(self, path: Path = "") -> Folder:
         """The folder at a path."""
@@ -159,6 +125,54 @@ class Store:
             raise
         return message
 
+
+class Store(Tree):
+    """A store in a file, over one session of the program."""
+
+    session: Session
+
+    def __init__(self, path: str, program: Optional[str] = None) -> None:
+        self._open("run", path, program)
+
+    @classmethod
+    def look(cls, path: str, program: Optional[str] = None) -> "Store":
+        """Opens a store for reading alone: nothing is written, and a file that can't be written will do."""
+        store = cls.__new__(cls)
+        store._open("look", path, program)
+        return store
+
+    @classmethod
+    def create(cls, path: str, name: str = "Mail", program: Optional[str] = None) -> "Store":
+        """Lays a new store in a file that has no bytes, and opens it."""
+        answer([find_program(program), "new", path, spell(name)])
+        return cls(path, program)
+
+    def _open(self, word: str, path: str, program: Optional[str]) -> None:
+        self.path = path
+        self.session = Session([word, path], program)
+        try:
+            self.root = Folder(self, ListedFolder(ROOT, "folder", ""))
+            self.top = self._find_top()
+        except PstoreError:
+            try:
+                self.session.close()
+            except PstoreError:
+                pass
+            raise
+
+    def _find_top(self) -> Folder:
+        """The folder that holds the user's.
+
+        Which one it is stands in a value that no line reads, so it goes by its usual id, then by its usual names.
+        """
+        folders = [it for it in self.root.folders() if it.kind == "folder"]
+        usual = [it for it in folders if it.id == TOP] or [it for it in folders if it.name.lower() in TOP_NAMES]
+        return (usual or [self.root])[0]
+
+    def pin(self) -> "Pin":
+        """Keeps the store readable as it is now, whatever changes from here on. At most 16 pins are open at a time."""
+        return Pin(self, int(self.session.ask("pin").rest))
+
     def save(self) -> None:
         """Writes the allocation maps, so that other readers need not rebuild them."""
         self.session.ask("save")
@@ -172,6 +186,45 @@ class Store:
 
     def __exit__(self, kind: object, error: object, trace: object) -> None:
         self.session.__exit__(kind, error, trace)
+
+
+class Pin(Tree):
+    """A store as it was when the pin was made, whatever was changed since, for as long as the session goes on or until `unpin`.
+
+    Folders and messages are those of that moment, and are read as those of a store. What would change them is refused
+    as `LineRefusal`, and reading them after the end of the pin as `NoPin`. The places that it keeps in the file are
+    free again only then, so a pin is best ended once it was read:
+
+        with store.pin() as then:
+            for message in then.folder("Inbox").messages():
+                print(message.subject)
+    """
+
+    def __init__(self, store: Store, number: int) -> None:
+        self.store, self.number = store, number
+        self.session = store.session.at(number)
+        self.root, self.top = (Folder(self, ListedFolder(it.id, it.kind, it.name)) for it in (store.root, store.top))
+        self._ended = False
+
+    def __repr__(self) -> str:
+        return f"<Pin {self.number}>"
+
+    def unpin(self) -> None:
+        """Ends the pin."""
+        self._ended = True
+        self.store.session.ask(f"unpin {self.number}")
+
+    def __enter__(self) -> "Pin":
+        return self
+
+    def __exit__(self, kind: object, error: object, trace: object) -> None:
+        if self._ended:
+            return
+        try:
+            self.unpin()
+        except PstoreError:
+            if error is None:
+                raise
 
 
 def split_path(path: str) -> List[str]:

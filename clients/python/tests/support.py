@@ -5,6 +5,7 @@ from __future__ import annotations
 import os
 import random
 import shutil
+import stat
 import subprocess
 import sys
 import tempfile
@@ -66,6 +67,16 @@ class InFolder(unittest.TestCase):
         said = done.stdout.decode("utf-8")
         self.assertEqual((done.returncode, done.stderr.decode() if status == 0 else ""), (status, ""), said)
         return said if status == 0 else said + done.stderr.decode("utf-8")
+
+
+class OverScript(InFolder):
+    """A test over a program that is a script of its own."""
+
+    def program(self, script: str) -> str:
+        path = self.folder / "program"
+        path.write_text(f"#!/bin/sh\n{script}\n")
+        path.chmod(path.stat().st_mode | stat.S_IXUSR)
+        return str(path)
 
 
 TEXTS = {

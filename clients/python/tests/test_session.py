@@ -1,14 +1,13 @@
 """Sessions: lines ahead, refusals, and ends."""
 
 import os
-import stat
 import unittest
 
-from pstore import errors
+from pstore import Draft, errors
 from pstore.program import find_program
 from pstore.session import Session
 from pstore.store import Store
-from tests.support import InFolder, needs_program
+from tests.support import InFolder, OverScript, needs_program
 
 
 @needs_program
@@ -67,14 +66,8 @@ class Files(InFolder):
             Store.create(str(self.folder / "short"))
 
 
-class Ends(InFolder):
+class Ends(OverScript):
     """Ends that a whole program comes to rarely, by one that just ends."""
-
-    def program(self, script: str) -> str:
-        path = self.folder / "program"
-        path.write_text(f"#!/bin/sh\n{script}\n")
-        path.chmod(path.stat().st_mode | stat.S_IXUSR)
-        return str(path)
 
     def test_each_status_is_an_exception(self):
         for status, kind, text in (
@@ -111,3 +104,73 @@ class Ends(InFolder):
     def test_a_program_that_is_not_there(self):
         with self.assertRaises(errors.ProgramMissing):
             find_program(os.path.join(str(self.folder), "missing"))
+
+
+PINNED = """
+while read -r line; do
+  echo "$line" >>"$(dirname "$0")/asked"
+  case "$line" in
+    'ls 0x122' | 'at 1 ls 0x122') echo '- 0x8022 folder "Top of Personal Folders"'; echo 'ok 1' ;;
+    pin) n=$((n + 1)); if [ $n = 2 ]; then echo 'no limit pins'; else echo "ok $n"; fi ;;
+    'at 1 ls 0x8022') echo '- 0x8082 folder "Inbox"'; echo 'ok 1' ;;
+    'at 1 ls 0x8082') echo '- 0x200024 message 62 "Hello"'; echo 'ok 1' ;;
+    'at 1 get 0x200024 0x0037001f') echo 'ok "Hello"' ;;
+    'at 1 props 0x200024') echo '- 0x0037001f 10'; echo '- attach 0x8025 2 "a.txt"'; echo 'ok 2' ;;
+    'at 1 fetch 0x200024 0x8025') echo 'ok 6869' ;;
+    'at 1 get 0x200024 '*) echo 'no property' ;;
+    'at 1 ls '* | 'at 1 get '*) echo 'no object' ;;
+    'at 2 ls '* | 'unpin 2') echo 'no pin' ;;
+    'unpin 1' | quit) echo ok ;;
+    *) echo 'no line' ;;
+  esac
+done
+"""
+
+
+class Pins(OverScript):
+    """Which lines are sent for a pin, by a program that knows one folder with one message."""
+
+    def setUp(self):
+        super().setUp()
+        self.store = Store("FILE", self.program(PINNED))
+        self.addCleanup(self.store.close)
+
+    def asked(self):
+        return (self.folder / "asked").read_text().splitlines()
+
+    def test_a_pin_is_read_as_a_store(self):
+        with self.store.pin() as then:
+            self.assertEqual((then.number, then.top.name), (1, "Top of Personal Folders"))
+            (message,) = then.folder("Inbox").messages()
+            self.assertEqual((message.subject, message.attachment("a.txt").read()), ("Hello", b"hi"))
+            self.assertEqual([names for names, _, _ in then.walk()], [[], ["Inbox"]])
+            self.assertEqual(list(then.folder("Inbox").values([message], "subject")), [["Hello"]])
+            self.assertEqual(self.asked()[:3], ["ls 0x122", "pin", "at 1 ls 0x8022"])
+        self.assertEqual(self.asked()[-1], "unpin 1")
+        self.assertTrue(all(it.startswith("at 1 ") for it in self.asked()[2:-1]))
+
+    def test_what_changes_something_is_refused_at_a_pin(self):
+        with self.store.pin() as then:
+            message = then.message(0x200024)
+            for change in (lambda: message.set(subject="B"), message.remove, lambda: then.make_folder("Other"), lambda: then.top.add(Draft()), lambda: message.attach("b", b"")):
+                with self.assertRaises(errors.LineRefusal):
+                    change()
+            with self.assertRaises(errors.ObjectRefusal):
+                then.message(0x200044).get("subject")
+
+    def test_the_end_of_a_pin(self):
+        with self.store.pin() as then:
+            then.unpin()
+        self.assertEqual(self.asked().count("unpin 1"), 1)
+        with self.assertRaises(errors.PinLimitRefusal):
+            self.store.pin()
+        with self.assertRaises(errors.NoPin):
+            self.store.session.at(2).ask("ls 0x8022")
+        with self.assertRaises(errors.NoPin):
+            self.store.session.ask("unpin 2")
+
+    def test_an_error_within_is_the_one_that_is_raised(self):
+        with self.assertRaises(errors.ObjectRefusal):
+            with self.store.pin() as then:
+                then.number = 2  # so that its end is refused too
+                then.message(0x200044).get("subject")

@@ -4,7 +4,7 @@ import unittest
 from datetime import datetime, timezone
 from pathlib import Path
 
-from pstore import Draft, Recipient, Store, compact, decode, errors, fill, mend
+from pstore import Draft, Message, Pin, Recipient, Store, compact, decode, errors, fill, mend
 from pstore.drafts import DraftAttachment
 from pstore.program import find_program, knows_look
 from pstore.tags import TAGS, Tag
@@ -62,6 +62,42 @@ class Stores(InFolder):
         with Store(self.file) as store:
             self.assertEqual([it.subject for it in store.folder("/Search Root/Find 1").messages()][:2], ["invoice 2", "invoice 5"])
             self.assertEqual(len(list(store.folder("Fill 1").messages())), 30)
+
+    def test_a_pin_keeps_a_moment(self):
+        with Store.create(self.file) as store:
+            inbox = store.make_folder("Inbox")
+            message = inbox.add(Draft(values={TAGS["subject"]: "Then"}, attachments=[DraftAttachment("a.txt", b"hello")]))
+            with store.pin() as then:
+                self.check_pin(then, message)
+            for it in (lambda: then.folder("Inbox"), then.unpin):
+                with self.assertRaises(errors.NoPin):
+                    it()
+            pins = [store.pin() for _ in range(16)]
+            self.assertEqual([it.number for it in pins], list(range(2, 18)))
+            with self.assertRaises(errors.PinLimitRefusal):
+                store.pin()
+            pins[3].unpin()
+            self.assertEqual(store.pin().number, 18)
+        with Store(self.file) as store:
+            self.assertEqual([it.subject for it in store.folder("Inbox").messages()], ["Other"])
+            with self.assertRaises(errors.NoPin):
+                store.session.at(18).ask("ls 0x122")
+        with Store.look(self.file) as store, self.assertRaises(errors.LineRefusal):
+            store.pin()
+
+    def check_pin(self, then: Pin, message: Message):
+        self.assertEqual(then.number, 1)
+        message.subject = "Now"
+        message.attachment("a.txt").append(b" world")
+        other = message.copy(then.store.folder("Inbox"))
+        other.subject = "Other"
+        (pinned,) = then.folder("Inbox").messages()
+        self.assertEqual((message.subject, pinned.subject, pinned.attachment("a.txt").read()), ("Now", "Then", b"hello"))
+        message.remove()
+        self.assertEqual(([names for names, _, _ in then.walk()], pinned.body, pinned.subject), ([[], ["Inbox"]], None, "Then"))
+        for it, kind in ((lambda: pinned.set(subject="Other"), errors.LineRefusal), (lambda: then.make_folder("Other"), errors.LineRefusal), (lambda: then.message(other.id).details, errors.ObjectRefusal)):
+            with self.assertRaises(kind):
+                it()
 
     def check_folders(self, store: Store):
         self.assertEqual(store.top.name, "Top of Personal Folders")

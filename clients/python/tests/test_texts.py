@@ -50,6 +50,7 @@ class Refusals(unittest.TestCase):
     def test_each_has_its_class(self):
         for said, kind in (
             ("object", errors.ObjectRefusal), ("limit rows", errors.RowLimitRefusal), ("full 3 7", errors.FullRefusal), ("restriction 12", errors.RestrictionRefusal),
+            ("pin", errors.NoPin), ("limit pins", errors.PinLimitRefusal),
             ("limit nesting", errors.LimitRefusal), ("embedded", errors.Refusal),
         ):  # fmt: skip
             with self.subTest(said=said):

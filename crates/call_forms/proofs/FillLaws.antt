@@ -1,8 +1,8 @@
 -- How `fill` ends, put together from what was made and from what it says.
-use Rattle.std.proofs.Common.{◌≡◌, ◌⊎◌, ◌∙◌, ◌++◌, ◌+◌, ◌≤◌, ℕ, Bool, true, List, [], take, Result, Ok, Err, IfErr, inl, inr, refl, sym, ap, subst, arith}
+use Rattle.std.proofs.Common.{◌≡◌, ◌⊎◌, ◌∙◌, ◌++◌, ℕ, Bool, true, List, [], take, Result, Ok, Err, IfErr, inl, inr, refl, sym, ap, subst, arith}
 use Rattle.std.proofs.lemmas.List.{append-nil}
 use Rattle.pst_outside.specs.World.{Image, SameDisk, World}
-use Rattle.pst_outside.specs.Calls.{LeavesOnly, NeverFall, Rose, Settled}
+use Rattle.pst_outside.specs.Calls.{NeverFall, Rose, Settled}
 use Rattle.pst_outside.proofs.Moments.{continues, quiet, same_disk, weaker}
 use Rattle.gate_file.specs.Gate.{IsShut}
 use Rattle.file_planner.specs.Becomes.{IsMade}
@@ -16,12 +16,13 @@ use Rattle.mail_draft.proofs.Looking.{untouched_same}
 use Rattle.pst_commit.specs.Laws.{stands_on}
 use Rattle.store_session.specs.declared.session.SessionEnd.TheVariants as ends
 use Rattle.store_session.specs.Disks.{Medium, SameMedium, medium}
-use Rattle.store_filling.specs.Filling.{EndsSo, FillCame, FillTurn, IsFilled, disk_at, tree_at}
+use Rattle.store_filling.specs.Filling.{FillTurn, IsFilled, disk_at, tree_at}
 use Rattle.store_filling.specs.declared.counting.FillCounts.{FillCounts}
 use Rattle.store_filling.proofs.Turns.{fills_still}
+use Rattle.node_port.specs.Pins.{no_pins}
 use Rattle.file_session.specs.FileRun.{ReadsAs, file_effects, front_of}
 use Rattle.file_filling.specs.FileFills.{FillOpened, FillsBehind}
-use Rattle.call_forms.specs.Fill.{FillEnds, FillRead, FillServes, FillsTree, HasText, IsFillText, IsQuietFill, SaysEnd, SaysFill, fill_status}
+use Rattle.call_forms.specs.Fill.{FillEnds, FillServes, FillsTree, IsFillText, IsQuietFill, SaysEnd, SaysFill, fill_status}
 use Rattle.call_forms.specs.Info.{Says}
 use Rattle.call_forms.specs.Worlds.{HasDiskOf, KeepsDisk}
 use Rattle.call_forms.specs.declared.exit.ChangedAt.{ChangedAt}
@@ -161,7 +162,7 @@ module _ (seed count : ℕ) {old mid : World} (end : Ends) (counts : NeverFall o
             places = s.came.places;
             are = s.came.are;
             turns = turns;
-            run = fills_still (file_effects IsMade IsWithin) s.came.places seed 0 _ X f.opened turns says.keeps.told s.came.run;
+            run = fills_still (file_effects IsMade IsWithin no_pins) s.came.places seed 0 _ X f.opened turns says.keeps.told s.came.run;
             hand = s.came.hand;
             in_hand = s.came.in_hand;
             one = s.came.one;

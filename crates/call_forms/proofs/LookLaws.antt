@@ -1,5 +1,5 @@
 -- How `look` ends, put together from the server of its lines, from its opening and from what it says.
-use Rattle.std.proofs.Common.{◌≡◌, ◌⊎◌, ◌∙◌, ◌++◌, ◌≤◌, ℕ, Bool, false, List, [], ◌∷◌, take, inl, inr, refl, sym, ap, subst, arith}
+use Rattle.std.proofs.Common.{◌≡◌, ◌⊎◌, ◌∙◌, ◌++◌, ◌≤◌, ℕ, false, List, [], ◌∷◌, take, inl, inr, refl, sym, ap, subst, arith}
 use Rattle.std.proofs.lemmas.Bool.{true≢false}
 use Rattle.std.specs.List.{concat}
 use Rattle.std.proofs.lemmas.List.{append-nil}
@@ -27,8 +27,7 @@ use Rattle.file_open.specs.declared.stops.FileRefusal.{FileRefusal}
 use Rattle.store_session.specs.declared.carrying.StoreStop.{StoreStop}
 use Rattle.store_session.specs.declared.carrying.StoreStop.TheVariants as stops
 use Rattle.store_session.proofs.Carry.{rose_later, same_as}
-use Rattle.store_session.proofs.Sessions.{turns_counts, turns_told}
-use Rattle.call_forms.specs.Files.{NoneFailed}
+use Rattle.pinned_session.proofs.Sessions.{turns_counts, turns_told}
 use Rattle.call_forms.specs.Look.{KeepsReading, LookEnds, LookEndsWell, LookRefused, LookRuns, LookServes, LookUnread, status_of_look}
 use Rattle.call_forms.specs.Info.{Says}
 use Rattle.call_forms.specs.Looking.{LookAnswers, LookRun, ReaderAnswers, ReaderStops, TellsTree}

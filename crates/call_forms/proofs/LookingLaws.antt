@@ -1,5 +1,5 @@
 -- What is said to a line of a session that only reads.
-use Rattle.std.proofs.Common.{◌≡◌, ◌⊎◌, ◌∙◌, ℕ, Bool, true, false, List, Some, Result, Ok, Err, IfErr, IfOk, ap, inl, inr, refl, subst, sym}
+use Rattle.std.proofs.Common.{◌≡◌, ◌⊎◌, ◌∙◌, ℕ, Bool, true, List, Some, Result, Ok, Err, IfErr, IfOk, ap, inl, inr, refl, subst, sym}
 use Rattle.pst_outside.specs.World.{SameDisk, World}
 use Rattle.pst_outside.specs.Calls.{Untouched}
 use Rattle.command_text.specs.declared.command.Command.{Command}

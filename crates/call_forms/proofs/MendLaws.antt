@@ -1,8 +1,8 @@
 -- How `mend` ends, put together from the mending and from what it says.
-use Rattle.std.proofs.Common.{◌≡◌, ◌⊎◌, ◌∙◌, ◌++◌, ◌≤◌, ℕ, Bool, true, List, [], ◌∷◌, take, Result, Ok, Err, IfErr, inl, inr, refl, sym, ap, subst, arith}
+use Rattle.std.proofs.Common.{◌≡◌, ◌⊎◌, ◌∙◌, ◌++◌, ℕ, Bool, true, List, [], ◌∷◌, take, Result, Ok, Err, IfErr, inl, inr, refl, sym, ap, subst, arith}
 use Rattle.std.proofs.lemmas.List.{append-nil}
 use Rattle.pst_outside.specs.World.{Image, SameDisk, World}
-use Rattle.pst_outside.specs.Calls.{LeavesOnly, NeverFall, Rose, Settled, Untouched}
+use Rattle.pst_outside.specs.Calls.{NeverFall, Rose, Settled}
 use Rattle.pst_outside.proofs.Moments.{continues, quiet, weaker}
 use Rattle.pst_header.specs.Format.{reading}
 use Rattle.pst_header.specs.declared.header.Header.{Header}
@@ -24,16 +24,14 @@ use Rattle.search_lists.specs.Order.{InOrder}
 use Rattle.search_mending.specs.Laws.{IsMendable}
 use Rattle.search_mending.specs.Mended.{mended}
 use Rattle.search_mending.proofs.AllLaws.{mends_all}
-use Rattle.search_mends.specs.Mends.{MendRun, MendedSoFar, MendsSearches, StopsBefore, disk_mended}
+use Rattle.search_mends.specs.Mends.{MendRun, MendsSearches, StopsBefore, disk_mended}
 use Rattle.search_mends.proofs.Runs.{turns_still}
-use Rattle.search_mends.specs.Stops.{IsCaused, StopsMending, UnlessFault}
+use Rattle.search_mends.specs.Stops.{IsCaused}
 use Rattle.search_mends.specs.declared.all.Mended.{Mended}
 use Rattle.search_mends.specs.declared.stop.MendStop.{MendStop}
 use Rattle.search_mends.specs.declared.stop.MendStop.TheVariants as stops
-use Rattle.file_mending.specs.FileMends.{FileMendEnds, MendOpened, MendUnopened, MendsFiles, ReadsMendable, front_of}
+use Rattle.file_mending.specs.FileMends.{FileMendEnds, MendsFiles, ReadsMendable, front_of}
 use Rattle.file_mending.proofs.Opened.{mends_then}
-use Rattle.file_open.specs.Opening.{IsFileRefused, ReadsFresh, ReadsTree}
-use Rattle.file_open.specs.declared.stops.FileRefusal.{FileRefusal}
 use Rattle.file_session.specs.FileRun.{ReadsAs}
 use Rattle.call_forms.specs.Info.{Says}
 use Rattle.call_forms.specs.Mend.{IsMendedText, IsPartMended, IsRefusal, IsStoppedText, MendEnds, MendRead, MendServes, MendUnread, MendsIn, MendsTree, SaysEnd, SaysMended, SaysOrLacks, mended_line, stop_line}

@@ -1,5 +1,5 @@
 -- How `new` and `run` over a file end.
-use Rattle.std.specs.Prelude.{◌≡◌, ◌⊎◌, ℕ, true, List, [], ◌++◌, take}
+use Rattle.std.specs.Prelude.{◌≡◌, ◌⊎◌, ℕ, true, List, ◌++◌, take}
 use Rattle.pst_outside.specs.World.{Image, World}
 use Rattle.pst_outside.specs.Calls.{NeverFall, Rose, Settled}
 use Rattle.gate_file.specs.Gate.{IsShut}

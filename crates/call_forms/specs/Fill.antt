@@ -1,10 +1,9 @@
 -- What `fill` says and how it ends.
 use Rattle.std.specs.Prelude.{◌≡◌, ◌⊎◌, ◌+◌, ◌≤◌, ℕ, Bool, false, true, List, [], ◌++◌, codes, take, Result, Ok, Err}
 use Rattle.std.specs.Fmt.{decimal}
-use Rattle.pst_outside.specs.World.{Image, SameDisk, World}
+use Rattle.pst_outside.specs.World.{SameDisk, World}
 use Rattle.pst_outside.specs.Calls.{LeavesOnly, NeverFall, Rose, Settled}
 use Rattle.gate_file.specs.Gate.{IsShut, SameStore}
-use Rattle.command_text.specs.declared.reply.CommandRefusal.{CommandRefusal}
 use Rattle.mail_draft.specs.declared.stop.Stop.{Stop}
 use Rattle.mail_draft.specs.declared.stop.Stop.TheVariants as stops
 use Rattle.mail_searches.specs.Searching.{Searching}
@@ -17,6 +16,7 @@ use Rattle.store_session.specs.Session.{HasCause}
 use Rattle.store_session.specs.declared.session.SessionEnd.{SessionEnd}
 use Rattle.store_filling.specs.Filling.{FillCame, IsFilled, disk_at, tree_at}
 use Rattle.store_filling.specs.declared.counting.FillCounts.{FillCounts}
+use Rattle.node_port.specs.Pins.{no_pins}
 use Rattle.file_session.specs.FileRun.{EndsUnopened, ReadsAs, file_effects, front_of}
 use Rattle.call_forms.specs.Files.{EndsRefused, status_of_end}
 use Rattle.call_forms.specs.Info.{Says}
@@ -63,7 +63,7 @@ pub record FillsTree (tidy : Bool) (found : List ℕ) (old new : World) (start :
   pub store : SameStore old.here opened.image
   pub opening : opened.written ≤ old.written + 580
   pub idle : IsShut old.here.side → SameMedium (medium old) opened
-  pub came : FillCame (file_effects IsMade IsWithin) opened new.tells start seed count end
+  pub came : FillCame (file_effects IsMade IsWithin no_pins) opened new.tells start seed count end
   pub images : LeavesOnly old new (λ c. IsFilled (ReadsAs tidy found) old.here.said start (came.turns ++ came.hand) c ⊎ SameDisk new.here c)
   -- unless the disk failed, they are read as the tree after all turns at the end, and nothing is pending
   pub ends_as : (end ≡ Err stops.Fault → ⊥) → ReadsAs tidy found new.here (tree_at start came.turns)

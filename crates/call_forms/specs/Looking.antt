@@ -10,27 +10,13 @@ use Rattle.command_text.specs.declared.reply.Limit.TheVariants as limits
 use Rattle.command_text.specs.Lines.{command}
 use Rattle.command_text.specs.Replies.{text}
 use Rattle.line_server.specs.Lines.{Piece, line, too_long, further}
-use Rattle.node_port.specs.Nodes.{Nodes}
-use Rattle.mail_tree.specs.declared.known.Known.{Known}
 use Rattle.mail_tree.specs.Folders.{replied}
-use Rattle.mail_tree.specs.Knowing.{Knows}
-use Rattle.mail_tree.specs.Tree.{Shown}
-use Rattle.mail_tree.specs.Whole.{IsWhole}
-use Rattle.mail_searches.specs.Searching.{AreSearches, Searching}
-use Rattle.mail_searches.specs.declared.known.KnownSearches.{KnownSearches}
-use Rattle.search_folders.specs.Comings.{KnowsSearches}
+use Rattle.mail_searches.specs.Searching.{Searching}
+pub use Rattle.pinned_session.specs.Holding.{TellsTree}
 use Rattle.mail_reading.specs.Asked.{reads}
 use Rattle.store_session.specs.declared.carrying.StoreStop.{StoreStop}
 use Rattle.store_session.specs.declared.carrying.StoreStop.TheVariants.{Disk}
 use Rattle.call_forms.specs.Run.{Steps, refused}
-
--- Nodes that are told show the tree with its searches, whatever these list, and this is known of it.
-pub record TellsTree (holds : Nodes → Type 0) (last : List ℕ) (known : Known) (of_searches : KnownSearches) (X : Searching) : Type 0 where
-  pub shown : Shown holds last X.tree
-  pub knows : Knows X.tree known
-  pub searches : KnowsSearches X of_searches
-  pub whole : IsWhole X.tree
-  pub are : AreSearches X
 
 -- what is said to a command: to one that reads the reply of its step, which leaves the tree and its searches; to any other that it is no line
 abbrev pub AsksCommand : Bool → Searching → Command → List ℕ → Type 0

@@ -1,22 +1,19 @@
 //! The store of a session that only reads, as what answers lines.
-ghost use Rattle.std.specs.Prelude.{◌≡◌, ◌⊎◌, IfErr, IfOk};
+ghost use Rattle.std.specs.Prelude.{IfErr, IfOk};
 ghost use Rattle.pst_outside.specs.Calls.{Untouched};
-ghost use Rattle.command_text.specs.Replies.{text};
-ghost use Rattle.line_server.specs.Spoken.{no_memory_text, spoken_text};
-ghost use Rattle.store_session.specs.Carrying.{ComesTo, SaysRefusal};
+ghost use Rattle.line_server.specs.Spoken.{spoken_text};
 ghost use Rattle.call_forms.specs.Looking.{ReaderAnswers, ReaderStops, TellsTree};
 
-use command_text::{CommandRefusal, LastLine, Reply, read_line, reply_text};
+use command_text::{CommandRefusal, read_line};
 use line_server::{LineAnswerer, Spoken};
-use mail_draft::Stop;
 use mail_reading::ask;
 use mail_searches::KnownSearches;
 use mail_tree::Known;
 use node_port::NodeReader;
 use pst_base::MemOr;
 use pst_outside::Outside;
-use std::alloc::{AllocError, Global};
-use store_session::StoreStop;
+use std::alloc::Global;
+use store_session::{StoreStop, refusal_spoken, reply_spoken, stopped};
 
 /// A store that is only read: what tells its nodes, and what is known of their tree and its searches beside them.
 #[derive(Drop)]
@@ -24,46 +21,6 @@ pub(crate) struct Reader<K> {
     pub(crate) keeper: K,
     pub(crate) known: Known,
     pub(crate) searches: KnownSearches,
-}
-
-/// What is said of a reply.
-fn reply_spoken(alloc: Global, reply: &Reply) -> Spoken
-    ensures { (spoken_text result ≡ text reply.now) ⊎ (spoken_text result ≡ no_memory_text) }
-{
-    match reply_text(alloc, reply) {
-        Ok(text) => Spoken::Reply(text),
-        Err(AllocError) => Spoken::NoMemory,
-    }
-}
-
-/// What is said of a refusal.
-fn refusal_spoken(alloc: Global, refusal: CommandRefusal) -> Spoken
-    ensures { SaysRefusal refusal result }
-{
-    reply_spoken(
-        alloc,
-        &Reply::without_data(alloc, LastLine::Refused(refusal)),
-    )
-}
-
-/// What a command that stopped comes to.
-fn stopped(alloc: Global, stop: Stop) -> Result<Spoken, StoreStop>
-    ensures { ComesTo stop result }
-{
-    match stop {
-        Stop::Refused(refusal) => Ok(refusal_spoken(alloc, refusal)),
-        Stop::Fault => Err(StoreStop::Disk),
-        Stop::Changed {
-            ib,
-            stored,
-            computed,
-        } => Err(StoreStop::Changed {
-            ib,
-            stored,
-            computed,
-        }),
-        Stop::Memory => Ok(Spoken::NoMemory),
-    }
 }
 
 /// Answers a line over a store that is only read: with the reply of a command that only reads, and to any other line that it is none, whatever else is wrong with it.

@@ -19,6 +19,7 @@ use Rattle.store_session.proofs.Carry.{same_as, same_medium}
 use Rattle.store_filling.specs.Filling.{StoreFillEnds, FillsStore, IsFilled}
 use Rattle.store_filling.specs.declared.counting.FillCounts.{FillCounts}
 use Rattle.store_filling.proofs.Turns.{filled_none, leaves_then}
+use Rattle.node_port.specs.Pins.{no_pins}
 use Rattle.file_session.specs.FileRun.{ReadsAs, file_effects, front_of}
 use Rattle.file_session.proofs.Opened.{StartsOpened}
 use Rattle.file_filling.specs.FileFills.{FillOpened, FillsBehind}
@@ -43,7 +44,7 @@ pub ends_filled : (knows : Header → List ℕ → Type 0) (becomes : List (ℕ 
     → now.tells → (now.tells → mid.tells) → SameStore first.here mid.here
     → mid.written ≤ first.written + 580 → (IsShut first.here.side → Untouched first mid)
     → ((tidy : Bool) (X : Searching) → Has (Holds knows bytes header mid) header.indexes tree.known tree.searches (λ image. IsShut image.side) mid tidy X → (true ≡ true → now.tells)
-    → FillsStore (file_effects becomes costs) (ReadsAs tidy bytes) (λ image. IsShut image.side) mid now X seed count end)
+    → FillsStore (file_effects becomes costs no_pins) (ReadsAs tidy bytes) (λ image. IsShut image.side) mid now X seed count end)
     → FillOpened becomes costs first now seed count end
 ends_filled knows becomes costs bytes header tree first mid now seed count end s tells told store written idle filling =
     let X : Searching = s.start in
@@ -60,7 +61,7 @@ ends_filled knows becomes costs bytes header tree first mid now seed count end s
             store = subst (λ (i : Image). SameStore first.here i) (sym (is.image tells)) store;
             opening = omega (arith, written, is.written);
             idle = λ shut. let same = idle shut in record { disk = same_as (is.image tells ∙ same.stays.here (told tells)); written = omega (arith, is.written, same.stays.written) };
-            ends = fills_behind (file_effects becomes costs) (ReadsAs tidy bytes) (λ image. IsShut image.side) opened first mid now X seed count end told (s.opening still tidy read) made.2;
+            ends = fills_behind (file_effects becomes costs no_pins) (ReadsAs tidy bytes) (λ image. IsShut image.side) opened first mid now X seed count end told (s.opening still tidy read) made.2;
           });
     }
 

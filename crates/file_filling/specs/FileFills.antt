@@ -11,6 +11,7 @@ use Rattle.file_open.specs.Opening.{ReadsFresh}
 use Rattle.store_session.specs.Disks.{Medium, SameMedium, medium}
 use Rattle.store_filling.specs.Filling.{StoreFillEnds}
 use Rattle.store_filling.specs.declared.counting.FillCounts.{FillCounts}
+use Rattle.node_port.specs.Pins.{no_pins}
 use Rattle.file_session.specs.FileRun.{ReadsAs, file_effects, front_of}
 
 -- What was made behind an opening, of files that were read as the tree. `becomes` says what a commit makes of a file, and `costs` how many bytes its pieces have.
@@ -21,7 +22,7 @@ pub record FillsBehind (becomes : List (ℕ × List Bool) → List ℕ → List 
   -- at most the gate was closed, and nothing was written where it was shut
   pub opening : opened.written ≤ first.written + 580
   pub idle : IsShut first.here.side → SameMedium (medium first) opened
-  pub ends : StoreFillEnds (file_effects becomes costs) (ReadsAs tidy found) (λ image. IsShut image.side) opened first now start seed count end
+  pub ends : StoreFillEnds (file_effects becomes costs no_pins) (ReadsAs tidy found) (λ image. IsShut image.side) opened first now start seed count end
 
 -- The files were opened as a tree with its searches, with numbers left, and so making a large input in it ended.
 pub record FillOpened (becomes : List (ℕ × List Bool) → List ℕ → List ℕ → Type 0) (costs : List ℕ → List ℕ → List (Nid × Option NodeRec) → ℕ → Type 0) (first now : World) (seed count : ℕ) (end : Result FillCounts Stop) : Type 0 where

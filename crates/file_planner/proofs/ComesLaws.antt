@@ -104,7 +104,9 @@ comes p found file N old stands own cs pieces sealed next e up known holding low
             takes = subst (Taken p.slots (DrawnLaws.own is known over low d).0) (sym d.taken) (DrawnLaws.own is known over low d).1;
             frees = later.1;
             room = room;
-            sized = holding.sized;
+            holding = holding;
+            united = (d.placed).now;
+            takes_united = subst (Taken (placing p) (d.placed).now) (sym d.taken) (DrawnLaws.taken-all is known over low d);
             known = λ n now. KnownLaws.known-now is known over low page_low d stands.long mid writes holds now later.0 later.1 later.2;
           };
       made = λ mid scattered each.

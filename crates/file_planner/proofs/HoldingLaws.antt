@@ -14,7 +14,7 @@ use Rattle.file_planner.specs.Holding.{AreLong, AreSized, IsHolding}
 
 -- ---- what is held
 
-or-none : (a : Bool) → (a || false) ≡ a
+pub or-none : (a : Bool) → (a || false) ≡ a
 or-none true = refl
 or-none false = refl
 
@@ -119,20 +119,6 @@ no-place p pins is = elim (cases_lt (place p pins) (length pins)) [
   where
     none-some : ◌≡◌ {A = Option ℕ} None (Some (place p pins)) → ⊥
     none-some e = cc
-
--- ---- other slots of the file
-
--- a set of as many slots has sets of as many beside it
-pub sized-on : (own now : List Bool) (pins : List (Pin × List Bool)) (all : Option (List Bool)) → length now ≡ length own → AreSized own pins all → AreSized now pins all
-sized-on own now pins all long sized = record {
-  each = subst (λ (n : ℕ). AreLong n pins) (sym long) sized.each;
-  whole = by all sized.whole;
-  none = sized.none;
-}
-  where
-    by : (all : Option (List Bool)) → length (placing_over own all) ≡ length own → length (placing_over now all) ≡ length now
-    by None is = refl
-    by (Some all) is = is ∙ sym long
 
 -- ---- a pin given up
 

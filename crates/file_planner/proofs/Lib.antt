@@ -1,6 +1,7 @@
 pub mod SlotLaws
 pub mod HoldingLaws
 pub mod OverLaws
+pub mod FreeingLaws
 pub mod AfterLaws
 pub mod PageLaws
 pub mod NewLaws

@@ -19,7 +19,7 @@ use Rattle.file_planner.specs.Holding.{IsOver}
 abbrev pub with_places : List Bool → List Place → List Bool
 with_places used ps = map (λ s. is_used used s || ltb 0 (tally s ps)) (range_with_len 0 (length used))
 
-used-low : (used : List Bool) (slot : ℕ) → is_used used slot ≡ true → slot < length used
+pub used-low : (used : List Bool) (slot : ℕ) → is_used used slot ≡ true → slot < length used
 used-low used slot is = elim (cases_lt slot (length used)) [ inl lt ↦ lt | inr past ↦ absurd (clash (sym (get_or_past used slot false past) ∙ is)) ]
   where
     clash : ◌≡◌ {A = Bool} false true → ⊥
@@ -73,7 +73,7 @@ taken-over used all now ps over taken = (
 
 -- ---- what is held
 
-or-first : (a b : Bool) → a ≡ true → (a || b) ≡ true
+pub or-first : (a b : Bool) → a ≡ true → (a || b) ≡ true
 or-first true b e = refl
 or-first false b e = absurd (clash e)
   where

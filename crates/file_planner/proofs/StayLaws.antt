@@ -18,13 +18,13 @@ use Rattle.ref_counts.specs.Changes.{HasRoomFor}
 use Rattle.plan_drawing.specs.declared.effects.PlanEffects.{PlanEffects}
 use Rattle.plan_placing.specs.Known.{IsKnownBy}
 use Rattle.file_planner.specs.declared.planner.FilePlanner.{FilePlanner}
-use Rattle.file_planner.specs.Knowing.{Knows, KnowsAfter, number_now}
-use Rattle.file_planner.specs.Holding.{AreSized, IsHolding}
+use Rattle.file_planner.specs.Knowing.{Knows, KnowsAfter, number_now, placing}
+use Rattle.file_planner.specs.Holding.{IsHolding}
 use Rattle.file_planner.proofs.ComesLaws.{SameNumbers, holding-on, none-wrong}
 
 -- the effects of a plan are taken over, and the caches emptied
 pub adopted : (p q : FilePlanner) (e : PlanEffects) (header : Header) (file : List ℕ) → q.caches.blocks ≡ [] → q.caches.nodes ≡ [] → ((mid after : List Bool) → Taken p.slots mid e.taken.items → Taken after mid e.freed.items → q.slots ≡ after)
-    → (AreSized p.slots p.held.pins.items p.held.all → IsHolding q.slots q.held.pins.items q.held.all)
+    → ((mid after united : List Bool) → IsHolding p.slots p.held.pins.items p.held.all → Taken p.slots mid e.taken.items → Taken (placing p) united e.taken.items → Taken after mid e.freed.items → IsHolding after q.held.pins.items q.held.all)
     → (HasRoomFor p.refs e.refs.items → (key : ℕ) → refs_in q.refs key ≡ number_now key p e) → q.pages ≡ e.pages → q.next_block ≡ e.next_block → q.next_page ≡ e.next_page → KnowsAfter p e header file → Knows q header file
 adopted p q e header file no_blocks no_nodes slots_are holds refs_are pages block page after =
     let slots = slots_are after.mid after.after after.takes after.frees in
@@ -41,7 +41,7 @@ adopted p q e header file no_blocks no_nodes slots_are holds refs_are pages bloc
             next_block = block ∙ known.next_block;
             next_page = page ∙ known.next_page;
           };
-      holding = holds after.sized;
+      holding = subst (λ (s : List Bool). IsHolding s q.held.pins.items q.held.all) (sym slots) (holds after.mid after.after after.united after.holding after.takes after.takes_united after.frees);
     }
 
 -- numbers that stay where changes are planned

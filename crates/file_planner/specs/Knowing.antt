@@ -13,7 +13,7 @@ use Rattle.plan_drawing.specs.declared.effects.PlanEffects.{PlanEffects}
 use Rattle.plan_placing.specs.Known.{IsKnown}
 use Rattle.plan_placing.specs.Places.{placing_over}
 use Rattle.file_planner.specs.declared.planner.FilePlanner.{FilePlanner}
-use Rattle.file_planner.specs.Holding.{AreSized, IsHolding}
+use Rattle.file_planner.specs.Holding.{IsHolding}
 
 -- ---- a file
 
@@ -53,5 +53,8 @@ pub record KnowsAfter (p : FilePlanner) (e : PlanEffects) (header : Header) (fil
   pub takes : Taken p.slots mid e.taken.items
   pub frees : Taken after mid e.freed.items
   pub room : HasRoomFor p.refs e.refs.items
-  pub sized : AreSized p.slots p.held.pins.items p.held.all
+  pub holding : IsHolding p.slots p.held.pins.items p.held.all
+  -- the same places, taken where the plan took them
+  pub united : List Bool
+  pub takes_united : Taken (placing p) united e.taken.items
   pub known : (m : NodeMap) (is : Lays header file m) → IsKnown is after (λ key. number_now key p e) e.pages e.next_block e.next_page

@@ -1,6 +1,7 @@
 pub mod Holding
 pub mod Knowing
 pub mod Follows
+pub mod Freeing
 pub mod New
 pub mod Becomes
 pub mod Cost

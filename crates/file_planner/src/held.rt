@@ -1,11 +1,14 @@
 //! The pins of a file, and the slots that they hold.
-ghost use Rattle.std.specs.Prelude.{◌≡◌, ◌==◌, ◌++◌, ◌∷◌, [], length, position, None, OnErr, OnOk};
+ghost use Rattle.std.specs.Prelude.{◌≡◌, ◌==◌, ◌++◌, ◌∷◌, [], Bool, List, length, position, None, OnErr, OnOk};
 ghost use Rattle.alloc_map.specs.Slots.{Unites};
+ghost use Rattle.alloc_map.specs.Taken.{Taken};
 ghost use Rattle.pst_commit.specs.Held.{IsWithHeld, held_without, opened_of, pin_at};
 ghost use Rattle.plan_placing.specs.Places.{placing_over};
 ghost use Rattle.file_planner.specs.Holding.{AreLong, AreSized, IsHolding};
 
+use crate::freeing::free_each;
 use alloc_map::Slots;
+use pst_base::Place;
 use pst_commit::Pin;
 use std::alloc::{AllocError, Global};
 
@@ -92,8 +95,19 @@ impl Held {
         self.settle(own);
     }
 
-    /// Makes the union anew, after the slots that the file uses or the pins have changed. Takes no memory.
-    pub(crate) fn settle(&mut self, own: &Slots)
+    /// Follows a commit that takes places and then frees others: the union uses what is taken, and frees of what is freed all that no pin holds. Takes no memory, and looks at these places alone.
+    pub(crate) fn follow(&mut self, taken: &[Place], freed: &[Place])
+        ensures pins { self.new.pins.items ≡ self.old.pins.items }
+        ensures holding { (own mid after united : List Bool) → IsHolding own self.old.pins.items self.old.all → Taken own mid taken.now → Taken (placing_over own self.old.all) united taken.now → Taken after mid freed.now → IsHolding after self.new.pins.items self.new.all }
+    {
+        if let Some(all) = &mut self.all {
+            all.retake(taken);
+            free_each(all, self.pins.as_slice(), freed);
+        }
+    }
+
+    /// Makes the union anew, after a pin was given up. Takes no memory, and goes over the slots of each pin that is left.
+    fn settle(&mut self, own: &Slots)
         ensures pins { self.new.pins.items ≡ self.old.pins.items }
         ensures holding { AreSized own.now self.old.pins.items self.old.all → IsHolding own.now self.new.pins.items self.new.all }
     {

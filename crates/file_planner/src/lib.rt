@@ -8,6 +8,7 @@
 #![tactic(auto)]
 
 mod found;
+mod freeing;
 mod held;
 mod old;
 mod planner;

@@ -103,9 +103,11 @@ impl<W: Outside> NodeStore<W> for FilePlanner {
     }
 
     fn adopt(&mut self, adopts: PlanEffects) {
-        self.slots.retake(adopts.taken.as_slice());
-        self.slots.release(adopts.freed.as_slice());
-        self.held.settle(&self.slots);
+        let taken = adopts.taken.as_slice();
+        let freed = adopts.freed.as_slice();
+        self.slots.retake(taken);
+        self.slots.release(freed);
+        self.held.follow(taken, freed);
         self.refs.adopt(adopts.refs.as_slice());
         self.pages = adopts.pages;
         self.next_block = adopts.next_block;

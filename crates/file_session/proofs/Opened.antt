@@ -20,7 +20,10 @@ use Rattle.file_open.specs.declared.stops.FileStop.{FileStop}
 use Rattle.file_open.specs.declared.stops.FileStop.TheVariants as stops
 use Rattle.store_session.specs.Carrying.{Has, InOrder, StandsFor}
 use Rattle.store_session.specs.Disks.{Effects, Medium, medium}
-use Rattle.store_session.specs.Session.{StoreSessionEnds}
+use Rattle.pinned_session.specs.Session.{SessionEnds}
+use Rattle.pinned_session.specs.Sits.{StandsNow}
+use Rattle.pinned_session.specs.Sitting.{Sitting, begins}
+use Rattle.node_port.specs.Pins.{Pins}
 use Rattle.store_session.specs.Turns.{IsReached, SaysTurns, StoreTurn, texts}
 use Rattle.store_session.proofs.Carry.{same_medium}
 use Rattle.store_session.proofs.Reached.{reached_before}
@@ -33,18 +36,18 @@ use Rattle.file_session.specs.declared.run.FileRun.TheVariants.{Refused, Ended}
 
 -- ---- a session that began behind an opening
 
-module _ (effects : Effects) (stands : Image → Searching → Type 0) (rests : Image → Type 0) (opened : Medium) (first mid now : World) (X : Searching) (end : SessionEnd)
+module _ (effects : Pins → Effects) (stands : Image → Sitting → Type 0) (rests : Image → Type 0) (opened : Medium) (first mid now : World) (X : Sitting) (end : SessionEnd)
     (told : now.tells → mid.tells)
     (input : mid.tells → mid.input ≡ first.input)
     (said : mid.tells → mid.here.said ≡ first.here.said)
     (opening : LeavesOnly first mid (λ c. (c.said ≡ first.here.said) × stands c X)) where
   -- before the first line
-  at_start : (turns : List StoreTurn) (c : Image) → (c.said ≡ first.here.said) × stands c X → IsReached stands first.here.said X turns c
+  at_start : (turns : List (StoreTurn Sitting)) (c : Image) → (c.said ≡ first.here.said) × stands c X → IsReached stands first.here.said X turns c
   at_start turns c is = reached_before stands first.here.said X turns c is.0 is.1
 
-  pub session_behind : StoreSessionEnds effects stands rests opened mid now X end → StoreSessionEnds effects stands rests opened first now X end
+  pub session_behind : SessionEnds effects stands rests opened mid now X end → SessionEnds effects stands rests opened first now X end
   session_behind s =
-      let begins : LeavesOnly first mid (IsReached stands first.here.said X (s.turns ++ s.last)) =
+      let before : LeavesOnly first mid (IsReached stands first.here.said X (s.turns ++ s.last)) =
       weaker (IsReached stands first.here.said X (s.turns ++ s.last)) opening (λ c t is. at_start (s.turns ++ s.last) c is) in
       record {
         taken = s.taken;
@@ -66,7 +69,7 @@ module _ (effects : Effects) (stands : Image → Searching → Type 0) (rests : 
         written = s.written;
         front = λ t. subst (λ l. SaysTurns l s.turns now.here.said) (said (told t)) (s.front t);
         whole = λ no t. s.whole no t ∙ ap (λ l. l ++ texts s.turns) (said (told t));
-        images = continues begins s.images (λ c t is. subst (λ l. IsReached stands l X (s.turns ++ s.last) c) (said (told t)) is);
+        images = continues before s.images (λ c t is. subst (λ l. IsReached stands l X (s.turns ++ s.last) c) (said (told t)) is);
         ends_as = s.ends_as;
         settled = s.settled;
         at_rest = s.at_rest;
@@ -164,7 +167,7 @@ pub ends_opened : (knows : Header → List ℕ → Type 0) (becomes : List (ℕ 
     → (mid.tells → mid.input ≡ first.input) → SameStore first.here mid.here
     → mid.written ≤ first.written + 580 → (IsShut first.here.side → Untouched first mid)
     → ((tidy : Bool) (X : Searching) → Has (Holds knows bytes header mid) header.indexes tree.known tree.searches (λ image. IsShut image.side) mid tidy X → (true ≡ true → now.tells)
-    → StoreSessionEnds (file_effects becomes costs) (ReadsAs tidy bytes) (λ image. IsShut image.side) (medium mid) mid now X end)
+    → SessionEnds (file_effects becomes costs) (StandsNow Stands bytes tidy) (λ image. IsShut image.side) (medium mid) mid now (begins X) end)
     → EndsOpened becomes costs first now end
 ends_opened knows becomes costs bytes header tree first mid now end s tells told input store written idle session =
     let X : Searching = s.start in
@@ -178,8 +181,8 @@ ends_opened knows becomes costs bytes header tree first mid now end s tells told
       idle = λ shut. let same = idle shut in same_medium first mid (same.stays.here (told tells)) same.stays.written;
       session = λ still tidy read.
           let opening : LeavesOnly first mid (λ c. (c.said ≡ first.here.said) × ReadsAs tidy bytes c X) = s.opening still tidy read in
-          subst (λ f. StoreSessionEnds (file_effects becomes costs) (ReadsAs tidy f) (λ image. IsShut image.side) (medium mid) first now X end) s.front
-          (session_behind (file_effects becomes costs) (ReadsAs tidy bytes) (λ image. IsShut image.side) (medium mid) first mid now X end told input (λ t. (opening.here t).0) opening (session tidy X (s.has still tidy read) (λ e. tells)));
+          subst (λ f. SessionEnds (file_effects becomes costs) (StandsNow Stands f tidy) (λ image. IsShut image.side) (medium mid) first now (begins X) end) s.front
+          (session_behind (file_effects becomes costs) (StandsNow Stands bytes tidy) (λ image. IsShut image.side) (medium mid) first mid now (begins X) end told input (λ t. (opening.here t).0) opening (session tidy X (s.has still tidy read) (λ e. tells)));
     }
 
 -- ---- one that gave none

@@ -6,14 +6,16 @@ use Rattle.pst_outside.specs.Calls.{LeavesOnly, Settled, Untouched}
 use Rattle.gate_file.specs.Gate.{IsShut, SameStore}
 use Rattle.file_blocks.specs.Blocks.{file_of}
 use Rattle.lays_kept.specs.Stands.{Stands}
-use Rattle.node_port.specs.Pins.{no_pins}
+use Rattle.node_port.specs.Pins.{Pins}
 use Rattle.node_port.specs.declared.node.NodeRec.{NodeRec}
 use Rattle.pst_commit.specs.Keeping.{HasRoom, IsCommitted, IsSaved}
 use Rattle.mail_searches.specs.Searching.{Searching}
 use Rattle.file_open.specs.Opening.{ReadsFresh}
 use Rattle.store_session.specs.Carrying.{StandsOrdered}
 use Rattle.store_session.specs.Disks.{Effects, Medium, SameMedium, effects_of, medium}
-use Rattle.store_session.specs.Session.{StoreSessionEnds}
+use Rattle.pinned_session.specs.Session.{SessionEnds}
+use Rattle.pinned_session.specs.Sits.{StandsNow}
+use Rattle.pinned_session.specs.Sitting.{begins}
 use Rattle.store_session.specs.declared.session.SessionEnd.{SessionEnd}
 use Rattle.store_session.specs.declared.session.SessionEnd.TheVariants.{Disk, Memory}
 
@@ -37,11 +39,11 @@ pub record EndsUnopened (first now : World) (end : SessionEnd) : Type 0 where
   pub written : now.written ≤ first.written + 580
   pub images : Settled first → (tidy : Bool) (X : Searching) → ReadsAs tidy (front_of first.here) first.here X → LeavesOnly first now (λ c. (c.said ≡ first.here.said) × ReadsAs tidy (front_of first.here) c X)
 
--- What is told of files from turn to turn: their room, where nothing is held beside what they lay, what a commit makes of their bytes and how many it writes, and what a save does.
-abbrev pub file_effects : (List (ℕ × List Bool) → List ℕ → List ℕ → Type 0) → (List ℕ → List ℕ → List (Nid × Option NodeRec) → ℕ → Type 0) → Effects
-file_effects becomes costs = effects_of no_pins HasRoom (λ pins. IsCommitted becomes costs pins.opened) IsSaved
+-- What is told of files from turn to turn: their room beside what they lay and these pins hold, what a commit makes of their bytes beside the pins and how many it writes, and what a save does.
+abbrev pub file_effects : (List (ℕ × List Bool) → List ℕ → List ℕ → Type 0) → (List ℕ → List ℕ → List (Nid × Option NodeRec) → ℕ → Type 0) → Pins → Effects
+file_effects becomes costs pins = effects_of pins HasRoom (λ held. IsCommitted becomes costs held.opened) IsSaved
 
--- The files were opened as a tree with its searches, with numbers left, and this is how the session over it ended: its replies are those of a run from the tree, each turn of which takes the files from what they were to what they are, and a stop at any moment leaves files that are read as the tree after some of its turns, among them each whose reply had begun and at most one whose reply wasn't said whole, tidy where it was so at the start. `becomes` says what a commit makes of a file, and `costs` how many bytes its pieces have.
+-- The files were opened as a tree with its searches, with numbers left, and this is how the session over it ended: its replies are those of a run from the tree and no pins, each turn of which takes the files from what they were to what they are, and a stop at any moment leaves files that are read as the present tree after some of its turns, among them each whose reply had begun and at most one whose reply wasn't said whole, tidy where it was so at the start. `becomes` says what a commit makes of a file, and `costs` how many bytes its pieces have.
 pub record EndsOpened (becomes : List (ℕ × List Bool) → List ℕ → List ℕ → Type 0) (costs : List ℕ → List ℕ → List (Nid × Option NodeRec) → ℕ → Type 0) (first now : World) (end : SessionEnd) : Type 0 where
   pub start : Searching
   pub reads : ReadsAs false (front_of first.here) first.here start
@@ -53,7 +55,7 @@ pub record EndsOpened (becomes : List (ℕ × List Bool) → List ℕ → List �
   pub opening : opened.written ≤ first.written + 580
   pub idle : IsShut first.here.side → SameMedium (medium first) opened
   pub session : Settled first → (tidy : Bool) → ReadsAs tidy (front_of first.here) first.here start
-      → StoreSessionEnds (file_effects becomes costs) (ReadsAs tidy (front_of first.here)) (λ image. IsShut image.side) opened first now start end
+      → SessionEnds (file_effects becomes costs) (StandsNow Stands (front_of first.here) tidy) (λ image. IsShut image.side) opened first now (begins start) end
 
 -- how a session over a file ends that wasn't refused
 abbrev pub FileRunEnds : (List (ℕ × List Bool) → List ℕ → List ℕ → Type 0) → (List ℕ → List ℕ → List (Nid × Option NodeRec) → ℕ → Type 0) → World → World → SessionEnd → Type 0

@@ -11,9 +11,10 @@ ghost use Rattle.file_session.specs.FileRun.{FileRunEnds};
 
 use file_laying::FoundStore;
 use file_open::{FileRefusal, FileStop, open_file};
+use pinned_session::run_session;
 use pst_outside::Outside;
 use std::alloc::Global;
-use store_session::{SearchStore, SessionEnd, Store, run_session};
+use store_session::{SearchStore, SessionEnd, Store};
 
 /// How a session over a file went.
 #[derive(Clone, Copy, Debug, PartialEq, Eq)]

@@ -180,16 +180,24 @@ impl Searches {
         self.searches.len()
     }
 
-    /// These, with a search in place of the one with its folder.
-    pub fn with(&self, alloc: Global, search: OwnSearch) -> Result<Searches, AllocError>
-        ensures { IfOk result (λ ss. ss ≡ put_key (λ s. s.nid) search self.now) }
+    /// The same searches again.
+    pub fn copy(&self, alloc: Global) -> Result<Searches, AllocError>
+        ensures { IfOk result (λ ss. ss ≡ self.now) }
     {
         let mut searches = Vec::new(alloc);
         for search in &self.searches {
             searches.push(search.copy(alloc)?)?;
         }
-        put_keyed(&mut searches, search)?;
         Ok(Searches { searches })
+    }
+
+    /// These, with a search in place of the one with its folder.
+    pub fn with(&self, alloc: Global, search: OwnSearch) -> Result<Searches, AllocError>
+        ensures { IfOk result (λ ss. ss ≡ put_key (λ s. s.nid) search self.now) }
+    {
+        let mut searches = self.copy(alloc)?;
+        searches.put(search)?;
+        Ok(searches)
     }
 
     /// These, without the search with this folder.

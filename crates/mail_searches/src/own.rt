@@ -70,12 +70,19 @@ impl OwnFolders {
         put_keyed(&mut self.folders, OwnFolder { nid: folder })
     }
 
+    /// The same folders again.
+    pub fn copy(&self, alloc: Global) -> Result<OwnFolders, AllocError>
+        ensures { IfOk result (λ o. o ≡ self.now) }
+    {
+        let folders = Vec::from_slice(alloc, self.folders.as_slice())?;
+        Ok(OwnFolders { folders })
+    }
+
     /// These and one more.
     pub fn with(&self, alloc: Global, folder: Nid) -> Result<OwnFolders, AllocError>
         ensures { IfOk result (λ o. o ≡ put_key (λ f. f) folder.bits self.now) }
     {
-        let folders = Vec::from_slice(alloc, self.folders.as_slice())?;
-        let mut own = OwnFolders { folders };
+        let mut own = self.copy(alloc)?;
         own.put(folder)?;
         Ok(own)
     }

@@ -79,11 +79,11 @@ pub stands_here : {holds : Nodes → Type 0} {last : List ℕ} {known : Known} {
 stands_here {last = last} {v = v} stands tidy X held h = let s = h.stores.tree.shown in (shown_stands (stands v.here) last X.tree s (held s.nodes s.held), h.order)
 
 -- nor does it leave another image
-pub quiet_leaves : (stands : Image → Searching → Type 0) {v w : World} (X Y : Searching) → Settled v → Untouched v w → stands v.here X → Leaves stands v w X Y
+pub quiet_leaves : {T : Type 0} (stands : Image → T → Type 0) {v w : World} (X Y : T) → Settled v → Untouched v w → stands v.here X → Leaves stands v w X Y
 quiet_leaves stands {v} {w} X Y settled same is = quiet (λ c. (c.said ≡ v.here.said) × (stands c X ⊎ stands c Y)) settled same (λ told. (refl, inl is))
 
 -- and nothing at all where nothing is done
-pub standing : (stands : Image → Searching → Type 0) (v : World) (X : Searching) → Settled v → stands v.here X → Leaves stands v v X X
+pub standing : {T : Type 0} (stands : Image → T → Type 0) (v : World) (X : T) → Settled v → stands v.here X → Leaves stands v v X X
 standing stands v X settled is =
     let P : Image → Type 0 = λ c. (c.said ≡ v.here.said) × (stands c X ⊎ stands c X) in
     started v P (λ told. (refl, inl is)) (λ c left. subst P (sym (settled c left)) (refl, inl is))

@@ -1,7 +1,4 @@
+pub mod Between
 pub mod Carry
-pub mod Ending
-pub mod LineLaws
 pub mod Reached
 pub mod SaveLaws
-pub mod Sessions
-pub mod StoreKeeps

@@ -1,4 +1,4 @@
--- What carrying out a command or a line over a keeper comes to.
+-- What carrying out a command over a keeper comes to.
 use Rattle.std.specs.Prelude.{◌≡◌, ◌⊎◌, ℕ, Bool, true, List, Result, Ok, Err}
 use Rattle.pst_outside.specs.World.{Image, World}
 use Rattle.pst_outside.specs.Calls.{LeavesOnly, Rose, Settled}
@@ -30,15 +30,15 @@ pub record Has (holds : Nodes → Type 0) (last : List ℕ) (known : Known) (of_
 abbrev pub StandsOrdered : Bool → (Image → Nodes → List ℕ → Type 0) → Image → Searching → Type 0
 StandsOrdered tidy stands c X = StandsFor (stands c) X.tree × InOrder tidy X
 
--- at each moment nothing more was said, and the disk stands for one tree or the other
-abbrev pub Leaves : (Image → Searching → Type 0) → World → World → Searching → Searching → Type 0
+-- at each moment nothing more was said, and the disk stands for one state or the other, as a tree with its searches
+abbrev pub Leaves : {X : Type 0} → (Image → X → Type 0) → World → World → X → X → Type 0
 Leaves stands old new X Y = LeavesOnly old new (λ c. (c.said ≡ old.here.said) × (stands c X ⊎ stands c Y))
 
--- What was carried out: the store has the tree after it, or the disk failed on the way to one, and nothing is told of it. That something changed never comes.
-abbrev pub CarriesOut : (Searching → Type 0) → (Image → Searching → Type 0) → (Type 0 → List ℕ → Searching → Medium → Type 0) → World → World → Searching → Result Spoken StoreStop → Type 0
-CarriesOut has stands answers old new X (Ok spoken) = (Y : Searching) × answers new.tells (spoken_text spoken) Y (medium new) × has Y × Leaves stands old new X Y
-CarriesOut has stands answers old new X (Err Disk) = (Y : Searching) × (said : List ℕ) × answers ⊥ said Y (medium new) × Leaves stands old new X Y
-CarriesOut has stands answers old new X (Err (Changed ib stored computed)) = ⊥
+-- What was carried out: the state after it is had, as a store has a tree with its searches, or the disk failed on the way to one, and nothing is told of it. That something changed never comes.
+abbrev pub CarriesOut : {T : Type 0} → (T → Type 0) → (Image → T → Type 0) → (Type 0 → List ℕ → T → Medium → Type 0) → World → World → T → Result Spoken StoreStop → Type 0
+CarriesOut {T} has stands answers old new X (Ok spoken) = (Y : T) × answers new.tells (spoken_text spoken) Y (medium new) × has Y × Leaves stands old new X Y
+CarriesOut {T} has stands answers old new X (Err Disk) = (Y : T) × (said : List ℕ) × answers ⊥ said Y (medium new) × Leaves stands old new X Y
+CarriesOut {T} has stands answers old new X (Err (Changed ib stored computed)) = ⊥
 
 -- the count of the disk's faults rose where it failed, and there is a disk
 abbrev pub IsCaused : Bool → World → World → StoreStop → Type 0

@@ -1,19 +1,19 @@
-//! Lines carried out over a store.
-ghost use Rattle.std.specs.Prelude.{◌≡◌, Bool, false, true, IfErr};
+//! Commands carried out over a store.
+ghost use Rattle.std.specs.Prelude.{◌≡◌, ◌⊎◌, Bool, false, true, IfErr};
 ghost use Rattle.command_text.specs.declared.command.Command.TheVariants.{Save};
 ghost use Rattle.mail_searches.specs.Searching.{Searching};
-ghost use Rattle.line_server.specs.Lines.{line};
+ghost use Rattle.command_text.specs.Replies.{text};
+ghost use Rattle.line_server.specs.Spoken.{no_memory_text, spoken_text};
 ghost use Rattle.line_server.specs.Worlds.{Quiet};
 ghost use Rattle.store_session.specs.Carrying.{CarriesOut, ComesTo, Has, IsCaused, SaysRefusal, StandsOrdered};
 ghost use Rattle.store_session.specs.Disks.{effects_of, is_save, medium};
-ghost use Rattle.store_session.specs.Run.{Answers, CommandAnswers};
+ghost use Rattle.store_session.specs.Run.{CommandAnswers};
 
 use crate::planning::plan_counted;
-use command_text::{Command, CommandRefusal, LastLine, Reply, read_line, reply_text};
+use command_text::{Command, CommandRefusal, LastLine, Reply, reply_text};
 use line_server::Spoken;
 use mail_draft::Stop;
 use node_port::Saver;
-use pst_base::MemOr;
 use pst_outside::Outside;
 use search_store::{SearchStore, commit, save};
 use std::alloc::{AllocError, Global};
@@ -29,21 +29,28 @@ pub enum StoreStop {
     Changed { ib: u64, stored: u64, computed: u64 },
 }
 
-/// What is said of a refusal.
-fn refusal_spoken(alloc: Global, refusal: CommandRefusal) -> Spoken
-    ensures { SaysRefusal refusal result }
+/// What is said of a reply.
+pub fn reply_spoken(alloc: Global, reply: &Reply) -> Spoken
+    ensures { (spoken_text result ≡ text reply.now) ⊎ (spoken_text result ≡ no_memory_text) }
 {
-    match reply_text(
-        alloc,
-        &Reply::without_data(alloc, LastLine::Refused(refusal)),
-    ) {
+    match reply_text(alloc, reply) {
         Ok(text) => Spoken::Reply(text),
         Err(AllocError) => Spoken::NoMemory,
     }
 }
 
+/// What is said of a refusal.
+pub fn refusal_spoken(alloc: Global, refusal: CommandRefusal) -> Spoken
+    ensures { SaysRefusal refusal result }
+{
+    reply_spoken(
+        alloc,
+        &Reply::without_data(alloc, LastLine::Refused(refusal)),
+    )
+}
+
 /// What a command that stopped comes to.
-fn stopped(alloc: Global, stop: Stop) -> Result<Spoken, StoreStop>
+pub fn stopped(alloc: Global, stop: Stop) -> Result<Spoken, StoreStop>
     ensures { ComesTo stop result }
 {
     match stop {
@@ -113,8 +120,10 @@ fn carry_save<W: Outside, K: Saver<W>>(
     }
 }
 
-/// Carries out a command; its reply is made before anything is changed.
-fn carry_out<W: Outside, K: Saver<W>>(
+/// Carries out a command. The reply is made before anything is changed, and says `no memory` where there was none; then nothing is changed.
+///
+/// An `Err` comes where the disk failed, or something isn't as it was found before; the latter never of a store that has a tree.
+pub fn carry_out<W: Outside, K: Saver<W>>(
     alloc: Global,
     store: &mut SearchStore<K>,
     world: &mut W,
@@ -130,28 +139,5 @@ fn carry_out<W: Outside, K: Saver<W>>(
     match command {
         Command::Save => carry_save(alloc, store, world),
         _ => carry_planned(alloc, store, world, command),
-    }
-}
-
-/// Answers a line: reads it as a command, and carries that out. The reply is made before anything is changed, and says `no memory` where there was none; then nothing is changed.
-///
-/// An `Err` comes where the disk failed, or something isn't as it was found before; the latter never of a store that has a tree.
-pub fn answer_line<W: Outside, K: Saver<W>>(
-    alloc: Global,
-    store: &mut SearchStore<K>,
-    world: &mut W,
-    bytes: &[u8],
-) -> Result<Spoken, StoreStop>
-    ensures carries { (tidy : Bool) (X : Searching) → Has (K.holds store.old.store.keeper (W.view world.old)) (K.last store.old.store.keeper) store.old.store.known store.old.searches K.rests (W.view world.old) tidy X → (K.has_disk ≡ true → (W.view world.new).tells)
-        → CarriesOut (Has (K.holds store.new.store.keeper (W.view world.new)) (K.last store.new.store.keeper) store.new.store.known store.new.searches K.rests (W.view world.new) tidy) (StandsOrdered tidy (K.stands (K.room store.old.store.keeper).found)) (λ told. Answers (effects_of (K.room store.old.store.keeper).pins K.measures K.applied K.saved) (K.room store.old.store.keeper) X (medium (W.view world.old)) told (line bytes.now)) (W.view world.old) (W.view world.new) X result }
-    ensures found { (K.room store.new.store.keeper).found ≡ (K.room store.old.store.keeper).found }
-    ensures pins { (K.room store.new.store.keeper).pins ≡ (K.room store.old.store.keeper).pins }
-    ensures cause { IfErr result (IsCaused K.has_disk (W.view world.old) (W.view world.new)) }
-    ensures quiet { Quiet (W.view world.old) (W.view world.new) }
-{
-    match read_line(alloc, bytes) {
-        Ok(command) => carry_out(alloc, store, world, &command),
-        Err(MemOr::Refused(refusal)) => Ok(refusal_spoken(alloc, CommandRefusal::from(refusal))),
-        Err(MemOr::Memory) => Ok(Spoken::NoMemory),
     }
 }

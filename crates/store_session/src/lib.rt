@@ -1,17 +1,16 @@
-//! A session over a store with searches: lines are read as commands, carried out over any keeper, and their replies said.
+//! Commands carried out over a store with searches, as the turns of a session do, over any keeper.
 //!
-//! Promises, over any keeper and any world that tells what it holds, from a store that has a tree with its searches in order, tidy or not, and a disk with nothing pending (`StoreSessionEnds`): each line is answered once and in order, and the replies are those of a run from that tree and disk (`Run`); a reply is made before its command changes anything, and said after that. Each turn has the room of the disk before it, and takes that disk to the next: as the keeper's commit of the nodes of its objects does where a command that writes was carried out, as its save does for `save`, by writing as many bytes as these say, and else it stays and nothing is written. A stop at any moment leaves a disk that stands for the tree after some of the turns, among them each whose reply had begun and at most one whose reply wasn't said whole, also where the disk or the output failed; with its searches that tree is in order, and tidy where it was at the start: each running search lists what filtering lists. At the end the disk stands for the last tree, unless it failed. Each end has its cause.
+//! Promises, over any keeper and any world that tells what it holds, from a store that has a tree with its searches in order, tidy or not, and a disk with nothing pending (`Has`): `carry_out` makes the reply of a command before anything is changed, and leaves the tree of its step, or says why not (`CommandAnswers`). It takes the disk to the next as the keeper's commit of the nodes of the command's objects does, or as its save does for `save`, by writing as many bytes as these say, and else leaves it and writes nothing. A stop at any moment leaves a disk that stands for the tree before or that after, which is in order, and tidy where it was. `Turns` says what turns of a session come to, whatever its state is: a stop leaves the state after some of them, among them each whose reply had begun and at most one whose reply wasn't said whole.
 //!
-//! Leaves to others: what a keeper's disk is (`Keeper.stands`), opening it, and how the input is cut into lines (`line_server`).
+//! Leaves to others: what a keeper's disk is (`Keeper.stands`), opening it, what lines are (`session_lines`), and the session itself (`pinned_session`).
 #![tactic(auto)]
 
-mod answerer;
 mod carrying;
 mod planning;
 mod session;
 
-pub use carrying::{StoreStop, answer_line};
+pub use carrying::{StoreStop, carry_out, refusal_spoken, reply_spoken, stopped};
 pub use mail_store::Store;
 pub use planning::plan_counted;
 pub use search_store::SearchStore;
-pub use session::{SessionEnd, run_session};
+pub use session::{SessionEnd, end_of};

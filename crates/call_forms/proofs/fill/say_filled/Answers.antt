@@ -1,4 +1,4 @@
-use Rattle.std.proofs.Common.{◌∙◌, ap, inl, inr, refl}
+use Rattle.std.proofs.Common.{◌∙◌, ap, inl, inr}
 use Rattle.file_filling.specs.declared.fill.FileFill.TheVariants.{Unopened}
 use Rattle.call_forms.proofs.FileLaws.{refused_says, refused_silent}
 use Rattle.call_forms.proofs.FillLaws.{fill_serves}

@@ -1,9 +1,5 @@
 use Rattle.std.proofs.Common.{sym, subst, inl, inr, ◌∙◌}
-use Rattle.gate_file.specs.Gate.{IsShut}
-use Rattle.pst_commit.specs.Keeping.{HasRoom, IsCommitted, IsSaved}
-use Rattle.store_session.specs.Disks.{effects_of, medium}
-use Rattle.store_session.specs.Session.{StoreSessionEnds}
-use Rattle.file_session.specs.FileRun.{FileRunEnds, ReadsAs}
+use Rattle.file_session.specs.FileRun.{FileRunEnds}
 use Rattle.file_session.proofs.Opened.{ends_opened, ends_unopened, refused_is, same_end, starts_opened}
 use Rattle.file_session.proofs.run.run_file.Goals as goal
 
@@ -18,8 +14,7 @@ returns-in-Ok-clause-ends g c = λ end is tells.
     subst (λ e. FileRunEnds g.S.NodeStore.becomes g.S.NodeStore.costs first now e) (same_end c.run_session.result end is)
     (inr (ends_opened (g.S.NodeStore.knows o.store) g.S.NodeStore.becomes g.S.NodeStore.costs o.found o.header c.in-Ok.opened.tree first mid now c.run_session.result
     start tells told c.in-Ok.ensures.input (c.in-Ok.ensures.store (told tells)) c.in-Ok.ensures.written (c.in-Ok.ensures.idle (told tells))
-    (λ tidy X has disk. subst (λ p. StoreSessionEnds (effects_of p HasRoom (λ pins. IsCommitted g.S.NodeStore.becomes g.S.NodeStore.costs pins.opened) IsSaved) (ReadsAs tidy o.found) (λ image. IsShut image.side) (medium mid) mid now X c.run_session.result) c.in-Ok.ensures.no_pins
-    (c.run_session.ensures.ends tidy X has disk))))
+    (λ tidy X has disk. c.run_session.ensures.ends tidy X has c.in-Ok.ensures.no_pins disk)))
 
 pub returns-in-Err-clause-refused : goal.returns-in-Err-clause-refused
 returns-in-Err-clause-refused g c = λ refusal is.

@@ -1,0 +1,128 @@
+-- What a line asks a pin for.
+use Rattle.std.proofs.Common.{◌≡◌, ◌∙◌, ℕ, true, List, Option, None, Some, Result, Ok, Err, inl, inr, refl, sym, subst}
+use Rattle.std.specs.Prelude.{ok_or, bytes_eq, codes}
+use Rattle.std.specs.Str.{is_utf8}
+use Rattle.std.proofs.lemmas.Bool.{cases_Bool, true≢false}
+use Rattle.command_text.specs.declared.reply.CommandRefusal.{CommandRefusal}
+use Rattle.command_text.specs.declared.reply.LastLine.TheVariants as last
+use Rattle.mail_draft.specs.declared.stop.Stop.TheVariants.{Refused}
+use Rattle.mail_reading.proofs.Answered.{StopAnswers}
+use Rattle.mail_searches.specs.Searching.{Searching}
+use Rattle.mail_searches.specs.Step.{step}
+use Rattle.mail_tree.specs.Folders.{replied}
+use Rattle.command_text.specs.Arguments.{◌>>=◌}
+use Rattle.command_text.specs.Lines.{command}
+use Rattle.command_text.specs.Words.{cut}
+use Rattle.command_text.specs.declared.command.Command.{Command}
+use Rattle.command_text.specs.declared.command.Command.TheVariants.{MakeFolder, RenameFolder, MoveFolder, RemoveFolder, ListFolder, NewMessage, SetProperty, UnsetProperty, GetProperty, ListProperties, MoveMessage, CopyMessage, RemoveMessage, AddRecipient, RemoveRecipient, AddAttachment, AppendData, RemoveAttachment, FetchData, NameProperty, Save, Quit, MakeSearch, SetCriteria, GetCriteria}
+use Rattle.command_text.specs.declared.command.LineRefusal.{LineRefusal}
+use Rattle.command_text.specs.declared.command.LineRefusal.TheVariants.{Line}
+use Rattle.mail_reading.specs.Asked.{reads}
+use Rattle.session_lines.specs.Lines.{asked, asks, at_pin, cut_line, only_asked, pin_of, session_line, store_line, unpin, with_word}
+use Rattle.session_lines.specs.declared.line.SessionLine.{SessionLine}
+use Rattle.session_lines.specs.declared.line.SessionLine.TheVariants.{Pin, At, Unpin, Command as StoreCommand}
+
+-- a command that only asks only reads
+pub asks_reads : (c : Command) → asks c ≡ true → reads c ≡ true
+unfolding asks
+asks_reads (MakeFolder parent name) is = cc
+asks_reads (RenameFolder folder name) is = cc
+asks_reads (MoveFolder folder parent) is = cc
+asks_reads (RemoveFolder folder) is = cc
+asks_reads (ListFolder folder) is = refl
+asks_reads (NewMessage folder class time values) is = cc
+asks_reads (SetProperty message value) is = cc
+asks_reads (UnsetProperty message tag) is = cc
+asks_reads (GetProperty message tag) is = refl
+asks_reads (ListProperties message) is = refl
+asks_reads (MoveMessage message folder) is = cc
+asks_reads (CopyMessage message folder) is = cc
+asks_reads (RemoveMessage message) is = cc
+asks_reads (AddRecipient message kind address name) is = cc
+asks_reads (RemoveRecipient message row) is = cc
+asks_reads (AddAttachment message name bytes) is = cc
+asks_reads (AppendData message attachment bytes) is = cc
+asks_reads (RemoveAttachment message attachment) is = cc
+asks_reads (FetchData message attachment) is = refl
+asks_reads (NameProperty guid number) is = cc
+asks_reads (MakeSearch parent name) is = cc
+asks_reads (SetCriteria search flags scope restriction) is = cc
+asks_reads (GetCriteria search) is = refl
+asks_reads Save is = cc
+asks_reads Quit is = cc
+
+-- what a line behind `at` asks for only asks
+abbrev OnlyAsks : Result SessionLine LineRefusal → Type 0
+OnlyAsks (Ok Pin) = Unit {0}
+OnlyAsks (Ok (At pin c)) = asks c ≡ true
+OnlyAsks (Ok (Unpin pin)) = Unit {0}
+OnlyAsks (Ok (StoreCommand c)) = Unit {0}
+OnlyAsks (Err refusal) = Unit {0}
+
+asked_asks : (pin : Option ℕ) (r : Result Command LineRefusal) → OnlyAsks (only_asked r >>= λ c. Ok (At pin c))
+asked_asks pin (Ok c) = elim (cases_Bool (asks c)) [
+  | inl is ↦ rw is is
+  | inr is ↦ rw is tt
+]
+asked_asks pin (Err refusal) = tt
+
+at_asks : (rest : List ℕ) → OnlyAsks (at_pin rest)
+unfolding at_pin asked
+at_asks rest = by (cut rest)
+  where
+    pinned : (words : List ℕ) (p : Option (Option ℕ)) → OnlyAsks (ok_or p Line >>= λ pin. asked words >>= λ c. Ok (At pin c))
+    pinned words (Some pin) = asked_asks pin (command words)
+    pinned words None = tt
+
+    by : (words : Option (List ℕ × List ℕ)) → OnlyAsks (ok_or words Line >>= λ w. ok_or (pin_of w.0) Line >>= λ pin. asked w.1 >>= λ c. Ok (At pin c))
+    by (Some w) = pinned w.1 (pin_of w.0)
+    by None = tt
+
+unpin_asks : (rest : List ℕ) → OnlyAsks (unpin rest)
+unfolding unpin
+unpin_asks rest = by (pin_of rest)
+  where
+    by : (pin : Option (Option ℕ)) → OnlyAsks (ok_or pin Line >>= λ p. Ok (Unpin p))
+    by (Some pin) = tt
+    by None = tt
+
+store_asks : (bytes : List ℕ) → OnlyAsks (store_line bytes)
+unfolding store_line
+store_asks bytes = by (command bytes)
+  where
+    by : (r : Result Command LineRefusal) → OnlyAsks (r >>= λ c. Ok (StoreCommand c))
+    by (Ok c) = tt
+    by (Err refusal) = tt
+
+word_asks : (bytes word rest : List ℕ) → OnlyAsks (with_word bytes word rest)
+unfolding with_word
+word_asks bytes word rest = elim (cases_Bool (bytes_eq word (codes "at"))) [
+  | inl at ↦ rw at (at_asks rest)
+  | inr other ↦
+      rw other (elim (cases_Bool (bytes_eq word (codes "unpin"))) [
+        | inl gives ↦ rw gives (unpin_asks rest)
+        | inr plain ↦ rw plain (store_asks bytes)
+      ])
+]
+
+session_asks : (bytes : List ℕ) → OnlyAsks (session_line bytes)
+unfolding session_line
+session_asks bytes = elim (cases_Bool (is_utf8 bytes)) [
+  | inl text ↦ rw text (by (cut bytes))
+  | inr other ↦ rw other tt
+]
+  where
+    by : (words : Option (List ℕ × List ℕ)) → OnlyAsks (cut_line bytes words)
+    by (Some words) = word_asks bytes words.0 words.1
+    by None = elim (cases_Bool (bytes_eq bytes (codes "pin"))) [
+      | inl pin ↦ rw pin tt
+      | inr plain ↦ rw plain (store_asks bytes)
+    ]
+
+pub at_only : (bytes : List ℕ) (pin : Option ℕ) (c : Command) → session_line bytes ≡ Ok (At pin c) → asks c ≡ true
+at_only bytes pin c is = subst OnlyAsks is (session_asks bytes)
+
+-- the refusal of a command that only asks is that of its step
+pub refused_step : (X : Searching) (c : Command) → asks c ≡ true → (refusal : CommandRefusal) → StopAnswers X c (Refused refusal) → step X c ≡ Some (X, replied (last.Refused refusal))
+refused_step X c only refusal (inl is) = is.1
+refused_step X c only refusal (inr is) = absurd (true≢false (sym (asks_reads c only) ∙ is.0))

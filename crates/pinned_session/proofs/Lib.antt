@@ -1,0 +1,8 @@
+pub mod AskLaws
+pub mod Ending
+pub mod LineLaws
+pub mod MakeLaws
+pub mod PinnedKeeps
+pub mod PinAnswers
+pub mod PinLaws
+pub mod Sessions

@@ -1,0 +1,9 @@
+pub mod Holding
+pub mod Keeping
+pub mod Lines
+pub mod Pinning
+pub mod Run
+pub mod Session
+pub mod Sits
+pub mod Sitting
+pub mod Views

@@ -1,0 +1,96 @@
+-- What a line of a session over a file asks for.
+use Rattle.std.specs.Prelude.{ℕ, ◌&&◌, Bool, true, false, List, length, nat_le, nat_lt, bytes_eq, codes, Option, None, Some, Result, Ok, Err, ok_or, if◌then◌else◌}
+use Rattle.std.specs.List.{list_all}
+use Rattle.std.specs.Char.{is_ascii_digit}
+use Rattle.std.specs.Str.{is_utf8}
+use Rattle.std.specs.Str.Parse.{digits_value}
+use Rattle.command_text.specs.declared.command.Command.{Command}
+use Rattle.command_text.specs.declared.command.Command.TheVariants.{MakeFolder, RenameFolder, MoveFolder, RemoveFolder, ListFolder, NewMessage, SetProperty, UnsetProperty, GetProperty, ListProperties, MoveMessage, CopyMessage, RemoveMessage, AddRecipient, RemoveRecipient, AddAttachment, AppendData, RemoveAttachment, FetchData, Save, Quit, NameProperty, MakeSearch, SetCriteria, GetCriteria}
+use Rattle.command_text.specs.declared.command.LineRefusal.{LineRefusal}
+use Rattle.command_text.specs.declared.command.LineRefusal.TheVariants.{Line}
+use Rattle.command_text.specs.Arguments.{◌>>=◌}
+use Rattle.command_text.specs.Lines.{command}
+use Rattle.command_text.specs.Words.{cut}
+use Rattle.session_lines.specs.declared.line.SessionLine.{SessionLine}
+use Rattle.session_lines.specs.declared.line.SessionLine.TheVariants.{Pin, At, Unpin, Command as StoreCommand}
+
+-- a number that a pin may have, of at most 32 bits
+abbrev pub pin_number : ℕ → Option ℕ
+pin_number n = if nat_le n 4294967295 then Some n else None
+
+-- the pin that a word writes: one or more digits, of a number from 1 on; nothing for a number that no pin has, however long; none where the word writes no such number
+unfoldable pub pin_of : List ℕ → Option (Option ℕ)
+pin_of word = if nat_lt 0 (length word) && (list_all is_ascii_digit word && nat_lt 0 (digits_value 10 word)) then Some (pin_number (digits_value 10 word)) else None
+
+-- whether a command only asks
+unfoldable pub asks : Command → Bool
+asks (MakeFolder parent name) = false
+asks (RenameFolder folder name) = false
+asks (MoveFolder folder parent) = false
+asks (RemoveFolder folder) = false
+asks (ListFolder folder) = true
+asks (NewMessage folder class time values) = false
+asks (SetProperty message value) = false
+asks (UnsetProperty message tag) = false
+asks (GetProperty message tag) = true
+asks (ListProperties message) = true
+asks (MoveMessage message folder) = false
+asks (CopyMessage message folder) = false
+asks (RemoveMessage message) = false
+asks (AddRecipient message kind address name) = false
+asks (RemoveRecipient message row) = false
+asks (AddAttachment message name content) = false
+asks (AppendData message attachment content) = false
+asks (RemoveAttachment message attachment) = false
+asks (FetchData message attachment) = true
+asks (NameProperty guid number) = false
+asks (MakeSearch parent name) = false
+asks (SetCriteria search flags scope restriction) = false
+asks (GetCriteria search) = true
+asks Save = false
+asks Quit = false
+
+-- a command that only asks; all else, also what was refused as a value, is refused as a line
+abbrev pub only_asked : Result Command LineRefusal → Result Command LineRefusal
+only_asked (Ok c) = if asks c then Ok c else Err Line
+only_asked (Err refusal) = Err Line
+
+-- a line that only asks
+unfoldable pub asked : List ℕ → Result Command LineRefusal
+asked line = only_asked (command line)
+
+-- at: the pin, and the line that it is asked
+unfoldable pub at_pin : List ℕ → Result SessionLine LineRefusal
+at_pin rest = do
+  words ← ok_or (cut rest) Line
+  pin ← ok_or (pin_of words.0) Line
+  c ← asked words.1
+  Ok (At pin c)
+
+-- unpin: the pin
+unfoldable pub unpin : List ℕ → Result SessionLine LineRefusal
+unpin rest = do
+  pin ← ok_or (pin_of rest) Line
+  Ok (Unpin pin)
+
+-- a command of the store
+unfoldable pub store_line : List ℕ → Result SessionLine LineRefusal
+store_line line = do
+  c ← command line
+  Ok (StoreCommand c)
+
+-- a line with a space: its first word, and what stands behind the space
+unfoldable pub with_word : List ℕ → List ℕ → List ℕ → Result SessionLine LineRefusal
+with_word line word rest =
+    if bytes_eq word (codes "at") then at_pin rest
+    else (if bytes_eq word (codes "unpin") then unpin rest
+    else store_line line)
+
+-- the line is cut at its first space, if it has one
+abbrev pub cut_line : List ℕ → Option (List ℕ × List ℕ) → Result SessionLine LineRefusal
+cut_line line (Some words) = with_word line words.0 words.1
+cut_line line None = if bytes_eq line (codes "pin") then Ok Pin else store_line line
+
+-- what a line asks for, or why it is refused
+unfoldable pub session_line : List ℕ → Result SessionLine LineRefusal
+session_line line = if is_utf8 line then cut_line line (cut line) else Err Line

@@ -1,0 +1,30 @@
+//! What is said to a line on pins, as text.
+ghost use Rattle.std.specs.Prelude.{◌≡◌, ◌++◌, IfOk, OnOk, string_bytes};
+ghost use Rattle.session_lines.specs.Texts.{pin_text};
+
+use crate::line::PinReply;
+use pst_base::Bytes;
+use std::alloc::{AllocError, Global};
+use std::fmt::Write;
+
+/// Puts what is said to a line on pins at the end of a text.
+#[tactic(auto, unfolding(crate::specs::Texts::pin_text))]
+fn push_pin_reply(text: &mut String, reply: PinReply) -> Result<(), AllocError>
+    ensures { OnOk result (string_bytes text.new ≡ string_bytes text.old ++ pin_text reply) }
+{
+    match reply {
+        PinReply::Pinned(pin) => writeln!(text, "ok {pin}"),
+        PinReply::Unpinned => text.push_str("ok\n"),
+        PinReply::NoPin => text.push_str("no pin\n"),
+        PinReply::PinsFull => text.push_str("no limit pins\n"),
+    }
+}
+
+/// The bytes of what is said to a line on pins: one line, with its LF. It fails only where memory runs out.
+pub fn pin_reply_text(alloc: Global, reply: PinReply) -> Result<Bytes, AllocError>
+    ensures { IfOk result (λ bytes. bytes ≡ pin_text reply) }
+{
+    let mut text = String::new(alloc);
+    push_pin_reply(&mut text, reply)?;
+    Ok(Bytes::from_vec(text.into_bytes()))
+}
