@@ -7,7 +7,7 @@ use Rattle.command_text.specs.Replies.{text, last_text, last_words}
 use Rattle.command_text.specs.Refusals.{refusal_words}
 use Rattle.command_text.specs.Limits.{limit_word}
 use Rattle.node_port.specs.declared.map_keeper.MapKeeper.{MapKeeper}
-use Rattle.search_store.specs.declared.store.SearchStore.{SearchStore}
+use Rattle.file_filling.specs.search_store.declared.store.SearchStore.{SearchStore}
 use Rattle.line_server.specs.History.{Answers}
 use Rattle.line_server.specs.Lines.{Piece, line, too_long, further}
 use Rattle.line_server.specs.Spoken.{too_long_text}

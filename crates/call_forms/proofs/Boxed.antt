@@ -13,20 +13,20 @@ use Rattle.node_port.specs.declared.map_keeper.MapKeeper.{MapKeeper}
 use Rattle.pst_base.specs.declared.ids.Nid.{Nid}
 use Rattle.pst_outside.specs.World.{World}
 use Rattle.node_port.specs.declared.node.NodeRec.{NodeRec}
-use Rattle.mail_draft.specs.Answers.{Looks}
-use Rattle.mail_draft.specs.declared.stop.Stop.TheVariants.{Refused}
-use Rattle.mail_store.proofs.FlagLaws.{nothing_known}
-use Rattle.mail_store.proofs.StoreLaws.{stores_still}
-use Rattle.mail_store.specs.Planning.{IsHindered, SameKnown}
+use Rattle.tree_look.specs.mail_draft.Answers.{Looks}
+use Rattle.tree_look.specs.mail_draft.declared.stop.Stop.TheVariants.{Refused}
+use Rattle.file_filling.proofs.mail_store_laws.FlagLaws.{nothing_known}
+use Rattle.file_filling.proofs.mail_store_laws.StoreLaws.{stores_still}
+use Rattle.file_filling.specs.mail_store.Planning.{IsHindered, SameKnown}
 use Rattle.mail_searches.specs.Criteria.{Coming}
 use Rattle.mail_searches.specs.Searching.{Searching, StartsSearching}
 use Rattle.mail_searches.specs.Step.{after, outcome, stepped}
-use Rattle.search_folders.specs.Comings.{KnowsSearches}
+use Rattle.file_filling.specs.search_folders.Comings.{KnowsSearches}
 use Rattle.search_laws.proofs.Joining.{stays_in_order}
 use Rattle.search_laws.proofs.Setting.{starts_in_order}
 use Rattle.search_lists.specs.Order.{InOrder}
-use Rattle.search_store.specs.Planning.{PlansComing}
-use Rattle.search_store.specs.declared.store.SearchStore.{SearchStore}
+use Rattle.file_filling.specs.search_store.Planning.{PlansComing}
+use Rattle.file_filling.specs.search_store.declared.store.SearchStore.{SearchStore}
 use Rattle.mail_tree.specs.Changing.{Answer, Changed as Changes}
 use Rattle.mail_tree.specs.Folders.{replied}
 use Rattle.mail_tree.specs.Start.{IsStart, start_last, start_places}

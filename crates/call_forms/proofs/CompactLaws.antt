@@ -11,11 +11,11 @@ use Rattle.compactor.specs.declared.source.Source.{Source}
 use Rattle.copy_pieces.specs.declared.stops.CompactStop.{CompactStop}
 use Rattle.copy_pieces.specs.declared.stops.CompactStop.TheVariants as compacts
 use Rattle.file_layout.proofs.Underway.{untouched_then}
-use Rattle.file_open.specs.Opening.{HasLeft, IsChecked, LaysNodes, Reads, ReadsFresh, StopsOpening}
-use Rattle.file_open.specs.declared.open.CheckedFile.{CheckedFile}
-use Rattle.file_open.specs.declared.stops.FileStop.{FileStop}
-use Rattle.file_open.specs.declared.stops.FileStop.TheVariants as opens
-use Rattle.file_open.proofs.Files.{header_once, same_nodes, some_nodes}
+use Rattle.file_mending.specs.file_open.Opening.{HasLeft, IsChecked, LaysNodes, Reads, ReadsFresh, StopsOpening}
+use Rattle.file_mending.specs.file_open.declared.open.CheckedFile.{CheckedFile}
+use Rattle.file_mending.specs.file_open.declared.stops.FileStop.{FileStop}
+use Rattle.file_mending.specs.file_open.declared.stops.FileStop.TheVariants as opens
+use Rattle.file_mending.proofs.file_open_laws.Files.{header_once, same_nodes, some_nodes}
 use Rattle.mail_searches.specs.Searching.{Searching}
 use Rattle.call_forms.specs.Compact.{IsLarge, IsUnopened, StopsCopying, file_alone, of_compact, of_file}
 use Rattle.call_forms.specs.declared.compacting.CopyStop.{CopyStop}

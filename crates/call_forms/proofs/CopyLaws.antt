@@ -6,7 +6,7 @@ use Rattle.pst_outside.specs.Calls.{Rose, Untouched}
 use Rattle.pst_outside.proofs.Moments.{weaker, continues, at_end}
 use Rattle.copy_part.specs.Keeps.{HasSourceOf, IsStable, KeepsSource}
 use Rattle.copy_part.proofs.Keeping.{keeps_started as source_started}
-use Rattle.mail_draft.proofs.Looking.{untouched_same}
+use Rattle.tree_look.proofs.mail_draft_laws.Looking.{untouched_same}
 use Rattle.call_forms.specs.declared.exit.ChangedAt.{ChangedAt}
 use Rattle.call_forms.specs.declared.exit.Status.{Status}
 use Rattle.call_forms.specs.declared.exit.Status.TheVariants.{Done, Refused, Disk, Output, Memory, Changed}

@@ -10,16 +10,16 @@ use Rattle.lays_kept.specs.Stands.{Stands}
 use Rattle.line_server.proofs.Hearing.{falls_along}
 use Rattle.empty_file.specs.Empty.{HasBytes}
 use Rattle.mail_searches.specs.Searching.{Searching, StartsSearching}
-use Rattle.file_open.specs.Opening.{IsFileRefused, ReadsFresh}
-use Rattle.file_open.specs.declared.stops.FileRefusal.{FileRefusal}
+use Rattle.file_mending.specs.file_open.Opening.{IsFileRefused, ReadsFresh}
+use Rattle.file_mending.specs.file_open.declared.stops.FileRefusal.{FileRefusal}
 use Rattle.file_planner.specs.Becomes.{IsMade}
 use Rattle.file_planner.specs.Cost.{IsWithin}
-use Rattle.store_session.specs.Session.{HasCause}
-use Rattle.store_session.specs.declared.session.SessionEnd.{SessionEnd}
-use Rattle.store_session.specs.declared.session.SessionEnd.TheVariants as ends
-use Rattle.file_session.specs.FileRun.{FileRunEnds, ReadsAs, front_of}
-use Rattle.file_session.specs.declared.make.FileMade.{FileMade}
-use Rattle.file_session.specs.declared.make.FileMade.TheVariants as made
+use Rattle.file_filling.specs.store_session.Session.{HasCause}
+use Rattle.file_filling.specs.store_session.declared.session.SessionEnd.{SessionEnd}
+use Rattle.file_filling.specs.store_session.declared.session.SessionEnd.TheVariants as ends
+use Rattle.file_filling.specs.file_session.FileRun.{FileRunEnds, ReadsAs, front_of}
+use Rattle.file_filling.specs.file_session.declared.make.FileMade.{FileMade}
+use Rattle.file_filling.specs.file_session.declared.make.FileMade.TheVariants as made
 use Rattle.call_forms.specs.Files.{EndsRefused, EndsWell, IsNewLine, NewEnds, NoneFailed, RunEnds, status_of_end}
 use Rattle.call_forms.specs.Info.{Says}
 use Rattle.call_forms.specs.Statuses.{EndsAs}

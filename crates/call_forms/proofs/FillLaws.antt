@@ -8,19 +8,19 @@ use Rattle.gate_file.specs.Gate.{IsShut}
 use Rattle.file_planner.specs.Becomes.{IsMade}
 use Rattle.file_planner.specs.Cost.{IsWithin}
 use Rattle.line_server.proofs.Hearing.{falls_along}
-use Rattle.mail_draft.specs.Answers.{IsCaused}
-use Rattle.mail_draft.specs.declared.stop.Stop.{Stop}
-use Rattle.mail_draft.specs.declared.stop.Stop.TheVariants as stops
+use Rattle.tree_look.specs.mail_draft.Answers.{IsCaused}
+use Rattle.tree_look.specs.mail_draft.declared.stop.Stop.{Stop}
+use Rattle.tree_look.specs.mail_draft.declared.stop.Stop.TheVariants as stops
 use Rattle.mail_searches.specs.Searching.{Searching}
-use Rattle.mail_draft.proofs.Looking.{untouched_same}
+use Rattle.tree_look.proofs.mail_draft_laws.Looking.{untouched_same}
 use Rattle.pst_commit.specs.Laws.{stands_on}
-use Rattle.store_session.specs.declared.session.SessionEnd.TheVariants as ends
-use Rattle.store_session.specs.Disks.{Medium, SameMedium, medium}
-use Rattle.store_filling.specs.Filling.{FillTurn, IsFilled, disk_at, tree_at}
-use Rattle.store_filling.specs.declared.counting.FillCounts.{FillCounts}
-use Rattle.store_filling.proofs.Turns.{fills_still}
+use Rattle.file_filling.specs.store_session.declared.session.SessionEnd.TheVariants as ends
+use Rattle.file_filling.specs.store_session.Disks.{Medium, SameMedium, medium}
+use Rattle.file_filling.specs.store_filling.Filling.{FillTurn, IsFilled, disk_at, tree_at}
+use Rattle.file_filling.specs.store_filling.declared.counting.FillCounts.{FillCounts}
+use Rattle.file_filling.proofs.store_filling_laws.Turns.{fills_still}
 use Rattle.node_port.specs.Pins.{no_pins}
-use Rattle.file_session.specs.FileRun.{ReadsAs, file_effects, front_of}
+use Rattle.file_filling.specs.file_session.FileRun.{ReadsAs, file_effects, front_of}
 use Rattle.file_filling.specs.FileFills.{FillOpened, FillsBehind}
 use Rattle.call_forms.specs.Fill.{FillEnds, FillServes, FillsTree, IsFillText, IsQuietFill, SaysEnd, SaysFill, fill_status}
 use Rattle.call_forms.specs.Info.{Says}

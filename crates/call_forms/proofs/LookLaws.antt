@@ -17,17 +17,17 @@ use Rattle.line_server.specs.Lines.{Piece, line, too_long, further, up_to_quit}
 use Rattle.line_server.specs.Server.{Closes, ServerEnds}
 use Rattle.line_server.specs.Spoken.{too_long_text}
 use Rattle.line_server.proofs.PieceLaws.{nothing_cuts}
-use Rattle.mail_draft.proofs.Looking.{untouched_same}
+use Rattle.tree_look.proofs.mail_draft_laws.Looking.{untouched_same}
 use Rattle.mail_searches.specs.Searching.{Searching}
 use Rattle.pst_header.specs.declared.header.Header.{Header}
 use Rattle.pst_commit.specs.Keeping.{Holds}
-use Rattle.store_open.specs.declared.open.OpenedTree.{OpenedTree}
-use Rattle.file_open.specs.Opening.{IsFileRefused, IsLooked, ReadsFresh, ReadsTree}
-use Rattle.file_open.specs.declared.stops.FileRefusal.{FileRefusal}
-use Rattle.store_session.specs.declared.carrying.StoreStop.{StoreStop}
-use Rattle.store_session.specs.declared.carrying.StoreStop.TheVariants as stops
-use Rattle.store_session.proofs.Carry.{rose_later, same_as}
-use Rattle.pinned_session.proofs.Sessions.{turns_counts, turns_told}
+use Rattle.file_mending.specs.store_open.declared.open.OpenedTree.{OpenedTree}
+use Rattle.file_mending.specs.file_open.Opening.{IsFileRefused, IsLooked, ReadsFresh, ReadsTree}
+use Rattle.file_mending.specs.file_open.declared.stops.FileRefusal.{FileRefusal}
+use Rattle.file_filling.specs.store_session.declared.carrying.StoreStop.{StoreStop}
+use Rattle.file_filling.specs.store_session.declared.carrying.StoreStop.TheVariants as stops
+use Rattle.file_filling.proofs.store_session_laws.Carry.{rose_later, same_as}
+use Rattle.file_filling.proofs.pinned_session_laws.Sessions.{turns_counts, turns_told}
 use Rattle.call_forms.specs.Look.{KeepsReading, LookEnds, LookEndsWell, LookRefused, LookRuns, LookServes, LookUnread, status_of_look}
 use Rattle.call_forms.specs.Info.{Says}
 use Rattle.call_forms.specs.Looking.{LookAnswers, LookRun, ReaderAnswers, ReaderStops, TellsTree}

@@ -15,20 +15,20 @@ use Rattle.line_server.specs.Spoken.{no_memory_text, spoken_text}
 use Rattle.line_server.specs.declared.spoken.Spoken.{Spoken}
 use Rattle.node_port.specs.Nodes.{Nodes}
 use Rattle.node_port.specs.Stops.{Room}
-use Rattle.mail_draft.specs.Answers.{IsCaused, Looks}
-use Rattle.mail_draft.specs.declared.stop.Stop.{Stop}
-use Rattle.mail_draft.specs.declared.stop.Stop.TheVariants as draft
+use Rattle.tree_look.specs.mail_draft.Answers.{IsCaused, Looks}
+use Rattle.tree_look.specs.mail_draft.declared.stop.Stop.{Stop}
+use Rattle.tree_look.specs.mail_draft.declared.stop.Stop.TheVariants as draft
 use Rattle.mail_tree.specs.declared.known.Known.{Known}
 use Rattle.mail_tree.specs.Folders.{replied}
 use Rattle.mail_searches.specs.Searching.{Searching}
 use Rattle.mail_searches.specs.Step.{step}
 use Rattle.mail_searches.specs.declared.known.KnownSearches.{KnownSearches}
-use Rattle.mail_reading.specs.Asked.{reads}
-use Rattle.mail_reading.proofs.Answered.{StopAnswers}
-use Rattle.store_session.specs.Carrying.{ComesTo, SaysRefusal}
-use Rattle.store_session.specs.declared.carrying.StoreStop.{StoreStop}
-use Rattle.store_session.specs.declared.carrying.StoreStop.TheVariants.{Disk, Changed}
-use Rattle.store_session.proofs.Carry.{memory_text}
+use Rattle.file_filling.specs.mail_reading.Asked.{reads}
+use Rattle.file_filling.proofs.mail_reading_laws.Answered.{StopAnswers}
+use Rattle.file_filling.specs.store_session.Carrying.{ComesTo, SaysRefusal}
+use Rattle.file_filling.specs.store_session.declared.carrying.StoreStop.{StoreStop}
+use Rattle.file_filling.specs.store_session.declared.carrying.StoreStop.TheVariants.{Disk, Changed}
+use Rattle.file_filling.proofs.store_session_laws.Carry.{memory_text}
 use Rattle.call_forms.specs.Looking.{Asks, AsksCommand, LookAnswers, ReaderAnswers, ReaderStops, TellsTree}
 use Rattle.call_forms.specs.Run.{refused}
 use Rattle.call_forms.specs.declared.looking.Reader.{Reader}

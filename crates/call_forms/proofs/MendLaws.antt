@@ -9,30 +9,30 @@ use Rattle.pst_header.specs.declared.header.Header.{Header}
 use Rattle.file_blocks.specs.Blocks.{file_of}
 use Rattle.file_layout.specs.Nodes.{Lays, NodeMap}
 use Rattle.line_server.proofs.Hearing.{falls_along, falls_started}
-use Rattle.mail_draft.proofs.Looking.{untouched_same}
+use Rattle.tree_look.proofs.mail_draft_laws.Looking.{untouched_same}
 use Rattle.node_port.specs.Stops.{Room}
 use Rattle.node_port.specs.Pins.{no_pins}
 use Rattle.pst_commit.specs.Keeping.{HasRoom, IsCommitted, IsMeasured}
 use Rattle.file_planner.specs.Becomes.{IsMade}
 use Rattle.file_planner.specs.Cost.{IsWithin}
-use Rattle.store_session.specs.Disks.{Medium, medium}
+use Rattle.file_filling.specs.store_session.Disks.{Medium, medium}
 use Rattle.pst_commit.specs.Laws.{stands_on}
 use Rattle.mail_searches.specs.Searching.{Searching}
 use Rattle.mail_tree.specs.Changing.{Answer}
 use Rattle.mail_tree.specs.Whole.{Fine}
 use Rattle.search_lists.specs.Order.{InOrder}
-use Rattle.search_mending.specs.Laws.{IsMendable}
-use Rattle.search_mending.specs.Mended.{mended}
-use Rattle.search_mending.proofs.AllLaws.{mends_all}
-use Rattle.search_mends.specs.Mends.{MendRun, MendsSearches, StopsBefore, disk_mended}
-use Rattle.search_mends.proofs.Runs.{turns_still}
-use Rattle.search_mends.specs.Stops.{IsCaused}
-use Rattle.search_mends.specs.declared.all.Mended.{Mended}
-use Rattle.search_mends.specs.declared.stop.MendStop.{MendStop}
-use Rattle.search_mends.specs.declared.stop.MendStop.TheVariants as stops
+use Rattle.file_mending.specs.search_mending.Laws.{IsMendable}
+use Rattle.file_mending.specs.search_mending.Mended.{mended}
+use Rattle.file_mending.proofs.search_mending_laws.AllLaws.{mends_all}
+use Rattle.file_mending.specs.search_mends.Mends.{MendRun, MendsSearches, StopsBefore, disk_mended}
+use Rattle.file_mending.proofs.search_mends_laws.Runs.{turns_still}
+use Rattle.file_mending.specs.search_mends.Stops.{IsCaused}
+use Rattle.file_mending.specs.search_mends.declared.all.Mended.{Mended}
+use Rattle.file_mending.specs.search_mends.declared.stop.MendStop.{MendStop}
+use Rattle.file_mending.specs.search_mends.declared.stop.MendStop.TheVariants as stops
 use Rattle.file_mending.specs.FileMends.{FileMendEnds, MendsFiles, ReadsMendable, front_of}
 use Rattle.file_mending.proofs.Opened.{mends_then}
-use Rattle.file_session.specs.FileRun.{ReadsAs}
+use Rattle.file_filling.specs.file_session.FileRun.{ReadsAs}
 use Rattle.call_forms.specs.Info.{Says}
 use Rattle.call_forms.specs.Mend.{IsMendedText, IsPartMended, IsRefusal, IsStoppedText, MendEnds, MendRead, MendServes, MendUnread, MendsIn, MendsTree, SaysEnd, SaysMended, SaysOrLacks, mended_line, stop_line}
 use Rattle.call_forms.specs.Worlds.{HasDiskOf, KeepsDisk}

@@ -7,8 +7,8 @@ use Rattle.node_port.specs.Slots.{Keeps}
 use Rattle.node_port.specs.declared.map_keeper.MapKeeper.{MapKeeper}
 use Rattle.mail_searches.specs.Searching.{Searching, StartsSearching}
 use Rattle.search_lists.specs.Order.{InOrder}
-use Rattle.search_store.specs.Planning.{StoresSearches}
-use Rattle.search_store.specs.declared.store.SearchStore.{SearchStore}
+use Rattle.file_filling.specs.search_store.Planning.{StoresSearches}
+use Rattle.file_filling.specs.search_store.declared.store.SearchStore.{SearchStore}
 use Rattle.line_server.specs.Lines.{Piece}
 use Rattle.call_forms.specs.Run.{Answers, Run, Steps}
 

@@ -8,10 +8,10 @@ use Rattle.compactor.specs.Layout.{IsTooLarge}
 use Rattle.compactor.specs.declared.source.Source.{Source}
 use Rattle.copy_pieces.specs.declared.stops.CompactStop.{CompactStop}
 use Rattle.copy_pieces.specs.declared.stops.CompactStop.TheVariants as compacts
-use Rattle.file_open.specs.Opening.{IsFileRefused, Reads, ReadsFresh}
-use Rattle.file_open.specs.declared.stops.FileRefusal.{FileRefusal}
-use Rattle.file_open.specs.declared.stops.FileStop.{FileStop}
-use Rattle.file_open.specs.declared.stops.FileStop.TheVariants as opens
+use Rattle.file_mending.specs.file_open.Opening.{IsFileRefused, Reads, ReadsFresh}
+use Rattle.file_mending.specs.file_open.declared.stops.FileRefusal.{FileRefusal}
+use Rattle.file_mending.specs.file_open.declared.stops.FileStop.{FileStop}
+use Rattle.file_mending.specs.file_open.declared.stops.FileStop.TheVariants as opens
 use Rattle.mail_searches.specs.Searching.{Searching}
 use Rattle.call_forms.specs.Copies.{CopyEnds}
 use Rattle.call_forms.specs.Texts.{file_line, line, not_empty_line}

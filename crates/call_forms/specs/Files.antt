@@ -5,14 +5,14 @@ use Rattle.pst_outside.specs.Calls.{NeverFall, Rose, Settled}
 use Rattle.gate_file.specs.Gate.{IsShut}
 use Rattle.empty_file.specs.Empty.{HasBytes}
 use Rattle.mail_searches.specs.Searching.{Searching, StartsSearching}
-use Rattle.file_open.specs.Opening.{IsFileRefused, ReadsFresh}
-use Rattle.file_open.specs.declared.stops.FileRefusal.{FileRefusal}
-use Rattle.store_session.specs.Session.{HasCause}
-use Rattle.store_session.specs.declared.session.SessionEnd.{SessionEnd}
-use Rattle.store_session.specs.declared.session.SessionEnd.TheVariants as ends
+use Rattle.file_mending.specs.file_open.Opening.{IsFileRefused, ReadsFresh}
+use Rattle.file_mending.specs.file_open.declared.stops.FileRefusal.{FileRefusal}
+use Rattle.file_filling.specs.store_session.Session.{HasCause}
+use Rattle.file_filling.specs.store_session.declared.session.SessionEnd.{SessionEnd}
+use Rattle.file_filling.specs.store_session.declared.session.SessionEnd.TheVariants as ends
 use Rattle.file_planner.specs.Becomes.{IsMade}
 use Rattle.file_planner.specs.Cost.{IsWithin}
-use Rattle.file_session.specs.FileRun.{FileRunEnds, ReadsAs, front_of}
+use Rattle.file_filling.specs.file_session.FileRun.{FileRunEnds, ReadsAs, front_of}
 use Rattle.call_forms.specs.Texts.{file_line, made_line, not_empty_line}
 use Rattle.call_forms.specs.Worlds.{KeepsDisk}
 use Rattle.call_forms.specs.declared.exit.ChangedAt.{ChangedAt}

@@ -4,20 +4,20 @@ use Rattle.std.specs.Fmt.{decimal}
 use Rattle.pst_outside.specs.World.{SameDisk, World}
 use Rattle.pst_outside.specs.Calls.{LeavesOnly, NeverFall, Rose, Settled}
 use Rattle.gate_file.specs.Gate.{IsShut, SameStore}
-use Rattle.mail_draft.specs.declared.stop.Stop.{Stop}
-use Rattle.mail_draft.specs.declared.stop.Stop.TheVariants as stops
+use Rattle.tree_look.specs.mail_draft.declared.stop.Stop.{Stop}
+use Rattle.tree_look.specs.mail_draft.declared.stop.Stop.TheVariants as stops
 use Rattle.mail_searches.specs.Searching.{Searching}
-use Rattle.file_open.specs.Opening.{ReadsFresh}
+use Rattle.file_mending.specs.file_open.Opening.{ReadsFresh}
 use Rattle.file_planner.specs.Becomes.{IsMade}
 use Rattle.file_planner.specs.Cost.{IsWithin}
-use Rattle.store_session.specs.Disks.{Medium, SameMedium, medium}
-use Rattle.store_session.specs.Run.{refused}
-use Rattle.store_session.specs.Session.{HasCause}
-use Rattle.store_session.specs.declared.session.SessionEnd.{SessionEnd}
-use Rattle.store_filling.specs.Filling.{FillCame, IsFilled, disk_at, tree_at}
-use Rattle.store_filling.specs.declared.counting.FillCounts.{FillCounts}
+use Rattle.file_filling.specs.store_session.Disks.{Medium, SameMedium, medium}
+use Rattle.file_filling.specs.store_session.Run.{refused}
+use Rattle.file_filling.specs.store_session.Session.{HasCause}
+use Rattle.file_filling.specs.store_session.declared.session.SessionEnd.{SessionEnd}
+use Rattle.file_filling.specs.store_filling.Filling.{FillCame, IsFilled, disk_at, tree_at}
+use Rattle.file_filling.specs.store_filling.declared.counting.FillCounts.{FillCounts}
 use Rattle.node_port.specs.Pins.{no_pins}
-use Rattle.file_session.specs.FileRun.{EndsUnopened, ReadsAs, file_effects, front_of}
+use Rattle.file_filling.specs.file_session.FileRun.{EndsUnopened, ReadsAs, file_effects, front_of}
 use Rattle.call_forms.specs.Files.{EndsRefused, status_of_end}
 use Rattle.call_forms.specs.Info.{Says}
 use Rattle.call_forms.specs.Texts.{line}

@@ -8,9 +8,9 @@ use Rattle.line_server.specs.declared.end.ServerEnd.TheVariants as server_ends
 use Rattle.line_server.specs.Lines.{Piece, is_quit, lines}
 use Rattle.line_server.specs.Server.{LINES}
 use Rattle.mail_searches.specs.Searching.{Searching}
-use Rattle.file_open.specs.Opening.{ReadsTree}
-use Rattle.store_session.specs.declared.carrying.StoreStop.{StoreStop}
-use Rattle.store_session.specs.declared.carrying.StoreStop.TheVariants as stops
+use Rattle.file_mending.specs.file_open.Opening.{ReadsTree}
+use Rattle.file_filling.specs.store_session.declared.carrying.StoreStop.{StoreStop}
+use Rattle.file_filling.specs.store_session.declared.carrying.StoreStop.TheVariants as stops
 use Rattle.call_forms.specs.Files.{EndsRefused, NoneFailed}
 use Rattle.call_forms.specs.Looking.{LookRun}
 use Rattle.call_forms.specs.Worlds.{KeepsDisk}

@@ -12,10 +12,10 @@ use Rattle.command_text.specs.Replies.{text}
 use Rattle.line_server.specs.Lines.{Piece, line, too_long, further}
 use Rattle.mail_tree.specs.Folders.{replied}
 use Rattle.mail_searches.specs.Searching.{Searching}
-pub use Rattle.pinned_session.specs.Holding.{TellsTree}
-use Rattle.mail_reading.specs.Asked.{reads}
-use Rattle.store_session.specs.declared.carrying.StoreStop.{StoreStop}
-use Rattle.store_session.specs.declared.carrying.StoreStop.TheVariants.{Disk}
+pub use Rattle.file_filling.specs.pinned_session.Holding.{TellsTree}
+use Rattle.file_filling.specs.mail_reading.Asked.{reads}
+use Rattle.file_filling.specs.store_session.declared.carrying.StoreStop.{StoreStop}
+use Rattle.file_filling.specs.store_session.declared.carrying.StoreStop.TheVariants.{Disk}
 use Rattle.call_forms.specs.Run.{Steps, refused}
 
 -- what is said to a command: to one that reads the reply of its step, which leaves the tree and its searches; to any other that it is no line

@@ -9,17 +9,17 @@ use Rattle.node_port.specs.Pins.{no_pins}
 use Rattle.pst_commit.specs.Keeping.{HasRoom, IsCommitted}
 use Rattle.file_planner.specs.Becomes.{IsMade}
 use Rattle.file_planner.specs.Cost.{IsWithin}
-use Rattle.store_session.specs.Disks.{Medium, SameMedium, medium}
+use Rattle.file_filling.specs.store_session.Disks.{Medium, SameMedium, medium}
 use Rattle.mail_searches.specs.Searching.{Searching}
-use Rattle.search_mending.specs.Mended.{mended}
-use Rattle.search_mends.specs.Mends.{MendRun, MendedSoFar, MendsSearches}
-use Rattle.search_mends.specs.declared.all.Mended.{Mended}
-use Rattle.search_mends.specs.declared.stop.MendStop.{MendStop}
-use Rattle.search_mends.specs.declared.stop.MendStop.TheVariants.{Rows, Full, Ids, Fault}
-use Rattle.search_mends.specs.declared.stop.MendStop.TheVariants as stops
+use Rattle.file_mending.specs.search_mending.Mended.{mended}
+use Rattle.file_mending.specs.search_mends.Mends.{MendRun, MendedSoFar, MendsSearches}
+use Rattle.file_mending.specs.search_mends.declared.all.Mended.{Mended}
+use Rattle.file_mending.specs.search_mends.declared.stop.MendStop.{MendStop}
+use Rattle.file_mending.specs.search_mends.declared.stop.MendStop.TheVariants.{Rows, Full, Ids, Fault}
+use Rattle.file_mending.specs.search_mends.declared.stop.MendStop.TheVariants as stops
 use Rattle.file_mending.specs.FileMends.{ReadsMendable, front_of}
-use Rattle.file_open.specs.Opening.{ReadsTree}
-use Rattle.file_session.specs.FileRun.{ReadsAs}
+use Rattle.file_mending.specs.file_open.Opening.{ReadsTree}
+use Rattle.file_filling.specs.file_session.FileRun.{ReadsAs}
 use Rattle.call_forms.specs.Info.{Says}
 use Rattle.call_forms.specs.Look.{LookRefused}
 use Rattle.call_forms.specs.Texts.{hex, line}

@@ -24,10 +24,10 @@ use Rattle.tree_look.specs.declared.stops.TreeFault.{TreeFault}
 use Rattle.tree_look.specs.declared.stops.TreeFault.TheVariants as trees
 use Rattle.search_look.specs.declared.stops.SearchRefusal.{SearchRefusal}
 use Rattle.search_look.specs.declared.stops.SearchRefusal.TheVariants as searches
-use Rattle.store_open.specs.declared.stops.TreeRefusal.{TreeRefusal}
-use Rattle.store_open.specs.declared.stops.TreeRefusal.TheVariants as stores
-use Rattle.file_open.specs.declared.stops.FileRefusal.{FileRefusal}
-use Rattle.file_open.specs.declared.stops.FileRefusal.TheVariants as files
+use Rattle.file_mending.specs.store_open.declared.stops.TreeRefusal.{TreeRefusal}
+use Rattle.file_mending.specs.store_open.declared.stops.TreeRefusal.TheVariants as stores
+use Rattle.file_mending.specs.file_open.declared.stops.FileRefusal.{FileRefusal}
+use Rattle.file_mending.specs.file_open.declared.stops.FileRefusal.TheVariants as files
 
 -- the number in lower-case hexadecimal digits, behind `0x`
 abbrev pub hex : ℕ → List ℕ

@@ -5,11 +5,11 @@ ghost use Rattle.copy_part.specs.Keeps.{IsStable, KeepsSource};
 ghost use Rattle.compactor.specs.Compacted.{IsCompacted};
 ghost use Rattle.compactor.specs.Source.{IsSource};
 ghost use Rattle.mail_searches.specs.Searching.{Searching};
-ghost use Rattle.file_open.specs.Opening.{ReadsFresh};
+ghost use Rattle.file_mending.specs.file_open.Opening.{ReadsFresh};
 ghost use Rattle.call_forms.specs.Compact.{StopsCopying, of_compact, of_file};
 
 use compactor::{CompactStop, Source, compact};
-use file_open::{FileRefusal, FileStop, check_file};
+use file_mending::file_open::{FileRefusal, FileStop, check_file};
 use file_planner::FilePlanner;
 use pst_outside::{Failed, Outside, Part};
 use std::alloc::Global;

@@ -4,12 +4,12 @@ ghost use Rattle.std.specs.String.{string_bytes};
 ghost use Rattle.call_forms.specs.Texts.{file_line, form_word, look_line, search_line, store_line, tree_word};
 
 use crate::texts::refusal_line;
-use file_open::FileRefusal;
+use file_mending::file_open::FileRefusal;
+use file_mending::store_open::TreeRefusal;
 use mail_objects::MessageFault;
 use search_look::SearchRefusal;
 use std::alloc::{AllocError, Global};
 use std::fmt::Write;
-use store_open::TreeRefusal;
 use tree_look::{LookRefusal, TreeFault};
 
 /// The line of an opening's refusal.

@@ -5,12 +5,12 @@ ghost use Rattle.call_forms.specs.Files.{NewEnds, RunEnds, status_of_end};
 use crate::exit::{ChangedAt, Status};
 use crate::file_texts::file_line;
 use crate::info::say;
+use file_filling::file_session::{FileMade, FileRun, make_file, run_file};
+use file_filling::store_session::SessionEnd;
 use file_planner::FilePlanner;
-use file_session::{FileMade, FileRun, make_file, run_file};
 use mapi_values::Units;
 use pst_outside::Outside;
 use std::alloc::{AllocError, Global};
-use store_session::SessionEnd;
 
 /// The status of a session that ended so.
 pub(crate) fn status_of_end(end: SessionEnd) -> Status

@@ -1,7 +1,7 @@
 //! `fill`: a large input.
 ghost use Rattle.std.specs.Prelude.{◌≡◌, IfOk};
 ghost use Rattle.std.specs.String.{string_bytes};
-ghost use Rattle.store_session.specs.Run.{refused};
+ghost use Rattle.file_filling.specs.store_session.Run.{refused};
 ghost use Rattle.call_forms.specs.Fill.{FillEnds, HasText, SaysEnd, fill_status, filled_line};
 
 use crate::exit::{ChangedAt, Status};

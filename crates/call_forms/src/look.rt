@@ -9,13 +9,13 @@ use crate::exit::{ChangedAt, Status};
 use crate::file_texts::file_line;
 use crate::info::say;
 use crate::looking::Reader;
-use file_open::{FileStop, look_file};
+use file_filling::store_session::StoreStop;
+use file_mending::file_open::{FileStop, look_file};
 use file_planner::FilePlanner;
 use line_server::{ServerEnd, serve};
 use node_port::NodeReader;
 use pst_outside::Outside;
 use std::alloc::{AllocError, Global};
-use store_session::StoreStop;
 
 /// The status of a session that ended so.
 fn status_of_look(end: ServerEnd<StoreStop>) -> Status

@@ -5,15 +5,15 @@ ghost use Rattle.line_server.specs.Spoken.{spoken_text};
 ghost use Rattle.call_forms.specs.Looking.{ReaderAnswers, ReaderStops, TellsTree};
 
 use command_text::{CommandRefusal, read_line};
+use file_filling::mail_reading::ask;
+use file_filling::store_session::{StoreStop, refusal_spoken, reply_spoken, stopped};
 use line_server::{LineAnswerer, Spoken};
-use mail_reading::ask;
 use mail_searches::KnownSearches;
 use mail_tree::Known;
 use node_port::NodeReader;
 use pst_base::MemOr;
 use pst_outside::Outside;
 use std::alloc::Global;
-use store_session::{StoreStop, refusal_spoken, reply_spoken, stopped};
 
 /// A store that is only read: what tells its nodes, and what is known of their tree and its searches beside them.
 #[derive(Drop)]

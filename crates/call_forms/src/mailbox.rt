@@ -4,26 +4,26 @@ ghost use Rattle.mail_searches.specs.Searching.{Searching, StartsSearching};
 ghost use Rattle.node_port.specs.Nodes.{ascend, changed, no_nodes};
 ghost use Rattle.node_port.specs.Slots.{Keeps};
 ghost use Rattle.command_text.specs.declared.reply.CommandRefusal.{CommandRefusal as Refusal};
-ghost use Rattle.mail_draft.specs.declared.stop.Stop.TheVariants.{Refused};
+ghost use Rattle.tree_look.specs.mail_draft.declared.stop.Stop.TheVariants.{Refused};
 ghost use Rattle.call_forms.specs.Run.{refused};
 ghost use Rattle.call_forms.specs.Boxes.{DoesStep, Holds, NAME, StaysAs, is_full};
 
 use crate::answers::refusal_text;
 use crate::nowhere::Nowhere;
 use command_text::{Command, CommandRefusal, reply_text};
-use mail_draft::Stop;
+use file_filling::mail_store::Store;
+use file_filling::search_store::{SearchStore, commit};
+use file_filling::store_session::plan_counted;
 use mail_searches::{KnownSearches, OwnFolders, Searches};
-use mail_store::Store;
 use mail_tree::{Flags, Known};
 use mapi_values::Units;
 use new_store::new_store;
 use node_port::{Changes, Keeper, MapKeeper};
 use pst_base::Bytes;
-use search_store::{SearchStore, commit};
 use std::alloc::{AllocError, Global};
 use std::marker::Brand;
 use std::sync::ledger::Blank;
-use store_session::plan_counted;
+use tree_look::mail_draft::Stop;
 
 /// The store of a session in memory. It always has a tree, with its searches in order.
 #[derive(Drop)]

@@ -7,15 +7,15 @@ use Rattle.pst_outside.specs.Calls.{LeavesOnly, NeverFall, Rose, Settled, Untouc
 use Rattle.pst_outside.proofs.Moments.{weaker}
 use Rattle.gate_file.specs.Gate.{IsShut, SameStore}
 use Rattle.node_port.specs.declared.node.NodeRec.{NodeRec}
-use Rattle.mail_draft.specs.Answers.{IsCaused}
-use Rattle.mail_draft.specs.declared.stop.Stop.{Stop}
-use Rattle.mail_draft.specs.declared.stop.Stop.TheVariants as stops
+use Rattle.store_filling.specs.mail_draft.Answers.{IsCaused}
+use Rattle.store_filling.specs.mail_draft.declared.stop.Stop.{Stop}
+use Rattle.store_filling.specs.mail_draft.declared.stop.Stop.TheVariants as stops
 use Rattle.mail_searches.specs.Searching.{Searching}
 use Rattle.pst_commit.specs.Keeping.{Holds}
-use Rattle.file_open.specs.Opening.{OpenedTree}
-use Rattle.store_session.specs.Carrying.{Has}
-use Rattle.store_session.specs.Disks.{Effects, Medium, SameMedium, medium}
-use Rattle.store_session.proofs.Carry.{same_as, same_medium}
+use Rattle.file_session.specs.file_open.Opening.{OpenedTree}
+use Rattle.store_filling.specs.store_session.Carrying.{Has}
+use Rattle.store_filling.specs.store_session.Disks.{Effects, Medium, SameMedium, medium}
+use Rattle.store_filling.proofs.store_session_laws.Carry.{same_as, same_medium}
 use Rattle.store_filling.specs.Filling.{StoreFillEnds, FillsStore, IsFilled}
 use Rattle.store_filling.specs.declared.counting.FillCounts.{FillCounts}
 use Rattle.store_filling.proofs.Turns.{filled_none, leaves_then}

@@ -5,10 +5,10 @@ use Rattle.pst_outside.specs.World.{World}
 use Rattle.pst_outside.specs.Calls.{Settled}
 use Rattle.gate_file.specs.Gate.{IsShut, SameStore}
 use Rattle.node_port.specs.declared.node.NodeRec.{NodeRec}
-use Rattle.mail_draft.specs.declared.stop.Stop.{Stop}
+use Rattle.store_filling.specs.mail_draft.declared.stop.Stop.{Stop}
 use Rattle.mail_searches.specs.Searching.{Searching}
-use Rattle.file_open.specs.Opening.{ReadsFresh}
-use Rattle.store_session.specs.Disks.{Medium, SameMedium, medium}
+use Rattle.file_session.specs.file_open.Opening.{ReadsFresh}
+use Rattle.store_filling.specs.store_session.Disks.{Medium, SameMedium, medium}
 use Rattle.store_filling.specs.Filling.{StoreFillEnds}
 use Rattle.store_filling.specs.declared.counting.FillCounts.{FillCounts}
 use Rattle.node_port.specs.Pins.{no_pins}

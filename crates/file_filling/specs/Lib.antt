@@ -1,1 +1,9 @@
 pub mod FileFills
+pub use Rattle.file_session.specs as file_session
+pub use Rattle.store_filling.specs.mail_reading as mail_reading
+pub use Rattle.store_filling.specs.mail_store as mail_store
+pub use Rattle.file_session.specs.pinned_session as pinned_session
+pub use Rattle.store_filling.specs.search_folders as search_folders
+pub use Rattle.store_filling.specs.search_store as search_store
+pub use Rattle.store_filling.specs as store_filling
+pub use Rattle.store_filling.specs.store_session as store_session

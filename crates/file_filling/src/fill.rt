@@ -1,24 +1,24 @@
 //! From the opening of a file to the counts.
 ghost use Rattle.std.specs.Prelude.{◌≡◌, true, Result as Answers, IfErr};
 ghost use Rattle.pst_outside.specs.Calls.{NeverFall, Untouched};
-ghost use Rattle.mail_draft.specs.Answers.{IsCaused};
-ghost use Rattle.mail_draft.specs.declared.stop.Stop.{Stop as Stops};
+ghost use Rattle.store_filling.specs.mail_draft.Answers.{IsCaused};
+ghost use Rattle.store_filling.specs.mail_draft.declared.stop.Stop.{Stop as Stops};
 ghost use Rattle.mail_searches.specs.Searching.{Searching};
-ghost use Rattle.file_open.specs.Opening.{IsFileRefused, ReadsFresh};
-ghost use Rattle.file_open.specs.declared.stops.FileRefusal.{FileRefusal as Refusals};
-ghost use Rattle.store_session.specs.Session.{HasCause};
-ghost use Rattle.store_session.specs.declared.session.SessionEnd.{SessionEnd as End};
+ghost use Rattle.file_session.specs.file_open.Opening.{IsFileRefused, ReadsFresh};
+ghost use Rattle.file_session.specs.file_open.declared.stops.FileRefusal.{FileRefusal as Refusals};
+ghost use Rattle.store_filling.specs.store_session.Session.{HasCause};
+ghost use Rattle.store_filling.specs.store_session.declared.session.SessionEnd.{SessionEnd as End};
 ghost use Rattle.store_filling.specs.declared.counting.FillCounts.{FillCounts as Counts};
 ghost use Rattle.file_session.specs.FileRun.{EndsUnopened};
 ghost use Rattle.file_filling.specs.FileFills.{FillOpened};
 
 use file_laying::FoundStore;
-use file_open::open_file;
+use file_session::file_open::open_file;
 use file_session::{FileRun, unopened};
-use mail_store::Store;
 use pst_outside::Outside;
-use search_store::SearchStore;
 use std::alloc::Global;
+use store_filling::mail_store::Store;
+use store_filling::search_store::SearchStore;
 use store_filling::{FillCounts, Stop, fill_store};
 
 /// How making a large input in a file went.

@@ -12,18 +12,18 @@ use Rattle.node_port.specs.Stops.{Room}
 use Rattle.pst_commit.specs.Commit.{LeavesNodes}
 use Rattle.node_port.specs.Pins.{Pins, no_pins}
 use Rattle.pst_commit.specs.Keeping.{HasRoom, Holds, IsCommitted}
-use Rattle.store_session.specs.Disks.{medium}
-use Rattle.store_session.proofs.Carry.{same_medium}
-use Rattle.mail_store.specs.Planning.{StandsFor}
+use Rattle.search_mends.specs.store_session.Disks.{medium}
+use Rattle.search_mends.proofs.store_session_laws.Carry.{same_medium}
+use Rattle.search_mends.specs.mail_store.Planning.{StandsFor}
 use Rattle.mail_tree.specs.Changing.{Answer}
 use Rattle.mail_tree.specs.Whole.{Fine}
 use Rattle.mail_searches.specs.Searching.{Searching}
 use Rattle.search_obj.specs.Scope.{is_among}
-use Rattle.search_mending.specs.Laws.{IsMendable, MendsThese}
-use Rattle.search_mending.specs.Mended.{mended_all}
-use Rattle.search_mending.proofs.AllLaws.{front_in_order}
-use Rattle.search_store.specs.Planning.{StoresSearches}
-use Rattle.search_store.specs.declared.store.SearchStore.{SearchStore}
+use Rattle.search_mends.specs.search_mending.Laws.{IsMendable, MendsThese}
+use Rattle.search_mends.specs.search_mending.Mended.{mended_all}
+use Rattle.search_mends.proofs.search_mending_laws.AllLaws.{front_in_order}
+use Rattle.search_mends.specs.search_store.Planning.{StoresSearches}
+use Rattle.search_mends.specs.search_store.declared.store.SearchStore.{SearchStore}
 use Rattle.search_mends.specs.Mends.{HasMendable, LeavesMended, MendRun, MendedSoFar, MendsSearches}
 use Rattle.search_mends.specs.Stops.{IsCaused, UnlessFault}
 use Rattle.search_mends.specs.declared.all.Mended.{Mended}

@@ -10,10 +10,10 @@ use Rattle.node_port.specs.Stops.{Room}
 use Rattle.node_port.specs.Pins.{no_pins}
 use Rattle.node_port.specs.declared.node.NodeRec.{NodeRec}
 use Rattle.pst_commit.specs.Keeping.{HasRoom, IsCommitted}
-use Rattle.store_session.specs.Disks.{Medium, SameMedium, medium}
-use Rattle.mail_store.specs.Planning.{StandsFor}
+use Rattle.search_mends.specs.store_session.Disks.{Medium, SameMedium, medium}
+use Rattle.search_mends.specs.mail_store.Planning.{StandsFor}
 use Rattle.mail_searches.specs.Searching.{Searching}
-use Rattle.search_mending.specs.Laws.{IsMendable}
+use Rattle.search_mends.specs.search_mending.Laws.{IsMendable}
 use Rattle.search_mends.specs.Mends.{MendRun, MendedSoFar, MendsSearches}
 use Rattle.search_mends.specs.declared.all.Mended.{Mended}
 use Rattle.search_mends.specs.declared.stop.MendStop.{MendStop}

@@ -7,5 +7,7 @@
 
 mod mend;
 
+pub use file_open;
+pub use file_open::store_open;
 pub use mend::{FileMend, mend_file};
 pub use search_mends::{MendStop, Mended};

@@ -2,7 +2,7 @@
 ghost use Rattle.std.specs.Prelude.{◌≡◌, Bool, true, Result as Answers, IfErr};
 ghost use Rattle.pst_outside.specs.Calls.{NeverFall, Untouched};
 ghost use Rattle.mail_searches.specs.Searching.{Searching};
-ghost use Rattle.store_session.specs.Disks.{medium};
+ghost use Rattle.search_mends.specs.store_session.Disks.{medium};
 ghost use Rattle.search_mends.specs.Mends.{HasMendable, LeavesMended, MendRun, MendsSearches};
 ghost use Rattle.search_mends.specs.Stops.{IsCaused};
 ghost use Rattle.search_mends.specs.declared.all.Mended.{Mended as Count};
@@ -13,12 +13,12 @@ ghost use Rattle.file_mending.specs.FileMends.{FileMendEnds, StandsMendable, uno
 
 use file_laying::FoundStore;
 use file_open::{FileRefusal, FileStop, open_mendable};
-use mail_store::Store;
 use node_port::Keeper;
 use pst_base::{Ledger, Steps};
 use pst_outside::Outside;
+use search_mends::mail_store::Store;
+use search_mends::search_store::SearchStore;
 use search_mends::{MendStop, Mended, mend_searches};
-use search_store::SearchStore;
 use std::alloc::Global;
 use std::marker::Brand;
 use std::sync::ledger::Blank;

@@ -12,3 +12,4 @@ mod stops;
 
 pub use open::{CheckedFile, OpenedFile, check_file, look_file, open_file, open_mendable};
 pub use stops::{FileRefusal, FileStop};
+pub use store_open;

@@ -18,17 +18,17 @@ use Rattle.file_open.specs.Opening.{IsFileRefused, IsOpened, LaysNodes, OpenedTr
 use Rattle.file_open.specs.declared.stops.FileRefusal.{FileRefusal}
 use Rattle.file_open.specs.declared.stops.FileStop.{FileStop}
 use Rattle.file_open.specs.declared.stops.FileStop.TheVariants as stops
-use Rattle.store_session.specs.Carrying.{Has, InOrder, StandsFor}
-use Rattle.store_session.specs.Disks.{Effects, Medium, medium}
+use Rattle.pinned_session.specs.store_session.Carrying.{Has, InOrder, StandsFor}
+use Rattle.pinned_session.specs.store_session.Disks.{Effects, Medium, medium}
 use Rattle.pinned_session.specs.Session.{SessionEnds}
 use Rattle.pinned_session.specs.Sits.{StandsNow}
 use Rattle.pinned_session.specs.Sitting.{Sitting, begins}
 use Rattle.node_port.specs.Pins.{Pins}
-use Rattle.store_session.specs.Turns.{IsReached, SaysTurns, StoreTurn, texts}
-use Rattle.store_session.proofs.Carry.{same_medium}
-use Rattle.store_session.proofs.Reached.{reached_before}
-use Rattle.store_session.specs.declared.session.SessionEnd.{SessionEnd}
-use Rattle.store_session.specs.declared.session.SessionEnd.TheVariants.{Disk, Changed, Memory}
+use Rattle.pinned_session.specs.store_session.Turns.{IsReached, SaysTurns, StoreTurn, texts}
+use Rattle.pinned_session.proofs.store_session_laws.Carry.{same_medium}
+use Rattle.pinned_session.proofs.store_session_laws.Reached.{reached_before}
+use Rattle.pinned_session.specs.store_session.declared.session.SessionEnd.{SessionEnd}
+use Rattle.pinned_session.specs.store_session.declared.session.SessionEnd.TheVariants.{Disk, Changed, Memory}
 use Rattle.file_session.specs.FileRun.{EndsOpened, EndsUnopened, ReadsAs, file_effects, front_of}
 use Rattle.file_session.specs.Stops.{unopened}
 use Rattle.file_session.specs.declared.run.FileRun.{FileRun}

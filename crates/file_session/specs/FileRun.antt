@@ -11,13 +11,13 @@ use Rattle.node_port.specs.declared.node.NodeRec.{NodeRec}
 use Rattle.pst_commit.specs.Keeping.{HasRoom, IsCommitted, IsSaved}
 use Rattle.mail_searches.specs.Searching.{Searching}
 use Rattle.file_open.specs.Opening.{ReadsFresh}
-use Rattle.store_session.specs.Carrying.{StandsOrdered}
-use Rattle.store_session.specs.Disks.{Effects, Medium, SameMedium, effects_of, medium}
+use Rattle.pinned_session.specs.store_session.Carrying.{StandsOrdered}
+use Rattle.pinned_session.specs.store_session.Disks.{Effects, Medium, SameMedium, effects_of, medium}
 use Rattle.pinned_session.specs.Session.{SessionEnds}
 use Rattle.pinned_session.specs.Sits.{StandsNow}
 use Rattle.pinned_session.specs.Sitting.{begins}
-use Rattle.store_session.specs.declared.session.SessionEnd.{SessionEnd}
-use Rattle.store_session.specs.declared.session.SessionEnd.TheVariants.{Disk, Memory}
+use Rattle.pinned_session.specs.store_session.declared.session.SessionEnd.{SessionEnd}
+use Rattle.pinned_session.specs.store_session.declared.session.SessionEnd.TheVariants.{Disk, Memory}
 
 -- the header that counts, as bytes
 abbrev pub front_of : Image → List ℕ

@@ -8,5 +8,6 @@
 mod make;
 mod run;
 
+pub use file_open;
 pub use make::{FileMade, make_file};
 pub use run::{FileRun, run_file, unopened};

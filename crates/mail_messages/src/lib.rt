@@ -27,4 +27,5 @@ pub use entry::{
     copy_message, get_value, list_details, message_in, move_message, new_message, remake_message,
     remove_message, set_value, unset_value,
 };
+pub use mail_names;
 pub use reading::tell_value;

@@ -16,4 +16,6 @@ mod with_recipients;
 
 pub use appending::append;
 pub use attachments::{attach, detach, fetch};
+pub use mail_messages;
+pub use mail_messages::mail_names;
 pub use recipients::{add_recipient, remove_recipient};

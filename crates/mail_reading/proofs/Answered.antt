@@ -8,12 +8,12 @@ use Rattle.command_text.specs.declared.reply.LastLine.TheVariants as last
 use Rattle.mail_tree.specs.Changing.{Answer}
 use Rattle.mail_tree.specs.Folders.{Outcome, replied}
 use Rattle.mail_tree.specs.Whole.{Fine, IsWhole}
-use Rattle.mail_draft.proofs.Passes.{stop_says, then_says}
-use Rattle.mail_draft.specs.Answers.{Says}
-use Rattle.mail_draft.specs.Outcomes.{outcome_of}
-use Rattle.mail_draft.specs.declared.outcome.Outcome.{Outcome as Planned}
-use Rattle.mail_draft.specs.declared.stop.Stop.{Stop}
-use Rattle.mail_draft.specs.declared.stop.Stop.TheVariants.{Refused, Fault, Changed, Memory}
+use Rattle.search_folders.proofs.mail_draft_laws.Passes.{stop_says, then_says}
+use Rattle.search_folders.specs.mail_draft.Answers.{Says}
+use Rattle.search_folders.specs.mail_draft.Outcomes.{outcome_of}
+use Rattle.search_folders.specs.mail_draft.declared.outcome.Outcome.{Outcome as Planned}
+use Rattle.search_folders.specs.mail_draft.declared.stop.Stop.{Stop}
+use Rattle.search_folders.specs.mail_draft.declared.stop.Stop.TheVariants.{Refused, Fault, Changed, Memory}
 use Rattle.mail_searches.specs.Criteria.{Coming, staying}
 use Rattle.mail_searches.specs.Searching.{AreSearches, Searching}
 use Rattle.mail_searches.specs.Step.{after, outcome, plain_outcome, step, stepped}

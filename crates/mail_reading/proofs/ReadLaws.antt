@@ -15,7 +15,7 @@ use Rattle.mail_tree.specs.Tree.{Tree, object_at}
 use Rattle.mail_tree.specs.Whole.{Fine, IsWhole}
 use Rattle.mail_tree.proofs.AfterTree.{now_nothing}
 use Rattle.mail_tree.proofs.FineLaws.{after_context, after_found, after_table, fine_either, fine_then, fine_weaker}
-use Rattle.mail_draft.proofs.FitLaws.{no-entries}
+use Rattle.search_folders.proofs.mail_draft_laws.FitLaws.{no-entries}
 use Rattle.mail_laws.specs.Laws.{only_reads}
 use Rattle.mail_laws.proofs.LawSteps.{reads_only}
 use Rattle.mail_laws.proofs.Strays.{whole_after}

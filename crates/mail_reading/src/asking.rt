@@ -2,19 +2,19 @@
 ghost use Rattle.std.specs.Prelude.{IfErr};
 ghost use Rattle.mail_tree.specs.Knowing.{Knows};
 ghost use Rattle.mail_tree.specs.Tree.{Shown};
-ghost use Rattle.mail_draft.specs.Answers.{IsCaused, Looks, Says};
+ghost use Rattle.search_folders.specs.mail_draft.Answers.{IsCaused, Looks, Says};
 ghost use Rattle.mail_searches.specs.Searching.{Searching};
 ghost use Rattle.search_folders.specs.Comings.{KnowsSearches, coming_of};
 ghost use Rattle.mail_reading.specs.Asked.{asked};
 
 use command_text::{Command, CommandRefusal, LastLine, Reply};
-use mail_draft::{Outcome, Stop};
-use mail_messages::{get_value, list_details};
 use mail_parts::fetch;
+use mail_parts::mail_messages::{get_value, list_details};
 use mail_searches::KnownSearches;
 use mail_tree::Known;
 use node_port::NodeReader;
 use pst_outside::Outside;
+use search_folders::mail_draft::{Outcome, Stop};
 use search_folders::{Coming, get_criteria, list_folder};
 use std::alloc::Global;
 

@@ -10,3 +10,5 @@ mod law;
 
 pub use asking::ask;
 pub use law::reads_leave;
+pub use search_folders;
+pub use search_folders::{mail_draft, mail_folders};

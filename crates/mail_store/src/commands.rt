@@ -9,11 +9,11 @@ ghost use Rattle.mail_draft.specs.Outcomes.{outcome_of};
 use command_text::{Command, CommandRefusal, LastLine, Reply};
 use mail_draft::{Outcome, Stop};
 use mail_folders::{list_folder, make_folder, move_folder, remove_folder, rename_folder};
-use mail_messages::{
+use mail_parts::mail_messages::{
     copy_message, get_value, list_details, move_message, new_message, remove_message, set_value,
     unset_value,
 };
-use mail_names::name_property;
+use mail_parts::mail_names::name_property;
 use mail_parts::{add_recipient, append, attach, detach, fetch, remove_recipient};
 use mail_tree::Known;
 use node_port::Keeper;

@@ -5,7 +5,7 @@ use Rattle.std.specs.Str.{is_utf8}
 use Rattle.std.proofs.lemmas.Bool.{cases_Bool, true≢false}
 use Rattle.command_text.specs.declared.reply.CommandRefusal.{CommandRefusal}
 use Rattle.command_text.specs.declared.reply.LastLine.TheVariants as last
-use Rattle.mail_draft.specs.declared.stop.Stop.TheVariants.{Refused}
+use Rattle.store_session.specs.mail_draft.declared.stop.Stop.TheVariants.{Refused}
 use Rattle.mail_reading.proofs.Answered.{StopAnswers}
 use Rattle.mail_searches.specs.Searching.{Searching}
 use Rattle.mail_searches.specs.Step.{step}

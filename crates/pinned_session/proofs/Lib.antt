@@ -6,3 +6,4 @@ pub mod PinnedKeeps
 pub mod PinAnswers
 pub mod PinLaws
 pub mod Sessions
+pub use Rattle.store_session.proofs as store_session_laws

@@ -8,8 +8,8 @@ use Rattle.command_text.specs.declared.reply.LastLine.TheVariants.{NoMemory, Ref
 use Rattle.command_text.specs.declared.reply.Reply.{Reply}
 use Rattle.line_server.specs.Spoken.{no_memory_text, spoken_text}
 use Rattle.line_server.specs.declared.spoken.Spoken.{Spoken}
-use Rattle.mail_draft.specs.declared.stop.Stop.{Stop}
-use Rattle.mail_draft.specs.declared.stop.Stop.TheVariants as stops
+use Rattle.store_session.specs.mail_draft.declared.stop.Stop.{Stop}
+use Rattle.store_session.specs.mail_draft.declared.stop.Stop.TheVariants as stops
 use Rattle.mail_reading.proofs.Answered.{StopAnswers}
 use Rattle.mail_searches.specs.Searching.{Searching}
 use Rattle.mail_searches.specs.Step.{step}

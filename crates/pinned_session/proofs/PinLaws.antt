@@ -10,7 +10,7 @@ use Rattle.node_port.specs.Pins.{opened_without}
 use Rattle.mail_searches.specs.Searching.{Searching}
 use Rattle.mail_searches.specs.declared.known.KnownSearches.{KnownSearches}
 use Rattle.mail_tree.specs.declared.known.Known.{Known}
-use Rattle.mail_draft.proofs.Looking.{untouched_same}
+use Rattle.store_session.proofs.mail_draft_laws.Looking.{untouched_same}
 use Rattle.pinned_views.specs.Telling.{HoldsPinned, KeepsTold}
 use Rattle.store_session.specs.Carrying.{Has}
 use Rattle.pinned_session.specs.Holding.{AreViews, IsView, TellsTree}

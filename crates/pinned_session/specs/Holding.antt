@@ -8,7 +8,7 @@ use Rattle.mail_tree.specs.Tree.{Shown}
 use Rattle.mail_tree.specs.Whole.{IsWhole}
 use Rattle.mail_searches.specs.Searching.{AreSearches, Searching}
 use Rattle.mail_searches.specs.declared.known.KnownSearches.{KnownSearches}
-use Rattle.search_folders.specs.Comings.{KnowsSearches}
+use Rattle.mail_reading.specs.search_folders.Comings.{KnowsSearches}
 use Rattle.pinned_session.specs.Sitting.{AreNumbered, OpenPin, Sitting, pins_of}
 use Rattle.pinned_session.specs.declared.pins.PinView.{PinView}
 

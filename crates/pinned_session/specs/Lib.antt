@@ -7,3 +7,4 @@ pub mod Session
 pub mod Sits
 pub mod Sitting
 pub mod Views
+pub use Rattle.store_session.specs as store_session

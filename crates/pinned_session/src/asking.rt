@@ -2,23 +2,23 @@
 ghost use Rattle.std.specs.Prelude.{◌≡◌, IfErr};
 ghost use Rattle.pst_outside.specs.Calls.{Untouched};
 ghost use Rattle.node_port.specs.Nodes.{Nodes};
-ghost use Rattle.mail_draft.specs.Answers.{IsCaused, Says};
+ghost use Rattle.store_session.specs.mail_draft.Answers.{IsCaused, Says};
 ghost use Rattle.mail_reading.specs.Asked.{asked};
 ghost use Rattle.mail_searches.specs.Searching.{Searching};
 ghost use Rattle.pinned_views.specs.Telling.{KeepsTold};
-ghost use Rattle.search_folders.specs.Comings.{coming_of};
+ghost use Rattle.mail_reading.specs.search_folders.Comings.{coming_of};
 ghost use Rattle.pinned_session.specs.Holding.{TellsTree};
 
 use crate::pins::PinView;
 use command_text::Command;
-use mail_draft::Stop;
 use mail_reading::ask;
+use mail_reading::search_folders::Coming;
 use node_port::Pinner;
 use pinned_views::{Around, PinReader};
 use pst_outside::Outside;
-use search_folders::Coming;
 use std::alloc::Global;
 use std::marker::{Brand, PhantomData};
+use store_session::mail_draft::Stop;
 
 /// Asks a pin of a keeper that is to hold and to tell something, and gives the keeper back: it holds and tells that still.
 fn ask_under<P: Around, W: Outside, K: Pinner<W>>(

@@ -12,9 +12,9 @@ use line_server::Spoken;
 use node_port::Saver;
 use pinned_views::{Around, UnderPins};
 use pst_outside::Outside;
-use search_store::SearchStore;
 use std::alloc::Global;
 use std::marker::{Brand, PhantomData};
+use store_session::search_store::SearchStore;
 use store_session::{Store, StoreStop, carry_out};
 
 /// Carries out a command over a keeper whose pins are to tell something, and gives the store back: its pins tell that still.

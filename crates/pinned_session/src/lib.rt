@@ -14,3 +14,4 @@ mod pins;
 mod session;
 
 pub use session::run_session;
+pub use store_session;

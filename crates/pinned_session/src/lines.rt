@@ -19,9 +19,9 @@ use line_server::Spoken;
 use node_port::{Pinner, Saver};
 use pst_base::MemOr;
 use pst_outside::Outside;
-use search_store::SearchStore;
 use session_lines::{PinReply, SessionLine, read_session_line};
 use std::alloc::Global;
+use store_session::search_store::SearchStore;
 use store_session::{Store, StoreStop, refusal_spoken, reply_spoken, stopped};
 
 /// Carries out a command of the store. Its pins tell what they told.

@@ -3,14 +3,14 @@ ghost use Rattle.std.specs.Prelude.{◌≡◌, ◌==◌, position, IfOk};
 ghost use Rattle.mail_searches.specs.Searching.{Searching};
 ghost use Rattle.mail_tree.specs.Knowing.{Knows};
 ghost use Rattle.mail_tree.specs.Tree.{Tree};
-ghost use Rattle.search_folders.specs.Comings.{KnowsSearches};
+ghost use Rattle.mail_reading.specs.search_folders.Comings.{KnowsSearches};
 ghost use Rattle.pinned_session.specs.Views.{place_of};
 
 use mail_searches::KnownSearches;
 use mail_tree::{Flags, Known};
 use node_port::Counts;
-use search_store::SearchStore;
 use std::alloc::{AllocError, Global};
+use store_session::search_store::SearchStore;
 
 /// What is known of a pin beside its keeper: its number, and of the moment when it was made the counters and what was known of the tree.
 #[derive(Drop)]

@@ -15,8 +15,8 @@ use crate::pins::PinnedStore;
 use line_server::serve;
 use node_port::{Pinner, Saver};
 use pst_outside::Outside;
-use search_store::SearchStore;
 use std::alloc::{AllocError, Global};
+use store_session::search_store::SearchStore;
 use store_session::{SessionEnd, end_of};
 
 /// A session over a store without pins: takes lines until the input ends, a line is `quit`, a device fails, something changed, or 2^32 lines were taken.

@@ -32,13 +32,13 @@ use Rattle.mail_tree.proofs.Nearly.{Puts}
 use Rattle.mail_tree.proofs.Settles.{folders_of}
 use Rattle.mail_tree.proofs.StoodLaws.{AreStood, IsNew, after_limits, fine_stood, none_stood, values_stood}
 use Rattle.mail_laws.specs.Laws.{Counts, Mirrors}
-use Rattle.mail_store.proofs.QuietLaws.{quiet}
+use Rattle.search_store.proofs.mail_store_laws.QuietLaws.{quiet}
 use Rattle.mail_searches.specs.Building.{built_rows}
 use Rattle.mail_searches.specs.Relisting.{with_results}
 use Rattle.mail_searches.specs.Searches.{Search, ShowsCriteria, criteria_node, criteria_of, find_search, lists, results, row_ids, runs, search_id, search_of}
 use Rattle.mail_searches.specs.Searching.{AreSearches, IsOfSearch, Searching, is_own}
 use Rattle.mail_searches.specs.Step.{after}
-use Rattle.search_folders.specs.Pieces.{criteria_at}
+use Rattle.search_store.specs.search_folders.Pieces.{criteria_at}
 use Rattle.search_lists.proofs.AfterOrder.{results_keep_order}
 use Rattle.search_lists.specs.Keeps.{IsThere, KeepsOrder}
 use Rattle.search_laws.proofs.Marked.{marks_still}

@@ -22,7 +22,7 @@ use Rattle.mail_searches.specs.Criteria.{Coming, can_hold}
 use Rattle.mail_searches.specs.Relisting.{with_results}
 use Rattle.mail_searches.specs.Searches.{Search, criteria_node, criteria_of, find_search, lists, results, row_ids, runs}
 use Rattle.mail_searches.specs.Searching.{Searching}
-use Rattle.search_folders.specs.Pieces.{criteria_at}
+use Rattle.search_store.specs.search_folders.Pieces.{criteria_at}
 
 -- ---- which searches are to be mended
 

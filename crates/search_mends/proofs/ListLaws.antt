@@ -12,9 +12,9 @@ use Rattle.mail_tree.specs.declared.places.FolderPlace.{FolderPlace}
 use Rattle.mail_tree.specs.Tree.{Tree, object_at}
 use Rattle.mail_tree.specs.Whole.{Fine, IsWhole}
 use Rattle.mail_tree.proofs.AfterTree.{now_nothing}
-use Rattle.mail_draft.specs.Answers.{Says}
-use Rattle.mail_draft.specs.declared.stop.Stop.{Stop}
-use Rattle.mail_draft.proofs.Passes.{stop_says, then_says}
+use Rattle.store_session.specs.mail_draft.Answers.{Says}
+use Rattle.store_session.specs.mail_draft.declared.stop.Stop.{Stop}
+use Rattle.store_session.proofs.mail_draft_laws.Passes.{stop_says, then_says}
 use Rattle.mail_searches.specs.Building.{built_rows, found_below}
 use Rattle.mail_searches.specs.Searches.{Search, lists, results, row_ids, runs}
 use Rattle.search_laws.proofs.SettingLists.{AreBuilt, rows_built}

@@ -6,19 +6,19 @@ use Rattle.mail_objects.specs.Forms.{Ctx, Tbl}
 use Rattle.mail_tree.specs.Changing.{Answer, Changed, ◌>>=◌}
 use Rattle.mail_tree.specs.Folders as tree
 use Rattle.mail_tree.specs.Folders.{changing, replied}
-use Rattle.mail_draft.specs.Answers.{Says}
-use Rattle.mail_draft.specs.Drafts.{changed_of}
-use Rattle.mail_draft.specs.Outcomes.{outcome_of}
-use Rattle.mail_draft.specs.declared.draft.Draft.{Draft}
-use Rattle.mail_draft.specs.declared.outcome.Outcome.{Outcome}
-use Rattle.mail_draft.specs.declared.stop.Stop.{Stop}
-use Rattle.mail_draft.proofs.Passes.{stop_says, then_says}
-use Rattle.mail_folders.proofs.Steps.{in_turn, stops_first, stops_second}
+use Rattle.store_session.specs.mail_draft.Answers.{Says}
+use Rattle.store_session.specs.mail_draft.Drafts.{changed_of}
+use Rattle.store_session.specs.mail_draft.Outcomes.{outcome_of}
+use Rattle.store_session.specs.mail_draft.declared.draft.Draft.{Draft}
+use Rattle.store_session.specs.mail_draft.declared.outcome.Outcome.{Outcome}
+use Rattle.store_session.specs.mail_draft.declared.stop.Stop.{Stop}
+use Rattle.store_session.proofs.mail_draft_laws.Passes.{stop_says, then_says}
+use Rattle.store_session.proofs.mail_folders_laws.Steps.{in_turn, stops_first, stops_second}
 use Rattle.mail_searches.specs.Searches.{find_search}
 use Rattle.mail_searches.specs.Searching.{Searching}
-use Rattle.mail_store.proofs.QuietLaws.{Right, if_any, if_then, quiet, then_changing}
-use Rattle.mail_store.specs.Planning.{StaysUnwritten}
-use Rattle.search_folders.specs.Pieces.{criteria_at}
+use Rattle.store_session.proofs.mail_store_laws.QuietLaws.{Right, if_any, if_then, quiet, then_changing}
+use Rattle.store_session.specs.mail_store.Planning.{StaysUnwritten}
+use Rattle.store_session.specs.search_folders.Pieces.{criteria_at}
 use Rattle.search_mending.specs.Mending.{Mending, is_first, list_of_any, mended_search, mending, mending_with, touched_if, turned, with_list}
 use Rattle.search_mends.specs.Mendings.{mending_of}
 use Rattle.search_mends.specs.declared.coming.SearchMending.{SearchMending}

@@ -5,15 +5,15 @@ use Rattle.pst_outside.specs.Calls.{LeavesOnly, NeverFall, Settled, Untouched}
 use Rattle.pst_outside.proofs.Moments.{continues, quiet, stays_settled}
 use Rattle.node_port.specs.Nodes.{Nodes}
 use Rattle.node_port.specs.Stops.{Room}
-use Rattle.mail_draft.specs.Answers.{Looks}
-use Rattle.mail_store.specs.Planning.{SameKnown, StandsFor}
-use Rattle.mail_store.proofs.StoreLaws.{shown_stands, stores_still}
+use Rattle.store_session.specs.mail_draft.Answers.{Looks}
+use Rattle.store_session.specs.mail_store.Planning.{SameKnown, StandsFor}
+use Rattle.store_session.proofs.mail_store_laws.StoreLaws.{shown_stands, stores_still}
 use Rattle.mail_searches.specs.Searching.{Searching}
 use Rattle.mail_searches.specs.Step.{after}
-use Rattle.search_folders.specs.Comings.{KnowsSearches}
+use Rattle.store_session.specs.search_folders.Comings.{KnowsSearches}
 use Rattle.search_mending.specs.Mending.{Mending, mended_search}
 use Rattle.search_mends.specs.Mends.{HasMendable, IsBeside, LeavesOne}
-use Rattle.search_store.specs.declared.store.SearchStore.{SearchStore}
+use Rattle.store_session.specs.search_store.declared.store.SearchStore.{SearchStore}
 
 -- no count of faults falls from one call to the next
 pub falls_along : {a b c : World} → NeverFall a b → NeverFall b c → NeverFall a c

@@ -8,12 +8,12 @@ use Rattle.command_text.specs.declared.reply.CommandRefusal.TheVariants as refus
 use Rattle.node_port.specs.Stops.{Room}
 use Rattle.mail_tree.specs.Changing.{Answer}
 use Rattle.mail_tree.specs.Whole.{Fine}
-use Rattle.mail_draft.specs.Answers as draft
-use Rattle.mail_draft.specs.Answers.{Says}
-use Rattle.mail_draft.specs.declared.stop.Stop.{Stop}
-use Rattle.mail_draft.specs.declared.stop.Stop.TheVariants as stops
-use Rattle.mail_store.specs.Planning.{IsHindered, StaysUnwritten}
-use Rattle.mail_store.proofs.StoreLaws.{of_answer}
+use Rattle.store_session.specs.mail_draft.Answers as draft
+use Rattle.store_session.specs.mail_draft.Answers.{Says}
+use Rattle.store_session.specs.mail_draft.declared.stop.Stop.{Stop}
+use Rattle.store_session.specs.mail_draft.declared.stop.Stop.TheVariants as stops
+use Rattle.store_session.specs.mail_store.Planning.{IsHindered, StaysUnwritten}
+use Rattle.store_session.proofs.mail_store_laws.StoreLaws.{of_answer}
 use Rattle.mail_searches.specs.Searching.{Searching, is_own}
 use Rattle.search_mending.specs.Laws.{IsMendable, Mends}
 use Rattle.search_mending.specs.Mending.{Mending, mended_search}

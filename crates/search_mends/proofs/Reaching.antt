@@ -11,7 +11,7 @@ use Rattle.pst_outside.specs.Calls.{LeavesOnly}
 use Rattle.pst_outside.proofs.Moments.{continues, started}
 use Rattle.node_port.specs.Nodes.{Nodes}
 use Rattle.node_port.specs.Stops.{Room}
-use Rattle.mail_store.specs.Planning.{StandsFor}
+use Rattle.store_session.specs.mail_store.Planning.{StandsFor}
 use Rattle.mail_tree.specs.Changing.{◌>>=◌}
 use Rattle.mail_tree.specs.Places.{place_id}
 use Rattle.mail_tree.specs.Whole.{Fine}

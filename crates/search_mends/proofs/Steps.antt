@@ -2,8 +2,8 @@
 use Rattle.std.proofs.Common.{◌≡◌, None, Some, Result, Ok, Err, ap, subst, sym}
 use Rattle.mail_tree.specs.Changing.{Answer, ◌>>=◌}
 use Rattle.mail_tree.specs.Whole.{Fine}
-use Rattle.mail_draft.specs.Answers.{Says}
-use Rattle.mail_draft.specs.declared.stop.Stop.{Stop}
+use Rattle.store_session.specs.mail_draft.Answers.{Says}
+use Rattle.store_session.specs.mail_draft.declared.stop.Stop.{Stop}
 
 -- what a call gives goes into the next step, which may hang on that it was given
 pub then_given : {A B C D : Type 0} (view : B → A) (view' : D → C) (answer : Answer A) (f : A → Answer C) (y : B) (result : Result D Stop)

@@ -7,9 +7,9 @@ use Rattle.search_obj.specs.Writing.{written}
 use Rattle.mail_objects.specs.Forms.{Ctx}
 use Rattle.mail_tree.specs.Changing.{nothing}
 use Rattle.mail_tree.specs.Settling.{with_context}
-use Rattle.mail_draft.specs.Answers.{Says}
-use Rattle.mail_draft.specs.Drafts.{changed_of}
-use Rattle.mail_draft.specs.declared.draft.Draft.{Draft}
+use Rattle.store_session.specs.mail_draft.Answers.{Says}
+use Rattle.store_session.specs.mail_draft.Drafts.{changed_of}
+use Rattle.store_session.specs.mail_draft.declared.draft.Draft.{Draft}
 use Rattle.mail_searches.proofs.HoldLaws.{written_holds}
 use Rattle.mail_searches.specs.Searches.{criteria_node}
 use Rattle.search_mending.specs.Mending.{can_hold_any, is_first, turned}

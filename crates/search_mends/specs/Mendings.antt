@@ -1,8 +1,8 @@
 -- What mending a search comes to, as contracts see it, and what is planned of it.
 use Rattle.std.specs.Prelude.{◌≡◌, ℕ, Result, Ok, Err}
 use Rattle.node_port.specs.Stops.{Room}
-use Rattle.mail_draft.specs.Outcomes.{outcome_of}
-use Rattle.mail_store.specs.Space.{HasRoom}
+use Rattle.store_session.specs.mail_draft.Outcomes.{outcome_of}
+use Rattle.store_session.specs.mail_store.Space.{HasRoom}
 use Rattle.mail_searches.specs.Searching.{Searching}
 use Rattle.search_mending.specs.Mending.{Mending, mended_search}
 use Rattle.search_mends.specs.Stops.{StopsMending}

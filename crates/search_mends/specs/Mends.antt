@@ -6,7 +6,7 @@ use Rattle.pst_outside.specs.Calls.{LeavesOnly, Settled}
 use Rattle.node_port.specs.Nodes.{Nodes}
 use Rattle.node_port.specs.Stops.{Room}
 use Rattle.node_port.specs.declared.node.NodeRec.{NodeRec}
-use Rattle.mail_store.specs.Planning.{StandsFor}
+use Rattle.store_session.specs.mail_store.Planning.{StandsFor}
 use Rattle.mail_searches.specs.Searching.{Searching}
 use Rattle.mail_searches.specs.Step.{after}
 use Rattle.search_mending.specs.Laws.{IsMendable}
@@ -17,8 +17,8 @@ use Rattle.search_mends.specs.declared.all.Mended.{Mended}
 use Rattle.search_mends.specs.declared.one.WasMended.{WasMended}
 use Rattle.search_mends.specs.declared.stop.MendStop.{MendStop}
 use Rattle.search_mends.specs.declared.stop.MendStop.TheVariants.{Memory}
-use Rattle.search_store.specs.Planning.{StoresSearches}
-use Rattle.search_store.specs.declared.store.SearchStore.{SearchStore}
+use Rattle.store_session.specs.search_store.Planning.{StoresSearches}
+use Rattle.store_session.specs.search_store.declared.store.SearchStore.{SearchStore}
 use Rattle.store_session.specs.Disks.{Commits, Medium, SameMedium, medium}
 
 -- A store over a keeper has the tree with its searches, which is in order but for what these list, and tidy if `tidy`; nothing is pending, and the disk is as a commit needs it.

@@ -5,9 +5,9 @@ use Rattle.pst_outside.specs.Calls.{Rose}
 use Rattle.command_text.specs.declared.reply.CommandRefusal.{CommandRefusal}
 use Rattle.command_text.specs.declared.reply.CommandRefusal.TheVariants as refusals
 use Rattle.node_port.specs.Stops.{Room}
-use Rattle.mail_draft.specs.declared.stop.Stop.{Stop}
-use Rattle.mail_draft.specs.declared.stop.Stop.TheVariants as stops
-use Rattle.mail_store.specs.Planning.{IsHindered}
+use Rattle.store_session.specs.mail_draft.declared.stop.Stop.{Stop}
+use Rattle.store_session.specs.mail_draft.declared.stop.Stop.TheVariants as stops
+use Rattle.store_session.specs.mail_store.Planning.{IsHindered}
 use Rattle.mail_searches.specs.Searching.{Searching}
 use Rattle.search_mending.specs.Mending.{Mending, mended_search}
 use Rattle.search_mends.specs.declared.stop.MendStop.{MendStop}

@@ -14,8 +14,8 @@ use mail_tree::Places;
 use node_port::Keeper;
 use pst_base::{Ledger, Nid, Steps};
 use pst_outside::Outside;
-use search_store::SearchStore;
 use std::alloc::{AllocError, Global};
+use store_session::search_store::SearchStore;
 
 /// How many searches were mended: of `stale` the list was made anew, and of `migrated` the criteria object was turned into one of the second version.
 #[derive(Clone, Copy, Debug, PartialEq, Eq, Drop)]

@@ -3,27 +3,27 @@ ghost use Rattle.std.specs.Prelude.{◌≡◌, IfErr};
 ghost use Rattle.mail_tree.specs.Knowing.{Knows};
 ghost use Rattle.mail_tree.specs.Tree.{Shown, Tree};
 ghost use Rattle.mail_tree.specs.Whole.{IsWhole};
-ghost use Rattle.mail_draft.specs.Answers.{IsCaused, Looks, Says};
-ghost use Rattle.mail_draft.specs.Drafts.{changed_of};
+ghost use Rattle.store_session.specs.mail_draft.Answers.{IsCaused, Looks, Says};
+ghost use Rattle.store_session.specs.mail_draft.Drafts.{changed_of};
 ghost use Rattle.mail_searches.specs.Searching.{Searching};
-ghost use Rattle.search_folders.specs.Comings.{KnowsSearches};
+ghost use Rattle.store_session.specs.search_folders.Comings.{KnowsSearches};
 ghost use Rattle.search_mending.specs.Mending.{mended_search, mending_with, with_list};
 ghost use Rattle.search_mends.specs.Mendings.{mending_of};
 
 use crate::listing::list_of_any;
 use crate::touching::touched_if;
 use crate::turning::{is_first, turned};
-use mail_draft::{Draft, Outcome, Stop, changing};
 use mail_objects::{Context, TableNode};
 use mail_searches::KnownSearches;
 use mail_tree::Known;
 use node_port::NodeReader;
 use pst_base::{Ledger, Nid, Steps};
 use pst_outside::Outside;
-use search_folders::criteria_at;
 use search_obj::Criteria;
-use search_results::with_results;
 use std::alloc::Global;
+use store_session::mail_draft::{Draft, Outcome, Stop, changing};
+use store_session::search_folders::criteria_at;
+use store_session::search_results::with_results;
 
 /// What mending a search comes to: whether its list was stale, whether its criteria object was of the first version, and what is changed. The searches stay what they are. Contracts see `mending_of` it.
 #[derive(Debug, Drop)]

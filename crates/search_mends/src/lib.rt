@@ -17,3 +17,4 @@ mod turning;
 pub use all::{Mended, mend_searches};
 pub use coming::{SearchMending, mending};
 pub use stop::MendStop;
+pub use store_session::{mail_store, search_store};

@@ -4,13 +4,11 @@ ghost use Rattle.std.specs.Cmp.Lexicographic.{pointwise};
 ghost use Rattle.mapi_values.specs.Tables.{IsTable};
 ghost use Rattle.mail_tree.specs.Tree.{Shown, Tree};
 ghost use Rattle.mail_tree.specs.Whole.{IsWhole};
-ghost use Rattle.mail_draft.specs.Answers.{IsCaused, Looks, Says};
+ghost use Rattle.store_session.specs.mail_draft.Answers.{IsCaused, Looks, Says};
 ghost use Rattle.mail_searches.specs.Building.{built_rows};
 ghost use Rattle.mail_searches.specs.Searches.{find_search, row_ids, search_id};
 ghost use Rattle.search_mending.specs.Mending.{list_if_wrong, list_of_any, or_stood, with_other_rows, with_stood};
 
-use mail_draft::Stop;
-use mail_folders::table_in;
 use mail_objects::TableNode;
 use mail_searches::{OwnSearch, Searches};
 use mail_tree::Places;
@@ -18,9 +16,11 @@ use mapi_values::{Props, Table};
 use node_port::NodeReader;
 use pst_base::{Ledger, Nid, Steps};
 use pst_outside::Outside;
-use search_folders::find_below;
-use search_results::results_table;
 use std::alloc::{AllocError, Global};
+use store_session::mail_draft::Stop;
+use store_session::mail_folders::table_in;
+use store_session::search_folders::find_below;
+use store_session::search_results::results_table;
 
 /// Whether a search is that of this folder.
 fn is_of(search: &OwnSearch, folder: Nid) -> bool

@@ -10,8 +10,8 @@ use crate::stop::MendStop;
 use node_port::Keeper;
 use pst_base::{Ledger, Nid, Steps};
 use pst_outside::Outside;
-use search_store::{PlannedSearch, SearchStore, commit};
 use std::alloc::Global;
+use store_session::search_store::{PlannedSearch, SearchStore, commit};
 
 /// A search that was mended: whether its list was stale, and whether its criteria object was of the first version.
 #[derive(Clone, Copy, Debug, Drop)]

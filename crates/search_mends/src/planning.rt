@@ -3,22 +3,22 @@ ghost use Rattle.std.specs.Prelude.{◌≡◌, ℕ, Bool, List, Option, true, If
 ghost use Rattle.std.specs.Option.{ForSome};
 ghost use Rattle.pst_base.specs.declared.ids.Nid.{Nid as Id};
 ghost use Rattle.node_port.specs.declared.node.NodeRec.{NodeRec as Rec};
-ghost use Rattle.mail_draft.specs.Answers.{Looks};
-ghost use Rattle.mail_store.specs.Planning.{PlansTo, SameKnown};
+ghost use Rattle.store_session.specs.mail_draft.Answers.{Looks};
+ghost use Rattle.store_session.specs.mail_store.Planning.{PlansTo, SameKnown};
 ghost use Rattle.mail_searches.specs.Searching.{Searching, is_own};
 ghost use Rattle.search_mending.specs.Laws.{IsMendable};
 ghost use Rattle.search_mends.specs.Mendings.{PlansMending};
 ghost use Rattle.search_mends.specs.Stops.{IsCaused};
-ghost use Rattle.search_store.specs.Planning.{StoresSearches};
+ghost use Rattle.store_session.specs.search_store.Planning.{StoresSearches};
 
 use crate::coming::{SearchMending, mending};
 use crate::stop::{MendStop, of_hindrance, of_refusal};
-use mail_store::{Planned, plan_outcome};
 use node_port::Keeper;
 use pst_base::{Ledger, Nid, Steps};
 use pst_outside::Outside;
-use search_store::SearchStore;
 use std::alloc::Global;
+use store_session::mail_store::{Planned, plan_outcome};
+use store_session::search_store::SearchStore;
 
 /// Mending a search that is planned: whether its list was stale, whether its criteria object was of the first version, and what is planned in the tree. It may be given up: then nothing has changed.
 #[derive(Drop)]

@@ -3,10 +3,10 @@ ghost use Rattle.std.specs.Prelude.{◌≡◌};
 ghost use Rattle.search_mends.specs.Stops.{of_hindrance, of_refusal};
 
 use command_text::CommandRefusal;
-use mail_draft::Stop;
 use pst_base::Nid;
 use pst_outside::Failed;
 use std::alloc::AllocError;
+use store_session::mail_draft::Stop;
 
 /// Why mending the searches of a store stopped. The searches before stay mended.
 #[derive(Clone, Copy, Debug, PartialEq, Eq, Drop)]

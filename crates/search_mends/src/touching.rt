@@ -2,18 +2,18 @@
 ghost use Rattle.std.specs.Prelude.{◌≡◌, IfErr};
 ghost use Rattle.mail_tree.specs.Settling.{context_as_is, table_as_is};
 ghost use Rattle.mail_tree.specs.Tree.{Shown, Tree};
-ghost use Rattle.mail_draft.specs.Answers.{IsCaused, Looks, Says};
-ghost use Rattle.mail_draft.specs.Drafts.{changed_of};
+ghost use Rattle.store_session.specs.mail_draft.Answers.{IsCaused, Looks, Says};
+ghost use Rattle.store_session.specs.mail_draft.Drafts.{changed_of};
 ghost use Rattle.mail_searches.specs.Searches.{criteria_node};
 ghost use Rattle.search_mending.specs.Mending.{listed_as_is, search_as_is, touched_if};
 
-use mail_draft::{Draft, Stop, context_at, hierarchy, table_at};
 use mail_objects::Object;
 use node_port::NodeReader;
 use pst_base::{Nid, make_nid};
 use pst_outside::Outside;
-use search_results::results_table;
 use std::alloc::Global;
+use store_session::mail_draft::{Draft, Stop, context_at, hierarchy, table_at};
+use store_session::search_results::results_table;
 
 /// The criteria object of a search.
 fn criteria_node(search: Nid) -> Nid

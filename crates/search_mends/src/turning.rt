@@ -1,15 +1,15 @@
 //! The criteria object of a search, turned into one of the second version.
 ghost use Rattle.std.specs.Prelude.{◌≡◌, IfErr};
-ghost use Rattle.mail_draft.specs.Answers.{IsCalm, Says};
-ghost use Rattle.mail_draft.specs.Drafts.{changed_of};
+ghost use Rattle.store_session.specs.mail_draft.Answers.{IsCalm, Says};
+ghost use Rattle.store_session.specs.mail_draft.Drafts.{changed_of};
 ghost use Rattle.search_mending.specs.Mending.{is_first, turned};
 
-use mail_draft::{Draft, Stop};
 use mail_objects::Context;
 use pst_base::Nid;
-use search_folders::saying;
 use search_obj::{Criteria, Version};
 use std::alloc::Global;
+use store_session::mail_draft::{Draft, Stop};
+use store_session::search_folders::saying;
 
 /// Whether criteria stand in an object of the first version.
 pub(crate) fn is_first(criteria: &Criteria) -> bool

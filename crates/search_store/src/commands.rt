@@ -21,11 +21,11 @@ use mail_tree::Known;
 use node_port::Keeper;
 use pst_base::{Ledger, Steps};
 use pst_outside::Outside;
+use search_folders::search_results::conclude;
 use search_folders::{
     Coming, get_criteria, list_folder, make_search, move_search, remove_search, rename_search,
     set_criteria,
 };
-use search_results::conclude;
 use std::alloc::Global;
 
 /// What a command that knows no searches comes to: what it comes to in the tree, with what it changes in the lists of searches.

@@ -9,5 +9,9 @@ mod commands;
 mod planned;
 mod store;
 
+pub use mail_draft;
+pub use mail_store;
 pub use planned::PlannedSearch;
+pub use search_folders;
+pub use search_folders::{mail_folders, search_results};
 pub use store::{SearchStore, commit, plan, save};

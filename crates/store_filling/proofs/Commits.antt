@@ -9,9 +9,9 @@ use Rattle.line_server.proofs.Hearing.{falls_along}
 use Rattle.node_port.specs.Nodes.{Nodes}
 use Rattle.node_port.specs.Pins.{Pins}
 use Rattle.node_port.specs.Stops.{Room}
-use Rattle.mail_draft.specs.Answers.{IsCaused}
-use Rattle.mail_draft.specs.declared.stop.Stop.{Stop}
-use Rattle.mail_draft.specs.declared.stop.Stop.TheVariants as stops
+use Rattle.mail_reading.specs.mail_draft.Answers.{IsCaused}
+use Rattle.mail_reading.specs.mail_draft.declared.stop.Stop.{Stop}
+use Rattle.mail_reading.specs.mail_draft.declared.stop.Stop.TheVariants as stops
 use Rattle.mail_tree.specs.Changing.{Answer}
 use Rattle.mail_tree.specs.declared.known.Known.{Known}
 use Rattle.mail_tree.specs.Whole.{Fine}
@@ -21,7 +21,7 @@ use Rattle.mail_searches.specs.Step.{after, outcome}
 use Rattle.mail_searches.specs.declared.known.KnownSearches.{KnownSearches}
 use Rattle.search_lists.specs.Order.{InOrder}
 use Rattle.search_laws.proofs.Joining.{stays_in_order}
-use Rattle.search_store.specs.Planning.{PlansComing}
+use Rattle.store_session.specs.search_store.Planning.{PlansComing}
 use Rattle.store_session.specs.Carrying.{Has, Leaves, StandsOrdered}
 use Rattle.store_session.proofs.Carry.{stands_here}
 use Rattle.store_session.specs.Disks.{Effects, SameMedium, medium}

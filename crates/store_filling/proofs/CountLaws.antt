@@ -9,20 +9,20 @@ use Rattle.node_port.specs.Nodes.{Nodes}
 use Rattle.node_port.specs.Stops.{Room}
 use Rattle.pst_outside.specs.World.{Image, World}
 use Rattle.pst_outside.proofs.Moments.{stays_settled}
-use Rattle.mail_draft.specs.Answers.{Looks, Says}
-use Rattle.mail_draft.proofs.Looking.{shown_still}
-use Rattle.mail_draft.specs.declared.stop.Stop.{Stop}
-use Rattle.mail_draft.specs.declared.stop.Stop.TheVariants as stops
+use Rattle.mail_reading.specs.mail_draft.Answers.{Looks, Says}
+use Rattle.mail_reading.proofs.mail_draft_laws.Looking.{shown_still}
+use Rattle.mail_reading.specs.mail_draft.declared.stop.Stop.{Stop}
+use Rattle.mail_reading.specs.mail_draft.declared.stop.Stop.TheVariants as stops
 use Rattle.mail_tree.specs.Changing.{Answer}
 use Rattle.mail_tree.specs.declared.known.Known.{Known}
 use Rattle.mail_searches.specs.Criteria as defined
 use Rattle.mail_searches.specs.Searching.{Searching}
 use Rattle.mail_searches.specs.Step.{outcome}
 use Rattle.mail_searches.specs.declared.known.KnownSearches.{KnownSearches}
-use Rattle.search_folders.specs.Comings.{coming_of}
-use Rattle.search_folders.specs.declared.coming.Coming.{Coming}
+use Rattle.mail_reading.specs.search_folders.Comings.{coming_of}
+use Rattle.mail_reading.specs.search_folders.declared.coming.Coming.{Coming}
 use Rattle.search_lists.specs.Order.{InOrder}
-use Rattle.search_store.specs.Planning.{StoresSearches}
+use Rattle.store_session.specs.search_store.Planning.{StoresSearches}
 use Rattle.store_session.specs.Carrying.{Has}
 use Rattle.store_filling.specs.Counts.{CountsSo, ListsSo, sizes_in}
 use Rattle.store_filling.specs.declared.commands.Made.{Made}

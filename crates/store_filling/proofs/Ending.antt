@@ -3,9 +3,9 @@ use Rattle.std.proofs.Common.{◌≡◌, ◌⊎◌, inl, inr, ◌∙◌, ℕ, �
 use Rattle.std.proofs.lemmas.List.{append-nil}
 use Rattle.pst_outside.specs.World.{Image, World}
 use Rattle.pst_outside.specs.Calls.{LeavesOnly, Settled, Untouched}
-use Rattle.mail_draft.specs.Answers.{Says}
-use Rattle.mail_draft.specs.declared.stop.Stop.{Stop}
-use Rattle.mail_draft.specs.declared.stop.Stop.TheVariants as stops
+use Rattle.mail_reading.specs.mail_draft.Answers.{Says}
+use Rattle.mail_reading.specs.mail_draft.declared.stop.Stop.{Stop}
+use Rattle.mail_reading.specs.mail_draft.declared.stop.Stop.TheVariants as stops
 use Rattle.mail_objects.specs.Forms.{Ctx}
 use Rattle.mail_tree.specs.Changing.{Answer, as_context, context_at, known, nothing}
 use Rattle.mail_tree.specs.Tree.{Tree}

@@ -6,8 +6,8 @@ use Rattle.pst_outside.specs.Calls.{LeavesOnly, Settled}
 use Rattle.pst_outside.proofs.Moments.{continues, started, weaker}
 use Rattle.command_text.specs.declared.command.Command.{Command}
 use Rattle.command_text.specs.declared.reply.Reply.{Reply}
-use Rattle.mail_draft.specs.declared.stop.Stop.{Stop}
-use Rattle.mail_draft.specs.declared.stop.Stop.TheVariants as stops
+use Rattle.mail_reading.specs.mail_draft.declared.stop.Stop.{Stop}
+use Rattle.mail_reading.specs.mail_draft.declared.stop.Stop.TheVariants as stops
 use Rattle.mail_searches.specs.Searching.{Searching}
 use Rattle.store_session.specs.Disks.{Effects, Medium, SameMedium, medium}
 use Rattle.store_session.proofs.Carry.{its_medium}

@@ -3,8 +3,8 @@ use Rattle.std.specs.Prelude.{◌≡◌, ◌⊎◌, ℕ, ◌<◌, ◌≤◌, Lis
 use Rattle.pst_outside.specs.World.{Image, World}
 use Rattle.pst_outside.specs.Calls.{LeavesOnly}
 use Rattle.command_text.specs.declared.command.Command.{Command}
-use Rattle.mail_draft.specs.declared.stop.Stop.{Stop}
-use Rattle.mail_draft.specs.declared.stop.Stop.TheVariants as stops
+use Rattle.mail_reading.specs.mail_draft.declared.stop.Stop.{Stop}
+use Rattle.mail_reading.specs.mail_draft.declared.stop.Stop.TheVariants as stops
 use Rattle.mail_searches.specs.Searching.{Searching}
 use Rattle.store_session.specs.Disks.{Effects, Medium, SameMedium, medium}
 use Rattle.store_filling.specs.Commands.{fill_command, nothing_made}

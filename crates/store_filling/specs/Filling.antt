@@ -7,10 +7,10 @@ use Rattle.command_text.specs.declared.command.Command.TheVariants.{ListFolder}
 use Rattle.command_text.specs.declared.reply.CommandRefusal.{CommandRefusal}
 use Rattle.command_text.specs.declared.reply.Reply.{Reply}
 use Rattle.node_port.specs.Stops.{Room}
-use Rattle.mail_draft.specs.declared.stop.Stop.{Stop}
-use Rattle.mail_draft.specs.declared.stop.Stop.TheVariants as stops
-use Rattle.mail_store.specs.Planning.{IsHindered}
-use Rattle.mail_store.specs.Space.{HasRoom}
+use Rattle.mail_reading.specs.mail_draft.declared.stop.Stop.{Stop}
+use Rattle.mail_reading.specs.mail_draft.declared.stop.Stop.TheVariants as stops
+use Rattle.store_session.specs.mail_store.Planning.{IsHindered}
+use Rattle.store_session.specs.mail_store.Space.{HasRoom}
 use Rattle.mail_searches.specs.Criteria.{Coming}
 use Rattle.mail_searches.specs.Searching.{Searching}
 use Rattle.mail_searches.specs.Step.{after, outcome}

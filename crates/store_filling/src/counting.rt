@@ -1,15 +1,15 @@
 //! What is counted at the end.
 ghost use Rattle.std.specs.Prelude.{◌≡◌, ◌≤◌, ◌<◌, ◌+◌, ◌-◌, ◌^◌, Bool, min, IfErr};
-ghost use Rattle.mail_draft.specs.Answers.{IsCaused, Looks};
+ghost use Rattle.mail_reading.specs.mail_draft.Answers.{IsCaused, Looks};
 ghost use Rattle.mail_searches.specs.Searching.{Searching};
 ghost use Rattle.search_lists.specs.Order.{InOrder};
-ghost use Rattle.search_store.specs.Planning.{StoresSearches};
+ghost use Rattle.store_session.specs.search_store.Planning.{StoresSearches};
 ghost use Rattle.store_filling.specs.Counts.{CountsSo, ListsSo, message_in, messages_in, size_in, sizes_in};
 
 use crate::commands::Made;
 use command_text::{Command, DataLine, DataLines};
-use mail_draft::Stop;
 use mail_reading::ask;
+use mail_reading::mail_draft::Stop;
 use mail_searches::KnownSearches;
 use mail_tree::Known;
 use node_port::NodeReader;

@@ -1,7 +1,7 @@
 //! One command, carried out.
 ghost use Rattle.std.specs.Prelude.{◌≡◌, Bool, true, IfErr};
 ghost use Rattle.line_server.specs.Worlds.{Quiet};
-ghost use Rattle.mail_draft.specs.Answers.{IsCaused};
+ghost use Rattle.mail_reading.specs.mail_draft.Answers.{IsCaused};
 ghost use Rattle.mail_searches.specs.Searching.{Searching};
 ghost use Rattle.store_session.specs.Carrying.{Has, StandsOrdered};
 ghost use Rattle.store_session.specs.Disks.{effects_of};
@@ -9,14 +9,14 @@ ghost use Rattle.command_text.specs.declared.reply.Reply.{Reply as Replies};
 ghost use Rattle.store_filling.specs.Doing.{CommandEnds};
 
 use command_text::{Command, Reply};
-use mail_draft::Stop;
+use mail_reading::mail_draft::Stop;
 use node_port::Saver;
 use pst_outside::{Failed, Outside};
-use search_store::{SearchStore, commit};
 use std::alloc::Global;
 use std::marker::Brand;
 use std::sync::ledger::Blank;
 use store_session::plan_counted;
+use store_session::search_store::{SearchStore, commit};
 
 /// Carries out a command by one commit, and gives its reply. A command that is refused, or for which there is no room, no number or no memory left, changes nothing. `Fault` comes where the disk failed; of the store nothing more is known then.
 pub(crate) fn do_command<W: Outside, K: Saver<W>>(

@@ -1,7 +1,7 @@
 //! All commands, and what is counted behind them.
 ghost use Rattle.std.specs.Prelude.{◌≡◌, Bool, true, IfErr};
 ghost use Rattle.line_server.specs.Worlds.{Quiet};
-ghost use Rattle.mail_draft.specs.Answers.{IsCaused};
+ghost use Rattle.mail_reading.specs.mail_draft.Answers.{IsCaused};
 ghost use Rattle.mail_searches.specs.Searching.{Searching};
 ghost use Rattle.store_session.specs.Carrying.{Has, StandsOrdered};
 ghost use Rattle.store_session.specs.Disks.{effects_of};
@@ -13,12 +13,12 @@ use crate::commands::{Made, command_at, made_after};
 use crate::counting::{FillCounts, count_filled};
 use crate::doing::do_command;
 use crate::places::{FillPlaces, fill_places};
-use mail_draft::Stop;
+use mail_reading::mail_draft::Stop;
 use node_port::Saver;
 use pst_base::Nid;
 use pst_outside::Outside;
-use search_store::SearchStore;
 use std::alloc::{AllocError, Global};
+use store_session::search_store::SearchStore;
 
 /// Nothing was made yet.
 fn nothing_made() -> Made

@@ -2,11 +2,11 @@
 ghost use Rattle.std.specs.Prelude.{◌≡◌, IfErr, option_copied, option_map};
 ghost use Rattle.mail_tree.specs.Knowing.{Knows};
 ghost use Rattle.mail_tree.specs.Tree.{Shown, Tree};
-ghost use Rattle.mail_draft.specs.Answers.{IsCaused, Looks, Says};
+ghost use Rattle.mail_reading.specs.mail_draft.Answers.{IsCaused, Looks, Says};
 ghost use Rattle.store_filling.specs.Places.{fill_places, named_folder, named_node, plain_or_root};
 
-use mail_draft::{Stop, bytes_of};
-use mail_folders::context_in;
+use mail_reading::mail_draft::{Stop, bytes_of};
+use mail_reading::mail_folders::context_in;
 use mail_tree::{FolderPlace, Known, Places, ROOT_FOLDER, Sort};
 use mapi_values::Props;
 use mapi_values::tags::{PID_TAG_FINDER_ENTRY_ID, PID_TAG_IPM_SUBTREE_ENTRY_ID, PTYP_BINARY};

@@ -12,9 +12,9 @@ use Rattle.mail_tree.specs.declared.places.FolderPlace.{FolderPlace}
 use Rattle.mail_tree.specs.Standing.{HasTree}
 use Rattle.mail_tree.specs.Tree.{Shown}
 use Rattle.mail_tree.specs.Whole.{IsWhole}
-use Rattle.mail_draft.specs.Answers.{IsNoMatter}
-use Rattle.mail_draft.specs.declared.stop.Stop.{Stop}
-use Rattle.mail_draft.specs.declared.stop.Stop.TheVariants as draft
+use Rattle.tree_look.specs.mail_draft.Answers.{IsNoMatter}
+use Rattle.tree_look.specs.mail_draft.declared.stop.Stop.{Stop}
+use Rattle.tree_look.specs.mail_draft.declared.stop.Stop.TheVariants as draft
 use Rattle.tree_look.specs.Faults.{Stops}
 use Rattle.tree_look.specs.Seeing.{AreKnown, AreListed}
 use Rattle.tree_look.specs.declared.stops.LookStop.{LookStop}

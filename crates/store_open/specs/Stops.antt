@@ -2,8 +2,8 @@
 use Rattle.std.specs.Prelude.{◌≡◌, ℕ, Bool, true}
 use Rattle.pst_outside.specs.Calls.{Rose}
 use Rattle.node_port.specs.declared.keeper.KeepStop.TheVariants as keep
-use Rattle.mail_draft.specs.declared.stop.Stop.{Stop}
-use Rattle.mail_draft.specs.declared.stop.Stop.TheVariants as draft
+use Rattle.tree_look.specs.mail_draft.declared.stop.Stop.{Stop}
+use Rattle.tree_look.specs.mail_draft.declared.stop.Stop.TheVariants as draft
 use Rattle.tree_look.specs.declared.stops.LookStop.{LookStop}
 use Rattle.tree_look.specs.declared.stops.LookStop.TheVariants as looks
 use Rattle.search_look.specs.declared.stops.SearchStop.{SearchStop}

@@ -4,7 +4,7 @@ ghost use Rattle.node_port.specs.Nodes.{Nodes};
 ghost use Rattle.mail_tree.specs.Knowing.{Knows};
 ghost use Rattle.mail_tree.specs.Tree.{Shown};
 ghost use Rattle.mail_tree.specs.Whole.{IsWhole};
-ghost use Rattle.mail_draft.specs.Answers.{IsCaused as IsCausedThere, Looks as LooksThere};
+ghost use Rattle.tree_look.specs.mail_draft.Answers.{IsCaused as IsCausedThere, Looks as LooksThere};
 ghost use Rattle.mail_searches.specs.Searches.{KnowsMessages};
 ghost use Rattle.mail_searches.specs.Searching.{AreSearches, Searching};
 ghost use Rattle.list_check.specs.Checking.{Checks};
@@ -14,7 +14,6 @@ ghost use Rattle.store_open.specs.Stops.{IsCaused};
 
 use crate::stops::{TreeRefusal, TreeStop};
 use list_check::find_stale;
-use mail_draft::Stop;
 use mail_searches::{KnownSearches, Searches};
 use mail_tree::Known;
 use node_port::NodeReader;
@@ -25,6 +24,7 @@ use std::alloc::Global;
 use std::marker::Brand;
 use std::sync::ledger::Blank;
 use tree_look::look_folders;
+use tree_look::mail_draft::Stop;
 
 /// What is known of a store's tree, and of its searches.
 #[derive(Debug, Drop)]

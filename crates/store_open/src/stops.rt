@@ -1,7 +1,7 @@
 //! Why nodes are no store.
-use mail_draft::Stop;
 use node_port::KeepStop;
 use search_look::{SearchRefusal, SearchStop};
+use tree_look::mail_draft::Stop;
 use tree_look::{LookRefusal, LookStop};
 
 /// Why nodes are no store.

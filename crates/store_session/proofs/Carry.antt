@@ -16,12 +16,12 @@ use Rattle.node_port.specs.Nodes.{Nodes}
 use Rattle.node_port.specs.declared.node.NodeRec.{NodeRec}
 use Rattle.pst_base.specs.declared.ids.Nid.{Nid}
 use Rattle.node_port.specs.Stops.{Room}
-use Rattle.mail_draft.specs.Answers.{Looks}
-use Rattle.mail_draft.specs.declared.stop.Stop.{Stop}
-use Rattle.mail_draft.specs.declared.stop.Stop.TheVariants as stops
-use Rattle.mail_store.specs.Planning.{Alters, Carries, ChangesNodes, SameKnown, StandsFor, cost_of}
-use Rattle.mail_store.specs.Space.{HasRoom}
-use Rattle.mail_store.proofs.StoreLaws.{shown_stands, stores_still}
+use Rattle.search_store.specs.mail_draft.Answers.{Looks}
+use Rattle.search_store.specs.mail_draft.declared.stop.Stop.{Stop}
+use Rattle.search_store.specs.mail_draft.declared.stop.Stop.TheVariants as stops
+use Rattle.search_store.specs.mail_store.Planning.{Alters, Carries, ChangesNodes, SameKnown, StandsFor, cost_of}
+use Rattle.search_store.specs.mail_store.Space.{HasRoom}
+use Rattle.search_store.proofs.mail_store_laws.StoreLaws.{shown_stands, stores_still}
 use Rattle.mail_tree.specs.Changing.{Answer}
 use Rattle.mail_tree.specs.Folders.{replied}
 use Rattle.mail_tree.specs.Tree.{Tree}
@@ -31,7 +31,7 @@ use Rattle.mail_searches.specs.Criteria.{Coming}
 use Rattle.mail_searches.specs.Searching.{Searching}
 use Rattle.mail_searches.specs.Step.{after, outcome, stepped}
 use Rattle.mail_searches.specs.declared.known.KnownSearches.{KnownSearches}
-use Rattle.search_folders.specs.Comings.{KnowsSearches}
+use Rattle.search_store.specs.search_folders.Comings.{KnowsSearches}
 use Rattle.search_lists.specs.Order.{InOrder}
 use Rattle.search_laws.proofs.Joining.{stays_in_order}
 use Rattle.search_store.specs.Planning.{PlansComing}

@@ -3,7 +3,7 @@ use Rattle.std.proofs.Common.{◌≡◌, ◌∙◌, List, [], ◌∷◌, None, O
 use Rattle.std.proofs.lemmas.Bool.{cases_Bool}
 use Rattle.command_text.specs.declared.command.Command.TheVariants.{Save}
 use Rattle.command_text.specs.declared.reply.LastLine.TheVariants.{Done}
-use Rattle.mail_draft.proofs.FitLaws.{no-entries}
+use Rattle.search_store.proofs.mail_draft_laws.FitLaws.{no-entries}
 use Rattle.mail_tree.specs.Changing.{Changed, ◌>>=◌, nothing, within_limits}
 use Rattle.mail_tree.specs.Folders.{replied, unchanged}
 use Rattle.mail_tree.specs.Step as tree

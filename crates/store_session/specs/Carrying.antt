@@ -6,11 +6,11 @@ use Rattle.command_text.specs.declared.reply.CommandRefusal.{CommandRefusal}
 use Rattle.line_server.specs.declared.spoken.Spoken.{Spoken}
 use Rattle.line_server.specs.Spoken.{no_memory_text, spoken_text}
 use Rattle.node_port.specs.Nodes.{Nodes}
-use Rattle.mail_draft.specs.declared.stop.Stop.{Stop}
-use Rattle.mail_draft.specs.declared.stop.Stop.TheVariants as stops
+use Rattle.search_store.specs.mail_draft.declared.stop.Stop.{Stop}
+use Rattle.search_store.specs.mail_draft.declared.stop.Stop.TheVariants as stops
 use Rattle.mail_searches.specs.Searching.{Searching}
 use Rattle.mail_searches.specs.declared.known.KnownSearches.{KnownSearches}
-pub use Rattle.mail_store.specs.Planning.{StandsFor}
+pub use Rattle.search_store.specs.mail_store.Planning.{StandsFor}
 use Rattle.mail_tree.specs.declared.known.Known.{Known}
 pub use Rattle.search_lists.specs.Order.{InOrder}
 use Rattle.search_store.specs.Planning.{StoresSearches}

@@ -10,8 +10,8 @@ use Rattle.node_port.specs.Pins.{Pins}
 use Rattle.node_port.specs.declared.node.NodeRec.{NodeRec}
 use Rattle.node_port.specs.Stops.{Room}
 use Rattle.mail_searches.specs.Criteria.{Coming}
-use Rattle.mail_store.specs.Space.{WritesNodes}
-use Rattle.mail_draft.specs.Written.{Writes}
+use Rattle.search_store.specs.mail_store.Space.{WritesNodes}
+use Rattle.search_store.specs.mail_draft.Written.{Writes}
 use Rattle.mail_tree.specs.Changing.{Answer}
 
 -- A disk, and how many bytes its writes were asked for so far.

@@ -6,9 +6,9 @@ use Rattle.command_text.specs.declared.reply.LastLine.TheVariants.{NoMemory, Ref
 use Rattle.command_text.specs.declared.reply.Reply.{Reply}
 use Rattle.command_text.specs.Replies.{text}
 use Rattle.node_port.specs.Stops.{Room}
-use Rattle.mail_draft.specs.declared.stop.Stop.TheVariants as stops
-use Rattle.mail_store.specs.Planning.{IsHindered}
-use Rattle.mail_store.specs.Space.{HasRoom}
+use Rattle.search_store.specs.mail_draft.declared.stop.Stop.TheVariants as stops
+use Rattle.search_store.specs.mail_store.Planning.{IsHindered}
+use Rattle.search_store.specs.mail_store.Space.{HasRoom}
 use Rattle.mail_tree.specs.Folders.{replied}
 use Rattle.mail_searches.specs.Criteria.{Coming}
 use Rattle.mail_searches.specs.Searching.{Searching}

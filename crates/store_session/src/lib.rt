@@ -10,7 +10,10 @@ mod planning;
 mod session;
 
 pub use carrying::{StoreStop, carry_out, refusal_spoken, reply_spoken, stopped};
-pub use mail_store::Store;
 pub use planning::plan_counted;
-pub use search_store::SearchStore;
+pub use search_store;
+pub use search_store::mail_store::Store;
+pub use search_store::{
+    SearchStore, mail_draft, mail_folders, mail_store, search_folders, search_results,
+};
 pub use session::{SessionEnd, end_of};

@@ -10,3 +10,4 @@ pub mod Made
 pub mod One
 pub mod Again
 pub mod Known
+pub use Rattle.mail_draft.proofs as mail_draft_laws

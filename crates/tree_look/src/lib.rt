@@ -16,5 +16,6 @@ mod stops;
 
 pub use forms::table_of;
 pub use look::look_folders;
+pub use mail_draft;
 pub use shown::{one_tree, shows_flags, shows_found, shows_tree};
 pub use stops::{LookRefusal, LookStop, TreeFault};

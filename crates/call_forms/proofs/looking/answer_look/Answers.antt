@@ -1,6 +1,6 @@
-use Rattle.search_folders.specs.Comings.{coming_of}
-use Rattle.mail_draft.proofs.Looking.{untouched_same}
-use Rattle.mail_reading.proofs.Answered.{asked_given, asked_stop}
+use Rattle.file_filling.specs.search_folders.Comings.{coming_of}
+use Rattle.tree_look.proofs.mail_draft_laws.Looking.{untouched_same}
+use Rattle.file_filling.proofs.mail_reading_laws.Answered.{asked_given, asked_stop}
 use Rattle.call_forms.proofs.LookingLaws.{lacks_memory, looks_on, no_line_answers, reply_answers, stop_answers, stop_stops}
 use Rattle.call_forms.proofs.looking.answer_look.Goals as goal
 use Rattle.std.proofs.Common.{refl}

@@ -1,8 +1,8 @@
 use Rattle.std.proofs.Common.{◌∙◌, IfErr, ap, sym, subst, true}
-use Rattle.mail_draft.specs.Answers.{IsCaused}
+use Rattle.store_filling.specs.mail_draft.Answers.{IsCaused}
 use Rattle.gate_file.specs.Gate.{IsShut}
 use Rattle.pst_commit.specs.Keeping.{HasRoom, IsCommitted, IsSaved}
-use Rattle.store_session.specs.Disks.{effects_of}
+use Rattle.store_filling.specs.store_session.Disks.{effects_of}
 use Rattle.store_filling.specs.Filling.{StoreFillEnds, FillsStore}
 use Rattle.file_session.specs.FileRun.{ReadsAs}
 use Rattle.file_session.proofs.Opened.{ends_unopened, refused_is, starts_opened}

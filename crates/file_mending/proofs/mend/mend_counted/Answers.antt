@@ -2,7 +2,7 @@ use Rattle.file_mending.specs.FileMends.{StandsMendable}
 use Rattle.file_mending.proofs.Opened.{mends_then, stood}
 use Rattle.search_mends.specs.Mends.{HasMendable, MendRun}
 use Rattle.mail_searches.specs.Searching.{Searching}
-use Rattle.store_session.specs.Disks.{medium}
+use Rattle.search_mends.specs.store_session.Disks.{medium}
 use Rattle.file_mending.proofs.mend.mend_counted.Goals as goal
 
 pub returns-clause-mends : goal.returns-clause-mends

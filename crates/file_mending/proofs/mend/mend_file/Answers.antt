@@ -3,7 +3,7 @@ use Rattle.search_mends.specs.Stops.{IsCaused}
 use Rattle.lays_kept.specs.Stands.{Stands}
 use Rattle.node_port.specs.Pins.{Pins}
 use Rattle.pst_commit.specs.Keeping.{HasRoom, IsCommitted}
-use Rattle.store_session.specs.Disks.{medium}
+use Rattle.search_mends.specs.store_session.Disks.{medium}
 use Rattle.search_mends.specs.Mends.{MendRun, MendsSearches}
 use Rattle.file_mending.specs.FileMends.{FileMendEnds, StandsMendable}
 use Rattle.file_mending.proofs.Opened.{ends_caused, ends_mended, ends_unmended, mends_over, refused_is, same_end, stop_caused}

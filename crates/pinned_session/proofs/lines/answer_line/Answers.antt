@@ -1,5 +1,5 @@
 use Rattle.std.proofs.Common.{Ok, subst}
-use Rattle.mail_draft.proofs.Looking.{untouched_same}
+use Rattle.store_session.proofs.mail_draft_laws.Looking.{untouched_same}
 use Rattle.node_port.specs.Pins.{Pins}
 use Rattle.session_lines.specs.declared.line.SessionLine.TheVariants.{Pin, At, Unpin, Command as StoreCommand}
 use Rattle.store_session.specs.Carrying.{SaysRefusal}

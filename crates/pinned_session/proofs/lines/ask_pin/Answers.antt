@@ -1,9 +1,9 @@
 use Rattle.std.proofs.Common.{sym, ap, subst}
-use Rattle.mail_draft.proofs.Looking.{untouched_same}
-use Rattle.mail_draft.specs.Answers.{Says}
+use Rattle.store_session.proofs.mail_draft_laws.Looking.{untouched_same}
+use Rattle.store_session.specs.mail_draft.Answers.{Says}
 use Rattle.mail_reading.specs.Asked.{asked}
 use Rattle.mail_reading.proofs.Answered.{asked_given, asked_stop}
-use Rattle.search_folders.specs.Comings.{coming_of}
+use Rattle.mail_reading.specs.search_folders.Comings.{coming_of}
 use Rattle.node_port.specs.Pins.{Pins}
 use Rattle.store_session.specs.Disks.{Effects, effects_of}
 use Rattle.store_session.proofs.Carry.{its_medium, quiet_leaves, same_medium}

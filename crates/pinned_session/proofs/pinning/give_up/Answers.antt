@@ -1,5 +1,5 @@
 use Rattle.std.proofs.Common.{◌≡◌, ◌∙◌, inl, inr, sym, ap, subst}
-use Rattle.mail_draft.proofs.Looking.{untouched_same}
+use Rattle.store_session.proofs.mail_draft_laws.Looking.{untouched_same}
 use Rattle.node_port.specs.Pins.{without_pin}
 use Rattle.pinned_session.specs.Run.{unpinned_text}
 use Rattle.pinned_session.specs.Sits.{Sits}

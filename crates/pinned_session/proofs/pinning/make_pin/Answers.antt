@@ -1,5 +1,5 @@
 use Rattle.std.proofs.Common.{◌∙◌, inl, inr, refl, sym, ap, arith}
-use Rattle.mail_draft.proofs.Looking.{untouched_same}
+use Rattle.store_session.proofs.mail_draft_laws.Looking.{untouched_same}
 use Rattle.pinned_session.proofs.MakeLaws.{full_of, pins_made, sitting_back, taken_back}
 use Rattle.pinned_session.proofs.PinLaws.{has_mapped}
 use Rattle.pinned_session.proofs.pinning.make_pin.Goals as goal

@@ -1,6 +1,6 @@
-use Rattle.mail_draft.proofs.Looking.{looks_then, shown_still}
-use Rattle.mail_draft.proofs.Passes.{stop_says, then_says}
-use Rattle.mail_folders.proofs.Steps.{stopped}
+use Rattle.store_session.proofs.mail_draft_laws.Looking.{looks_then, shown_still}
+use Rattle.store_session.proofs.mail_draft_laws.Passes.{stop_says, then_says}
+use Rattle.store_session.proofs.mail_folders_laws.Steps.{stopped}
 use Rattle.search_mending.specs.Mending.{mended_search}
 use Rattle.search_mends.proofs.coming.mending.Goals as goal
 

@@ -1,6 +1,6 @@
 use Rattle.std.proofs.Common.{◌∙◌, inl, inr}
-use Rattle.mail_draft.proofs.Looking.{shown_still}
-use Rattle.mail_folders.proofs.Steps.{stopped}
+use Rattle.store_session.proofs.mail_draft_laws.Looking.{shown_still}
+use Rattle.store_session.proofs.mail_folders_laws.Steps.{stopped}
 use Rattle.search_mends.proofs.MendingLaws.{limit_stops, list_stops, mends_both, nodes_stop, object_stops, one_of_two}
 use Rattle.search_mends.proofs.coming.mending_with.Goals.{then-stale, else-stale}
 use Rattle.search_mends.proofs.coming.mending_with.Goals as goal

@@ -1,6 +1,6 @@
 use Rattle.std.proofs.Common.{Ok, Err, ap, ◌∙◌}
 use Rattle.mapi_values.specs.Tables.{Tab}
-use Rattle.mail_folders.proofs.Steps.{stopped}
+use Rattle.store_session.proofs.mail_folders_laws.Steps.{stopped}
 use Rattle.mail_searches.specs.Building.{built_rows}
 use Rattle.search_mends.proofs.ListLaws.{built_on, in_table, stops_too}
 use Rattle.search_mends.proofs.listing.build.Goals as goal

@@ -2,10 +2,10 @@ use Rattle.std.proofs.Common.{◌∙◌, Ok, Err, ap, subst}
 use Rattle.std.specs.Prelude.{nat_eq}
 use Rattle.std.specs.Cmp.Lexicographic.{pointwise}
 use Rattle.mapi_values.specs.Tables.{Tab}
-use Rattle.mail_draft.proofs.Looking.{looks_then, shown_still}
-use Rattle.mail_draft.proofs.SettleLaws.{says_at}
-use Rattle.mail_draft.specs.Answers.{Says}
-use Rattle.mail_folders.proofs.Steps.{stopped}
+use Rattle.store_session.proofs.mail_draft_laws.Looking.{looks_then, shown_still}
+use Rattle.store_session.proofs.mail_draft_laws.SettleLaws.{says_at}
+use Rattle.store_session.specs.mail_draft.Answers.{Says}
+use Rattle.store_session.proofs.mail_folders_laws.Steps.{stopped}
 use Rattle.mail_tree.specs.Changing.{nothing, table_at}
 use Rattle.mail_searches.specs.Building.{built_rows}
 use Rattle.mail_searches.specs.Searches.{Search, results, row_ids}

@@ -1,7 +1,7 @@
 use Rattle.std.proofs.Common.{◌≡◌, ◌⊎◌, subst, sym}
 use Rattle.std.proofs.lemmas.Result.{err_from_is_err_and}
 use Rattle.pst_outside.specs.Calls.{LeavesOnly}
-use Rattle.mail_store.specs.Planning.{Alters, StandsFor}
+use Rattle.store_session.specs.mail_store.Planning.{Alters, StandsFor}
 use Rattle.node_port.specs.Stops.{Room}
 use Rattle.store_session.proofs.Carry.{commit_makes, same_medium}
 use Rattle.mail_searches.specs.Step.{after}

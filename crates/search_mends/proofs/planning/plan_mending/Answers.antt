@@ -1,8 +1,8 @@
 use Rattle.std.proofs.Common.{refl, subst, sym}
-use Rattle.mail_draft.proofs.Looking.{shown_still}
-use Rattle.mail_draft.specs.Drafts.{changed_of}
-use Rattle.mail_store.specs.Planning.{IsHindered}
-use Rattle.mail_store.specs.Space.{HasRoom}
+use Rattle.store_session.proofs.mail_draft_laws.Looking.{shown_still}
+use Rattle.store_session.specs.mail_draft.Drafts.{changed_of}
+use Rattle.store_session.specs.mail_store.Planning.{IsHindered}
+use Rattle.store_session.specs.mail_store.Space.{HasRoom}
 use Rattle.search_mends.specs.Mendings.{mending_of}
 use Rattle.search_mends.specs.Stops.{IsCaused, StopsMending}
 use Rattle.search_mends.proofs.PlanLaws.{caused_hindrance, caused_refusal, hinders_so, mends_to, refused_stops, stays_quiet}

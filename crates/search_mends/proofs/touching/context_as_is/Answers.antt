@@ -1,6 +1,6 @@
 use Rattle.mail_tree.specs.Settling.{context_as_is}
-use Rattle.mail_draft.proofs.Passes.{stop_says, then_says}
-use Rattle.mail_folders.proofs.Steps.{stopped}
+use Rattle.store_session.proofs.mail_draft_laws.Passes.{stop_says, then_says}
+use Rattle.store_session.proofs.mail_folders_laws.Steps.{stopped}
 use Rattle.search_mends.proofs.touching.context_as_is.Goals as goal
 
 pub returns-in_err-context-clause-answer : goal.returns-in_err-context-clause-answer

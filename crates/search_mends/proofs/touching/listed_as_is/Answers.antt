@@ -1,11 +1,11 @@
 use Rattle.std.proofs.Common.{◌∙◌, ap}
 use Rattle.mail_tree.specs.Changing.{hierarchy}
 use Rattle.mail_tree.specs.Settling.{table_as_is}
-use Rattle.mail_draft.specs.Drafts.{changed_of}
-use Rattle.mail_draft.proofs.Looking.{shown_still}
-use Rattle.mail_draft.proofs.Passes.{stop_says, then_says}
-use Rattle.mail_draft.proofs.SettleLaws.{says_at}
-use Rattle.mail_folders.proofs.Steps.{stopped}
+use Rattle.store_session.specs.mail_draft.Drafts.{changed_of}
+use Rattle.store_session.proofs.mail_draft_laws.Looking.{shown_still}
+use Rattle.store_session.proofs.mail_draft_laws.Passes.{stop_says, then_says}
+use Rattle.store_session.proofs.mail_draft_laws.SettleLaws.{says_at}
+use Rattle.store_session.proofs.mail_folders_laws.Steps.{stopped}
 use Rattle.search_mending.specs.Mending.{listed_as_is}
 use Rattle.search_mends.proofs.touching.listed_as_is.Goals as goal
 

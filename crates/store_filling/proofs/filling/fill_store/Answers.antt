@@ -1,5 +1,5 @@
 use Rattle.std.proofs.Common.{◌≡◌, ◌∙◌, Result, Ok, Err, ap, refl, subst, sym}
-use Rattle.mail_draft.specs.declared.stop.Stop.{Stop}
+use Rattle.mail_reading.specs.mail_draft.declared.stop.Stop.{Stop}
 use Rattle.node_port.specs.Nodes.{Nodes}
 use Rattle.node_port.specs.Stops.{Room}
 use Rattle.store_session.specs.Carrying.{Has, StandsOrdered}

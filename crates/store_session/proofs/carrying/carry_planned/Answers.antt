@@ -1,7 +1,7 @@
 use Rattle.std.proofs.Common.{◌≡◌, ◌⊎◌, inr, refl, subst}
 use Rattle.pst_outside.specs.Calls.{LeavesOnly}
 use Rattle.node_port.specs.Stops.{Room}
-use Rattle.mail_store.specs.Planning.{Alters, StandsFor}
+use Rattle.search_store.specs.mail_store.Planning.{Alters, StandsFor}
 use Rattle.mail_searches.specs.Searching.{Searching}
 use Rattle.mail_searches.specs.Step.{after}
 use Rattle.store_session.specs.Carrying.{StandsOrdered}
