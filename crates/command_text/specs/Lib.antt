@@ -1,5 +1,6 @@
 pub mod Words
 pub mod Arguments
+pub mod Asking
 pub mod Lines
 pub mod Limits
 pub mod Refusals

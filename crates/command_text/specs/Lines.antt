@@ -236,6 +236,10 @@ abbrev pub cut_line : List ℕ → Option (List ℕ × List ℕ) → Result Comm
 cut_line line (Some words) = with_arguments words.0 words.1
 cut_line line None = one_word line
 
+-- what a text asks for, or why it is refused
+unfoldable pub text_command : List ℕ → Result Command LineRefusal
+text_command text = cut_line text (cut text)
+
 -- what a line asks for, or why it is refused
 unfoldable pub command : List ℕ → Result Command LineRefusal
-command line = if is_utf8 line then cut_line line (cut line) else Err Line
+command line = if is_utf8 line then text_command line else Err Line

@@ -1,11 +1,12 @@
 //! The lines that a session reads and the replies that it gives, as text.
 //!
-//! Promises: `read_line` gives the command that `Lines` says a line is, or its refusal; `reply_text` gives the bytes that `Replies` says of a reply.
+//! Promises: `read_line` gives the command that `Lines` says a line is, or its refusal; `only_asks` tells the commands that only ask; `reply_text` gives the bytes that `Replies` says of a reply.
 //!
 //! Leaves to others: cutting the input into lines, and what a command does.
 #![tactic(auto)]
 
 mod arguments;
+mod asking;
 mod command;
 mod printing;
 mod reading;
@@ -13,9 +14,11 @@ mod reply;
 mod scope;
 mod words;
 
+pub use arguments::id_and_tag;
+pub use asking::only_asks;
 pub use command::{Command, LineRefusal};
 pub use printing::reply_text;
-pub use reading::read_line;
+pub use reading::{read_line, read_text};
 pub use reply::{CommandRefusal, DataLine, DataLines, LastLine, Limit, Reply};
 pub use scope::Scope;
-pub use words::read_name;
+pub use words::{as_text, cut, read_name};

@@ -1,6 +1,6 @@
 //! A line read as a command.
 ghost use Rattle.pst_base.specs.Stops.{Gives};
-ghost use Rattle.command_text.specs.Lines.{make_folder, rename_folder, move_folder, remove_folder, list_folder, new_message, set_property, unset_property, get_property, list_properties, move_message, copy_message, remove_message, add_recipient, remove_recipient, add_attachment, append_data, remove_attachment, fetch_data, one_word, on_message, on_part, on_search, with_arguments, command, name_property, make_search, set_criteria, get_criteria};
+ghost use Rattle.command_text.specs.Lines.{make_folder, rename_folder, move_folder, remove_folder, list_folder, new_message, set_property, unset_property, get_property, list_properties, move_message, copy_message, remove_message, add_recipient, remove_recipient, add_attachment, append_data, remove_attachment, fetch_data, one_word, on_message, on_part, on_search, with_arguments, text_command, command, name_property, make_search, set_criteria, get_criteria};
 
 use crate::arguments::{id_and_name, id_and_tag, one_id, two_ids};
 use crate::command::{Command, LineRefusal};
@@ -399,6 +399,17 @@ fn with_arguments(alloc: Global, word: &str, rest: &str) -> Result<Command, MemO
     }
 }
 
+/// The command that a text is, without its LF, as `read_line` reads it.
+#[tactic(auto, unfolding(crate::specs::Lines::text_command))]
+pub fn read_text(alloc: Global, text: &str) -> Result<Command, MemOr<LineRefusal>>
+    ensures { Gives (λ c. c) result (text_command text.now) }
+{
+    match cut(text) {
+        Some((word, rest)) => with_arguments(alloc, word, rest),
+        None => one_word(text),
+    }
+}
+
 /// The command that a line is, without its LF. A line is cut at each single space, so that two spaces make an empty word; a name or a value runs to the end of the line.
 ///
 /// `Line` says that it isn't UTF-8 or is none of the forms: that its first word or the number of its words is another one, that an id isn't `0x` and 1 to 8 hex digits, that a tag isn't `0x` and 8 of them, that data isn't an even number of them or `-` for none, that a GUID isn't 32 of them, or that a time isn't decimal digits of a number below 2^64, a row of one below 2^32, or a recipient's type of one up to 3. `Value` says that only a name of a folder, a recipient or a file, a class, an address or a value in it isn't of its form: a name, a class and an address are text with good escapes, of 1 to 255 units; a value is what `parse_value` says of its tag.
@@ -406,11 +417,8 @@ fn with_arguments(alloc: Global, word: &str, rest: &str) -> Result<Command, MemO
 pub fn read_line(alloc: Global, line: &[u8]) -> Result<Command, MemOr<LineRefusal>>
     ensures { Gives (λ c. c) result (command line.now) }
 {
-    let Some(text) = as_text(line) else {
-        return Err(MemOr::Refused(LineRefusal::Line));
-    };
-    match cut(text) {
-        Some((word, rest)) => with_arguments(alloc, word, rest),
-        None => one_word(text),
+    match as_text(line) {
+        Some(text) => read_text(alloc, text),
+        None => Err(MemOr::Refused(LineRefusal::Line)),
     }
 }

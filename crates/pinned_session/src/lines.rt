@@ -2,7 +2,7 @@
 ghost use Rattle.std.specs.Prelude.{◌≡◌, ℕ, Bool, List, true, IfErr};
 ghost use Rattle.line_server.specs.Lines.{line};
 ghost use Rattle.line_server.specs.Worlds.{Quiet};
-ghost use Rattle.session_lines.specs.Lines.{asks};
+ghost use Rattle.command_text.specs.Asking.{asks};
 ghost use Rattle.session_lines.specs.declared.line.SessionLine.TheVariants.{At, Command as StoreCommand};
 ghost use Rattle.store_session.specs.Carrying.{CarriesOut, IsCaused};
 ghost use Rattle.store_session.specs.Disks.{effects_of, medium};

@@ -5,11 +5,11 @@ use Rattle.std.specs.Char.{is_ascii_digit}
 use Rattle.std.specs.Str.{is_utf8}
 use Rattle.std.specs.Str.Parse.{digits_value}
 use Rattle.command_text.specs.declared.command.Command.{Command}
-use Rattle.command_text.specs.declared.command.Command.TheVariants.{MakeFolder, RenameFolder, MoveFolder, RemoveFolder, ListFolder, NewMessage, SetProperty, UnsetProperty, GetProperty, ListProperties, MoveMessage, CopyMessage, RemoveMessage, AddRecipient, RemoveRecipient, AddAttachment, AppendData, RemoveAttachment, FetchData, Save, Quit, NameProperty, MakeSearch, SetCriteria, GetCriteria}
 use Rattle.command_text.specs.declared.command.LineRefusal.{LineRefusal}
 use Rattle.command_text.specs.declared.command.LineRefusal.TheVariants.{Line}
 use Rattle.command_text.specs.Arguments.{◌>>=◌}
-use Rattle.command_text.specs.Lines.{command}
+use Rattle.command_text.specs.Asking.{asks}
+use Rattle.command_text.specs.Lines.{text_command}
 use Rattle.command_text.specs.Words.{cut}
 use Rattle.session_lines.specs.declared.line.SessionLine.{SessionLine}
 use Rattle.session_lines.specs.declared.line.SessionLine.TheVariants.{Pin, At, Unpin, Command as StoreCommand}
@@ -21,34 +21,6 @@ pin_number n = if nat_le n 4294967295 then Some n else None
 -- the pin that a word writes: one or more digits, of a number from 1 on; nothing for a number that no pin has, however long; none where the word writes no such number
 unfoldable pub pin_of : List ℕ → Option (Option ℕ)
 pin_of word = if nat_lt 0 (length word) && (list_all is_ascii_digit word && nat_lt 0 (digits_value 10 word)) then Some (pin_number (digits_value 10 word)) else None
-
--- whether a command only asks
-unfoldable pub asks : Command → Bool
-asks (MakeFolder parent name) = false
-asks (RenameFolder folder name) = false
-asks (MoveFolder folder parent) = false
-asks (RemoveFolder folder) = false
-asks (ListFolder folder) = true
-asks (NewMessage folder class time values) = false
-asks (SetProperty message value) = false
-asks (UnsetProperty message tag) = false
-asks (GetProperty message tag) = true
-asks (ListProperties message) = true
-asks (MoveMessage message folder) = false
-asks (CopyMessage message folder) = false
-asks (RemoveMessage message) = false
-asks (AddRecipient message kind address name) = false
-asks (RemoveRecipient message row) = false
-asks (AddAttachment message name content) = false
-asks (AppendData message attachment content) = false
-asks (RemoveAttachment message attachment) = false
-asks (FetchData message attachment) = true
-asks (NameProperty guid number) = false
-asks (MakeSearch parent name) = false
-asks (SetCriteria search flags scope restriction) = false
-asks (GetCriteria search) = true
-asks Save = false
-asks Quit = false
 
 -- a command that only asks; all else, also what was refused as a value, is refused as a line
 abbrev pub only_asked : Result Command LineRefusal → Result Command LineRefusal

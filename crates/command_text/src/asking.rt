@@ -1,11 +1,11 @@
 //! Which commands only ask.
 ghost use Rattle.std.specs.Prelude.{◌≡◌};
-ghost use Rattle.session_lines.specs.Lines.{asks};
+ghost use Rattle.command_text.specs.Asking.{asks};
 
-use command_text::Command;
+use crate::command::Command;
 
 /// Whether a command only asks, as those of `ls`, `get`, `props`, `fetch` and `getcriteria` do.
-#[tactic(auto, unfolding(crate::specs::Lines::asks))]
+#[tactic(auto, unfolding(crate::specs::Asking::asks))]
 pub fn only_asks(command: &Command) -> bool
     ensures { result ≡ asks command.now }
 {
