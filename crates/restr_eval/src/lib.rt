@@ -13,3 +13,4 @@ mod text;
 mod values;
 
 pub use holding::eval;
+pub use values::good_of;
