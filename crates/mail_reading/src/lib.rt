@@ -7,8 +7,10 @@
 
 mod asking;
 mod law;
+mod viewing;
 
 pub use asking::ask;
 pub use law::reads_leave;
 pub use search_folders;
 pub use search_folders::{mail_draft, mail_folders};
+pub use viewing::{Listing, has_keyed_column, list_rows};

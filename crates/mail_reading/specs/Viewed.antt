@@ -1,0 +1,49 @@
+-- What a view shows of a tree.
+use Rattle.std.specs.Prelude.{ℕ, ◌&&◌, Bool, List, [], ◌∷◌, ◌++◌, Ok, if◌then◌else◌}
+use Rattle.std.specs.Option.{is_some}
+use Rattle.mapi_values.specs.Columns.{has_column}
+use Rattle.mapi_values.specs.Values.{Val}
+use Rattle.mapi_values.specs.declared.value.Tag.{Tag}
+use Rattle.mail_objects.specs.Forms.{Tbl}
+use Rattle.sorted_views.specs.Keys.{has_keys}
+use Rattle.mail_tree.specs.Changing.{Answer, ◌>>=◌, as_message, contents, nothing, table_at}
+use Rattle.mail_tree.specs.Tree.{Tree, object_at}
+use Rattle.search_folders.specs.mail_folders.Pieces.{plain_in}
+use Rattle.search_folders.specs.search_results.Counting.{message_told}
+use Rattle.mail_searches.specs.Relisting.{unless_unclear}
+use Rattle.mail_searches.specs.Searches.{results}
+use Rattle.mail_searches.specs.Searching.{Searching, is_own}
+use Rattle.mail_reading.specs.declared.viewing.Listing.{Listing}
+
+-- the contents of a plain folder
+abbrev pub plain_contents : Tree → ℕ → Answer Tbl
+plain_contents T f = plain_in T f >>= λ p. table_at T nothing (contents f)
+
+-- the table that lists the messages of a folder: the list of an own search, the contents of a plain folder
+unfoldable pub contents_in : Searching → ℕ → Answer Tbl
+contents_in X f = if is_own X.own f then table_at X.tree nothing (results f) else plain_contents X.tree f
+
+-- whether it has this column, of a kind whose values have keys
+unfoldable pub has_keyed_column : Searching → ℕ → Tag → Answer Bool
+has_keyed_column X f tag = contents_in X f >>= λ t. Ok (has_column t.table.columns tag.id tag.kind && has_keys tag.kind)
+
+-- the ids so far, with this one, if it is that of a message
+unfoldable pub with_named : Tree → List ℕ → ℕ → Answer (List ℕ)
+with_named T ids id = message_told T id >>= λ there. Ok (if there then ids ++ id ∷ [] else ids)
+
+-- the ids of the rows that name messages
+abbrev pub named_ids : Tree → List (ℕ × List Val) → List ℕ
+named_ids T [] = []
+named_ids T (r ∷ rs) = if is_some (as_message (object_at T r.0)) then r.0 ∷ named_ids T rs else named_ids T rs
+
+-- the same, where of each row it can be told
+unfoldable pub listed_ids : Tree → List (ℕ × List Val) → Answer (List ℕ)
+listed_ids T rows = unless_unclear T nothing rows >>= λ u. Ok (named_ids T rows)
+
+-- a folder's table, and which messages its rows name
+unfoldable pub listing_of : Searching → ℕ → Answer (Tbl × List ℕ)
+listing_of X f = contents_in X f >>= λ t. listed_ids X.tree t.table.rows >>= λ ids. Ok (t, ids)
+
+-- the same as it is read
+abbrev pub listing_view : Listing → Tbl × List ℕ
+listing_view l = (l.table, l.ids.items)
