@@ -1,6 +1,5 @@
 -- Rows in groups: the runs of equal keys.
-use Rattle.std.specs.Prelude.{ℕ, suc, Bool, not, List, [], ◌∷◌, length, position, if◌then◌else◌}
-use Rattle.std.specs.Option.{unwrap_or}
+use Rattle.std.specs.Prelude.{ℕ, suc, Bool, List, [], ◌∷◌, if◌then◌else◌}
 use Rattle.std.specs.Ordering.{is_eq}
 use Rattle.sorted_views.specs.Rows.{key_cmp}
 use Rattle.sorted_views.specs.declared.rows.ViewRow.{ViewRow}
@@ -19,9 +18,10 @@ abbrev pub groups : List ViewRow → List (ViewRow × ℕ)
 groups [] = []
 groups (row ∷ rows) = joined row (groups rows)
 
--- how many of the first rows have the key of another row: all up to the first that hasn't
-unfoldable pub same_front : ViewRow → List ViewRow → ℕ
-same_front row rows = unwrap_or (position (λ other. not (same_key row other)) rows) (length rows)
+-- how many of the first rows have the key of another row
+abbrev pub same_front : ViewRow → List ViewRow → ℕ
+same_front row [] = 0
+same_front row (other ∷ rows) = if same_key row other then suc (same_front row rows) else 0
 
 -- how many rows there are in the first group
 abbrev pub run_length : List ViewRow → ℕ
