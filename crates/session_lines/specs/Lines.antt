@@ -1,5 +1,7 @@
 -- What a line of a session over a file asks for.
-use Rattle.std.specs.Prelude.{ℕ, ◌&&◌, Bool, true, false, List, length, nat_le, nat_lt, bytes_eq, codes, Option, None, Some, Result, Ok, Err, ok_or, if◌then◌else◌}
+use Rattle.std.specs.Prelude.{ℕ, ◌-◌, ◌&&◌, List, drop, length, nat_eq, nat_le, nat_lt, take, bytes_eq, codes, Option, None, Some, option_map, Result, Ok, Err, ok_or, if◌then◌else◌}
+use Rattle.std.specs.Cmp.Lexicographic.{pointwise}
+use Rattle.std.specs.Option.{option_or}
 use Rattle.std.specs.List.{list_all}
 use Rattle.std.specs.Char.{is_ascii_digit}
 use Rattle.std.specs.Str.{is_utf8}
@@ -7,20 +9,33 @@ use Rattle.std.specs.Str.Parse.{digits_value}
 use Rattle.command_text.specs.declared.command.Command.{Command}
 use Rattle.command_text.specs.declared.command.LineRefusal.{LineRefusal}
 use Rattle.command_text.specs.declared.command.LineRefusal.TheVariants.{Line}
-use Rattle.command_text.specs.Arguments.{◌>>=◌}
+use Rattle.sorted_views.specs.declared.rows.Direction.{Direction}
+use Rattle.sorted_views.specs.declared.rows.Direction.TheVariants.{Up, Down}
+use Rattle.command_text.specs.Arguments.{◌>>=◌, id_and_tag}
 use Rattle.command_text.specs.Asking.{asks}
 use Rattle.command_text.specs.Lines.{text_command}
 use Rattle.command_text.specs.Words.{cut}
 use Rattle.session_lines.specs.declared.line.SessionLine.{SessionLine}
-use Rattle.session_lines.specs.declared.line.SessionLine.TheVariants.{Pin, At, Unpin, Command as StoreCommand}
+use Rattle.session_lines.specs.declared.line.SessionLine.TheVariants.{Pin, At, Unpin, OpenView, ListRows, ListGroups, CloseView, Command as StoreCommand}
 
--- a number that a pin may have, of at most 32 bits
-abbrev pub pin_number : ℕ → Option ℕ
-pin_number n = if nat_le n 4294967295 then Some n else None
+-- a number that a pin or a view may have, of at most 32 bits
+abbrev pub within : ℕ → Option ℕ
+within n = if nat_le n 4294967295 then Some n else None
 
--- the pin that a word writes: one or more digits, of a number from 1 on; nothing for a number that no pin has, however long; none where the word writes no such number
-unfoldable pub pin_of : List ℕ → Option (Option ℕ)
-pin_of word = if nat_lt 0 (length word) && (list_all is_ascii_digit word && nat_lt 0 (digits_value 10 word)) then Some (pin_number (digits_value 10 word)) else None
+-- the number of a pin or a view that a word writes: one or more digits, of a number from 1 on; nothing for a number that none has, however long; none where the word writes no such number
+unfoldable pub number_of : List ℕ → Option (Option ℕ)
+number_of word = if nat_lt 0 (length word) && (list_all is_ascii_digit word && nat_lt 0 (digits_value 10 word)) then Some (within (digits_value 10 word)) else None
+
+-- what stands before this end, if bytes end so
+abbrev pub before_end : List ℕ → List ℕ → Option (List ℕ)
+before_end end bytes = if pointwise nat_eq (drop (length bytes - length end) bytes) end then Some (take (length bytes - length end) bytes) else None
+
+-- the direction that the last word says, and what stands before that
+abbrev pub going : Direction → List ℕ → List ℕ × Direction
+going direction front = (front, direction)
+
+unfoldable pub direction_of : List ℕ → Option (List ℕ × Direction)
+direction_of rest = option_or (option_map (going Up) (before_end (codes " up") rest)) (option_map (going Down) (before_end (codes " down") rest))
 
 -- a command that only asks; all else, also what was refused as a value, is refused as a line
 abbrev pub only_asked : Result Command LineRefusal → Result Command LineRefusal
@@ -29,39 +44,78 @@ only_asked (Err refusal) = Err Line
 
 -- a line that only asks
 unfoldable pub asked : List ℕ → Result Command LineRefusal
-asked line = only_asked (command line)
+asked text = only_asked (text_command text)
 
 -- at: the pin, and the line that it is asked
 unfoldable pub at_pin : List ℕ → Result SessionLine LineRefusal
 at_pin rest = do
   words ← ok_or (cut rest) Line
-  pin ← ok_or (pin_of words.0) Line
+  pin ← ok_or (number_of words.0) Line
   c ← asked words.1
   Ok (At pin c)
 
 -- unpin: the pin
 unfoldable pub unpin : List ℕ → Result SessionLine LineRefusal
 unpin rest = do
-  pin ← ok_or (pin_of rest) Line
+  pin ← ok_or (number_of rest) Line
   Ok (Unpin pin)
+
+-- bytes that are text
+abbrev pub text_in : List ℕ → Result (List ℕ) LineRefusal
+text_in bytes = if is_utf8 bytes then Ok bytes else Err Line
+
+-- view: the folder, the column and the direction
+unfoldable pub open_view : List ℕ → Result SessionLine LineRefusal
+open_view rest = do
+  said ← ok_or (direction_of rest) Line
+  front ← text_in said.0
+  given ← id_and_tag front
+  Ok (OpenView given.0 given.1 said.1)
+
+-- rows: the view
+unfoldable pub list_rows : List ℕ → Result SessionLine LineRefusal
+list_rows rest = do
+  view ← ok_or (number_of rest) Line
+  Ok (ListRows view)
+
+-- groups: the view
+unfoldable pub list_groups : List ℕ → Result SessionLine LineRefusal
+list_groups rest = do
+  view ← ok_or (number_of rest) Line
+  Ok (ListGroups view)
+
+-- unview: the view
+unfoldable pub close_view : List ℕ → Result SessionLine LineRefusal
+close_view rest = do
+  view ← ok_or (number_of rest) Line
+  Ok (CloseView view)
 
 -- a command of the store
 unfoldable pub store_line : List ℕ → Result SessionLine LineRefusal
-store_line line = do
-  c ← command line
+store_line text = do
+  c ← text_command text
   Ok (StoreCommand c)
+
+-- a line on views: its first word, and what stands behind the space
+unfoldable pub on_views : List ℕ → List ℕ → List ℕ → Result SessionLine LineRefusal
+on_views text word rest =
+    if bytes_eq word (codes "view") then open_view rest
+    else (if bytes_eq word (codes "rows") then list_rows rest
+    else (if bytes_eq word (codes "groups") then list_groups rest
+    else (if bytes_eq word (codes "unview") then close_view rest
+    else store_line text)))
 
 -- a line with a space: its first word, and what stands behind the space
 unfoldable pub with_word : List ℕ → List ℕ → List ℕ → Result SessionLine LineRefusal
-with_word line word rest =
+with_word text word rest =
     if bytes_eq word (codes "at") then at_pin rest
     else (if bytes_eq word (codes "unpin") then unpin rest
-    else store_line line)
+    else on_views text word rest)
 
--- the line is cut at its first space, if it has one
+-- the text is cut at its first space, if it has one
 abbrev pub cut_line : List ℕ → Option (List ℕ × List ℕ) → Result SessionLine LineRefusal
-cut_line line (Some words) = with_word line words.0 words.1
-cut_line line None = if bytes_eq line (codes "pin") then Ok Pin else store_line line
+cut_line text (Some words) = with_word text words.0 words.1
+cut_line text None = if bytes_eq text (codes "pin") then Ok Pin else store_line text
 
 -- what a line asks for, or why it is refused
 unfoldable pub session_line : List ℕ → Result SessionLine LineRefusal

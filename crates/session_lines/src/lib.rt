@@ -1,17 +1,18 @@
-//! The lines of a session over a file, of which some are on pins, trees that stay readable, and all others are commands of the store; and what is said to a line on pins.
+//! The lines of a session over a file, of which some are on pins, trees that stay readable, some on views, sorted lists of a folder's messages, and all others are commands of the store; and what is said to a line on pins and views.
 //!
-//! Promises: `read_session_line` gives what `Lines` says a line is, or its refusal; `only_asks` tells the commands that only ask; `pin_reply_text` gives the bytes that `Texts` says of a reply.
+//! Promises: `read_session_line` gives what `Lines` says a line is, or its refusal; `pin_reply_text`, `view_reply_text`, `rows_text` and `groups_text` give the bytes that `Texts` says.
 //!
-//! Leaves to others: cutting the input into lines, what a command is (`command_text`), and which pins are open.
+//! Leaves to others: cutting the input into lines, what a command is (`command_text`), which pins and views are open, and which rows a view has.
 #![tactic(auto)]
 
-mod asking;
 mod line;
 mod printing;
 mod reading;
+mod rows;
 mod words;
 
-pub use asking::only_asks;
-pub use line::{PinReply, SessionLine};
-pub use printing::pin_reply_text;
+pub use line::{PinReply, SessionLine, ViewReply};
+pub use printing::{pin_reply_text, view_reply_text};
 pub use reading::read_session_line;
+pub use rows::{groups_text, rows_text};
+pub use sorted_views;

@@ -1,5 +1,8 @@
-//! What a line asks for, and what is said to a line on pins.
+//! What a line asks for, and what is said to a line on pins and on views.
 use command_text::Command;
+use mapi_values::Tag;
+use pst_base::Nid;
+use sorted_views::Direction;
 
 /// What a line of a session over a file asks for.
 #[derive(Debug, Drop)]
@@ -7,9 +10,32 @@ pub enum SessionLine {
     /// `pin`: the present tree stays readable.
     Pin,
     /// `at P LINE`: what a line that only asks answers by the tree of the pin P. `None` is a number that no pin has.
-    At { pin: Option<u32>, command: Command },
+    At {
+        pin: Option<u32>,
+        command: Command,
+    },
     /// `unpin P`: the pin P is given up.
-    Unpin { pin: Option<u32> },
+    Unpin {
+        pin: Option<u32>,
+    },
+    /// `view F TAG DIR`: a view of the messages of the folder F, sorted by the column TAG.
+    OpenView {
+        folder: Nid,
+        tag: Tag,
+        direction: Direction,
+    },
+    /// `rows V`: the rows of the view V. `None` is a number that no view has.
+    ListRows {
+        view: Option<u32>,
+    },
+    /// `groups V`: the groups of the view V.
+    ListGroups {
+        view: Option<u32>,
+    },
+    /// `unview V`: the view V is closed.
+    CloseView {
+        view: Option<u32>,
+    },
     /// Any other line: a command of the store.
     Command(Command),
 }
@@ -25,4 +51,19 @@ pub enum PinReply {
     NoPin,
     /// `no limit pins`: no further pin can be made.
     PinsFull,
+}
+
+/// What is said to a line on views that lists nothing.
+#[derive(Clone, Copy, Debug, PartialEq, Eq)]
+pub enum ViewReply {
+    /// `ok` and the number of the new view.
+    Opened(u32),
+    /// `ok`
+    Closed,
+    /// `no view`: no open view has that number.
+    NoView,
+    /// `no column`: the folder's table has no such column, or one of a kind without keys.
+    NoColumn,
+    /// `no limit views`: no further view can be opened.
+    ViewsFull,
 }

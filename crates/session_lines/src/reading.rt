@@ -1,11 +1,10 @@
 //! A line read as what it asks for.
 ghost use Rattle.pst_base.specs.Stops.{Gives};
-ghost use Rattle.session_lines.specs.Lines.{asked, at_pin, unpin, store_line, with_word, session_line};
+ghost use Rattle.session_lines.specs.Lines.{asked, at_pin, close_view, list_groups, list_rows, on_views, open_view, session_line, store_line, unpin, with_word};
 
-use crate::asking::only_asks;
 use crate::line::SessionLine;
-use crate::words::{as_text, cut, read_pin};
-use command_text::{Command, LineRefusal, read_line};
+use crate::words::{read_direction, read_number};
+use command_text::{Command, LineRefusal, as_text, cut, id_and_tag, only_asks, read_text};
 use pst_base::MemOr;
 use std::alloc::Global;
 
@@ -14,7 +13,7 @@ use std::alloc::Global;
 fn asked(alloc: Global, line: &str) -> Result<Command, MemOr<LineRefusal>>
     ensures { Gives (λ c. c) result (asked line.now) }
 {
-    match read_line(alloc, line.as_bytes()) {
+    match read_text(alloc, line) {
         Ok(command) => {
             if only_asks(&command) {
                 Ok(command)
@@ -35,7 +34,7 @@ fn at_pin(alloc: Global, rest: &str) -> Result<SessionLine, MemOr<LineRefusal>>
     let Some((pin, line)) = cut(rest) else {
         return Err(MemOr::Refused(LineRefusal::Line));
     };
-    let Some(pin) = read_pin(pin) else {
+    let Some(pin) = read_number(pin) else {
         return Err(MemOr::Refused(LineRefusal::Line));
     };
     let command = asked(alloc, line)?;
@@ -47,41 +46,112 @@ fn at_pin(alloc: Global, rest: &str) -> Result<SessionLine, MemOr<LineRefusal>>
 fn unpin(rest: &str) -> Result<SessionLine, MemOr<LineRefusal>>
     ensures { Gives (λ l. l) result (unpin rest.now) }
 {
-    match read_pin(rest) {
+    match read_number(rest) {
         Some(pin) => Ok(SessionLine::Unpin { pin }),
+        None => Err(MemOr::Refused(LineRefusal::Line)),
+    }
+}
+
+/// What stands behind `view `: the folder, the column and the direction.
+#[tactic(auto, unfolding(crate::specs::Lines::open_view))]
+fn open_view(rest: &str) -> Result<SessionLine, MemOr<LineRefusal>>
+    ensures { Gives (λ l. l) result (open_view rest.now) }
+{
+    let Some((front, direction)) = read_direction(rest) else {
+        return Err(MemOr::Refused(LineRefusal::Line));
+    };
+    let Some(front) = as_text(front) else {
+        return Err(MemOr::Refused(LineRefusal::Line));
+    };
+    let (folder, tag) = id_and_tag(front)?;
+    Ok(SessionLine::OpenView {
+        folder,
+        tag,
+        direction,
+    })
+}
+
+/// What stands behind `rows `: the view.
+#[tactic(auto, unfolding(crate::specs::Lines::list_rows))]
+fn list_rows(rest: &str) -> Result<SessionLine, MemOr<LineRefusal>>
+    ensures { Gives (λ l. l) result (list_rows rest.now) }
+{
+    match read_number(rest) {
+        Some(view) => Ok(SessionLine::ListRows { view }),
+        None => Err(MemOr::Refused(LineRefusal::Line)),
+    }
+}
+
+/// What stands behind `groups `: the view.
+#[tactic(auto, unfolding(crate::specs::Lines::list_groups))]
+fn list_groups(rest: &str) -> Result<SessionLine, MemOr<LineRefusal>>
+    ensures { Gives (λ l. l) result (list_groups rest.now) }
+{
+    match read_number(rest) {
+        Some(view) => Ok(SessionLine::ListGroups { view }),
+        None => Err(MemOr::Refused(LineRefusal::Line)),
+    }
+}
+
+/// What stands behind `unview `: the view.
+#[tactic(auto, unfolding(crate::specs::Lines::close_view))]
+fn close_view(rest: &str) -> Result<SessionLine, MemOr<LineRefusal>>
+    ensures { Gives (λ l. l) result (close_view rest.now) }
+{
+    match read_number(rest) {
+        Some(view) => Ok(SessionLine::CloseView { view }),
         None => Err(MemOr::Refused(LineRefusal::Line)),
     }
 }
 
 /// A command of the store.
 #[tactic(auto, unfolding(crate::specs::Lines::store_line))]
-fn store_line(alloc: Global, line: &[u8]) -> Result<SessionLine, MemOr<LineRefusal>>
-    ensures { Gives (λ l. l) result (store_line line.now) }
+fn store_line(alloc: Global, text: &str) -> Result<SessionLine, MemOr<LineRefusal>>
+    ensures { Gives (λ l. l) result (store_line text.now) }
 {
-    let command = read_line(alloc, line)?;
+    let command = read_text(alloc, text)?;
     Ok(SessionLine::Command(command))
+}
+
+/// A line on views: its first word, and what stands behind the space.
+#[tactic(auto, unfolding(crate::specs::Lines::on_views))]
+fn on_views(
+    alloc: Global,
+    text: &str,
+    word: &str,
+    rest: &str,
+) -> Result<SessionLine, MemOr<LineRefusal>>
+    ensures { Gives (λ l. l) result (on_views text.now word.now rest.now) }
+{
+    match word {
+        "view" => open_view(rest),
+        "rows" => list_rows(rest),
+        "groups" => list_groups(rest),
+        "unview" => close_view(rest),
+        _ => store_line(alloc, text),
+    }
 }
 
 /// A line with a space: its first word, and what stands behind the space.
 #[tactic(auto, unfolding(crate::specs::Lines::with_word))]
 fn with_word(
     alloc: Global,
-    line: &[u8],
+    text: &str,
     word: &str,
     rest: &str,
 ) -> Result<SessionLine, MemOr<LineRefusal>>
-    ensures { Gives (λ l. l) result (with_word line.now word.now rest.now) }
+    ensures { Gives (λ l. l) result (with_word text.now word.now rest.now) }
 {
     match word {
         "at" => at_pin(alloc, rest),
         "unpin" => unpin(rest),
-        _ => store_line(alloc, line),
+        _ => on_views(alloc, text, word, rest),
     }
 }
 
 /// What a line of a session over a file asks for, without its LF. A line is cut at each single space, so that two spaces make an empty word.
 ///
-/// `Line` says that it isn't UTF-8; that behind `at ` no pin, space and line that only asks stand, whatever is wrong with that line; that behind `unpin ` no pin stands; or that another line is a command of none of the forms. A pin is one or more decimal digits of a number from 1 on. `Value` says that of a command of the store, which isn't one behind `at `, only a name or a value isn't of its form. `read_line` has those forms.
+/// `Line` says that it isn't UTF-8; that behind `at ` no pin, space and line that only asks stand, whatever is wrong with that line; that behind `unpin ` no pin stands, or behind `rows `, `groups ` or `unview ` no view; that behind `view ` no folder, column and `up` or `down` stand; or that another line is a command of none of the forms. A pin or a view is one or more decimal digits of a number from 1 on. `Value` says that of a command of the store, which isn't one behind `at `, only a name or a value isn't of its form. `read_line` has those forms.
 #[tactic(auto, unfolding(crate::specs::Lines::session_line))]
 pub fn read_session_line(alloc: Global, line: &[u8]) -> Result<SessionLine, MemOr<LineRefusal>>
     ensures { Gives (λ l. l) result (session_line line.now) }
@@ -90,10 +160,10 @@ pub fn read_session_line(alloc: Global, line: &[u8]) -> Result<SessionLine, MemO
         return Err(MemOr::Refused(LineRefusal::Line));
     };
     match cut(text) {
-        Some((word, rest)) => with_word(alloc, line, word, rest),
+        Some((word, rest)) => with_word(alloc, text, word, rest),
         None => match text {
             "pin" => Ok(SessionLine::Pin),
-            _ => store_line(alloc, line),
+            _ => store_line(alloc, text),
         },
     }
 }

@@ -1,5 +1,5 @@
 -- The groups of rows, run by run.
-use Rattle.std.proofs.Common.{◌≡◌, ◌∙◌, ℕ, suc, Bool, true, false, List, [], ◌∷◌, drop, Option, None, Some, ap, inl, inr, refl, sym}
+use Rattle.std.proofs.Common.{◌≡◌, ◌∙◌, ℕ, suc, Bool, true, false, List, [], ◌∷◌, ◌≤◌, ◌+◌, ◌-◌, arith, drop, get_or, length, length-drop, take, take_all, Option, None, Some, ap, inl, inr, refl, sym}
 use Rattle.std.proofs.lemmas.Bool.{cases_Bool}
 use Rattle.std.proofs.lemmas.Cmp.{on_total, then_total}
 use Rattle.std.specs.Cmp.Lexicographic.{nat_list_cmp_total}
@@ -7,7 +7,7 @@ use Rattle.std.specs.Cmp.{IsTotalOrder, nat_cmp_total}
 use Rattle.std.specs.Ordering.{is_eq, nat_cmp}
 use Rattle.std.specs.declared.cmp.Ordering.{Ordering}
 use Rattle.std.specs.declared.cmp.Ordering.TheVariants.{Less, Equal, Greater}
-use Rattle.sorted_views.specs.Groups.{groups, joined, run_length, same_front, same_key}
+use Rattle.sorted_views.specs.Groups.{groups, joined, same_front, same_key}
 use Rattle.sorted_views.specs.Rows.{key_cmp}
 use Rattle.sorted_views.specs.declared.key.Key.{Key}
 use Rattle.sorted_views.specs.declared.rows.ViewRow.{ViewRow}
@@ -45,3 +45,19 @@ by_runs row (r ∷ rs) = elim (cases_Bool (same_key row r)) [
   | inl same ↦ ap (joined row) (by_runs r rs) ∙ rw (same, fronts_alike row r rs same) refl
   | inr other ↦ ap (joined row) (by_runs r rs) ∙ rw other (ap (λ gs. (row, 1) ∷ gs) (sym (by_runs r rs)))
 ]
+
+-- what stands behind a place
+behind : {X : Type 0} (xs : List X) (k n : ℕ) → n ≡ length xs - k → take n (drop k xs) ≡ drop k xs
+behind xs k n e = take_all n (drop k xs) (omega (arith, length-drop k xs, e))
+
+-- the first group of rows whose first one is this
+pub first_group : (rows : List ViewRow) (first : ViewRow) (n : ℕ) → 1 ≤ length rows → first ≡ get_or rows 0 first → n ≡ same_front first (take (length rows - 1) (drop 1 rows))
+    → groups rows ≡ (first, 1 + n) ∷ groups (take (length (take (length rows - 1) (drop 1 rows)) - n) (drop n (take (length rows - 1) (drop 1 rows))))
+first_group [] first n h is e = absurd (omega (arith, h))
+first_group (r ∷ rs) first n h is e =
+    let rest = behind (r ∷ rs) 1 (length (r ∷ rs) - 1) refl in
+    let count = e ∙ ap (same_front first) rest in
+    ap (λ x. groups (x ∷ rs)) (sym is) ∙ by_runs first rs
+    ∙ ap (λ k. (first, suc k) ∷ groups (drop k rs)) (sym count)
+    ∙ ap (λ gs. (first, suc n) ∷ groups gs) (sym (ap (λ xs. take (length xs - n) (drop n xs)) rest ∙ behind rs n (length rs - n) refl))
+    ∙ ap (λ k. (first, k) ∷ groups (take (length (take (length (r ∷ rs) - 1) (drop 1 (r ∷ rs))) - n) (drop n (take (length (r ∷ rs) - 1) (drop 1 (r ∷ rs)))))) (omega arith)

@@ -22,8 +22,3 @@ groups (row ∷ rows) = joined row (groups rows)
 abbrev pub same_front : ViewRow → List ViewRow → ℕ
 same_front row [] = 0
 same_front row (other ∷ rows) = if same_key row other then suc (same_front row rows) else 0
-
--- how many rows there are in the first group
-abbrev pub run_length : List ViewRow → ℕ
-run_length [] = 0
-run_length (row ∷ rows) = suc (same_front row rows)

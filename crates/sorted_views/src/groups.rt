@@ -1,6 +1,6 @@
 //! Rows in groups.
-ghost use Rattle.std.specs.Prelude.{◌≡◌, ◌≤◌, length};
-ghost use Rattle.sorted_views.specs.Groups.{run_length, same_front, same_key};
+ghost use Rattle.std.specs.Prelude.{◌≡◌, ◌+◌, ◌≤◌, ◌<◌, [], ◌∷◌, length, MatchOption, IfSome};
+ghost use Rattle.sorted_views.specs.Groups.{groups, same_front, same_key};
 
 use crate::rows::ViewRow;
 
@@ -26,12 +26,16 @@ fn same_front(first: &ViewRow, rows: &[ViewRow]) -> usize
     count
 }
 
-/// How many rows there are in the first group: how many of the first ones have equal keys.
-pub fn run_length(rows: &[ViewRow]) -> usize
-    ensures { result ≡ run_length rows.now }
+/// The first row of the first group, how many rows that group has, and the rows behind it; `None` where there are no rows.
+pub fn split_group(rows: &[ViewRow]) -> Option<(&ViewRow, usize, &[ViewRow])>
+    ensures split { MatchOption result (rows.now ≡ []) (λ g. groups rows.now ≡ (g.0.now, g.1) ∷ groups g.2.now) }
+    ensures shorter { IfSome result (λ g. (0 < g.1) × (g.1 + length g.2.now ≡ length rows.now)) }
 {
     match rows {
-        [] => 0,
-        [first, rest @ ..] => 1 + same_front(first, rest),
+        [] => None,
+        [first, rest @ ..] => {
+            let alike = same_front(first, rest);
+            Some((first, 1 + alike, &rest[alike..]))
+        }
     }
 }
