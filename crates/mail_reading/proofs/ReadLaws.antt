@@ -2,6 +2,7 @@
 use Rattle.std.proofs.Common.{◌≡◌, ◌∙◌, ℕ, Bool, true, List, [], ◌∷◌, Option, None, Some, IfOk, Ok, Err, ap, inl, inr, refl, subst, sym}
 use Rattle.std.proofs.lemmas.Bool.{cases_Bool}
 use Rattle.pst_base.specs.declared.ids.Nid.{Nid}
+use Rattle.command_text.specs.Asking.{asks}
 use Rattle.command_text.specs.declared.command.Command.{Command}
 use Rattle.command_text.specs.declared.command.Command.TheVariants.{MakeFolder, RenameFolder, MoveFolder, RemoveFolder, ListFolder, NewMessage, SetProperty, UnsetProperty, GetProperty, ListProperties, MoveMessage, CopyMessage, RemoveMessage, AddRecipient, RemoveRecipient, AddAttachment, AppendData, RemoveAttachment, FetchData, NameProperty, Save, Quit, MakeSearch, SetCriteria, GetCriteria}
 use Rattle.command_text.specs.declared.reply.CommandRefusal.TheVariants as refusals
@@ -133,7 +134,7 @@ module _ (X : Searching) where
         (λ other. fine_then (λ o. o ≡ unchanged X.tree o.reply) (λ o. o ≡ unchanged X.tree o.reply) (listing X.tree folder.bits) _ (lists_other folder) (λ o is. ap (λ (x : Outcome). record x { reply = marked X.own o.reply }) is))
 
 pub reads_leave : ReadsLeave
-unfolding outcome
+unfolding outcome asks
 reads_leave X (ListFolder folder) whole are is = stays X (listing_in X folder.bits) (lists X whole are folder)
 reads_leave X (GetCriteria search) whole are is = stays X (told_criteria X search.bits) (told X whole are search.bits)
 reads_leave X (GetProperty message tag) whole are is = plain X whole are (GetProperty message tag) refl (λ o. refl)

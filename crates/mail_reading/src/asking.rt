@@ -19,7 +19,7 @@ use search_folders::{Coming, get_criteria, list_folder};
 use std::alloc::Global;
 
 /// What a command comes to where a store is only read, or why it is refused: `Line` of each that could change something. Nothing changes. `Fault` comes where the disk failed, `Memory` where there was no memory, and `Changed` where something isn't as it was found before.
-#[tactic(auto, unfolding(mail_searches::specs::Step::outcome))]
+#[tactic(auto, unfolding(mail_searches::specs::Step::outcome, command_text::specs::Asking::asks))]
 pub fn ask<W: Outside, K: NodeReader<W>>(
     alloc: Global,
     keeper: &mut K,
