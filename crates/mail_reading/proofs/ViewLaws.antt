@@ -1,7 +1,6 @@
 -- On a whole tree a view is shown or refused.
 use Rattle.std.proofs.Common.{◌≡◌, ◌∙◌, ℕ, true, false, Bool, ap, inl, inr, None, Some}
 use Rattle.std.proofs.lemmas.Bool.{cases_Bool}
-use Rattle.mapi_values.specs.declared.value.Tag.{Tag}
 use Rattle.mail_tree.specs.Changing.{contents, nothing}
 use Rattle.mail_tree.specs.Places.{find_place, is_plain}
 use Rattle.mail_tree.specs.Tree.{object_at}
@@ -13,7 +12,7 @@ use Rattle.mail_searches.specs.Searches.{results}
 use Rattle.mail_searches.specs.Searching.{AreSearches, Searching, is_own}
 use Rattle.search_folders.specs.mail_folders.Pieces.{plain_in}
 use Rattle.search_lists.proofs.ClearLaws.{none_unclear}
-use Rattle.mail_reading.specs.Viewed.{contents_in, has_keyed_column, listed_ids, listing_of, plain_contents}
+use Rattle.mail_reading.specs.Viewed.{contents_in, listed_ids, listing_of, plain_contents}
 
 module _ (X : Searching) (whole : IsWhole X.tree) (are : AreSearches X) where
   fine_plain : (f : ℕ) → Fine (plain_contents X.tree f) (λ t. Unit {0})
@@ -30,10 +29,6 @@ module _ (X : Searching) (whole : IsWhole X.tree) (are : AreSearches X) where
   unfolding contents_in
   fine_contents f = fine_either (λ t. Unit {0}) (is_own X.own f) _ _
       (λ own. let t = are.tables f own in rw (ap (λ at. at (results f)) (now_nothing X.tree) ∙ t.1) tt) (λ other. fine_plain f)
-
-  pub fine_column : (f : ℕ) (tag : Tag) → Fine (has_keyed_column X f tag) (λ b. Unit {0})
-  unfolding has_keyed_column
-  fine_column f tag = fine_then (λ t. Unit {0}) (λ b. Unit {0}) (contents_in X f) _ (fine_contents f) (λ t u. tt)
 
   pub fine_listing : (f : ℕ) → Fine (listing_of X f) (λ l. Unit {0})
   unfolding listing_of listed_ids

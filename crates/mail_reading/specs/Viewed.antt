@@ -1,11 +1,8 @@
 -- What a view shows of a tree.
-use Rattle.std.specs.Prelude.{ℕ, ◌&&◌, Bool, List, [], ◌∷◌, ◌++◌, Ok, if◌then◌else◌}
+use Rattle.std.specs.Prelude.{ℕ, List, [], ◌∷◌, ◌++◌, Ok, if◌then◌else◌}
 use Rattle.std.specs.Option.{is_some}
-use Rattle.mapi_values.specs.Columns.{has_column}
 use Rattle.mapi_values.specs.Values.{Val}
-use Rattle.mapi_values.specs.declared.value.Tag.{Tag}
 use Rattle.mail_objects.specs.Forms.{Tbl}
-use Rattle.sorted_views.specs.Keys.{has_keys}
 use Rattle.mail_tree.specs.Changing.{Answer, ◌>>=◌, as_message, contents, nothing, table_at}
 use Rattle.mail_tree.specs.Tree.{Tree, object_at}
 use Rattle.search_folders.specs.mail_folders.Pieces.{plain_in}
@@ -22,10 +19,6 @@ plain_contents T f = plain_in T f >>= λ p. table_at T nothing (contents f)
 -- the table that lists the messages of a folder: the list of an own search, the contents of a plain folder
 unfoldable pub contents_in : Searching → ℕ → Answer Tbl
 contents_in X f = if is_own X.own f then table_at X.tree nothing (results f) else plain_contents X.tree f
-
--- whether it has this column, of a kind whose values have keys
-unfoldable pub has_keyed_column : Searching → ℕ → Tag → Answer Bool
-has_keyed_column X f tag = contents_in X f >>= λ t. Ok (has_column t.table.columns tag.id tag.kind && has_keys tag.kind)
 
 -- the ids so far, with this one, if it is that of a message
 unfoldable pub with_named : Tree → List ℕ → ℕ → Answer (List ℕ)

@@ -1,24 +1,23 @@
 //! What a view shows: the table of a folder, and which messages its rows name.
-ghost use Rattle.std.specs.Prelude.{◌≡◌, Bool, IfErr};
+ghost use Rattle.std.specs.Prelude.{◌≡◌, IfErr};
 ghost use Rattle.mail_tree.specs.Knowing.{Knows};
 ghost use Rattle.mail_tree.specs.Tree.{Shown, Tree};
 ghost use Rattle.search_folders.specs.mail_draft.Answers.{IsCaused, Looks, Says};
 ghost use Rattle.mail_searches.specs.Searches.{results};
 ghost use Rattle.mail_searches.specs.Searching.{Searching};
 ghost use Rattle.search_folders.specs.Comings.{KnowsSearches};
-ghost use Rattle.mail_reading.specs.Viewed.{contents_in, has_keyed_column, listed_ids, listing_of, listing_view, plain_contents, with_named};
+ghost use Rattle.mail_reading.specs.Viewed.{contents_in, listed_ids, listing_of, listing_view, plain_contents, with_named};
 
 use mail_objects::TableNode;
 use mail_searches::{KnownSearches, OwnFolders};
 use mail_tree::Known;
-use mapi_values::{Props, Tag, has_column};
+use mapi_values::Props;
 use node_port::NodeReader;
 use pst_base::{Nid, make_nid};
 use pst_outside::Outside;
 use search_folders::mail_draft::{Stop, contents};
 use search_folders::mail_folders::{plain_in, table_in};
 use search_folders::search_results::is_message;
-use sorted_views::has_keys;
 use std::alloc::Global;
 
 /// The table that lists the messages of a folder, and the ids of those that are there.
@@ -128,24 +127,4 @@ pub fn list_rows<W: Outside, K: NodeReader<W>>(
     let table = contents_in(alloc, keeper, w, known, &searches.own, folder)?;
     let ids = listed_ids(alloc, keeper, w, known, table.table().rows())?;
     Ok(Listing { table, ids })
-}
-
-/// Whether the rows of a folder's messages can be sorted by a column: whether its table has it, and its kind has keys. The refusals: `Object`, and `Reserved` of a search folder of another program.
-#[tactic(auto, unfolding(crate::specs::Viewed::has_keyed_column))]
-pub fn has_keyed_column<W: Outside, K: NodeReader<W>>(
-    alloc: Global,
-    keeper: &mut K,
-    w: &mut W,
-    known: &Known,
-    searches: &KnownSearches,
-    folder: Nid,
-    tag: Tag,
-) -> Result<bool, Stop>
-    ensures answer { (X : Searching) → Shown (K.holds keeper.old (W.view w.old)) (K.last keeper.old) X.tree → Knows X.tree known.now → KnowsSearches X searches.now → Says (λ b. b) (has_keyed_column X folder.bits tag) result }
-    ensures looks { Looks (K.holds keeper.old (W.view w.old)) (K.holds keeper.new (W.view w.new)) (K.last keeper.old) (K.last keeper.new) (K.room keeper.old) (K.room keeper.new) (W.view w.old) (W.view w.new) }
-    ensures cause { IfErr result (IsCaused K.has_disk (W.view w.old).disk_faults (W.view w.new).disk_faults) }
-{
-    let table = contents_in(alloc, keeper, w, known, &searches.own, folder)?;
-    let columns = table.table().columns();
-    Ok(has_column(columns, tag.id, tag.kind) && has_keys(tag.kind))
 }

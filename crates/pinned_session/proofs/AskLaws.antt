@@ -1,5 +1,5 @@
 -- What a line asks a pin for.
-use Rattle.std.proofs.Common.{◌≡◌, ◌∙◌, ℕ, true, List, Option, None, Some, Result, Ok, Err, inl, inr, refl, sym, subst}
+use Rattle.std.proofs.Common.{◌≡◌, ◌∙◌, ℕ, Bool, true, false, List, if◌then◌else◌, Option, None, Some, Result, Ok, Err, inl, inr, refl, sym, subst}
 use Rattle.std.specs.Prelude.{ok_or, bytes_eq, codes}
 use Rattle.std.specs.Str.{is_utf8}
 use Rattle.std.proofs.lemmas.Bool.{cases_Bool, true≢false}
@@ -10,17 +10,21 @@ use Rattle.mail_reading.proofs.Answered.{StopAnswers}
 use Rattle.mail_searches.specs.Searching.{Searching}
 use Rattle.mail_searches.specs.Step.{step}
 use Rattle.mail_tree.specs.Folders.{replied}
-use Rattle.command_text.specs.Arguments.{◌>>=◌}
-use Rattle.command_text.specs.Lines.{command}
+use Rattle.pst_base.specs.declared.ids.Nid.{Nid}
+use Rattle.mapi_values.specs.declared.value.Tag.{Tag}
+use Rattle.sorted_views.specs.declared.rows.Direction.{Direction}
+use Rattle.command_text.specs.Arguments.{◌>>=◌, id_and_tag}
+use Rattle.command_text.specs.Lines.{text_command}
 use Rattle.command_text.specs.Words.{cut}
 use Rattle.command_text.specs.declared.command.Command.{Command}
 use Rattle.command_text.specs.declared.command.Command.TheVariants.{MakeFolder, RenameFolder, MoveFolder, RemoveFolder, ListFolder, NewMessage, SetProperty, UnsetProperty, GetProperty, ListProperties, MoveMessage, CopyMessage, RemoveMessage, AddRecipient, RemoveRecipient, AddAttachment, AppendData, RemoveAttachment, FetchData, NameProperty, Save, Quit, MakeSearch, SetCriteria, GetCriteria}
 use Rattle.command_text.specs.declared.command.LineRefusal.{LineRefusal}
 use Rattle.command_text.specs.declared.command.LineRefusal.TheVariants.{Line}
 use Rattle.mail_reading.specs.Asked.{reads}
-use Rattle.session_lines.specs.Lines.{asked, asks, at_pin, cut_line, only_asked, pin_of, session_line, store_line, unpin, with_word}
+use Rattle.command_text.specs.Asking.{asks}
+use Rattle.session_lines.specs.Lines.{asked, at_pin, close_view, cut_line, direction_of, number_of, on_views, only_asked, open_view, session_line, show_view, store_line, text_in, unpin, with_word}
 use Rattle.session_lines.specs.declared.line.SessionLine.{SessionLine}
-use Rattle.session_lines.specs.declared.line.SessionLine.TheVariants.{Pin, At, Unpin, Command as StoreCommand}
+use Rattle.session_lines.specs.declared.line.SessionLine.TheVariants.{Pin, At, Unpin, OpenView, ShowView, CloseView, Command as StoreCommand}
 
 -- a command that only asks only reads
 pub asks_reads : (c : Command) → asks c ≡ true → reads c ≡ true
@@ -56,6 +60,9 @@ abbrev OnlyAsks : Result SessionLine LineRefusal → Type 0
 OnlyAsks (Ok Pin) = Unit {0}
 OnlyAsks (Ok (At pin c)) = asks c ≡ true
 OnlyAsks (Ok (Unpin pin)) = Unit {0}
+OnlyAsks (Ok (OpenView folder tag direction)) = Unit {0}
+OnlyAsks (Ok (ShowView view grouped)) = Unit {0}
+OnlyAsks (Ok (CloseView view)) = Unit {0}
 OnlyAsks (Ok (StoreCommand c)) = Unit {0}
 OnlyAsks (Err refusal) = Unit {0}
 
@@ -71,16 +78,16 @@ unfolding at_pin asked
 at_asks rest = by (cut rest)
   where
     pinned : (words : List ℕ) (p : Option (Option ℕ)) → OnlyAsks (ok_or p Line >>= λ pin. asked words >>= λ c. Ok (At pin c))
-    pinned words (Some pin) = asked_asks pin (command words)
+    pinned words (Some pin) = asked_asks pin (text_command words)
     pinned words None = tt
 
-    by : (words : Option (List ℕ × List ℕ)) → OnlyAsks (ok_or words Line >>= λ w. ok_or (pin_of w.0) Line >>= λ pin. asked w.1 >>= λ c. Ok (At pin c))
-    by (Some w) = pinned w.1 (pin_of w.0)
+    by : (words : Option (List ℕ × List ℕ)) → OnlyAsks (ok_or words Line >>= λ w. ok_or (number_of w.0) Line >>= λ pin. asked w.1 >>= λ c. Ok (At pin c))
+    by (Some w) = pinned w.1 (number_of w.0)
     by None = tt
 
 unpin_asks : (rest : List ℕ) → OnlyAsks (unpin rest)
 unfolding unpin
-unpin_asks rest = by (pin_of rest)
+unpin_asks rest = by (number_of rest)
   where
     by : (pin : Option (Option ℕ)) → OnlyAsks (ok_or pin Line >>= λ p. Ok (Unpin p))
     by (Some pin) = tt
@@ -88,11 +95,54 @@ unpin_asks rest = by (pin_of rest)
 
 store_asks : (bytes : List ℕ) → OnlyAsks (store_line bytes)
 unfolding store_line
-store_asks bytes = by (command bytes)
+store_asks bytes = by (text_command bytes)
   where
     by : (r : Result Command LineRefusal) → OnlyAsks (r >>= λ c. Ok (StoreCommand c))
     by (Ok c) = tt
     by (Err refusal) = tt
+
+open_asks : (rest : List ℕ) → OnlyAsks (open_view rest)
+unfolding open_view
+open_asks rest = by (direction_of rest)
+  where
+    given : (direction : Direction) (r : Result (Nid × Tag) LineRefusal) → OnlyAsks (r >>= λ g. Ok (OpenView g.0 g.1 direction))
+    given direction (Ok g) = tt
+    given direction (Err refusal) = tt
+
+    front : (direction : Direction) (r : Result (List ℕ) LineRefusal) → OnlyAsks (r >>= λ f. id_and_tag f >>= λ g. Ok (OpenView g.0 g.1 direction))
+    front direction (Ok f) = given direction (id_and_tag f)
+    front direction (Err refusal) = tt
+
+    by : (said : Option (List ℕ × Direction)) → OnlyAsks (ok_or said Line >>= λ s. text_in s.0 >>= λ f. id_and_tag f >>= λ g. Ok (OpenView g.0 g.1 s.1))
+    by (Some s) = front s.1 (text_in s.0)
+    by None = tt
+
+show_asks : (grouped : Bool) (rest : List ℕ) → OnlyAsks (show_view grouped rest)
+unfolding show_view
+show_asks grouped rest = by (number_of rest)
+  where
+    by : (view : Option (Option ℕ)) → OnlyAsks (ok_or view Line >>= λ v. Ok (ShowView v grouped))
+    by (Some view) = tt
+    by None = tt
+
+close_asks : (rest : List ℕ) → OnlyAsks (close_view rest)
+unfolding close_view
+close_asks rest = by (number_of rest)
+  where
+    by : (view : Option (Option ℕ)) → OnlyAsks (ok_or view Line >>= λ v. Ok (CloseView v))
+    by (Some view) = tt
+    by None = tt
+
+-- either of two lines only asks
+either_asks : (b : Bool) (x y : Result SessionLine LineRefusal) → OnlyAsks x → OnlyAsks y → OnlyAsks (if b then x else y)
+either_asks true x y first second = first
+either_asks false x y first second = second
+
+views_ask : (bytes word rest : List ℕ) → OnlyAsks (on_views bytes word rest)
+unfolding on_views
+views_ask bytes word rest =
+    either_asks (bytes_eq word (codes "view")) _ _ (open_asks rest) (either_asks (bytes_eq word (codes "rows")) _ _ (show_asks false rest) (either_asks (bytes_eq word (codes "groups")) _ _ (show_asks true rest)
+    (either_asks (bytes_eq word (codes "unview")) _ _ (close_asks rest) (store_asks bytes))))
 
 word_asks : (bytes word rest : List ℕ) → OnlyAsks (with_word bytes word rest)
 unfolding with_word
@@ -101,7 +151,7 @@ word_asks bytes word rest = elim (cases_Bool (bytes_eq word (codes "at"))) [
   | inr other ↦
       rw other (elim (cases_Bool (bytes_eq word (codes "unpin"))) [
         | inl gives ↦ rw gives (unpin_asks rest)
-        | inr plain ↦ rw plain (store_asks bytes)
+        | inr plain ↦ rw plain (views_ask bytes word rest)
       ])
 ]
 

@@ -16,7 +16,9 @@ use Rattle.pinned_session.specs.Keeping.{Keeping}
 use Rattle.pinned_session.specs.Lines.{AnswersLine, StopsLine}
 use Rattle.pinned_session.specs.Sits.{Sits, SitsIn, StandsNow, room_of}
 use Rattle.pinned_session.specs.Sitting.{Sitting, begins, pins_of}
+use Rattle.pinned_session.specs.Viewing.{viewing_of}
 use Rattle.pinned_session.specs.declared.pins.PinView.{PinView}
+use Rattle.pinned_session.specs.declared.views.OpenViews.{OpenViews}
 use Rattle.pinned_session.specs.declared.answerer.PinnedAnswerer.{PinnedAnswerer}
 use Rattle.pinned_session.specs.declared.pins.PinnedStore.{PinnedStore}
 use Rattle.pinned_session.proofs.PinLaws.{views_on}
@@ -87,6 +89,7 @@ module _ {K W : Type 0} (view : W → World) (holds : K → World → Nodes → 
         given = h.given;
         numbered = h.numbered;
         found = h.found;
+        shows = h.shows;
       }
 
   pub pinned_keeps : ((k : K) (v w : W) → (disk ≡ true → (view w).tells × SameDisk (view v).here (view w).here) → (N : Nodes) → holds k (view v) N → holds k (view w) N)
@@ -107,7 +110,8 @@ module _ {K W : Type 0} (view : W → World) (holds : K → World → Nodes → 
     stopped = λ a b v w bytes stop S is h tells. is.leaves found tidy S h tells;
   }
 
--- a store without pins stands in the state of its tree
-pub sits_first : {has : Searching → Type 0} {pinned : ℕ → Nodes → Type 0} {room : Room} (known : List PinView) (X : Searching) → has X → known ≡ [] → room.pins ≡ no_pins → HasSitting has pinned room known 0 room.found (begins X)
-sits_first {has} {pinned} {room} known X h none pins =
-    subst (λ l. HasSitting has pinned room l 0 room.found (begins X)) (sym none) (record { store = h; views = tt; pins = pins; given = refl; numbered = omega arith; found = refl })
+-- a store without pins and views stands in the state of its tree
+pub sits_first : {has : Searching → Type 0} {pinned : ℕ → Nodes → Type 0} {room : Room} (known : List PinView) (shown : OpenViews) (X : Searching) → has X → known ≡ [] → viewing_of shown ≡ record { given = 0; opened = [] } → room.pins ≡ no_pins
+    → HasSitting has pinned room known 0 shown room.found (begins X)
+sits_first {has} {pinned} {room} known shown X h none empty pins =
+    subst (λ l. HasSitting has pinned room l 0 shown room.found (begins X)) (sym none) (record { store = h; views = tt; pins = pins; given = refl; numbered = omega arith; found = refl; shows = sym empty })

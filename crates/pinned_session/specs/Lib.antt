@@ -6,5 +6,7 @@ pub mod Run
 pub mod Session
 pub mod Sits
 pub mod Sitting
+pub mod Viewing
+pub mod Opening
 pub mod Views
 pub use Rattle.store_session.specs as store_session

@@ -1,7 +1,8 @@
--- The state of a session over a store: the tree with its searches as it is now, and the pins that are open, each with the tree of the moment when it was made.
+-- The state of a session over a store: the tree with its searches as it is now, the pins that are open, each with the tree of the moment when it was made, and the views that are open.
 use Rattle.std.specs.Prelude.{◌==◌, ◌<◌, ◌≤◌, if◌then◌else◌, ℕ, Bool, List, [], ◌∷◌, map, Option, None, Some}
 use Rattle.node_port.specs.Pins.{Pins}
 use Rattle.mail_searches.specs.Searching.{Searching}
+use Rattle.pinned_session.specs.Viewing.{Viewing, standing}
 
 -- an open pin: its number, which slots of 64 bytes it holds, and the tree with its searches that it keeps
 pub record OpenPin : Type 0 where
@@ -9,15 +10,20 @@ pub record OpenPin : Type 0 where
   pub used : List Bool
   pub tree : Searching
 
--- the present tree with its searches, how many numbers of pins were given, and the open pins
+-- the present tree with its searches, how many numbers of pins were given, the open pins, and the views
 pub record Sitting : Type 0 where
   pub now : Searching
   pub given : ℕ
   pub pins : List OpenPin
+  pub views : Viewing
 
--- a session that begins has no pins
+-- a session that begins has no pins and no views
 abbrev pub begins : Searching → Sitting
-begins X = record { now = X; given = 0; pins = [] }
+begins X = record { now = X; given = 0; pins = []; views = record { given = 0; opened = [] } }
+
+-- another tree is there: the views whose folder is gone are closed
+abbrev pub with_tree : Searching → Sitting → Sitting
+with_tree Y S = record S { now = Y; views = standing Y.tree.places S.views }
 
 -- what a keeper tells of a pin
 abbrev pub slots_of : OpenPin → ℕ × List Bool

@@ -12,6 +12,8 @@ mod lines;
 mod pinning;
 mod pins;
 mod session;
+mod viewing;
+mod views;
 
 pub use session::run_session;
 pub use store_session;

@@ -14,6 +14,8 @@ use crate::asking::ask_keeping;
 use crate::commands::carry_keeping;
 use crate::pinning::{give_up, make_pin, pin_spoken};
 use crate::pins::{PinnedStore, place_of};
+use crate::viewing::{close_view, open_view, show_view};
+use crate::views::close_gone;
 use command_text::{Command, CommandRefusal};
 use line_server::Spoken;
 use node_port::{Pinner, Saver};
@@ -24,7 +26,7 @@ use std::alloc::Global;
 use store_session::search_store::SearchStore;
 use store_session::{Store, StoreStop, refusal_spoken, reply_spoken, stopped};
 
-/// Carries out a command of the store. Its pins tell what they told.
+/// Carries out a command of the store. Its pins tell what they told, and the views of a folder that is gone are closed.
 fn carry_command<W: Outside, K: Pinner<W> + Saver<W>>(
     alloc: Global,
     pinned: PinnedStore<K>,
@@ -36,9 +38,21 @@ fn carry_command<W: Outside, K: Pinner<W> + Saver<W>>(
     ensures cause { IfErr result.1 (IsCaused K.has_disk (W.view world.old) (W.view world.new)) }
     ensures quiet { Quiet (W.view world.old) (W.view world.new) }
 {
-    let PinnedStore { store, given, pins } = pinned;
+    let PinnedStore {
+        store,
+        given,
+        pins,
+        mut views,
+    } = pinned;
     let (store, answer) = carry_keeping(alloc, store, world, command);
-    (PinnedStore { store, given, pins }, answer)
+    close_gone(&mut views.opened, &store.store.known.places);
+    let pinned = PinnedStore {
+        store,
+        given,
+        pins,
+        views,
+    };
+    (pinned, answer)
 }
 
 /// Answers a command that only asks by the tree of the pin that a line names.
@@ -58,7 +72,12 @@ fn ask_pin<W: Outside, K: Pinner<W> + Saver<W>>(
     let Some(place) = place_of(pinned.pins.as_slice(), pin) else {
         return (pinned, Ok(pin_spoken(alloc, PinReply::NoPin)));
     };
-    let PinnedStore { store, given, pins } = pinned;
+    let PinnedStore {
+        store,
+        given,
+        pins,
+        views,
+    } = pinned;
     let SearchStore {
         store: Store { keeper, known },
         searches,
@@ -68,7 +87,12 @@ fn ask_pin<W: Outside, K: Pinner<W> + Saver<W>>(
         store: Store { keeper, known },
         searches,
     };
-    let pinned = PinnedStore { store, given, pins };
+    let pinned = PinnedStore {
+        store,
+        given,
+        pins,
+        views,
+    };
     match answer {
         Ok(coming) => (pinned, Ok(reply_spoken(alloc, &coming.outcome.reply))),
         Err(stop) => (pinned, stopped(alloc, stop)),
@@ -100,6 +124,21 @@ pub(crate) fn answer_line<W: Outside, K: Pinner<W> + Saver<W>>(
         Ok(SessionLine::Unpin { pin }) => {
             let mut pinned = pinned;
             let spoken = give_up::<W, K>(alloc, &mut pinned, pin);
+            (pinned, Ok(spoken))
+        }
+        Ok(
+            SessionLine::OpenView {
+                folder,
+                tag,
+                direction,
+            },
+        ) => open_view(alloc, pinned, world, folder, tag, direction),
+        Ok(SessionLine::ShowView { view, grouped }) => {
+            show_view(alloc, pinned, world, view, grouped)
+        }
+        Ok(SessionLine::CloseView { view }) => {
+            let mut pinned = pinned;
+            let spoken = close_view(alloc, &mut pinned.views, view);
             (pinned, Ok(spoken))
         }
         Err(MemOr::Refused(refusal)) => {

@@ -6,6 +6,7 @@ ghost use Rattle.mail_tree.specs.Tree.{Tree};
 ghost use Rattle.mail_reading.specs.search_folders.Comings.{KnowsSearches};
 ghost use Rattle.pinned_session.specs.Views.{place_of};
 
+use crate::views::OpenViews;
 use mail_searches::KnownSearches;
 use mail_tree::{Flags, Known};
 use node_port::Counts;
@@ -21,12 +22,13 @@ pub struct PinView {
     pub searches: KnownSearches,
 }
 
-/// A store, how many numbers of pins were given, and what is known of each open pin.
+/// A store, how many numbers of pins were given, what is known of each open pin, and the views.
 #[derive(Drop)]
 pub struct PinnedStore<K> {
     pub store: SearchStore<K>,
     pub given: u32,
     pub pins: Vec<PinView>,
+    pub views: OpenViews,
 }
 
 /// What is known of a tree now, for a pin of this number. Which messages are unread and what folders are named isn't kept: no command that asks needs it.

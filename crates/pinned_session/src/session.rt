@@ -12,6 +12,7 @@ ghost use Rattle.pinned_session.specs.Sitting.{begins};
 
 use crate::answerer::PinnedAnswerer;
 use crate::pins::PinnedStore;
+use crate::views::OpenViews;
 use line_server::serve;
 use node_port::{Pinner, Saver};
 use pst_outside::Outside;
@@ -37,6 +38,10 @@ pub fn run_session<W: Outside, K: Pinner<W> + Saver<W> + Drop>(
         store,
         given: 0,
         pins: Vec::new(alloc),
+        views: OpenViews {
+            given: 0,
+            opened: Vec::new(alloc),
+        },
     };
     let mut answerer = PinnedAnswerer {
         pinned: Some(pinned),

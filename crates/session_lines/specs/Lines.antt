@@ -1,5 +1,5 @@
 -- What a line of a session over a file asks for.
-use Rattle.std.specs.Prelude.{ℕ, ◌-◌, ◌&&◌, List, drop, length, nat_eq, nat_le, nat_lt, take, bytes_eq, codes, Option, None, Some, option_map, Result, Ok, Err, ok_or, if◌then◌else◌}
+use Rattle.std.specs.Prelude.{ℕ, ◌-◌, ◌&&◌, Bool, true, false, List, drop, length, nat_eq, nat_le, nat_lt, take, bytes_eq, codes, Option, None, Some, option_map, Result, Ok, Err, ok_or, if◌then◌else◌}
 use Rattle.std.specs.Cmp.Lexicographic.{pointwise}
 use Rattle.std.specs.Option.{option_or}
 use Rattle.std.specs.List.{list_all}
@@ -16,7 +16,7 @@ use Rattle.command_text.specs.Asking.{asks}
 use Rattle.command_text.specs.Lines.{text_command}
 use Rattle.command_text.specs.Words.{cut}
 use Rattle.session_lines.specs.declared.line.SessionLine.{SessionLine}
-use Rattle.session_lines.specs.declared.line.SessionLine.TheVariants.{Pin, At, Unpin, OpenView, ListRows, ListGroups, CloseView, Command as StoreCommand}
+use Rattle.session_lines.specs.declared.line.SessionLine.TheVariants.{Pin, At, Unpin, OpenView, ShowView, CloseView, Command as StoreCommand}
 
 -- a number that a pin or a view may have, of at most 32 bits
 abbrev pub within : ℕ → Option ℕ
@@ -72,17 +72,11 @@ open_view rest = do
   given ← id_and_tag front
   Ok (OpenView given.0 given.1 said.1)
 
--- rows: the view
-unfoldable pub list_rows : List ℕ → Result SessionLine LineRefusal
-list_rows rest = do
+-- rows and groups: the view
+unfoldable pub show_view : Bool → List ℕ → Result SessionLine LineRefusal
+show_view grouped rest = do
   view ← ok_or (number_of rest) Line
-  Ok (ListRows view)
-
--- groups: the view
-unfoldable pub list_groups : List ℕ → Result SessionLine LineRefusal
-list_groups rest = do
-  view ← ok_or (number_of rest) Line
-  Ok (ListGroups view)
+  Ok (ShowView view grouped)
 
 -- unview: the view
 unfoldable pub close_view : List ℕ → Result SessionLine LineRefusal
@@ -100,8 +94,8 @@ store_line text = do
 unfoldable pub on_views : List ℕ → List ℕ → List ℕ → Result SessionLine LineRefusal
 on_views text word rest =
     if bytes_eq word (codes "view") then open_view rest
-    else (if bytes_eq word (codes "rows") then list_rows rest
-    else (if bytes_eq word (codes "groups") then list_groups rest
+    else (if bytes_eq word (codes "rows") then show_view false rest
+    else (if bytes_eq word (codes "groups") then show_view true rest
     else (if bytes_eq word (codes "unview") then close_view rest
     else store_line text)))
 

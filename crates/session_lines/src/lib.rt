@@ -15,4 +15,3 @@ pub use line::{PinReply, SessionLine, ViewReply};
 pub use printing::{pin_reply_text, view_reply_text};
 pub use reading::read_session_line;
 pub use rows::{groups_text, rows_text};
-pub use sorted_views;

@@ -24,13 +24,10 @@ pub enum SessionLine {
         tag: Tag,
         direction: Direction,
     },
-    /// `rows V`: the rows of the view V. `None` is a number that no view has.
-    ListRows {
+    /// `rows V` and `groups V`: the rows of the view V, or its groups. `None` is a number that no view has.
+    ShowView {
         view: Option<u32>,
-    },
-    /// `groups V`: the groups of the view V.
-    ListGroups {
-        view: Option<u32>,
+        grouped: bool,
     },
     /// `unview V`: the view V is closed.
     CloseView {

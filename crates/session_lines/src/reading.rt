@@ -1,6 +1,6 @@
 //! A line read as what it asks for.
 ghost use Rattle.pst_base.specs.Stops.{Gives};
-ghost use Rattle.session_lines.specs.Lines.{asked, at_pin, close_view, list_groups, list_rows, on_views, open_view, session_line, store_line, unpin, with_word};
+ghost use Rattle.session_lines.specs.Lines.{asked, at_pin, close_view, on_views, open_view, session_line, show_view, store_line, unpin, with_word};
 
 use crate::line::SessionLine;
 use crate::words::{read_direction, read_number};
@@ -71,24 +71,13 @@ fn open_view(rest: &str) -> Result<SessionLine, MemOr<LineRefusal>>
     })
 }
 
-/// What stands behind `rows `: the view.
-#[tactic(auto, unfolding(crate::specs::Lines::list_rows))]
-fn list_rows(rest: &str) -> Result<SessionLine, MemOr<LineRefusal>>
-    ensures { Gives (λ l. l) result (list_rows rest.now) }
+/// What stands behind `rows ` or `groups `: the view.
+#[tactic(auto, unfolding(crate::specs::Lines::show_view))]
+fn show_view(rest: &str, grouped: bool) -> Result<SessionLine, MemOr<LineRefusal>>
+    ensures { Gives (λ l. l) result (show_view grouped rest.now) }
 {
     match read_number(rest) {
-        Some(view) => Ok(SessionLine::ListRows { view }),
-        None => Err(MemOr::Refused(LineRefusal::Line)),
-    }
-}
-
-/// What stands behind `groups `: the view.
-#[tactic(auto, unfolding(crate::specs::Lines::list_groups))]
-fn list_groups(rest: &str) -> Result<SessionLine, MemOr<LineRefusal>>
-    ensures { Gives (λ l. l) result (list_groups rest.now) }
-{
-    match read_number(rest) {
-        Some(view) => Ok(SessionLine::ListGroups { view }),
+        Some(view) => Ok(SessionLine::ShowView { view, grouped }),
         None => Err(MemOr::Refused(LineRefusal::Line)),
     }
 }
@@ -125,8 +114,8 @@ fn on_views(
 {
     match word {
         "view" => open_view(rest),
-        "rows" => list_rows(rest),
-        "groups" => list_groups(rest),
+        "rows" => show_view(rest, false),
+        "groups" => show_view(rest, true),
         "unview" => close_view(rest),
         _ => store_line(alloc, text),
     }

@@ -1,16 +1,17 @@
 -- Rows in the order of their keys.
-use Rattle.std.specs.Prelude.{◌≡◌, ℕ, List, [], ◌∷◌, reverse, Option, None, Some}
+use Rattle.std.specs.Prelude.{◌≡◌, ◌&&◌, ℕ, Bool, List, [], ◌∷◌, reverse, Option, None, Some}
 use Rattle.std.specs.Option.{option_and_then}
 use Rattle.std.specs.Ordering.{nat_cmp, ordering_then}
 use Rattle.std.specs.declared.cmp.Ordering.{Ordering}
 use Rattle.std.specs.declared.cmp.Ordering.TheVariants.{Less, Equal, Greater}
 use Rattle.std.specs.Cmp.Lexicographic.{slice_cmp}
 use Rattle.std.specs.List.Sorted.{IsPermutation, IsSorted}
+use Rattle.mapi_values.specs.Columns.{has_column}
 use Rattle.mapi_values.specs.Tables.{Tab, find_row}
 use Rattle.mapi_values.specs.Values.{Val}
 use Rattle.mapi_values.specs.declared.value.Tag.{Tag}
 use Rattle.restr_eval.specs.Eval.{good_of}
-use Rattle.sorted_views.specs.Keys.{IsKey}
+use Rattle.sorted_views.specs.Keys.{IsKey, has_keys}
 use Rattle.sorted_views.specs.declared.key.Key.{Key}
 use Rattle.sorted_views.specs.declared.rows.Direction.{Direction}
 use Rattle.sorted_views.specs.declared.rows.Direction.TheVariants.{Up, Down}
@@ -19,6 +20,10 @@ use Rattle.sorted_views.specs.declared.rows.ViewRow.{ViewRow}
 -- the cell of a column in the row of an id, if there is one and its length fits its kind
 abbrev pub cell_of : Tab → Tag → ℕ → Option Val
 cell_of t tag id = option_and_then (λ r. good_of tag.id tag.kind r.1) (find_row id t.rows)
+
+-- rows can be sorted by this column: the table has it, and its kind has keys
+abbrev pub sorts_by : Tab → Tag → Bool
+sorts_by t tag = has_column t.columns tag.id tag.kind && has_keys tag.kind
 
 -- how keys are ordered: numbers by their size, units by the first that differs; where there is no key, below all others
 abbrev pub key_cmp : Option Key → Option Key → Ordering

@@ -24,7 +24,7 @@ pub struct Key {
 
 /// Whether a column of this kind has keys.
 #[tactic(auto, unfolding(crate::specs::Keys::has_keys))]
-pub fn has_keys(kind: u16) -> bool
+pub(crate) fn has_keys(kind: u16) -> bool
     ensures { result ≡ has_keys kind }
 {
     matches!(

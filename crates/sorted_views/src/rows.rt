@@ -4,10 +4,10 @@ ghost use Rattle.std.specs.List.Sorted.{IsPermutation, IsSorted};
 ghost use Rattle.mapi_values.specs.Values.{Val};
 ghost use Rattle.restr_codec.specs.Kinds.{has_width, value_width};
 ghost use Rattle.sorted_views.specs.Keys.{IsKey};
-ghost use Rattle.sorted_views.specs.Rows.{AreKeyed, IsSortedView, cell_of, row_cmp};
+ghost use Rattle.sorted_views.specs.Rows.{AreKeyed, IsSortedView, cell_of, row_cmp, sorts_by};
 
-use crate::key::{Key, key_of};
-use mapi_values::{Table, Tag, Value};
+use crate::key::{Key, has_keys, key_of};
+use mapi_values::{Table, Tag, Value, has_column};
 use restr_eval::good_of;
 use std::alloc::{AllocError, Global};
 
@@ -27,6 +27,13 @@ pub struct ViewRow {
     pub key: Option<Key>,
     /// The message's id.
     pub id: u32,
+}
+
+/// Whether rows can be sorted by a column: whether the table has it, and its kind has keys.
+pub fn sorts_by(table: &Table, tag: Tag) -> bool
+    ensures { result ≡ sorts_by table.now tag }
+{
+    has_column(table.columns(), tag.id, tag.kind) && has_keys(tag.kind)
 }
 
 /// The cell of a column in the row of an id, if there is one and its length fits its kind.

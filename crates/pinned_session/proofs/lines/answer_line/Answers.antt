@@ -1,7 +1,7 @@
-use Rattle.std.proofs.Common.{Ok, subst}
+use Rattle.std.proofs.Common.{Ok, refl, subst}
 use Rattle.store_session.proofs.mail_draft_laws.Looking.{untouched_same}
 use Rattle.node_port.specs.Pins.{Pins}
-use Rattle.session_lines.specs.declared.line.SessionLine.TheVariants.{Pin, At, Unpin, Command as StoreCommand}
+use Rattle.session_lines.specs.declared.line.SessionLine.TheVariants.{Pin, At, Unpin, OpenView, ShowView, CloseView, Command as StoreCommand}
 use Rattle.store_session.specs.Carrying.{SaysRefusal}
 use Rattle.store_session.specs.Disks.{Effects, effects_of}
 use Rattle.store_session.proofs.Carry.{its_medium, quiet_leaves}
@@ -11,6 +11,8 @@ use Rattle.pinned_session.proofs.AskLaws.{at_only}
 use Rattle.pinned_session.proofs.LineLaws.{line_carries}
 use Rattle.pinned_session.proofs.PinAnswers.{pin_carries, refused_line, silent_line, unpin_carries}
 use Rattle.pinned_session.proofs.PinnedKeeps.{sits_stands}
+use Rattle.pinned_session.proofs.MakeLaws.{sitting_shows}
+use Rattle.pinned_session.proofs.ViewLaws.{closes}
 use Rattle.pinned_session.proofs.lines.answer_line.Goals as goal
 
 pub ask_pin-requires : goal.ask_pin-requires
@@ -74,3 +76,33 @@ returns-in-Err-Memory-clause-carries g c = λ found tidy S h tells.
     let stands = StandsNow g.K.Keeper.stands found tidy in
     let here = sits_stands g.W.Outside.view g.K.NodeReader.holds g.K.NodeReader.last g.K.NodeReader.pinned g.K.NodeReader.room g.K.NodeReader.has_disk g.K.Keeper.stands g.K.Keeper.rests effects g.met.K.Keeper.held_stands found tidy c.args.pinned c.args.world.now S h in
     silent_line effects room S v (λ (Z : Sitting). Sits g.W.Outside.view g.K.NodeReader.holds g.K.NodeReader.last g.K.NodeReader.pinned g.K.NodeReader.room g.K.Keeper.rests c.args.pinned c.args.world.now found tidy Z) stands h (quiet_leaves stands S S h.store.settled (untouched_same v) here) c.args.bytes.now
+
+pub returns-in-Ok-OpenView-clause-carries : goal.returns-in-Ok-OpenView-clause-carries
+returns-in-Ok-OpenView-clause-carries g c = λ found tidy S h tells.
+    let v = g.W.Outside.view c.args.world.now in
+    let effects : Pins → Effects = λ pins. effects_of pins g.K.Keeper.measures g.K.Keeper.applied g.K.Saver.saved in
+    let room = g.K.NodeReader.room c.args.pinned.store.store.keeper in
+    let stands = StandsNow g.K.Keeper.stands found tidy in
+    line_carries (λ (Z : Sitting). Sits g.W.Outside.view g.K.NodeReader.holds g.K.NodeReader.last g.K.NodeReader.pinned g.K.NodeReader.room g.K.Keeper.rests c.open_view.result.0 c.open_view.new.world found tidy Z) stands effects room v (g.W.Outside.view c.open_view.new.world) S (OpenView c.in-Ok-OpenView.folder c.in-Ok-OpenView.tag c.in-Ok-OpenView.direction) c.args.bytes.now c.open_view.result.1
+    (rw c.in-Ok-OpenView.field-0-is at c.in-Ok-OpenView.ensures) (c.open_view.ensures.carries found tidy S h tells)
+
+pub returns-in-Ok-ShowView-clause-carries : goal.returns-in-Ok-ShowView-clause-carries
+returns-in-Ok-ShowView-clause-carries g c = λ found tidy S h tells.
+    let v = g.W.Outside.view c.args.world.now in
+    let effects : Pins → Effects = λ pins. effects_of pins g.K.Keeper.measures g.K.Keeper.applied g.K.Saver.saved in
+    let room = g.K.NodeReader.room c.args.pinned.store.store.keeper in
+    let stands = StandsNow g.K.Keeper.stands found tidy in
+    line_carries (λ (Z : Sitting). Sits g.W.Outside.view g.K.NodeReader.holds g.K.NodeReader.last g.K.NodeReader.pinned g.K.NodeReader.room g.K.Keeper.rests c.show_view.result.0 c.show_view.new.world found tidy Z) stands effects room v (g.W.Outside.view c.show_view.new.world) S (ShowView c.in-Ok-ShowView.view c.in-Ok-ShowView.grouped) c.args.bytes.now c.show_view.result.1
+    (rw c.in-Ok-ShowView.field-0-is at c.in-Ok-ShowView.ensures) (c.show_view.ensures.carries found tidy S h tells)
+
+pub returns-in-Ok-CloseView-clause-carries : goal.returns-in-Ok-CloseView-clause-carries
+returns-in-Ok-CloseView-clause-carries g c = λ found tidy S h tells.
+    let v = g.W.Outside.view c.args.world.now in
+    let effects : Pins → Effects = λ pins. effects_of pins g.K.Keeper.measures g.K.Keeper.applied g.K.Saver.saved in
+    let room = g.K.NodeReader.room c.args.pinned.store.store.keeper in
+    let stands = StandsNow g.K.Keeper.stands found tidy in
+    let here = sits_stands g.W.Outside.view g.K.NodeReader.holds g.K.NodeReader.last g.K.NodeReader.pinned g.K.NodeReader.room g.K.NodeReader.has_disk g.K.Keeper.stands g.K.Keeper.rests effects g.met.K.Keeper.held_stands found tidy c.args.pinned c.args.world.now S h in
+    let has = (λ (Z : Sitting). Sits g.W.Outside.view g.K.NodeReader.holds g.K.NodeReader.last g.K.NodeReader.pinned g.K.NodeReader.room g.K.Keeper.rests (record c.args.pinned { views = c.close_view-spoken.new.views }) c.args.world.now found tidy Z) in
+    line_carries has stands effects room v v S (CloseView c.in-Ok-CloseView.view) c.args.bytes.now (Ok c.close_view-spoken.result) (rw c.in-Ok-CloseView.field-0-is at c.in-Ok-CloseView.ensures)
+    (closes effects room S v v (λ t. its_medium v) has stands c.in-Ok-CloseView.view c.args.pinned.views c.close_view-spoken.new.views h.shows (λ V is. sitting_shows S h (λ store. store) (λ q N told. told) refl refl V is)
+    (λ Z. quiet_leaves stands S Z h.store.settled (untouched_same v) here) c.close_view-spoken.result c.close_view-spoken.ensures)

@@ -42,7 +42,7 @@ returns-in-Ok-clause-carries g c = λ found tidy S h tells.
     let s = h.store.stores.tree.shown in
     let stays = done.stays s.nodes X s.held view.tells in
     let given = asked_given (coming_of X) X c.args.command.now view.tells.whole view.tells.are c.in-Ok.coming (subst (λ r. Says (coming_of X) (asked X c.args.command.now) r) c.in-Ok.is (done.answer s.nodes X s.held view.tells)) in
-    at_replies effects room S v w (λ t. same_medium v w (done.same.stays.here t) done.same.stays.written) (λ (Z : Sitting). Sits g.W.Outside.view g.K.NodeReader.holds g.K.NodeReader.last g.K.NodeReader.pinned g.K.NodeReader.room g.K.Keeper.rests (record { store = record { store = record { keeper = c.ask_keeping-keeper.result.0; known = c.args.pinned.store.store.known }; searches = c.args.pinned.store.searches }; given = c.args.pinned.given; pins = c.args.pinned.pins }) c.ask_keeping-keeper.new.world found tidy Z) stands c.args.pin c.args.command.now
+    at_replies effects room S v w (λ t. same_medium v w (done.same.stays.here t) done.same.stays.written) (λ (Z : Sitting). Sits g.W.Outside.view g.K.NodeReader.holds g.K.NodeReader.last g.K.NodeReader.pinned g.K.NodeReader.room g.K.Keeper.rests (record { store = record { store = record { keeper = c.ask_keeping-keeper.result.0; known = c.args.pinned.store.store.known }; searches = c.args.pinned.store.searches }; given = c.args.pinned.given; pins = c.args.pinned.pins; views = c.args.pinned.views }) c.ask_keeping-keeper.new.world found tidy Z) stands c.args.pin c.args.command.now
     (sitting_same S h (λ store. has_mapped tidy S.now stays.0 stays.2 done.same store) (ap (λ r. r.found) done.room) stays.1 (ap (λ r. r.pins) done.room))
     (quiet_leaves stands S S h.store.settled done.same here) X (tree_named S c.args.pin at.0 at.2.0 at.1 at.2.1) c.reply_spoken.result c.in-Ok.coming.outcome.reply given.1 c.reply_spoken.ensures
 
@@ -61,6 +61,6 @@ returns-in-Err-clause-carries g c = λ found tidy S h tells.
     let s = h.store.stores.tree.shown in
     let stays = done.stays s.nodes X s.held view.tells in
     let given = asked_stop (coming_of X) X c.args.command.now view.tells.whole view.tells.are c.in-Err.stop (subst (λ r. Says (coming_of X) (asked X c.args.command.now) r) c.in-Err.is (done.answer s.nodes X s.held view.tells)) in
-    at_stops effects room S v w (λ t. same_medium v w (done.same.stays.here t) done.same.stays.written) (λ (Z : Sitting). Sits g.W.Outside.view g.K.NodeReader.holds g.K.NodeReader.last g.K.NodeReader.pinned g.K.NodeReader.room g.K.Keeper.rests (record { store = record { store = record { keeper = c.ask_keeping-keeper.result.0; known = c.args.pinned.store.store.known }; searches = c.args.pinned.store.searches }; given = c.args.pinned.given; pins = c.args.pinned.pins }) c.ask_keeping-keeper.new.world found tidy Z) stands c.args.pin c.args.command.now
+    at_stops effects room S v w (λ t. same_medium v w (done.same.stays.here t) done.same.stays.written) (λ (Z : Sitting). Sits g.W.Outside.view g.K.NodeReader.holds g.K.NodeReader.last g.K.NodeReader.pinned g.K.NodeReader.room g.K.Keeper.rests (record { store = record { store = record { keeper = c.ask_keeping-keeper.result.0; known = c.args.pinned.store.store.known }; searches = c.args.pinned.store.searches }; given = c.args.pinned.given; pins = c.args.pinned.pins; views = c.args.pinned.views }) c.ask_keeping-keeper.new.world found tidy Z) stands c.args.pin c.args.command.now
     (sitting_same S h (λ store. has_mapped tidy S.now stays.0 stays.2 done.same store) (ap (λ r. r.found) done.room) stays.1 (ap (λ r. r.pins) done.room))
     (quiet_leaves stands S S h.store.settled done.same here) X (tree_named S c.args.pin at.0 at.2.0 at.1 at.2.1) c.in-Err.stop c.stopped.result c.stopped.ensures given (refused_step X c.args.command.now c.requires.only)

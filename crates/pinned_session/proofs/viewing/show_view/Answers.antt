@@ -1,0 +1,57 @@
+use Rattle.std.proofs.Common.{◌∙◌, ap, subst, sym}
+use Rattle.store_session.proofs.mail_draft_laws.Looking.{untouched_same}
+use Rattle.store_session.specs.mail_draft.Answers.{Says}
+use Rattle.mail_reading.specs.Viewed.{listing_of, listing_view}
+use Rattle.mail_reading.proofs.ViewLaws.{fine_listing}
+use Rattle.node_port.specs.Pins.{Pins}
+use Rattle.store_session.specs.Disks.{Effects, effects_of}
+use Rattle.store_session.proofs.Carry.{its_medium, quiet_leaves, same_medium}
+use Rattle.pinned_session.specs.Sits.{Sits, StandsNow}
+use Rattle.pinned_session.specs.Sitting.{Sitting}
+use Rattle.pinned_session.specs.Viewing.{view_at}
+use Rattle.pinned_session.proofs.MakeLaws.{sitting_same}
+use Rattle.pinned_session.proofs.PinnedKeeps.{sits_stands}
+use Rattle.pinned_session.proofs.ViewLaws.{shows_none, shows_rows, shows_stop}
+use Rattle.pinned_session.proofs.viewing.show_view.Goals as goal
+
+pub returns-in_default-clause-carries : goal.returns-in_default-clause-carries
+returns-in_default-clause-carries g c = λ found tidy S h tells.
+    let v = g.W.Outside.view c.args.world.now in
+    let effects : Pins → Effects = λ pins. effects_of pins g.K.Keeper.measures g.K.Keeper.applied g.K.Saver.saved in
+    let room = g.K.NodeReader.room c.args.pinned.store.store.keeper in
+    let stands = StandsNow g.K.Keeper.stands found tidy in
+    let here = sits_stands g.W.Outside.view g.K.NodeReader.holds g.K.NodeReader.last g.K.NodeReader.pinned g.K.NodeReader.room g.K.NodeReader.has_disk g.K.Keeper.stands g.K.Keeper.rests effects g.met.K.Keeper.held_stands found tidy c.args.pinned c.args.world.now S h in
+    shows_none effects room S v v (λ t. its_medium v) (λ (Z : Sitting). Sits g.W.Outside.view g.K.NodeReader.holds g.K.NodeReader.last g.K.NodeReader.pinned g.K.NodeReader.room g.K.Keeper.rests c.args.pinned c.args.world.now found tidy Z) stands c.args.view c.args.grouped h (quiet_leaves stands S S h.store.settled (untouched_same v) here) c.view_spoken.result
+    (ap (view_at c.args.view) h.shows ∙ sym c.view_at.ensures ∙ c.in_default.is) c.view_spoken.ensures
+
+pub returns-in-Ok-clause-carries : goal.returns-in-Ok-clause-carries
+returns-in-Ok-clause-carries g c = λ found tidy S h tells.
+    let v = g.W.Outside.view c.args.world.now in
+    let effects : Pins → Effects = λ pins. effects_of pins g.K.Keeper.measures g.K.Keeper.applied g.K.Saver.saved in
+    let room = g.K.NodeReader.room c.args.pinned.store.store.keeper in
+    let stands = StandsNow g.K.Keeper.stands found tidy in
+    let here = sits_stands g.W.Outside.view g.K.NodeReader.holds g.K.NodeReader.last g.K.NodeReader.pinned g.K.NodeReader.room g.K.NodeReader.has_disk g.K.Keeper.stands g.K.Keeper.rests effects g.met.K.Keeper.held_stands found tidy c.args.pinned c.args.world.now S h in
+    let w = g.W.Outside.view c.list_keeping-store.new.world in
+    let done = c.list_keeping-store.ensures in
+    let stays = done.stays tidy S.now h.store in
+    let says = done.answer tidy S.now h.store in
+    let has = λ (Z : Sitting). Sits g.W.Outside.view g.K.NodeReader.holds g.K.NodeReader.last g.K.NodeReader.pinned g.K.NodeReader.room g.K.Keeper.rests (record { store = c.list_keeping-store.result.0; given = c.args.pinned.given; pins = c.args.pinned.pins; views = c.args.pinned.views }) c.list_keeping-store.new.world found tidy Z in
+    shows_rows effects room S v w (λ t. same_medium v w (done.same.stays.here t) done.same.stays.written) has stands c.args.view c.args.grouped
+    (sitting_same S h (λ store. stays.0) (ap (λ r. r.found) done.room) stays.1 (ap (λ r. r.pins) done.room)) (quiet_leaves stands S S h.store.settled done.same here) c.in-Some.open (ap (view_at c.args.view) h.shows ∙ sym c.view_at.ensures ∙ c.in-Some.is) c.in-Ok.listing c.shown_spoken.result
+    (subst (λ r. Says listing_view (listing_of S.now c.in-Some.open.folder.bits) r) c.in-Ok.is says) (fine_listing S.now h.store.order.whole h.store.order.searches c.in-Some.open.folder.bits) c.shown_spoken.ensures
+
+pub returns-in-Err-clause-carries : goal.returns-in-Err-clause-carries
+returns-in-Err-clause-carries g c = λ found tidy S h tells.
+    let v = g.W.Outside.view c.args.world.now in
+    let effects : Pins → Effects = λ pins. effects_of pins g.K.Keeper.measures g.K.Keeper.applied g.K.Saver.saved in
+    let room = g.K.NodeReader.room c.args.pinned.store.store.keeper in
+    let stands = StandsNow g.K.Keeper.stands found tidy in
+    let here = sits_stands g.W.Outside.view g.K.NodeReader.holds g.K.NodeReader.last g.K.NodeReader.pinned g.K.NodeReader.room g.K.NodeReader.has_disk g.K.Keeper.stands g.K.Keeper.rests effects g.met.K.Keeper.held_stands found tidy c.args.pinned c.args.world.now S h in
+    let w = g.W.Outside.view c.list_keeping-store.new.world in
+    let done = c.list_keeping-store.ensures in
+    let stays = done.stays tidy S.now h.store in
+    let says = done.answer tidy S.now h.store in
+    let has = λ (Z : Sitting). Sits g.W.Outside.view g.K.NodeReader.holds g.K.NodeReader.last g.K.NodeReader.pinned g.K.NodeReader.room g.K.Keeper.rests (record { store = c.list_keeping-store.result.0; given = c.args.pinned.given; pins = c.args.pinned.pins; views = c.args.pinned.views }) c.list_keeping-store.new.world found tidy Z in
+    shows_stop effects room S v w (λ t. same_medium v w (done.same.stays.here t) done.same.stays.written) has stands c.args.view c.args.grouped
+    (sitting_same S h (λ store. stays.0) (ap (λ r. r.found) done.room) stays.1 (ap (λ r. r.pins) done.room)) (quiet_leaves stands S S h.store.settled done.same here) c.in-Some.open (ap (view_at c.args.view) h.shows ∙ sym c.view_at.ensures ∙ c.in-Some.is)
+    (fine_listing S.now h.store.order.whole h.store.order.searches c.in-Some.open.folder.bits) c.in-Err.stop c.stopped.result c.stopped.ensures (subst (λ r. Says listing_view (listing_of S.now c.in-Some.open.folder.bits) r) c.in-Err.is says)

@@ -1,0 +1,55 @@
+//! The open views of a session.
+ghost use Rattle.std.specs.Prelude.{◌≡◌, ◌==◌, not, filter, find};
+ghost use Rattle.pinned_session.specs.Viewing.{stand, view_at, viewing_of};
+
+use mail_tree::Places;
+use mapi_values::Tag;
+use pst_base::Nid;
+use sorted_views::Direction;
+
+/// An open view: its number, its folder, the column that its rows are sorted by, and which way.
+#[derive(Clone, Copy, Debug, PartialEq, Eq)]
+pub struct OpenView {
+    pub number: u32,
+    pub folder: Nid,
+    pub tag: Tag,
+    pub direction: Direction,
+}
+
+/// How many numbers of views were given, and the views that are open.
+#[derive(Drop)]
+pub struct OpenViews {
+    pub given: u32,
+    pub opened: Vec<OpenView>,
+}
+
+/// The open view of a number.
+fn view_named(open: &[OpenView], number: u32) -> Option<OpenView>
+    ensures { result ≡ find (λ view. view.number == number) open.now }
+{
+    open.iter().find(|view| view.number == number).copied()
+}
+
+/// The open view that a line names.
+pub(crate) fn view_at(views: &OpenViews, view: Option<u32>) -> Option<OpenView>
+    ensures { result ≡ view_at view (viewing_of views.now) }
+{
+    match view {
+        Some(number) => view_named(views.opened.as_slice(), number),
+        None => None,
+    }
+}
+
+/// Closes the view of a number.
+pub(crate) fn close_named(open: &mut Vec<OpenView>, number: u32)
+    ensures { open.new.items ≡ filter (λ view. not (view.number == number)) open.old.items }
+{
+    open.retain(|view| view.number != number);
+}
+
+/// Closes the views whose folder is there no more.
+pub(crate) fn close_gone(open: &mut Vec<OpenView>, places: &Places)
+    ensures { open.new.items ≡ stand places.now open.old.items }
+{
+    open.retain(|view| places.find(view.folder).is_some());
+}
