@@ -109,7 +109,7 @@ class Stores(InFolder):
                 self.assertEqual([(it.id, value) for it, value in view.rows()], [(second.id, "A"), (third.id, "a"), (first.id, "b")])
                 self.assertEqual(view.groups(), [("A", 2), ("b", 1)])
                 self.assertEqual([value for _, value in newest.rows()], [times[0], times[2], times[1]])
-                first.subject = None
+                first.unset("subject")
                 third.remove()
                 self.assertEqual([(it.id, value) for it, value in view.rows()], [(first.id, None), (second.id, "A")])
                 self.assertEqual(view.groups(), [(None, 1), ("A", 1)])
