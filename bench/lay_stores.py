@@ -86,7 +86,7 @@ def bth(heap, header, key_size, entry_size, records):
 
 
 IN_FIELD = {0x0002: 2, 0x0003: 4, 0x000B: 1}
-IN_CELL = {0x0002: 2, 0x0003: 4, 0x000B: 1, 0x0014: 8, 0x0040: 8}
+IN_CELL = {0x0002: 2, 0x0003: 4, 0x0005: 8, 0x000B: 1, 0x0014: 8, 0x0040: 8}
 
 
 def context(values):
@@ -267,7 +267,8 @@ class Store:
 
 
 FOLDER_COLUMNS = Columns([(0x3001, 0x1F), (0x3602, 3), (0x3603, 3), (0x360A, 0xB)])
-MESSAGE_COLUMNS = Columns([(0x001A, 0x1F), (0x0037, 0x1F), (0x0039, 0x40), (0x0E06, 0x40), (0x0E07, 3), (0x0E08, 3), (0x3007, 0x40), (0x3008, 0x40)])
+USUAL_COLUMNS = [(0x001A, 0x1F), (0x0037, 0x1F), (0x0039, 0x40), (0x0E06, 0x40), (0x0E07, 3), (0x0E08, 3), (0x3007, 0x40), (0x3008, 0x40)]
+MESSAGE_COLUMNS = Columns(USUAL_COLUMNS)
 KEY = u32(crc(b"Strange")) + u32(7) + b"PSTORE01"
 FOLDERS = {0x8022: ("Top of Personal Folders", 0x122), 0x8042: ("Search Root", 0x122), 0x8062: ("Deleted Items", 0x122)}
 
@@ -417,6 +418,27 @@ def search(flags, version, words):
     return {**values, **({(0x6805, 3): u32(1)} if version == 2 else {})}
 
 
+def many_columns():
+    """A folder of six messages whose table has a column of each kind that a view sorts by, and columns of three others. One row isn't what its message has, one has a GUID of 15 bytes, and one lacks these cells."""
+    tags = [(0x4001, 2), (0x4002, 0xB), (0x4003, 0x14), (0x4004, 0x48), (0x4005, 0x102), (0x4006, 5), (0x4007, 0x1003), (0x4008, 0x1E)]
+    others = [struct.pack("<d", 1.5), u32(1) + u32(2), b"text"]
+    shown = {
+        0x200024: [struct.pack("<h", 5), b"\1", struct.pack("<q", 2**63 - 1), bytes(range(16, 32)), b"\2"],
+        0x200044: [struct.pack("<h", -3), b"\0", struct.pack("<q", -1), b"\xff" * 16, b""],
+        0x200064: [],
+        0x200084: [struct.pack("<h", 5), b"\2", struct.pack("<q", -(2**63)), b"\1" + bytes(15), b"\1\xff"],
+        0x2000A4: [struct.pack("<h", 32767), b"\1", struct.pack("<q", 0), b"\x80" * 15, b"\1"],
+        0x2000C4: [struct.pack("<h", -32768), b"\0", struct.pack("<q", -1), bytes(16), b"\xff"],
+    }
+    usual = {(0x001A, 0x1F): text("IPM.Note"), (0x0E07, 3): u32(0), (0x0E08, 3): u32(0)}
+    rows = {nid: {**usual, **dict(zip(tags, [*it, *others] if it else []))} for nid, it in shown.items()}
+    messages = {nid: ({**it, **({(0x4001, 2): struct.pack("<h", 7)} if nid == 0x200024 else {})}, {}) for nid, it in rows.items()}
+    s = laid({}, messages, folders={**FOLDERS, 0x8082: ("Inbox", 0x8022)}, home=0x8082)
+    made = table(Columns([*USUAL_COLUMNS, *tags]), rows)
+    s.node(0x808E, made[0], subs=made[1])
+    return s.bytes({2: 0x404, 3: 0x4000, 4: 0x10006, 8: 0x8000})
+
+
 def stale_searches():
     """Two running searches of this store whose lists another program left as they were, one with criteria of the first version and a right list, and a stopped one with a list of its own."""
     subjects = {0x200024: "invoice 1", 0x200044: "letter 2", 0x200064: "Invoice 3"}
@@ -447,6 +469,7 @@ if __name__ == "__main__":
         ("large_attachment.pst", large_attachment()),
         ("deep_folders.pst", deep_folders()),
         ("stale_searches.pst", stale_searches()),
+        ("many_columns.pst", many_columns()),
     ):
         with open(f"{sys.argv[1]}/{name}", "wb") as file:
             file.write(made)

@@ -15,9 +15,10 @@ from .replies import Recipient, Reply
 from .session import Session
 from .store import Pin, Store, compact, decode, fill, join_path, mend, split_path
 from .tags import TAGS, Tag
+from .views import View
 
 __all__ = [
     "Attachment", "Draft", "DraftAttachment", "FileRefusal", "Folder", "Message", "NotFound", "Pin", "PstoreError", "Recipient",
-    "Refusal", "Reply", "Session", "SessionEnded", "Store", "TAGS", "Tag", "compact", "decode", "fill", "join_path", "mend", "split_path",
+    "Refusal", "Reply", "Session", "SessionEnded", "Store", "TAGS", "Tag", "View", "compact", "decode", "fill", "join_path", "mend", "split_path",
 ]  # fmt: skip
 __version__ = "1.0"

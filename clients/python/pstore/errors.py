@@ -83,6 +83,12 @@ class PinLimitRefusal(LimitRefusal):
     kind = "limit pins"
 
 
+class ViewLimitRefusal(LimitRefusal):
+    """16 views are open, or the session has given all numbers of views."""
+
+    kind = "limit views"
+
+
 class NameLimitRefusal(LimitRefusal):
     """There is no room for another named property."""
 
@@ -99,6 +105,12 @@ class NoPin(Refusal):
     """No pin of that number is open."""
 
     kind = "pin"
+
+
+class NoView(Refusal):
+    """No view of that number is open."""
+
+    kind = "view"
 
 
 class ValueRefusal(Refusal):
@@ -152,6 +164,12 @@ class CriteriaRefusal(Refusal):
     """What is to be kept of a search's criteria isn't there."""
 
     kind = "criteria"
+
+
+class ColumnRefusal(Refusal):
+    """The folder's table has no such column, or it is of a kind by which nothing is sorted."""
+
+    kind = "column"
 
 
 class CycleRefusal(Refusal):

@@ -13,6 +13,8 @@ from .program import find_program
 from .replies import ListedFolder
 from .session import Lines, Session
 from .spelling import spell
+from .tags import Tag, tag_of
+from .views import View
 
 ROOT = 0x122
 """The folder above all others."""
@@ -172,6 +174,12 @@ class Store(Tree):
     def pin(self) -> "Pin":
         """Keeps the store readable as it is now, whatever changes from here on. At most 16 pins are open at a time."""
         return Pin(self, int(self.session.ask("pin").rest))
+
+    def view(self, folder: Folder, tag: Union[str, int, Tag], descending: bool = False) -> View:
+        """Opens a view of a folder or a search folder: its messages, sorted by a column of its table. At most 16 views are open at a time."""
+        column = tag_of(tag)
+        asked = f"view 0x{folder.id:x} {column} {'down' if descending else 'up'}"
+        return View(self, int(self.session.ask(asked).rest), column)
 
     def save(self) -> None:
         """Writes the allocation maps, so that other readers need not rebuild them."""

@@ -2,11 +2,13 @@
 
 import os
 import unittest
+from datetime import datetime, timezone
 
 from pstore import Draft, errors
 from pstore.program import find_program
 from pstore.session import Session
 from pstore.store import Store
+from pstore.tags import Tag
 from tests.support import InFolder, OverScript, needs_program
 
 
@@ -174,3 +176,83 @@ class Pins(OverScript):
             with self.store.pin() as then:
                 then.number = 2  # so that its end is refused too
                 then.message(0x200044).get("subject")
+
+
+VIEWED = """
+while read -r line; do
+  echo "$line" >>"$(dirname "$0")/asked"
+  case "$line" in
+    'ls 0x122') echo '- 0x8022 folder "Top of Personal Folders"'; echo 'ok 1' ;;
+    'ls 0x8022') echo '- 0x8082 folder "Inbox"'; echo 'ok 1' ;;
+    'view 0x8082 0x0037001f up') echo 'ok 1' ;;
+    'view 0x8082 0x0e060040 down') echo 'ok 2' ;;
+    'view 0x8082 0x1000001f up') echo 'no column' ;;
+    'view 0x8022 '*) echo 'no limit views' ;;
+    'rows 1') echo '- 0x200064 none'; echo '- 0x200024 "1 \\u0022none\\u0022 2"'; echo '- 0x200044 "none"'; echo 'ok 3' ;;
+    'groups 1') echo '- none 1'; echo '- "1 \\u0022none\\u0022 2" 1'; echo '- "none" 7'; echo 'ok 3' ;;
+    'rows 2') echo '- 0x200024 133486382450000060'; echo '- 0x200044 none'; echo 'ok 2' ;;
+    'groups 2') echo '- soon 1'; echo 'ok 1' ;;
+    'rows 3' | 'groups 3' | 'unview 3') echo 'no view' ;;
+    'get 0x200024 0x0037001f') echo 'ok "Hello"' ;;
+    'get '*) echo 'no object' ;;
+    'unview 1' | 'unview 2' | quit) echo ok ;;
+    *) echo 'no line' ;;
+  esac
+done
+"""
+
+
+class Views(OverScript):
+    """Which lines are sent for a view, and what is made of their replies, by a program that knows two views."""
+
+    def setUp(self):
+        super().setUp()
+        self.store = Store("FILE", self.program(VIEWED))
+        self.addCleanup(self.store.close)
+        self.inbox = self.store.folder("Inbox")
+
+    def asked(self):
+        return (self.folder / "asked").read_text().splitlines()
+
+    def test_rows_and_groups(self):
+        with self.store.view(self.inbox, "subject") as view:
+            self.assertEqual([(it.id, value) for it, value in view.rows()], [(0x200064, None), (0x200024, '1 "none" 2'), (0x200044, "none")])
+            self.assertEqual(view.groups(), [(None, 1), ('1 "none" 2', 1), ("none", 7)])
+            self.assertEqual(view.rows()[1][0].subject, "Hello")
+        self.assertEqual([it for it in self.asked() if "view" in it], ["view 0x8082 0x0037001f up", "unview 1"])
+
+    def test_times_from_the_last_on(self):
+        view = self.store.view(self.inbox, 0x0E060040, descending=True)
+        self.assertEqual(view.number, 2)
+        self.assertEqual([value for _, value in view.rows()], [datetime(2024, 1, 2, 3, 4, 5, 6, timezone.utc), None])
+        with self.assertRaises(errors.ProtocolError):
+            view.groups()
+        view.close()
+        self.assertEqual(self.asked()[-1], "unview 2")
+
+    def test_refusals(self):
+        with self.assertRaises(errors.ColumnRefusal):
+            self.store.view(self.inbox, "body")
+        with self.assertRaises(errors.ViewLimitRefusal):
+            self.store.view(self.store.top, Tag(0x0037, 0x1F), descending=True)
+        self.assertEqual(self.asked()[-1], "view 0x8022 0x0037001f down")
+
+    def test_the_end_of_a_view(self):
+        with self.store.view(self.inbox, "subject") as view:
+            view.close()
+        self.assertEqual(self.asked().count("unview 1"), 1)
+        with self.store.view(self.inbox, "subject") as view:
+            view.number = 3  # as if its folder had been removed
+            for it in view.rows, view.groups:
+                with self.assertRaises(errors.NoView):
+                    it()
+        self.assertEqual(self.asked()[-1], "unview 3")
+        with self.assertRaises(errors.NoView):
+            view.close()
+
+    def test_an_error_within_is_the_one_that_is_raised(self):
+        with self.assertRaises(errors.ObjectRefusal):
+            with self.store.view(self.inbox, "subject") as view:
+                view.number = 4  # so that its end is refused too
+                self.store.message(0x200044).get("subject")
+        self.assertEqual(self.asked()[-1], "unview 4")

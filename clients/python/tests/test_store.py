@@ -4,7 +4,7 @@ import unittest
 from datetime import datetime, timezone
 from pathlib import Path
 
-from pstore import Draft, Message, Pin, Recipient, Store, compact, decode, errors, fill, mend
+from pstore import Draft, Folder, Message, Pin, Recipient, Store, compact, decode, errors, fill, mend
 from pstore.drafts import DraftAttachment
 from pstore.program import find_program, knows_look
 from pstore.tags import TAGS, Tag
@@ -98,6 +98,49 @@ class Stores(InFolder):
         for it, kind in ((lambda: pinned.set(subject="Other"), errors.LineRefusal), (lambda: then.make_folder("Other"), errors.LineRefusal), (lambda: then.message(other.id).details, errors.ObjectRefusal)):
             with self.assertRaises(kind):
                 it()
+
+    def test_a_view_sorts_a_folder(self):
+        with Store.create(self.file) as store:
+            inbox = store.make_folder("Inbox")
+            times = [datetime(2024, 1, day, tzinfo=timezone.utc) for day in (3, 1, 2)]
+            first, second, third = [inbox.add(Draft(values={TAGS["subject"]: text, TAGS["received"]: time})) for text, time in zip("bAa", times)]
+            with store.view(inbox, "subject") as view, store.view(inbox, "received", descending=True) as newest:
+                self.assertEqual((view.number, newest.number), (1, 2))
+                self.assertEqual([(it.id, value) for it, value in view.rows()], [(second.id, "A"), (third.id, "a"), (first.id, "b")])
+                self.assertEqual(view.groups(), [("A", 2), ("b", 1)])
+                self.assertEqual([value for _, value in newest.rows()], [times[0], times[2], times[1]])
+                first.unset("subject")
+                third.remove()
+                self.assertEqual([(it.id, value) for it, value in view.rows()], [(first.id, None), (second.id, "A")])
+                self.assertEqual(view.groups(), [(None, 1), ("A", 1)])
+            for it in view.rows, view.groups, newest.close:
+                with self.assertRaises(errors.NoView):
+                    it()
+            self.check_view_refusals(store, inbox)
+        with Store(self.file) as store:
+            with self.assertRaises(errors.NoView):
+                store.session.ask("rows 3")
+            self.assertEqual(store.view(store.folder("Inbox"), TAGS["flags"]).groups(), [(0, 2)])
+        with Store.look(self.file) as store, self.assertRaises(errors.LineRefusal):
+            store.view(store.folder("Inbox"), "subject")
+
+    def check_view_refusals(self, store: Store, inbox: Folder):
+        with self.assertRaises(errors.ColumnRefusal):
+            store.view(inbox, "body")
+        with store.pin() as then, self.assertRaises(errors.LineRefusal):
+            then.session.ask(f"view 0x{inbox.id:x} 0x0037001f up")
+        other = store.make_folder("Other")
+        views = [store.view(it, "size") for it in [other] * 2 + [inbox] * 14]
+        self.assertEqual([it.number for it in views], list(range(3, 19)))
+        with self.assertRaises(errors.ViewLimitRefusal):
+            store.view(inbox, "size")
+        other.remove()
+        with self.assertRaises(errors.NoView):
+            views[0].rows()
+        with self.assertRaises(errors.ObjectRefusal):
+            store.view(other, "size")
+        with store.view(inbox, "size") as view:
+            self.assertEqual(view.number, 19)
 
     def check_folders(self, store: Store):
         self.assertEqual(store.top.name, "Top of Personal Folders")

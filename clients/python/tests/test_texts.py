@@ -51,6 +51,7 @@ class Refusals(unittest.TestCase):
         for said, kind in (
             ("object", errors.ObjectRefusal), ("limit rows", errors.RowLimitRefusal), ("full 3 7", errors.FullRefusal), ("restriction 12", errors.RestrictionRefusal),
             ("pin", errors.NoPin), ("limit pins", errors.PinLimitRefusal),
+            ("view", errors.NoView), ("column", errors.ColumnRefusal), ("limit views", errors.ViewLimitRefusal),
             ("limit nesting", errors.LimitRefusal), ("embedded", errors.Refusal),
         ):  # fmt: skip
             with self.subTest(said=said):
