@@ -1,5 +1,5 @@
 -- What a line that was answered is to a session.
-use Rattle.std.proofs.Common.{◌≡◌, inl, inr, ℕ, Bool, true, false, List, None, Some, Result, Ok, Err, IfErr, IfOk, refl, sym, subst}
+use Rattle.std.proofs.Common.{◌≡◌, inl, inr, ℕ, Bool, true, List, Result, Ok, Err, IfErr, IfOk, refl, sym, subst}
 use Rattle.pst_outside.specs.World.{Image, World}
 use Rattle.command_text.specs.declared.command.Command.{Command}
 use Rattle.command_text.specs.declared.command.LineRefusal.{LineRefusal}
@@ -9,13 +9,6 @@ use Rattle.line_server.specs.declared.spoken.Spoken.{Spoken}
 use Rattle.node_port.specs.Pins.{Pins}
 use Rattle.node_port.specs.Stops.{Room}
 use Rattle.mail_searches.specs.Searching.{Searching}
-use Rattle.pst_base.specs.declared.ids.Nid.{Nid}
-use Rattle.mapi_values.specs.declared.value.Tag.{Tag}
-use Rattle.mail_objects.specs.Forms.{Tbl}
-use Rattle.mail_tree.specs.Changing.{Answer}
-use Rattle.mail_reading.specs.Viewed.{listing_of}
-use Rattle.sorted_views.specs.Rows.{sorts_by}
-use Rattle.sorted_views.specs.declared.rows.Direction.{Direction}
 use Rattle.session_lines.specs.Lines.{session_line}
 use Rattle.session_lines.specs.declared.line.SessionLine.{SessionLine}
 use Rattle.session_lines.specs.declared.line.SessionLine.TheVariants.{Pin, At, Unpin, OpenView, ShowView, CloseView, Command as StoreCommand}
@@ -26,7 +19,7 @@ use Rattle.store_session.specs.declared.carrying.StoreStop.{StoreStop}
 use Rattle.store_session.specs.declared.carrying.StoreStop.TheVariants.{Disk, Changed}
 use Rattle.store_session.proofs.Between.{command_on, same_between}
 use Rattle.pinned_session.specs.Lines.{AnswersLine, StopsLine}
-use Rattle.pinned_session.specs.Run.{Answers, Carries, CarriesColumn, CarriesView, SaysTo, Stays}
+use Rattle.pinned_session.specs.Run.{Answers, Carries, SaysTo, Stays}
 use Rattle.pinned_session.specs.Sitting.{Sitting, pins_of, with_tree}
 
 -- ---- what was carried out, seen otherwise
@@ -92,25 +85,15 @@ module _ (effects : Pins → Effects) (room : Room) (S : Sitting) {old from new 
   stays_on : (Z : Sitting) → Stays effects room S old told Z new → Stays effects room S from also Z to
   stays_on Z is = (is.0, disk_on is.1)
 
-  column_on : (has : Bool) (folder : Nid) (tag : Tag) (direction : Direction) (said : List ℕ) (Z : Sitting) → CarriesColumn effects room S old told has folder tag direction said Z new → CarriesColumn effects room S from also has folder tag direction said Z to
-  column_on true folder tag direction said Z (inl is) = inl (is.0, is.1, disk_on is.2)
-  column_on true folder tag direction said Z (inr is) = inr (is.0, is.1, stays_on Z is.2)
-  column_on false folder tag direction said Z is = (is.0, stays_on Z is.1)
-
-  view_on : (listed : Answer (Tbl × List ℕ)) (folder : Nid) (tag : Tag) (direction : Direction) (said : List ℕ) (Z : Sitting) → CarriesView effects room S old told listed folder tag direction said Z new → CarriesView effects room S from also listed folder tag direction said Z to
-  view_on (Ok l) folder tag direction said Z is = column_on (sorts_by l.0.table tag) folder tag direction said Z is
-  view_on (Err (Some refusal)) folder tag direction said Z is = (is.0, stays_on Z is.1)
-  view_on (Err None) folder tag direction said Z is = absurd is
-
   carries_on : (asked : Result SessionLine LineRefusal) (said : List ℕ) (Z : Sitting) → Carries effects room S old told asked said Z new → Carries effects room S from also asked said Z to
   carries_on (Ok (StoreCommand c)) said Z is = (is.0, command_on (effects (pins_of S)) room S.now tells starts ends c said is.0 is.1, is.2)
   carries_on (Ok Pin) said Z (inl is) = inl (is.0, is.1, disk_on is.2)
   carries_on (Ok Pin) said Z (inr is) = inr (is.0, is.1, stays_on Z is.2)
   carries_on (Ok (At pin c)) said Z is = (is.0, stays_on Z is.1)
   carries_on (Ok (Unpin pin)) said Z is = (is.0, is.1, disk_on is.2)
-  carries_on (Ok (OpenView folder tag direction)) said Z is = view_on (listing_of S.now folder.bits) folder tag direction said Z is
-  carries_on (Ok (ShowView view grouped)) said Z is = (is.0, stays_on Z is.1)
-  carries_on (Ok (CloseView view)) said Z is = (is.0, is.1, disk_on is.2)
+  carries_on (Ok (OpenView folder tag direction)) said Z is = (is.0, is.1, is.2, disk_on is.3)
+  carries_on (Ok (ShowView view grouped)) said Z is = (is.0, is.1, is.2, disk_on is.3)
+  carries_on (Ok (CloseView view)) said Z is = (is.0, is.1, is.2, disk_on is.3)
   carries_on (Err refusal) said Z is = (is.0, stays_on Z is.1)
 
   pub answers_on : (piece : Piece) (said : List ℕ) (Z : Sitting) → Answers effects room S old told piece said Z new → Answers effects room S from also piece said Z to

@@ -1,5 +1,5 @@
 -- What a line on views comes to.
-use Rattle.std.proofs.Common.{◌≡◌, ◌∙◌, ◌⊎◌, inl, inr, ℕ, ◌<◌, ◌≤◌, ◌-◌, ◌^◌, ◌==◌, Bool, true, false, not, List, [], ◌∷◌, filter, length, Option, None, Some, Result, Ok, Err, if◌then◌else◌, ap, refl, subst, sym}
+use Rattle.std.proofs.Common.{◌≡◌, ◌∙◌, ◌⊎◌, inl, inr, ℕ, ◌==◌, Bool, true, false, not, List, [], ◌∷◌, filter, Option, None, Some, Result, Ok, Err, if◌then◌else◌, ap, refl, subst, sym}
 use Rattle.std.proofs.lemmas.Bool.{cases_Bool, eqb-true}
 use Rattle.std.specs.Prelude.{find}
 use Rattle.pst_outside.specs.World.{Image, World}
@@ -16,14 +16,15 @@ use Rattle.mail_objects.specs.Forms.{Tbl}
 use Rattle.mail_tree.specs.Changing.{Answer}
 use Rattle.mail_tree.specs.Folders.{replied}
 use Rattle.mail_tree.specs.Whole.{Fine}
+use Rattle.mail_searches.specs.Searching.{Searching}
 use Rattle.mail_reading.specs.Viewed.{listing_of, listing_view}
 use Rattle.mail_reading.specs.declared.viewing.Listing.{Listing}
 use Rattle.sorted_views.specs.Rows.{sorts_by}
 use Rattle.sorted_views.specs.declared.rows.Direction.{Direction}
 use Rattle.session_lines.specs.Texts.{view_text}
 use Rattle.session_lines.specs.declared.line.SessionLine.{SessionLine}
-use Rattle.session_lines.specs.declared.line.SessionLine.TheVariants.{OpenView, ShowView, CloseView}
-use Rattle.session_lines.specs.declared.line.ViewReply.TheVariants.{Opened, Closed, NoView, NoColumn}
+use Rattle.session_lines.specs.declared.line.SessionLine.TheVariants.{ShowView}
+use Rattle.session_lines.specs.declared.line.ViewReply.TheVariants.{Closed, NoView}
 use Rattle.store_session.specs.Carrying.{CarriesOut, ComesTo, Leaves}
 use Rattle.store_session.specs.Disks.{Effects, SameMedium, medium}
 use Rattle.store_session.specs.Run.{refused}
@@ -33,8 +34,8 @@ use Rattle.store_session.specs.mail_draft.declared.stop.Stop.TheVariants as stop
 use Rattle.store_session.specs.declared.carrying.StoreStop.{StoreStop}
 use Rattle.store_session.specs.declared.carrying.StoreStop.TheVariants.{Disk, Changed}
 use Rattle.store_session.proofs.Carry.{memory_text}
-use Rattle.pinned_session.specs.Opening.{AreFull, ClosesAs, OpensAs, OpensColumn, with_view}
-use Rattle.pinned_session.specs.Run.{CarriesColumn, CarriesView, SaysTo, ShowsListing, ShowsRows, ShowsView, closed_text}
+use Rattle.pinned_session.specs.Run.{SaysTo}
+use Rattle.pinned_session.specs.Showing.{AnswersView, LacksMemory, OpensColumn, OpensListing, ShowsListing, ShowsRows, ShowsView, closed_text}
 use Rattle.pinned_session.specs.Sitting.{Sitting}
 use Rattle.pinned_session.specs.Viewing.{Viewing, view_at, viewing_of, without_view}
 use Rattle.pinned_session.specs.declared.views.OpenView.{OpenView as View}
@@ -69,7 +70,11 @@ stays_open : (view : Option ℕ) (V : Viewing) → view_at view V ≡ None → V
 stays_open None V is = refl
 stays_open (Some v) V is = ap (λ l. record V { opened = l }) (sym (none_goes (λ (view : View). view.number == v) V.opened is))
 
-pub closes_none : (view : Option ℕ) (old : OpenViews) (said : List ℕ) → view_at view (viewing_of old) ≡ None → (said ≡ view_text NoView) ⊎ (said ≡ no_memory_text) → ClosesAs view old old said
+-- what is said where a view is closed, or is none
+abbrev pub Closes : Option ℕ → OpenViews → OpenViews → List ℕ → Type 0
+Closes view old new said = ((said ≡ closed_text (view_at view (viewing_of old))) × (viewing_of new ≡ without_view view (viewing_of old))) ⊎ LacksMemory old new said
+
+pub closes_none : (view : Option ℕ) (old : OpenViews) (said : List ℕ) → view_at view (viewing_of old) ≡ None → (said ≡ view_text NoView) ⊎ (said ≡ no_memory_text) → Closes view old old said
 closes_none view old said none (inl is) = inl (is ∙ ap closed_text (sym none), stays_open view (viewing_of old) none)
 closes_none view old said none (inr is) = inr (is, refl)
 
@@ -97,18 +102,49 @@ never_changed (Ok l) ib stored computed fine is = is
 never_changed (Err (Some r)) ib stored computed fine is = is
 never_changed (Err None) ib stored computed fine is = fine
 
-module _ (effects : Pins → Effects) (room : Room) (S : Sitting) (old new : World) (same : new.tells → SameMedium (medium old) (medium new)) (has : Sitting → Type 0) (stands : Image → Sitting → Type 0) where
-  -- a line that leaves the state
-  module _ (asked : SessionLine) (h : has S) (leaves : Leaves stands old new S S) where
-    stays_so : (spoken : Spoken) → SaysTo effects room S (medium old) asked new.tells (spoken_text spoken) S (medium new) → CarriesOut has stands (SaysTo effects room S (medium old) asked) old new S (Ok spoken)
-    stays_so spoken is = (S, is, h, leaves)
+-- it was read: the rows of the view are those of the listing
+pub shown_listing : (grouped : Bool) (view : View) (listed : Answer (Tbl × List ℕ)) (listing : Listing) (said : List ℕ) → Says listing_view listed (Ok listing) → Fine listed (λ l. Unit {0}) → ShowsRows grouped view listing.table.table listing.ids.items said → ShowsListing grouped view listed said
+shown_listing grouped view (Ok l) listing said same fine is = subst (λ (l : Tbl × List ℕ). ShowsRows grouped view l.0.table l.1 said) same is
+shown_listing grouped view (Err (Some refusal)) listing said none fine is = absurd none
+shown_listing grouped view (Err None) listing said none fine is = absurd fine
 
+-- so is the column that is looked for
+pub opened_listing : (folder : Nid) (tag : Tag) (direction : Direction) (V after : Viewing) (listed : Answer (Tbl × List ℕ)) (listing : Listing) (said : List ℕ) → Says listing_view listed (Ok listing) → Fine listed (λ l. Unit {0})
+    → OpensColumn (sorts_by listing.table.table tag) folder tag direction V said after → OpensListing listed folder tag direction V said after
+opened_listing folder tag direction V after (Ok l) listing said same fine is = subst (λ (l : Tbl × List ℕ). OpensColumn (sorts_by l.0.table tag) folder tag direction V said after) same is
+opened_listing folder tag direction V after (Err (Some refusal)) listing said none fine is = absurd none
+opened_listing folder tag direction V after (Err None) listing said none fine is = absurd fine
+
+-- ---- rows and groups, by the views
+
+module _ (view : Option ℕ) (grouped : Bool) (X : Searching) where
+  -- the view that is named is this
+  pub shows_at : (V : Viewing) (found : View) (said : List ℕ) → view_at view V ≡ Some found → ShowsListing grouped found (listing_of X found.folder.bits) said → ShowsView grouped (view_at view V) X said × (V ≡ V)
+  shows_at V found said at is = (subst (λ v. ShowsView grouped v X said) (sym at) is, refl)
+
+  -- there is no such view
+  pub shows_none : (views : OpenViews) (said : List ℕ) → view_at view (viewing_of views) ≡ None → (said ≡ view_text NoView) ⊎ (said ≡ no_memory_text)
+      → AnswersView X (viewing_of views) (ShowView view grouped) said (viewing_of views) ⊎ LacksMemory views views said
+  shows_none views said none (inl is) = inl (subst (λ v. ShowsView grouped v X said) (sym none) is, refl)
+  shows_none views said none (inr is) = inr (is, refl)
+
+  -- its folder was listed
+  pub shows_rows : (views : OpenViews) (found : View) (listing : Listing) (said : List ℕ) → view_at view (viewing_of views) ≡ Some found → Says listing_view (listing_of X found.folder.bits) (Ok listing) → Fine (listing_of X found.folder.bits) (λ l. Unit {0})
+      → ShowsRows grouped found listing.table.table listing.ids.items said ⊎ (said ≡ no_memory_text) → AnswersView X (viewing_of views) (ShowView view grouped) said (viewing_of views) ⊎ LacksMemory views views said
+  shows_rows views found listing said at says fine (inl is) = inl (shows_at (viewing_of views) found said at (shown_listing grouped found (listing_of X found.folder.bits) listing said says fine is))
+  shows_rows views found listing said at says fine (inr is) = inr (is, refl)
+
+-- ---- lines on views in a session over a file
+
+module _ (effects : Pins → Effects) (room : Room) (S : Sitting) (old new : World) (same : new.tells → SameMedium (medium old) (medium new)) (has : Sitting → Type 0) (stands : Image → Sitting → Type 0) (asked : SessionLine) where
+  -- a line that leaves the state
+  module _ (h : has S) (leaves : Leaves stands old new S S) where
     -- there was no memory
-    lacking : (spoken : Spoken) → spoken_text spoken ≡ no_memory_text → CarriesOut has stands (SaysTo effects room S (medium old) asked) old new S (Ok spoken)
-    lacking spoken is = stays_so spoken (inr (is ∙ memory_text, (refl, same)))
+    pub lacking : (spoken : Spoken) → spoken_text spoken ≡ no_memory_text → CarriesOut has stands (SaysTo effects room S (medium old) asked) old new S (Ok spoken)
+    lacking spoken is = (S, inr (is ∙ memory_text, (refl, same)), h, leaves)
 
     -- what the folder lists couldn't be read
-    listing_stops : (listed : Answer (Tbl × List ℕ)) → Fine listed (λ l. Unit {0}) → (stop : Stop) (r : Result Spoken StoreStop) → ComesTo stop r → Says {B = Listing} listing_view listed (Err stop)
+    pub listing_stops : (listed : Answer (Tbl × List ℕ)) → Fine listed (λ l. Unit {0}) → (stop : Stop) (r : Result Spoken StoreStop) → ComesTo stop r → Says {B = Listing} listing_view listed (Err stop)
         → ((refusal : CommandRefusal) (spoken : Spoken) → listed ≡ Err (Some refusal) → spoken_text spoken ≡ refused refusal → CarriesOut has stands (SaysTo effects room S (medium old) asked) old new S (Ok spoken))
         → CarriesOut has stands (SaysTo effects room S (medium old) asked) old new S r
     listing_stops listed fine stop (Ok spoken) (inl is) says by = by is.0 spoken (refused_listing listed is.0 fine (subst (λ s. Says {B = Listing} listing_view listed (Err s)) is.1 says)) is.2
@@ -116,94 +152,11 @@ module _ (effects : Pins → Effects) (room : Room) (S : Sitting) (old new : Wor
     listing_stops listed fine stop (Err Disk) is says by = (S, text (replied NoMemory), inr (refl, (refl, λ none. absurd none)), leaves)
     listing_stops listed fine stop (Err (Changed ib stored computed)) is says by = absurd (never_changed listed ib stored computed fine (subst (λ s. Says {B = Listing} listing_view listed (Err s)) is says))
 
-  -- ---- rows and groups
-
-  module _ (view : Option ℕ) (grouped : Bool) (h : has S) (leaves : Leaves stands old new S S) where
-    shows : (spoken : Spoken) → ShowsView grouped (view_at view S.views) S.now (spoken_text spoken) → CarriesOut has stands (SaysTo effects room S (medium old) (ShowView view grouped)) old new S (Ok spoken)
-    shows spoken is = stays_so (ShowView view grouped) h leaves spoken (inl (is, (refl, same)))
-
-    -- there is no such view
-    pub shows_none : (spoken : Spoken) → view_at view S.views ≡ None → (spoken_text spoken ≡ view_text NoView) ⊎ (spoken_text spoken ≡ no_memory_text) → CarriesOut has stands (SaysTo effects room S (medium old) (ShowView view grouped)) old new S (Ok spoken)
-    shows_none spoken none (inl is) = shows spoken (subst (λ v. ShowsView grouped v S.now (spoken_text spoken)) (sym none) is)
-    shows_none spoken none (inr is) = lacking (ShowView view grouped) h leaves spoken is
-
-    module _ (found : View) (at : view_at view S.views ≡ Some found) where
-      shows_at : (spoken : Spoken) → ShowsListing grouped found (listing_of S.now found.folder.bits) (spoken_text spoken) → CarriesOut has stands (SaysTo effects room S (medium old) (ShowView view grouped)) old new S (Ok spoken)
-      shows_at spoken is = shows spoken (subst (λ v. ShowsView grouped v S.now (spoken_text spoken)) (sym at) is)
-
-      -- its rows were listed
-      pub shows_rows : (listing : Listing) (spoken : Spoken) → Says listing_view (listing_of S.now found.folder.bits) (Ok listing) → Fine (listing_of S.now found.folder.bits) (λ l. Unit {0})
-          → ShowsRows grouped found listing.table.table listing.ids.items (spoken_text spoken) ⊎ (spoken_text spoken ≡ no_memory_text) → CarriesOut has stands (SaysTo effects room S (medium old) (ShowView view grouped)) old new S (Ok spoken)
-      shows_rows listing spoken says fine (inr is) = lacking (ShowView view grouped) h leaves spoken is
-      shows_rows listing spoken says fine (inl is) = shows_at spoken (by (listing_of S.now found.folder.bits) says fine)
-        where
-          by : (listed : Answer (Tbl × List ℕ)) → Says listing_view listed (Ok listing) → Fine listed (λ l. Unit {0}) → ShowsListing grouped found listed (spoken_text spoken)
-          by (Ok l) same fine = subst (λ (l : Tbl × List ℕ). ShowsRows grouped found l.0.table l.1 (spoken_text spoken)) same is
-          by (Err (Some refusal)) none fine = absurd none
-          by (Err None) none fine = absurd fine
-
-      -- they weren't
-      pub shows_stop : Fine (listing_of S.now found.folder.bits) (λ l. Unit {0}) → (stop : Stop) (r : Result Spoken StoreStop) → ComesTo stop r → Says {B = Listing} listing_view (listing_of S.now found.folder.bits) (Err stop)
-          → CarriesOut has stands (SaysTo effects room S (medium old) (ShowView view grouped)) old new S r
-      shows_stop fine stop r comes says = listing_stops (ShowView view grouped) h leaves (listing_of S.now found.folder.bits) fine stop r comes says
-          (λ refusal spoken refuses is. shows_at spoken (subst (λ a. ShowsListing grouped found a (spoken_text spoken)) (sym refuses) is))
-
-  -- ---- view
-
-  module _ (folder : Nid) (tag : Tag) (direction : Direction) (olds news : OpenViews) (was : S.views ≡ viewing_of olds) (on : (V : Viewing) → V ≡ viewing_of news → has (record S { views = V })) (leaves : (Z : Sitting) → Leaves stands old new S Z) where
-    -- the views stay
-    still : viewing_of news ≡ viewing_of olds → has S
-    still is = on S.views (was ∙ sym is)
-
-    -- what is said of it, and the state after it
-    abbrev Opens : Spoken → (Type 0 → List ℕ → Sitting → Type 0) → Type 0
-    Opens spoken answers = (Z : Sitting) × answers new.tells (spoken_text spoken) Z × has Z × Leaves stands old new S Z
-
-    opened : (spoken : Spoken) → OpensAs folder tag direction olds news (spoken_text spoken)
-        → Opens spoken (λ told said Z. CarriesColumn effects room S (medium old) told true folder tag direction said Z (medium new) ⊎ (said ≡ text (replied NoMemory)) × ((Z ≡ S) × (told → SameMedium (medium old) (medium new))))
-    opened spoken (inl is) =
-        let Z : Sitting = record S { views = with_view folder tag direction S.views } in (
-          Z,
-          inl (inl (
-            record { few = subst (λ (V : Viewing). length V.opened < 16) (sym was) is.0; left = subst (λ (V : Viewing). V.given < 2 ^ 32 - 1) (sym was) is.1; is = refl },
-            is.3 ∙ ap (λ (V : Viewing). view_text (Opened V.given)) (is.2 ∙ ap (with_view folder tag direction) (sym was)),
-            same,
-          )),
-          on Z.views (ap (with_view folder tag direction) was ∙ sym is.2),
-          leaves Z,
-        )
-    opened spoken (inr (stay, inl is)) = (S, inl (inr (subst AreFull (sym was) is.0, is.1, (refl, same))), still stay, leaves S)
-    opened spoken (inr (stay, inr is)) = (S, inr (is ∙ memory_text, (refl, same)), still stay, leaves S)
-
-    columned : (b : Bool) (spoken : Spoken) → OpensColumn b folder tag direction olds news (spoken_text spoken)
-        → Opens spoken (λ told said Z. CarriesColumn effects room S (medium old) told b folder tag direction said Z (medium new) ⊎ (said ≡ text (replied NoMemory)) × ((Z ≡ S) × (told → SameMedium (medium old) (medium new))))
-    columned true spoken is = opened spoken is
-    columned false spoken (stay, inl is) = (S, inl (is, (refl, same)), still stay, leaves S)
-    columned false spoken (stay, inr is) = (S, inr (is ∙ memory_text, (refl, same)), still stay, leaves S)
-
-    -- what the folder lists was read
-    pub opens_listed : (listing : Listing) (spoken : Spoken) → Says listing_view (listing_of S.now folder.bits) (Ok listing) → Fine (listing_of S.now folder.bits) (λ l. Unit {0}) → OpensColumn (sorts_by listing.table.table tag) folder tag direction olds news (spoken_text spoken)
-        → CarriesOut has stands (SaysTo effects room S (medium old) (OpenView folder tag direction)) old new S (Ok spoken)
-    opens_listed listing spoken says fine is = by (listing_of S.now folder.bits) says fine
-      where
-        by : (listed : Answer (Tbl × List ℕ)) → Says listing_view listed (Ok listing) → Fine listed (λ l. Unit {0})
-            → Opens spoken (λ told said Z. CarriesView effects room S (medium old) told listed folder tag direction said Z (medium new) ⊎ (said ≡ text (replied NoMemory)) × ((Z ≡ S) × (told → SameMedium (medium old) (medium new))))
-        by (Ok l) same fine = columned (sorts_by l.0.table tag) spoken (subst (λ (l : Tbl × List ℕ). OpensColumn (sorts_by l.0.table tag) folder tag direction olds news (spoken_text spoken)) same is)
-        by (Err (Some refusal)) none fine = absurd none
-        by (Err None) none fine = absurd fine
-
-    -- it wasn't
-    pub opens_stop : viewing_of news ≡ viewing_of olds → Fine (listing_of S.now folder.bits) (λ l. Unit {0}) → (stop : Stop) (r : Result Spoken StoreStop) → ComesTo stop r → Says {B = Listing} listing_view (listing_of S.now folder.bits) (Err stop)
-        → CarriesOut has stands (SaysTo effects room S (medium old) (OpenView folder tag direction)) old new S r
-    opens_stop stay fine stop r comes says = listing_stops (OpenView folder tag direction) (still stay) (leaves S) (listing_of S.now folder.bits) fine stop r comes says
-        (λ refusal spoken refuses is. stays_so (OpenView folder tag direction) (still stay) (leaves S) spoken
-        (inl (subst (λ a. CarriesView effects room S (medium old) new.tells a folder tag direction (spoken_text spoken) S (medium new)) (sym refuses) (is, (refl, same)))))
-
-  -- ---- unview
-
-  pub closes : (view : Option ℕ) (olds news : OpenViews) → S.views ≡ viewing_of olds → ((V : Viewing) → V ≡ viewing_of news → has (record S { views = V })) → ((Z : Sitting) → Leaves stands old new S Z)
-      → (spoken : Spoken) → ClosesAs view olds news (spoken_text spoken) → CarriesOut has stands (SaysTo effects room S (medium old) (CloseView view)) old new S (Ok spoken)
-  closes view olds news was on leaves spoken (inl is) =
-      let Z : Sitting = record S { views = without_view view S.views } in
-      (Z, inl (is.0 ∙ ap (λ V. closed_text (view_at view V)) (sym was), refl, same), on Z.views (ap (without_view view) was ∙ sym is.1), leaves Z)
-  closes view olds news was on leaves spoken (inr is) = (S, inr (is.0 ∙ memory_text, (refl, same)), on S.views (was ∙ sym is.1), leaves S)
+  -- a line on views was answered, whose views are these after it
+  module _ (olds news : OpenViews) (was : S.views ≡ viewing_of olds) (on : (V : Viewing) → V ≡ viewing_of news → has (record S { views = V })) (leaves : (Z : Sitting) → Leaves stands old new S Z)
+      (carries : (said : List ℕ) (V : Viewing) → AnswersView S.now S.views asked said V → SaysTo effects room S (medium old) asked new.tells said (record S { views = V }) (medium new)) where
+    pub answers_view : (spoken : Spoken) → AnswersView S.now (viewing_of olds) asked (spoken_text spoken) (viewing_of news) ⊎ LacksMemory olds news (spoken_text spoken) → CarriesOut has stands (SaysTo effects room S (medium old) asked) old new S (Ok spoken)
+    answers_view spoken (inl is) =
+        let V = viewing_of news in
+        (record S { views = V }, carries (spoken_text spoken) V (subst (λ (U : Viewing). AnswersView S.now U asked (spoken_text spoken) V) (sym was) is), on V refl, leaves (record S { views = V }))
+    answers_view spoken (inr is) = lacking (on S.views (was ∙ sym is.1)) (leaves S) spoken is.0

@@ -7,6 +7,6 @@ pub mod Session
 pub mod Sits
 pub mod Sitting
 pub mod Viewing
-pub mod Opening
+pub mod Showing
 pub mod Views
 pub use Rattle.store_session.specs as store_session

@@ -1,5 +1,5 @@
 -- A run of a session: the replies to lines, one after another, and the states and the disks after them.
-use Rattle.std.specs.Prelude.{◌≡◌, ◌⊎◌, ◌<◌, ◌≤◌, ◌+◌, ◌-◌, ◌^◌, ℕ, Bool, true, false, List, [], ◌∷◌, ◌++◌, length, Option, None, Some, Result, Ok, Err}
+use Rattle.std.specs.Prelude.{◌≡◌, ◌⊎◌, ◌<◌, ◌≤◌, ◌+◌, ◌-◌, ◌^◌, ℕ, Bool, List, [], ◌∷◌, ◌++◌, length, Option, None, Some, Result, Ok, Err}
 use Rattle.command_text.specs.declared.command.Command.{Command}
 use Rattle.command_text.specs.declared.command.LineRefusal.{LineRefusal}
 use Rattle.command_text.specs.declared.reply.CommandRefusal.TheVariants.{Limit}
@@ -13,27 +13,16 @@ use Rattle.mail_searches.specs.Searching.{Searching}
 use Rattle.node_port.specs.Pins.{Pins}
 use Rattle.node_port.specs.Stops.{Room}
 use Rattle.session_lines.specs.Lines.{session_line}
-use Rattle.session_lines.specs.Texts.{groups_text, pin_text, rows_text, view_text}
+use Rattle.session_lines.specs.Texts.{pin_text}
 use Rattle.session_lines.specs.declared.line.PinReply.TheVariants.{Pinned, Unpinned, NoPin, PinsFull}
-use Rattle.session_lines.specs.declared.line.ViewReply.TheVariants.{Opened, Closed, NoView, NoColumn, ViewsFull}
 use Rattle.session_lines.specs.declared.line.SessionLine.{SessionLine}
 use Rattle.session_lines.specs.declared.line.SessionLine.TheVariants.{Pin, At, Unpin, OpenView, ShowView, CloseView, Command as StoreCommand}
 use Rattle.store_session.specs.Disks.{Effects, Medium, SameMedium}
 use Rattle.store_session.specs.Run.{CommandAnswers, Steps, refused}
 use Rattle.store_session.specs.Turns.{StoreTurn}
-use Rattle.sorted_views.specs.Rows.{IsSortedView, cell_of, sorts_by}
-use Rattle.sorted_views.specs.declared.rows.Direction.{Direction}
-use Rattle.sorted_views.specs.declared.rows.ViewRow.{ViewRow}
-use Rattle.mapi_values.specs.Tables.{Tab}
-use Rattle.mapi_values.specs.Values.{Val}
-use Rattle.mapi_values.specs.declared.value.Tag.{Tag}
-use Rattle.pst_base.specs.declared.ids.Nid.{Nid}
-use Rattle.mail_objects.specs.Forms.{Tbl}
-use Rattle.mail_tree.specs.Changing.{Answer}
-use Rattle.mail_reading.specs.Viewed.{listing_of}
 use Rattle.pinned_session.specs.Sitting.{Sitting, pins_of, tree_at, with_tree, without_pin}
-use Rattle.pinned_session.specs.Viewing.{view_at, without_view}
-use Rattle.pinned_session.specs.declared.views.OpenView.{OpenView as View}
+use Rattle.pinned_session.specs.Showing.{AnswersView}
+use Rattle.pinned_session.specs.Viewing.{Viewing}
 
 -- a pin of the present tree was made, with the next number, where fewer than 16 were open and a number was left
 pub record MakesPin (before after : Sitting) : Type 0 where
@@ -56,43 +45,6 @@ abbrev pub unpinned_text : Option Searching → List ℕ
 unpinned_text (Some X) = pin_text Unpinned
 unpinned_text None = pin_text NoPin
 
--- the rows of a view with these cells, or its groups
-abbrev pub listed_text : Bool → (ℕ → Option Val) → List ViewRow → List ℕ
-listed_text true cells rows = groups_text cells rows
-listed_text false cells rows = rows_text cells rows
-
--- what is said of a view over a table, whose rows of these ids are sorted
-pub record ShowsRows (grouped : Bool) (view : View) (t : Tab) (ids said : List ℕ) : Type 0 where
-  pub rows : List ViewRow
-  pub sorted : IsSortedView (cell_of t view.tag) view.direction ids rows
-  pub is : said ≡ listed_text grouped (cell_of t view.tag) rows
-
--- the same of what its folder lists
-abbrev pub ShowsListing : Bool → View → Answer (Tbl × List ℕ) → List ℕ → Type 0
-ShowsListing grouped view (Ok l) said = ShowsRows grouped view l.0.table l.1 said
-ShowsListing grouped view (Err (Some refusal)) said = said ≡ refused refusal
-ShowsListing grouped view (Err None) said = ⊥
-
--- what is said of a view that a line names: what its folder lists now, or that there is no such view
-abbrev pub ShowsView : Bool → Option View → Searching → List ℕ → Type 0
-ShowsView grouped (Some view) X said = ShowsListing grouped view (listing_of X view.folder.bits) said
-ShowsView grouped None X said = said ≡ view_text NoView
-
--- what is said where a view is closed, or is none
-abbrev pub closed_text : Option View → List ℕ
-closed_text (Some view) = view_text Closed
-closed_text None = view_text NoView
-
--- a view was opened, with the next number, where fewer than 16 were open and a number was left
-pub record OpensView (folder : Nid) (tag : Tag) (direction : Direction) (before after : Sitting) : Type 0 where
-  pub few : length before.views.opened < 16
-  pub left : before.views.given < 2 ^ 32 - 1
-  pub is : after ≡ record before { views = record { given = before.views.given + 1; opened = before.views.opened ++ record { number = before.views.given + 1; folder = folder; tag = tag; direction = direction } ∷ [] } }
-
--- no view can be opened: 16 are open, or all numbers of 32 bits were given
-abbrev pub AreViewsFull : Sitting → Type 0
-AreViewsFull S = (16 ≤ length S.views.opened) ⊎ (2 ^ 32 - 1 ≤ S.views.given)
-
 -- From the state `before` and the disk `old` on, over which a keeper has this room: what is said, and the state and the disk after it. `effects`
 -- says what room a disk has beside pins and what is made of it; what becomes of the disk is said where `told`.
 module _ (effects : Pins → Effects) (room : Room) (before : Sitting) (old : Medium) (told : Type 0) where
@@ -110,22 +62,9 @@ module _ (effects : Pins → Effects) (room : Room) (before : Sitting) (old : Me
       (MakesPin before after × (said ≡ pin_text (Pinned after.given)) × (told → SameMedium old new))
       ⊎ (IsFull before × (said ≡ pin_text PinsFull) × Stays after new)
 
-  -- a view was opened, or can't be
-  abbrev pub CarriesOpening : Nid → Tag → Direction → List ℕ → Sitting → Medium → Type 0
-  CarriesOpening folder tag direction said after new =
-      (OpensView folder tag direction before after × (said ≡ view_text (Opened after.views.given)) × (told → SameMedium old new))
-      ⊎ (AreViewsFull before × (said ≡ view_text ViewsFull) × Stays after new)
-
-  -- the same where the folder's table has the column, or hasn't
-  abbrev pub CarriesColumn : Bool → Nid → Tag → Direction → List ℕ → Sitting → Medium → Type 0
-  CarriesColumn true folder tag direction said after new = CarriesOpening folder tag direction said after new
-  CarriesColumn false folder tag direction said after new = (said ≡ view_text NoColumn) × Stays after new
-
-  -- the same of what the folder lists
-  abbrev pub CarriesView : Answer (Tbl × List ℕ) → Nid → Tag → Direction → List ℕ → Sitting → Medium → Type 0
-  CarriesView (Ok l) folder tag direction said after new = CarriesColumn (sorts_by l.0.table tag) folder tag direction said after new
-  CarriesView (Err (Some refusal)) folder tag direction said after new = (said ≡ refused refusal) × Stays after new
-  CarriesView (Err None) folder tag direction said after new = ⊥
+  -- a line on views was answered: the tree and the pins stay
+  abbrev pub CarriesView : SessionLine → List ℕ → Sitting → Medium → Type 0
+  CarriesView asked said after new = (V : Viewing) × AnswersView before.now before.views asked said V × (after ≡ record before { views = V }) × (told → SameMedium old new)
 
   -- what a line asks for
   abbrev pub Carries : Result SessionLine LineRefusal → List ℕ → Sitting → Medium → Type 0
@@ -133,9 +72,9 @@ module _ (effects : Pins → Effects) (room : Room) (before : Sitting) (old : Me
   Carries (Ok Pin) said after new = CarriesPin said after new
   Carries (Ok (At pin c)) said after new = AsksPin (tree_at pin before) c said × Stays after new
   Carries (Ok (Unpin pin)) said after new = (said ≡ unpinned_text (tree_at pin before)) × (after ≡ without_pin pin before) × (told → SameMedium old new)
-  Carries (Ok (OpenView folder tag direction)) said after new = CarriesView (listing_of before.now folder.bits) folder tag direction said after new
-  Carries (Ok (ShowView view grouped)) said after new = ShowsView grouped (view_at view before.views) before.now said × Stays after new
-  Carries (Ok (CloseView view)) said after new = (said ≡ closed_text (view_at view before.views)) × (after ≡ record before { views = without_view view before.views }) × (told → SameMedium old new)
+  Carries (Ok (OpenView folder tag direction)) said after new = CarriesView (OpenView folder tag direction) said after new
+  Carries (Ok (ShowView view grouped)) said after new = CarriesView (ShowView view grouped) said after new
+  Carries (Ok (CloseView view)) said after new = CarriesView (CloseView view) said after new
   Carries (Err refusal) said after new = (said ≡ refused (refusal_of refusal)) × Stays after new
 
   -- want of memory: the line changes nothing

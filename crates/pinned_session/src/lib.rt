@@ -17,3 +17,5 @@ mod views;
 
 pub use session::run_session;
 pub use store_session;
+pub use viewing::{add_listed, close_view, shown_spoken};
+pub use views::{OpenView, OpenViews, close_views, view_at};

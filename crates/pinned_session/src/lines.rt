@@ -15,7 +15,7 @@ use crate::commands::carry_keeping;
 use crate::pinning::{give_up, make_pin, pin_spoken};
 use crate::pins::{PinnedStore, place_of};
 use crate::viewing::{close_view, open_view, show_view};
-use crate::views::close_gone;
+use crate::views::close_views;
 use command_text::{Command, CommandRefusal};
 use line_server::Spoken;
 use node_port::{Pinner, Saver};
@@ -45,7 +45,7 @@ fn carry_command<W: Outside, K: Pinner<W> + Saver<W>>(
         mut views,
     } = pinned;
     let (store, answer) = carry_keeping(alloc, store, world, command);
-    close_gone(&mut views.opened, &store.store.known.places);
+    close_views(&mut views, &store.store.known.places);
     let pinned = PinnedStore {
         store,
         given,

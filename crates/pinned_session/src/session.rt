@@ -38,10 +38,7 @@ pub fn run_session<W: Outside, K: Pinner<W> + Saver<W> + Drop>(
         store,
         given: 0,
         pins: Vec::new(alloc),
-        views: OpenViews {
-            given: 0,
-            opened: Vec::new(alloc),
-        },
+        views: OpenViews::new(alloc),
     };
     let mut answerer = PinnedAnswerer {
         pinned: Some(pinned),

@@ -11,10 +11,11 @@ ghost use Rattle.session_lines.specs.declared.line.SessionLine.TheVariants.{Open
 ghost use Rattle.store_session.specs.Carrying.{CarriesOut, Has, IsCaused};
 ghost use Rattle.store_session.specs.Disks.{effects_of, medium};
 ghost use Rattle.store_session.specs.mail_draft.Answers.{IsCaused as IsDiskCaused, Says};
-ghost use Rattle.pinned_session.specs.Opening.{ClosesAs, OpensAs, OpensColumn};
-ghost use Rattle.pinned_session.specs.Run.{SaysTo, ShowsRows};
+ghost use Rattle.pinned_session.specs.Run.{SaysTo};
+ghost use Rattle.pinned_session.specs.Showing.{LacksMemory, Opens, OpensColumn, ShowsRows, closed_text};
 ghost use Rattle.pinned_session.specs.Sits.{Sits, StandsNow};
 ghost use Rattle.pinned_session.specs.Sitting.{Sitting};
+ghost use Rattle.pinned_session.specs.Viewing.{view_at, viewing_of, without_view};
 ghost use Rattle.sorted_views.specs.Rows.{sorts_by};
 
 use crate::pins::PinnedStore;
@@ -104,7 +105,7 @@ fn add_view(
     tag: Tag,
     direction: Direction,
 ) -> Spoken
-    ensures { OpensAs folder tag direction views.old views.new (spoken_text result) }
+    ensures { Opens folder tag direction (viewing_of views.old) (spoken_text result) (viewing_of views.new) ⊎ LacksMemory views.old views.new (spoken_text result) }
 {
     let Some(number) = views.given.checked_add(1) else {
         return view_spoken(alloc, ViewReply::ViewsFull);
@@ -129,7 +130,7 @@ fn add_view(
 }
 
 /// Opens a view of a folder that lists this, if its table has the column.
-fn add_listed(
+pub fn add_listed(
     alloc: Global,
     views: &mut OpenViews,
     listing: &Listing,
@@ -137,7 +138,7 @@ fn add_listed(
     tag: Tag,
     direction: Direction,
 ) -> Spoken
-    ensures { OpensColumn (sorts_by listing.now.table.table tag) folder tag direction views.old views.new (spoken_text result) }
+    ensures { OpensColumn (sorts_by listing.now.table.table tag) folder tag direction (viewing_of views.old) (spoken_text result) (viewing_of views.new) ⊎ LacksMemory views.old views.new (spoken_text result) }
 {
     if sorts_by(listing.table.table(), tag) {
         add_view(alloc, views, folder, tag, direction)
@@ -203,7 +204,7 @@ fn shown_text(
 }
 
 /// What is said of a view over what its folder lists.
-fn shown_spoken(alloc: Global, listing: &Listing, view: &OpenView, grouped: bool) -> Spoken
+pub fn shown_spoken(alloc: Global, listing: &Listing, view: &OpenView, grouped: bool) -> Spoken
     ensures { ShowsRows grouped view.now listing.now.table.table listing.now.ids.items (spoken_text result) ⊎ (spoken_text result ≡ no_memory_text) }
 {
     match shown_text(alloc, listing, view, grouped) {
@@ -248,8 +249,8 @@ pub(crate) fn show_view<W: Outside, K: Pinner<W> + Saver<W>>(
 }
 
 /// Closes the view that a line names. Its reply is made before, and where there is no memory nothing changes.
-pub(crate) fn close_view(alloc: Global, views: &mut OpenViews, view: Option<u32>) -> Spoken
-    ensures { ClosesAs view views.old views.new (spoken_text result) }
+pub fn close_view(alloc: Global, views: &mut OpenViews, view: Option<u32>) -> Spoken
+    ensures { ((spoken_text result ≡ closed_text (view_at view (viewing_of views.old))) × (viewing_of views.new ≡ without_view view (viewing_of views.old))) ⊎ LacksMemory views.old views.new (spoken_text result) }
 {
     let Some(open) = view_at(views, view) else {
         return view_spoken(alloc, ViewReply::NoView);

@@ -1,11 +1,12 @@
 //! The open views of a session.
-ghost use Rattle.std.specs.Prelude.{◌≡◌, ◌==◌, not, filter, find};
-ghost use Rattle.pinned_session.specs.Viewing.{stand, view_at, viewing_of};
+ghost use Rattle.std.specs.Prelude.{◌≡◌, ◌==◌, [], not, filter, find};
+ghost use Rattle.pinned_session.specs.Viewing.{stand, standing, view_at, viewing_of};
 
 use mail_tree::Places;
 use mapi_values::Tag;
 use pst_base::Nid;
 use sorted_views::Direction;
+use std::alloc::Global;
 
 /// An open view: its number, its folder, the column that its rows are sorted by, and which way.
 #[derive(Clone, Copy, Debug, PartialEq, Eq)]
@@ -23,6 +24,18 @@ pub struct OpenViews {
     pub opened: Vec<OpenView>,
 }
 
+impl OpenViews {
+    /// No views yet.
+    pub fn new(alloc: Global) -> OpenViews
+        ensures { viewing_of result ≡ record { given = 0; opened = [] } }
+    {
+        OpenViews {
+            given: 0,
+            opened: Vec::new(alloc),
+        }
+    }
+}
+
 /// The open view of a number.
 fn view_named(open: &[OpenView], number: u32) -> Option<OpenView>
     ensures { result ≡ find (λ view. view.number == number) open.now }
@@ -31,7 +44,7 @@ fn view_named(open: &[OpenView], number: u32) -> Option<OpenView>
 }
 
 /// The open view that a line names.
-pub(crate) fn view_at(views: &OpenViews, view: Option<u32>) -> Option<OpenView>
+pub fn view_at(views: &OpenViews, view: Option<u32>) -> Option<OpenView>
     ensures { result ≡ view_at view (viewing_of views.now) }
 {
     match view {
@@ -47,9 +60,16 @@ pub(crate) fn close_named(open: &mut Vec<OpenView>, number: u32)
     open.retain(|view| view.number != number);
 }
 
-/// Closes the views whose folder is there no more.
-pub(crate) fn close_gone(open: &mut Vec<OpenView>, places: &Places)
+/// The views whose folder is there stay.
+fn close_gone(open: &mut Vec<OpenView>, places: &Places)
     ensures { open.new.items ≡ stand places.now open.old.items }
 {
     open.retain(|view| places.find(view.folder).is_some());
+}
+
+/// Closes the views whose folder is there no more.
+pub fn close_views(views: &mut OpenViews, places: &Places)
+    ensures { viewing_of views.new ≡ standing places.now (viewing_of views.old) }
+{
+    close_gone(&mut views.opened, places);
 }

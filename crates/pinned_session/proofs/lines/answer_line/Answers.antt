@@ -1,4 +1,4 @@
-use Rattle.std.proofs.Common.{Ok, refl, subst}
+use Rattle.std.proofs.Common.{Ok, inl, refl, subst}
 use Rattle.store_session.proofs.mail_draft_laws.Looking.{untouched_same}
 use Rattle.node_port.specs.Pins.{Pins}
 use Rattle.session_lines.specs.declared.line.SessionLine.TheVariants.{Pin, At, Unpin, OpenView, ShowView, CloseView, Command as StoreCommand}
@@ -12,7 +12,7 @@ use Rattle.pinned_session.proofs.LineLaws.{line_carries}
 use Rattle.pinned_session.proofs.PinAnswers.{pin_carries, refused_line, silent_line, unpin_carries}
 use Rattle.pinned_session.proofs.PinnedKeeps.{sits_stands}
 use Rattle.pinned_session.proofs.MakeLaws.{sitting_shows}
-use Rattle.pinned_session.proofs.ViewLaws.{closes}
+use Rattle.pinned_session.proofs.ViewLaws.{answers_view}
 use Rattle.pinned_session.proofs.lines.answer_line.Goals as goal
 
 pub ask_pin-requires : goal.ask_pin-requires
@@ -104,5 +104,5 @@ returns-in-Ok-CloseView-clause-carries g c = λ found tidy S h tells.
     let here = sits_stands g.W.Outside.view g.K.NodeReader.holds g.K.NodeReader.last g.K.NodeReader.pinned g.K.NodeReader.room g.K.NodeReader.has_disk g.K.Keeper.stands g.K.Keeper.rests effects g.met.K.Keeper.held_stands found tidy c.args.pinned c.args.world.now S h in
     let has = (λ (Z : Sitting). Sits g.W.Outside.view g.K.NodeReader.holds g.K.NodeReader.last g.K.NodeReader.pinned g.K.NodeReader.room g.K.Keeper.rests (record c.args.pinned { views = c.close_view-spoken.new.views }) c.args.world.now found tidy Z) in
     line_carries has stands effects room v v S (CloseView c.in-Ok-CloseView.view) c.args.bytes.now (Ok c.close_view-spoken.result) (rw c.in-Ok-CloseView.field-0-is at c.in-Ok-CloseView.ensures)
-    (closes effects room S v v (λ t. its_medium v) has stands c.in-Ok-CloseView.view c.args.pinned.views c.close_view-spoken.new.views h.shows (λ V is. sitting_shows S h (λ store. store) (λ q N told. told) refl refl V is)
-    (λ Z. quiet_leaves stands S Z h.store.settled (untouched_same v) here) c.close_view-spoken.result c.close_view-spoken.ensures)
+    (answers_view effects room S v v (λ t. its_medium v) has stands (CloseView c.in-Ok-CloseView.view) c.args.pinned.views c.close_view-spoken.new.views h.shows (λ V is. sitting_shows S h (λ store. store) (λ q N told. told) refl refl V is)
+    (λ Z. quiet_leaves stands S Z h.store.settled (untouched_same v) here) (λ said V is. inl (V, is, refl, λ t. its_medium v)) c.close_view-spoken.result c.close_view-spoken.ensures)

@@ -1,4 +1,4 @@
-use Rattle.std.proofs.Common.{ap, refl, subst, sym}
+use Rattle.std.proofs.Common.{refl, subst, sym}
 use Rattle.node_port.specs.Pins.{Pins}
 use Rattle.store_session.specs.Disks.{Effects, effects_of, medium}
 use Rattle.store_session.specs.Session.{HasCause}
@@ -26,7 +26,7 @@ returns-in-Ok-clause-ends g c = λ tidy X h none tells.
     (session_ends view disk (has_state view holds last pinned room disk stands rests effects found tidy) (StandsNow stands found tidy) rests effects (λ a. room_of room a.pinned)
     (line_answers view holds last pinned room disk stands rests effects) (line_stops view holds last pinned room disk stands rests effects)
     (pinned_keeps view holds last pinned room disk stands rests effects g.met.K.NodeReader.holds_on g.met.K.NodeReader.pinned_on g.met.K.Keeper.held_stands (λ k w N is. (g.met.K.Keeper.held_measures k w N is, refl)) g.met.K.Keeper.stands_on g.met.K.Keeper.rests_on found tidy)
-    _ c.serve.new.answerer c.args.world.now c.serve.new.world (begins X) (sits_first c.new.result.items (record { given = 0; opened = c.new-2.result }) X h c.new.ensures.items (ap (λ l. record { given = 0; opened = l }) c.new-2.ensures.items) none) tells c.in-Ok.end c.in-Ok.ensures.ends)
+    _ c.serve.new.answerer c.args.world.now c.serve.new.world (begins X) (sits_first c.new.result.items c.new-2.result X h c.new.ensures.items c.new-2.ensures none) tells c.in-Ok.end c.in-Ok.ensures.ends)
 
 pub returns-in-Ok-clause-cause : goal.returns-in-Ok-clause-cause
 returns-in-Ok-clause-cause g c =
@@ -57,4 +57,4 @@ returns-clause-ends g c = λ tidy X h none tells.
     let found = (room c.args.store.store.keeper).found in
     subst (λ w. SessionEnds effects (StandsNow stands found tidy) rests (medium (view c.args.world.now)) (view c.args.world.now) (view w) (begins X) Memory) (sym c.in-Err.ensures.no_memory.1)
     (ends_by_memory effects (StandsNow stands found tidy) rests (view c.args.world.now) (begins X) h.settled h.at_rest
-    (sits_stands view holds last pinned room disk stands rests effects g.met.K.Keeper.held_stands found tidy (record { store = c.args.store; given = 0; pins = c.new.result; views = record { given = 0; opened = c.new-2.result } }) c.args.world.now (begins X) (sits_first c.new.result.items (record { given = 0; opened = c.new-2.result }) X h c.new.ensures.items (ap (λ l. record { given = 0; opened = l }) c.new-2.ensures.items) none)))
+    (sits_stands view holds last pinned room disk stands rests effects g.met.K.Keeper.held_stands found tidy (record { store = c.args.store; given = 0; pins = c.new.result; views = c.new-2.result }) c.args.world.now (begins X) (sits_first c.new.result.items c.new-2.result X h c.new.ensures.items c.new-2.ensures none)))
