@@ -51,6 +51,20 @@ stays old new looks same X h = record {
   order = h.order;
 }
 
+-- nor does one that reads a listing change it
+pub listed_stays : (old : SearchStore MapKeeper) (keeper : MapKeeper) {v w : World} → Looks (Keeps old.store.keeper.nodes) (Keeps keeper.nodes) old.store.keeper.counts.last keeper.counts.last ample ample v w
+    → StaysAs old (record { store = record { keeper = keeper; known = old.store.known }; searches = old.searches })
+listed_stays old keeper looks X h = record {
+  stores = record {
+    tree = record {
+      shown = record { nodes = h.stores.tree.shown.nodes; held = looks.stays h.stores.tree.shown.nodes h.stores.tree.shown.held; at = h.stores.tree.shown.at; counters = h.stores.tree.shown.counters ∙ sym looks.counters };
+      knows = h.stores.tree.knows;
+    };
+    searches = h.stores.searches;
+  };
+  order = h.order;
+}
+
 -- the nodes of a new store have its tree
 pub new_holds : (store : SearchStore MapKeeper) (nodes : List (Nid × Option NodeRec)) (T : Tree) → IsStart NAME T
     → ((q : ℕ) → StandsAt q (node_at (changed no_nodes nodes) q) (object_at T q) (node_at T.others q))

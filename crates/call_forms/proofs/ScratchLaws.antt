@@ -13,9 +13,9 @@ use Rattle.call_forms.specs.declared.answers.NoStop.{NoStop}
 use Rattle.call_forms.specs.declared.exit.Status.{Status}
 use Rattle.call_forms.specs.declared.exit.Status.TheVariants.{Done, Input, Output, Memory, Lines}
 use Rattle.call_forms.specs.declared.mailbox.Mailbox.{Mailbox}
-use Rattle.call_forms.specs.Mailboxes.{BoxAnswers, BoxStops}
-use Rattle.call_forms.specs.Boxes.{Holds, IsSession, NAME}
-use Rattle.call_forms.specs.Run.{Run}
+use Rattle.call_forms.specs.Mailboxes.{BoxAnswers, BoxStops, Sits}
+use Rattle.call_forms.specs.Boxes.{IsSession, NAME}
+use Rattle.call_forms.specs.Run.{InMemory, Run, begins}
 use Rattle.call_forms.specs.Scratch.{ScratchEnds, status_of}
 use Rattle.call_forms.specs.Worlds.{KeepsDisk}
 use Rattle.call_forms.proofs.AnswerLaws.{box_answered, same_world}
@@ -25,15 +25,15 @@ use Rattle.mail_searches.specs.Searching.{Searching, StartsSearching}
 
 -- the replies are those of a run
 pub runs : {W : Type 0} (view : W → World) (whole : Type 0) (ps : List Piece) (rs : List (List ℕ)) (a b : Mailbox) (v w : W)
-    → Turns view BoxAnswers whole ps rs a v b w → (X : Searching) → Holds a.store X → (trees : List Searching) × Run X ps rs trees
-runs view whole [] [] a b v w turns X holds = ([], tt)
-runs view whole (p ∷ ps) (r ∷ rs) a b v w turns X holds =
+    → Turns view BoxAnswers whole ps rs a v b w → (S : InMemory) → Sits a S → (states : List InMemory) × Run S ps rs states
+runs view whole [] [] a b v w turns S sits = ([], tt)
+runs view whole (p ∷ ps) (r ∷ rs) a b v w turns S sits =
     let turn = turns.2 in
-    let one = box_answered p r a turns.0 turn.heard turn.answered turn.answer X holds in
+    let one = box_answered p r a turns.0 turn.heard turn.answered turn.answer S sits in
     let rest = runs view whole ps rs turns.0 b turns.1 w turns.3 one.0 one.2 in
     (one.0 ∷ rest.0, (one.1, rest.1))
-runs view whole [] (r ∷ rs) a b v w turns X holds = absurd turns
-runs view whole (p ∷ ps) [] a b v w turns X holds = absurd turns
+runs view whole [] (r ∷ rs) a b v w turns S sits = absurd turns
+runs view whole (p ∷ ps) [] a b v w turns S sits = absurd turns
 
 -- the disk is as it was
 pub keeps_turns : {W : Type 0} (view : W → World) (whole : Type 0) (ps : List Piece) (rs : List (List ℕ)) (a b : Mailbox) (v w : W) (first : World)
@@ -49,9 +49,9 @@ keeps_turns view whole (p ∷ ps) [] a b v w first turns so_far = absurd turns
 
 -- a session, from the tree of a new store on
 is_session : {W : Type 0} (view : W → World) (whole : Type 0) (ps : List Piece) (rs : List (List ℕ)) (a b : Mailbox) (v w : W)
-    → ((X : Searching) × StartsSearching NAME X × Holds a.store X) → Turns view BoxAnswers whole ps rs a v b w → IsSession ps rs
+    → ((X : Searching) × StartsSearching NAME X × Sits a (begins X)) → Turns view BoxAnswers whole ps rs a v b w → IsSession ps rs
 is_session view whole ps rs a b v w start turns =
-    let run = runs view whole ps rs a b v w turns start.0 start.2 in
+    let run = runs view whole ps rs a b v w turns (begins start.0) start.2 in
     inr (start.0, run.0, start.1, run.1, session_in_order start.0 ps rs run.0 start.1 run.1)
 
 -- a mailbox says nothing itself
@@ -63,7 +63,7 @@ ended_as : {W : Type 0} (view : W → World) (a b : Mailbox) (first now : W) (en
     → (status ≡ Done) ⊎ (status ≡ Input) ⊎ (status ≡ Output) ⊎ (status ≡ Memory) ⊎ (status ≡ Lines)
     → (status ≡ Done → end ≡ server_ends.Done) → (status ≡ Input → end ≡ server_ends.Input) → (status ≡ Output → end ≡ server_ends.Output) → (end ≡ server_ends.Output → status ≡ Output)
     → (status ≡ Lines → end ≡ server_ends.Lines) → (status ≡ Memory → ⊥)
-    → ((X : Searching) × StartsSearching NAME X × Holds a.store X) → (e : ServerEnds view BoxAnswers BoxStops a first b now end) → now ≡ e.last → ScratchEnds (view first) (view now) status
+    → ((X : Searching) × StartsSearching NAME X × Sits a (begins X)) → (e : ServerEnds view BoxAnswers BoxStops a first b now end) → now ≡ e.last → ScratchEnds (view first) (view now) status
 ended_as view a b first now end status statuses done input output is_output lines memory start e at_end = record {
   keeps = subst (λ x. KeepsDisk (view first) (view x)) (sym at_end) (keeps_turns view _ e.done e.replies a e.behind first e.last (view first) e.turns (keeps_started (view first)));
   taken = e.taken;
@@ -87,7 +87,7 @@ ended_as view a b first now end status statuses done input output is_output line
 }
 
 pub scratch_ends : {W : Type 0} (view : W → World) (a b : Mailbox) (first now : W) (end : ServerEnd NoStop)
-    → ((X : Searching) × StartsSearching NAME X × Holds a.store X) → ServerEnds view BoxAnswers BoxStops a first b now end → ScratchEnds (view first) (view now) (status_of end)
+    → ((X : Searching) × StartsSearching NAME X × Sits a (begins X)) → ServerEnds view BoxAnswers BoxStops a first b now end → ScratchEnds (view first) (view now) (status_of end)
 scratch_ends view a b first now server_ends.Done start e =
     ended_as view a b first now server_ends.Done Done (inl refl) (λ is. refl) (λ is. absurd (cc)) (λ is. absurd (cc)) (λ is. absurd (cc)) (λ is. absurd (cc)) (λ is. cc) start e e.closes.1
 scratch_ends view a b first now server_ends.Input start e =

@@ -10,7 +10,7 @@ use Rattle.search_lists.specs.Order.{InOrder}
 use Rattle.file_filling.specs.search_store.Planning.{StoresSearches}
 use Rattle.file_filling.specs.search_store.declared.store.SearchStore.{SearchStore}
 use Rattle.line_server.specs.Lines.{Piece}
-use Rattle.call_forms.specs.Run.{Answers, Run, Steps}
+use Rattle.call_forms.specs.Run.{InMemory, Run, Steps, begins}
 
 -- the store has this tree with its searches
 abbrev pub Has : SearchStore MapKeeper → Searching → Type 0
@@ -29,22 +29,18 @@ StaysAs old new = (X : Searching) → Holds old X → Holds new X
 abbrev pub DoesStep : SearchStore MapKeeper → Command → List ℕ → SearchStore MapKeeper → Type 0
 DoesStep old c said new = (X : Searching) → Holds old X → (Y : Searching) × Steps X c said Y × Holds new Y
 
--- a piece was answered over a store
-abbrev pub Answering : SearchStore MapKeeper → Piece → List ℕ → SearchStore MapKeeper → Type 0
-Answering old piece said new = (X : Searching) → Holds old X → (Y : Searching) × Answers X piece said Y × Holds new Y
-
 -- the name of the store in memory
 abbrev pub NAME : List ℕ
 NAME = codes "scratch"
 
--- each of these trees with searches is in order, and tidy
-abbrev pub AllInOrder : List Searching → Type 0
+-- the tree of each of these states is in order with its searches, and tidy
+abbrev pub AllInOrder : List InMemory → Type 0
 AllInOrder [] = Unit {0}
-AllInOrder (X ∷ Xs) = InOrder true X × AllInOrder Xs
+AllInOrder (S ∷ states) = InOrder true S.now × AllInOrder states
 
 -- the replies to lines are those of a run from a new store, and its tree and each after a reply is in order: each running search lists what filtering lists; or there were no lines
 abbrev pub IsSession : List Piece → List (List ℕ) → Type 0
-IsSession done replies = ((done ≡ []) × (replies ≡ [])) ⊎ ((start : Searching) × (trees : List Searching) × StartsSearching NAME start × Run start done replies trees × AllInOrder (start ∷ trees))
+IsSession done replies = ((done ≡ []) × (replies ≡ [])) ⊎ ((start : Searching) × (states : List InMemory) × StartsSearching NAME start × Run (begins start) done replies states × AllInOrder (begins start ∷ states))
 
 -- the refusal is that of a full file
 abbrev pub is_full : CommandRefusal → Bool

@@ -1,19 +1,23 @@
--- A run of a session in memory: the replies to lines, one after another, and the trees with their searches after them.
+-- A run of a session in memory: the replies to lines, one after another, and the states after them.
 use Rattle.std.specs.Prelude.{◌≡◌, ◌⊎◌, ℕ, List, [], ◌∷◌, Some, Result, Ok, Err}
 use Rattle.command_text.specs.declared.command.Command.{Command}
 use Rattle.command_text.specs.declared.command.LineRefusal.{LineRefusal}
-use Rattle.command_text.specs.declared.command.LineRefusal.TheVariants as line_refusals
+use Rattle.command_text.specs.Refused.{refusal_of}
 use Rattle.command_text.specs.declared.reply.CommandRefusal.{CommandRefusal}
-use Rattle.command_text.specs.declared.reply.CommandRefusal.TheVariants.{Line, Value, Limit}
+use Rattle.command_text.specs.declared.reply.CommandRefusal.TheVariants.{Line, Limit}
 use Rattle.command_text.specs.declared.reply.Limit.TheVariants as limits
 use Rattle.command_text.specs.declared.reply.LastLine.TheVariants.{NoMemory, Refused}
 use Rattle.command_text.specs.declared.reply.Reply.{Reply}
-use Rattle.command_text.specs.Lines.{command}
 use Rattle.command_text.specs.Replies.{text}
 use Rattle.mail_tree.specs.Folders.{replied}
 use Rattle.mail_searches.specs.Searching.{Searching}
 use Rattle.mail_searches.specs.Step.{step}
 use Rattle.line_server.specs.Lines.{Piece, line, too_long, further}
+use Rattle.session_lines.specs.Lines.{session_line}
+use Rattle.session_lines.specs.declared.line.SessionLine.{SessionLine}
+use Rattle.session_lines.specs.declared.line.SessionLine.TheVariants.{Pin, At, Unpin, OpenView, ShowView, CloseView, Command as StoreCommand}
+use Rattle.file_filling.specs.pinned_session.Showing.{AnswersView}
+use Rattle.file_filling.specs.pinned_session.Viewing.{Viewing, standing}
 
 -- the text of a refusal
 abbrev pub refused : CommandRefusal → List ℕ
@@ -23,33 +27,49 @@ refused refusal = text (replied (Refused refusal))
 abbrev pub Steps : Searching → Command → List ℕ → Searching → Type 0
 Steps before c said after = (reply : Reply) × (step before c ≡ Some (after, reply)) × (said ≡ text reply)
 
--- what a line asks for was done: its command, or its refusal, which changes nothing
-abbrev pub Carries : Searching → Result Command LineRefusal → List ℕ → Searching → Type 0
-Carries before (Ok c) said after = Steps before c said after
-Carries before (Err line_refusals.Line) said after = (said ≡ refused Line) × (after ≡ before)
-Carries before (Err line_refusals.Value) said after = (said ≡ refused Value) × (after ≡ before)
+-- the state of a session in memory: the present tree with its searches, and the views
+pub record InMemory : Type 0 where
+  pub now : Searching
+  pub views : Viewing
 
--- a piece was answered: a line that is too long is answered once
-abbrev pub Replies : Searching → Piece → List ℕ → Searching → Type 0
-Replies before (line bytes) said after = Carries before (command bytes) said after
-Replies before too_long said after = (said ≡ refused (Limit limits.Line)) × (after ≡ before)
-Replies before further said after = (said ≡ []) × (after ≡ before)
+-- a session that begins has no views
+abbrev pub begins : Searching → InMemory
+begins X = record { now = X; views = record { given = 0; opened = [] } }
+
+-- another tree is there: the views whose folder is gone are closed
+abbrev pub with_tree : Searching → InMemory → InMemory
+with_tree Y S = record { now = Y; views = standing Y.tree.places S.views }
+
+-- a line on views was answered: the tree stays
+abbrev pub CarriesView : InMemory → SessionLine → List ℕ → InMemory → Type 0
+CarriesView before asked said after = (V : Viewing) × AnswersView before.now before.views asked said V × (after ≡ record before { views = V })
+
+-- what a line asks for was done: a command of the store, a line on views, or a refusal, which changes nothing; there are no pins
+abbrev pub Carries : InMemory → Result SessionLine LineRefusal → List ℕ → InMemory → Type 0
+Carries before (Ok (StoreCommand c)) said after = (Y : Searching) × Steps before.now c said Y × (after ≡ with_tree Y before)
+Carries before (Ok (OpenView folder tag direction)) said after = CarriesView before (OpenView folder tag direction) said after
+Carries before (Ok (ShowView view grouped)) said after = CarriesView before (ShowView view grouped) said after
+Carries before (Ok (CloseView view)) said after = CarriesView before (CloseView view) said after
+Carries before (Ok Pin) said after = (said ≡ refused Line) × (after ≡ before)
+Carries before (Ok (At pin c)) said after = (said ≡ refused Line) × (after ≡ before)
+Carries before (Ok (Unpin pin)) said after = (said ≡ refused Line) × (after ≡ before)
+Carries before (Err refusal) said after = (said ≡ refused (refusal_of refusal)) × (after ≡ before)
 
 -- want of memory: the line changes nothing
-abbrev pub LacksMemory : Searching → Piece → List ℕ → Searching → Type 0
-LacksMemory before (line bytes) said after = (said ≡ text (replied NoMemory)) × (after ≡ before)
-LacksMemory before too_long said after = ⊥
-LacksMemory before further said after = ⊥
+abbrev pub LacksMemory : InMemory → List ℕ → InMemory → Type 0
+LacksMemory before said after = (said ≡ text (replied NoMemory)) × (after ≡ before)
 
--- the reply to a piece, and the tree after it
-abbrev pub Answers : Searching → Piece → List ℕ → Searching → Type 0
-Answers before piece said after = Replies before piece said after ⊎ LacksMemory before piece said after
+-- the reply to a piece, and the state after it: a line that is too long is answered once
+abbrev pub Answers : InMemory → Piece → List ℕ → InMemory → Type 0
+Answers before (line bytes) said after = Carries before (session_line bytes) said after ⊎ LacksMemory before said after
+Answers before too_long said after = (said ≡ refused (Limit limits.Line)) × (after ≡ before)
+Answers before further said after = (said ≡ []) × (after ≡ before)
 
--- these replies to these pieces, and these trees, one after another
-abbrev pub Run : Searching → List Piece → List (List ℕ) → List Searching → Type 0
+-- these replies to these pieces, and these states, one after another
+abbrev pub Run : InMemory → List Piece → List (List ℕ) → List InMemory → Type 0
 Run before [] [] [] = Unit {0}
-Run before (piece ∷ pieces) (said ∷ replies) (after ∷ trees) = Answers before piece said after × Run after pieces replies trees
-Run before [] (said ∷ replies) trees = ⊥
-Run before [] [] (after ∷ trees) = ⊥
-Run before (piece ∷ pieces) [] trees = ⊥
+Run before (piece ∷ pieces) (said ∷ replies) (after ∷ states) = Answers before piece said after × Run after pieces replies states
+Run before [] (said ∷ replies) states = ⊥
+Run before [] [] (after ∷ states) = ⊥
+Run before (piece ∷ pieces) [] states = ⊥
 Run before (piece ∷ pieces) (said ∷ replies) [] = ⊥

@@ -1,5 +1,5 @@
 //! The store of a session in memory.
-ghost use Rattle.std.specs.Prelude.{◌≡◌, false, IfOk, OnErr, IsTrue};
+ghost use Rattle.std.specs.Prelude.{◌≡◌, false, [], IfOk, OnErr, IsTrue};
 ghost use Rattle.mail_searches.specs.Searching.{Searching, StartsSearching};
 ghost use Rattle.node_port.specs.Nodes.{ascend, changed, no_nodes};
 ghost use Rattle.node_port.specs.Slots.{Keeps};
@@ -7,11 +7,16 @@ ghost use Rattle.command_text.specs.declared.reply.CommandRefusal.{CommandRefusa
 ghost use Rattle.tree_look.specs.mail_draft.declared.stop.Stop.TheVariants.{Refused};
 ghost use Rattle.call_forms.specs.Run.{refused};
 ghost use Rattle.call_forms.specs.Boxes.{DoesStep, Holds, NAME, StaysAs, is_full};
+ghost use Rattle.file_filling.specs.pinned_session.Viewing.{viewing_of};
+ghost use Rattle.file_filling.specs.mail_reading.Viewed.{listing_of, listing_view};
+ghost use Rattle.tree_look.specs.mail_draft.Answers.{Says};
 
 use crate::answers::refusal_text;
 use crate::nowhere::Nowhere;
 use command_text::{Command, CommandRefusal, reply_text};
+use file_filling::mail_reading::{Listing, list_rows};
 use file_filling::mail_store::Store;
+use file_filling::pinned_session::OpenViews;
 use file_filling::search_store::{SearchStore, commit};
 use file_filling::store_session::plan_counted;
 use mail_searches::{KnownSearches, OwnFolders, Searches};
@@ -19,16 +24,17 @@ use mail_tree::{Flags, Known};
 use mapi_values::Units;
 use new_store::new_store;
 use node_port::{Changes, Keeper, MapKeeper};
-use pst_base::Bytes;
+use pst_base::{Bytes, Nid};
 use std::alloc::{AllocError, Global};
 use std::marker::Brand;
 use std::sync::ledger::Blank;
 use tree_look::mail_draft::Stop;
 
-/// The store of a session in memory. It always has a tree, with its searches in order.
+/// The store of a session in memory, and the open views. It always has a tree, with its searches in order.
 #[derive(Drop)]
 pub(crate) struct Mailbox {
     pub(crate) store: SearchStore<MapKeeper>,
+    pub(crate) views: OpenViews,
     ghost has_tree: { ∥ ((X : Searching) × Holds store X) ∥₁ },
 }
 
@@ -81,9 +87,10 @@ fn stopped_text(alloc: Global, stop: Stop) -> Result<Bytes, AllocError>
 }
 
 impl Mailbox {
-    /// A new store.
+    /// A new store, without views.
     pub(crate) fn new(alloc: Global) -> Result<Mailbox, AllocError>
-        ensures { IfOk result (λ m. (X : Searching) × StartsSearching NAME X × Holds m.store X) }
+        ensures store { IfOk result (λ m. (X : Searching) × StartsSearching NAME X × Holds m.store X) }
+        ensures views { IfOk result (λ m. viewing_of m.views ≡ record { given = 0; opened = [] }) }
     {
         let name = store_name(alloc)?;
         let new = new_store(alloc, &name)?;
@@ -107,6 +114,7 @@ impl Mailbox {
                 store: Store { keeper, known },
                 searches,
             },
+            views: OpenViews::new(alloc),
         })
     }
 
@@ -118,6 +126,7 @@ impl Mailbox {
     ) -> Result<Bytes, AllocError>
         ensures ok { IfOk result (λ t. DoesStep self.old.store command.now t self.new.store) }
         ensures err { OnErr result (StaysAs self.old.store self.new.store) }
+        ensures views { self.new.views ≡ self.old.views }
     {
         let mut nowhere = Nowhere::new();
         let blank = Blank::new(1);
@@ -136,5 +145,19 @@ impl Mailbox {
             Ok(_) => Ok(text),
             Err(_) => Err(AllocError),
         }
+    }
+
+    /// What a folder lists.
+    pub(crate) fn list(&mut self, alloc: Global, folder: Nid) -> Result<Listing, Stop>
+        ensures answer { (X : Searching) → Holds self.old.store X → Says listing_view (listing_of X folder.bits) result }
+        ensures stays { StaysAs self.old.store self.new.store }
+        ensures views { self.new.views ≡ self.old.views }
+    {
+        let mut nowhere = Nowhere::new();
+        let SearchStore {
+            store: Store { keeper, known },
+            searches,
+        } = &mut self.store;
+        list_rows(alloc, keeper, &mut nowhere, known, searches, folder)
     }
 }

@@ -10,4 +10,5 @@ mod run;
 
 pub use file_open;
 pub use make::{FileMade, make_file};
+pub use pinned_session;
 pub use run::{FileRun, run_file, unopened};

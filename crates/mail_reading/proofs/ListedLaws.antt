@@ -1,10 +1,9 @@
 -- The ids of the messages that rows name, one after another.
-use Rattle.std.proofs.Common.{◌≡◌, ◌∙◌, ℕ, ◌+◌, ◌<◌, ◌≤◌, suc, Bool, true, false, List, [], ◌∷◌, ◌++◌, append_assoc, add-one, ap, drop, drop-cons, get_or, inl, inr, is_some, length, refl, subst, sym, None, Some, Option, Result, Ok, Err, if◌then◌else◌}
+use Rattle.std.proofs.Common.{◌≡◌, ◌∙◌, ℕ, ◌+◌, ◌<◌, ◌≤◌, suc, Bool, true, false, List, [], ◌∷◌, ◌++◌, append_assoc, add-one, ap, drop, drop-cons, get_or, inl, inr, is_some, length, refl, subst, sym, Result, Ok, Err, if◌then◌else◌}
 use Rattle.std.proofs.lemmas.Bool.{cases_Bool}
 use Rattle.std.proofs.lemmas.List.{append-nil, drop_all}
 use Rattle.std.specs.Ordering.{nat_cmp}
 use Rattle.std.specs.FinMap as finmap
-use Rattle.mapi_values.specs.Messages.{Mes}
 use Rattle.mapi_values.specs.Values.{Val}
 use Rattle.mail_tree.specs.Changing.{Answer, ◌>>=◌, as_message, nothing}
 use Rattle.mail_tree.specs.Tree.{Tree, object_at}

@@ -1,5 +1,5 @@
 -- A command that only reads leaves the tree and its searches.
-use Rattle.std.proofs.Common.{◌≡◌, ◌∙◌, ℕ, Bool, true, List, [], ◌∷◌, Option, None, Some, IfOk, Ok, Err, ap, inl, inr, refl, subst, sym}
+use Rattle.std.proofs.Common.{◌≡◌, ◌∙◌, ℕ, true, List, [], ◌∷◌, Option, None, Some, IfOk, Ok, Err, ap, inl, inr, refl, subst, sym}
 use Rattle.std.proofs.lemmas.Bool.{cases_Bool}
 use Rattle.pst_base.specs.declared.ids.Nid.{Nid}
 use Rattle.command_text.specs.Asking.{asks}
@@ -7,27 +7,27 @@ use Rattle.command_text.specs.declared.command.Command.{Command}
 use Rattle.command_text.specs.declared.command.Command.TheVariants.{MakeFolder, RenameFolder, MoveFolder, RemoveFolder, ListFolder, NewMessage, SetProperty, UnsetProperty, GetProperty, ListProperties, MoveMessage, CopyMessage, RemoveMessage, AddRecipient, RemoveRecipient, AddAttachment, AppendData, RemoveAttachment, FetchData, NameProperty, Save, Quit, MakeSearch, SetCriteria, GetCriteria}
 use Rattle.command_text.specs.declared.reply.CommandRefusal.TheVariants as refusals
 use Rattle.command_text.specs.declared.reply.Reply.{Reply}
-use Rattle.mail_tree.specs.Changing.{Answer, Changed, ◌>>=◌, as_message, nothing, within_limits}
+use Rattle.mail_tree.specs.Changing.{Answer, Changed, ◌>>=◌, nothing, within_limits}
 use Rattle.mail_tree.specs.Folders.{Outcome, listing, made_id, unchanged}
 use Rattle.mail_tree.specs.Places.{find_place}
 use Rattle.mail_tree.specs.Step as tree
 use Rattle.mail_tree.specs.Step.{outcome as tree_outcome}
-use Rattle.mail_tree.specs.Tree.{Tree, object_at}
+use Rattle.mail_tree.specs.Tree.{Tree}
 use Rattle.mail_tree.specs.Whole.{Fine, IsWhole}
 use Rattle.mail_tree.proofs.AfterTree.{now_nothing}
-use Rattle.mail_tree.proofs.FineLaws.{after_context, after_found, after_table, fine_either, fine_then, fine_weaker}
+use Rattle.mail_tree.proofs.FineLaws.{after_context, after_found, after_table, fine_either, fine_then}
 use Rattle.search_folders.proofs.mail_draft_laws.FitLaws.{no-entries}
 use Rattle.mail_laws.specs.Laws.{only_reads}
 use Rattle.mail_laws.proofs.LawSteps.{reads_only}
 use Rattle.mail_laws.proofs.Strays.{whole_after}
-use Rattle.mail_searches.specs.Criteria.{Coming, marked, search_listing, staying, told_criteria, unless_other}
+use Rattle.mail_searches.specs.Criteria.{marked, search_listing, staying, told_criteria, unless_other}
 use Rattle.mail_searches.specs.Relisting.{Around, around, settled_search, settled_searches}
 use Rattle.mail_searches.specs.Searches.{Search, criteria_node, results, runs}
 use Rattle.mail_searches.specs.Searching.{AreSearches, Searching, is_own}
 use Rattle.mail_searches.specs.Step.{after, concluded, if_within, listing_in, outcome, plain_outcome}
 use Rattle.mail_searches.specs.Touching.{touched}
 use Rattle.search_lists.proofs.ClearLaws.{none_unclear}
-use Rattle.mail_reading.specs.Asked.{ReadsLeave, reads}
+use Rattle.mail_reading.specs.Asked.{ReadsLeave}
 
 -- an answer that is fine and is so if it is given
 fine_is : {A : Type 0} (P Q : A → Type 0) (a : Answer A) → Fine a P → IfOk a Q → Fine a Q

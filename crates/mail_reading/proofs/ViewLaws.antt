@@ -1,9 +1,8 @@
 -- On a whole tree a view is shown or refused.
-use Rattle.std.proofs.Common.{◌≡◌, ◌∙◌, ℕ, true, false, Bool, ap, inl, inr, None, Some}
+use Rattle.std.proofs.Common.{◌∙◌, ℕ, ap, inl, inr}
 use Rattle.std.proofs.lemmas.Bool.{cases_Bool}
 use Rattle.mail_tree.specs.Changing.{contents, nothing}
 use Rattle.mail_tree.specs.Places.{find_place, is_plain}
-use Rattle.mail_tree.specs.Tree.{object_at}
 use Rattle.mail_tree.specs.Whole.{Fine, IsWhole}
 use Rattle.mail_tree.proofs.AfterTree.{now_nothing}
 use Rattle.mail_tree.proofs.FineLaws.{cases_Option, fine_either, fine_then}

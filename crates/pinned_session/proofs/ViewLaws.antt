@@ -91,7 +91,7 @@ closes_found (Some v) old opened said found at is goes =
 -- ---- what a folder lists was read, or not
 
 -- a refusal is that of the listing
-refused_listing : (listed : Answer (Tbl × List ℕ)) (refusal : CommandRefusal) → Fine listed (λ l. Unit {0}) → Says {B = Listing} listing_view listed (Err (stops.Refused refusal)) → listed ≡ Err (Some refusal)
+pub refused_listing : (listed : Answer (Tbl × List ℕ)) (refusal : CommandRefusal) → Fine listed (λ l. Unit {0}) → Says {B = Listing} listing_view listed (Err (stops.Refused refusal)) → listed ≡ Err (Some refusal)
 refused_listing (Ok l) refusal fine is = absurd is
 refused_listing (Err (Some r)) refusal fine is = ap (λ g. Err (Some g)) (sym is)
 refused_listing (Err None) refusal fine is = absurd fine

@@ -16,6 +16,7 @@ mod viewing;
 mod views;
 
 pub use session::run_session;
+pub use session_lines;
 pub use store_session;
-pub use viewing::{add_listed, close_view, shown_spoken};
+pub use viewing::{add_listed, close_view, shown_spoken, view_spoken};
 pub use views::{OpenView, OpenViews, close_views, view_at};

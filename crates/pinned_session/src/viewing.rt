@@ -88,7 +88,7 @@ fn list_keeping<W: Outside, K: Saver<W>>(
 }
 
 /// What is said of a view.
-fn view_spoken(alloc: Global, reply: ViewReply) -> Spoken
+pub fn view_spoken(alloc: Global, reply: ViewReply) -> Spoken
     ensures { (spoken_text result ≡ view_text reply) ⊎ (spoken_text result ≡ no_memory_text) }
 {
     match view_reply_text(alloc, reply) {

@@ -1,5 +1,5 @@
 -- Rows with their keys, one after another.
-use Rattle.std.proofs.Common.{◌≡◌, ℕ, ◌+◌, ◌<◌, ◌≤◌, suc, List, [], ◌∷◌, ◌++◌, append_assoc, sym, subst, length, get_or, drop, drop-cons, add-one, Option}
+use Rattle.std.proofs.Common.{◌≡◌, ℕ, ◌+◌, ◌<◌, ◌≤◌, List, [], ◌∷◌, ◌++◌, append_assoc, sym, subst, length, get_or, drop, drop-cons, add-one, Option}
 use Rattle.std.proofs.lemmas.List.{append-nil, drop_all}
 use Rattle.mapi_values.specs.Values.{Val}
 use Rattle.sorted_views.specs.Keys.{IsKey}

@@ -1,5 +1,5 @@
 -- The key of a cell, by which rows are sorted and grouped.
-use Rattle.std.specs.Prelude.{◌≡◌, ℕ, ◌==◌, Bool, false, List, [], length, Option, None, Some, if◌then◌else◌, ◌||◌}
+use Rattle.std.specs.Prelude.{◌≡◌, ℕ, ◌==◌, Bool, false, List, [], Option, None, Some, if◌then◌else◌, ◌||◌}
 use Rattle.std.specs.Option.{is_some, unwrap_or}
 use Rattle.pst_base.specs.Fields.{number_at}
 use Rattle.mapi_values.specs.Characters.{folded}

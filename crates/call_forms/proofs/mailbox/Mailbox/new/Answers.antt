@@ -3,8 +3,8 @@ use Rattle.call_forms.proofs.Boxed.{new_holds}
 use Rattle.mail_tree.specs.Start.{IsStart}
 use Rattle.call_forms.proofs.mailbox.Mailbox.new.Goals as goal
 
-pub returns : goal.returns
-returns c =
+pub returns-clause-store : goal.returns-clause-store
+returns-clause-store c =
     let shows = c.in_ok-new.ensures.shows in
     let start = subst (λ name. IsStart name shows.0) c.in_ok-name.ensures shows.1 in
     new_holds _ c.in_ok-new.new.nodes.items shows.0 start shows.2 c.in_ok-keeper.ensures.nodes (c.in_ok-keeper.ensures.counts ∙ c.in_ok-new.ensures.counts) c.in_ok-new.ensures.places c.new-flags.ensures c.new.ensures
