@@ -1,17 +1,17 @@
 -- How what was asked for ends.
 use Rattle.std.specs.Prelude.{◌≡◌}
 use Rattle.pst_outside.specs.World.{World}
-use Rattle.call_forms.specs.Compact.{CompactEnds}
-use Rattle.call_forms.specs.Decode.{DecodeEnds}
-use Rattle.call_forms.specs.Files.{NewEnds, RunEnds}
-use Rattle.call_forms.specs.Fill.{FillEnds}
-use Rattle.call_forms.specs.Info.{InfoEnds}
-use Rattle.call_forms.specs.Look.{LookEnds}
-use Rattle.call_forms.specs.Mend.{MendEnds}
-use Rattle.call_forms.specs.Nodes.{NodesEnds}
-use Rattle.call_forms.specs.Scratch.{ScratchEnds}
-use Rattle.call_forms.specs.declared.exit.Status.{Status}
-use Rattle.call_forms.specs.declared.exit.Status.TheVariants.{Memory, Words}
+use Rattle.mail_session.specs.Compact.{CompactEnds}
+use Rattle.mail_session.specs.Decode.{DecodeEnds}
+use Rattle.mail_session.specs.Files.{NewEnds, RunEnds}
+use Rattle.mail_session.specs.Fill.{FillEnds}
+use Rattle.mail_session.specs.Info.{InfoEnds}
+use Rattle.mail_session.specs.Look.{LookEnds}
+use Rattle.mail_session.specs.Mend.{MendEnds}
+use Rattle.mail_session.specs.Nodes.{NodesEnds}
+use Rattle.mail_session.specs.Scratch.{ScratchEnds}
+use Rattle.mail_session.specs.declared.exit.Status.{Status}
+use Rattle.mail_session.specs.declared.exit.Status.TheVariants.{Memory, Words}
 use Rattle.mail_session.specs.declared.words.Asked.{Asked}
 use Rattle.mail_session.specs.declared.words.Asked.TheVariants as asked
 use Rattle.mail_session.specs.declared.words.Form.TheVariants as forms

@@ -2,23 +2,29 @@
 ghost use Rattle.std.specs.Prelude.{◌≡◌, ◌↔◌, ◌⊎◌, ℕ, true, List, None, Some, IsSome};
 ghost use Rattle.mail_session.specs.Asking.{is_naming};
 ghost use Rattle.mail_session.specs.Ends.{EndsFor};
-ghost use Rattle.call_forms.specs.Compact.{CompactEnds};
-ghost use Rattle.call_forms.specs.Decode.{DecodeEnds};
-ghost use Rattle.call_forms.specs.Files.{EndsWell, NewEnds, RunEnds};
+ghost use Rattle.mail_session.specs.Compact.{CompactEnds};
+ghost use Rattle.mail_session.specs.Decode.{DecodeEnds};
+ghost use Rattle.mail_session.specs.Files.{EndsWell, NewEnds, RunEnds};
 ghost use Rattle.mail_session.specs.Words.{fill_numbers, form_of, spelled, third_name};
-ghost use Rattle.call_forms.specs.Statuses.{EndsAs};
-ghost use Rattle.call_forms.specs.Fill.{FillEnds};
-ghost use Rattle.call_forms.specs.Info.{InfoEnds};
-ghost use Rattle.call_forms.specs.Look.{LookEnds, LookEndsWell};
-ghost use Rattle.call_forms.specs.Mend.{MendEnds};
-ghost use Rattle.call_forms.specs.Nodes.{NodesEnds};
-ghost use Rattle.call_forms.specs.Scratch.{ScratchEnds};
+ghost use Rattle.mail_session.specs.Statuses.{EndsAs};
+ghost use Rattle.mail_session.specs.Fill.{FillEnds};
+ghost use Rattle.mail_session.specs.Info.{InfoEnds};
+ghost use Rattle.mail_session.specs.Look.{LookEnds, LookEndsWell};
+ghost use Rattle.mail_session.specs.Mend.{MendEnds};
+ghost use Rattle.mail_session.specs.Nodes.{NodesEnds};
+ghost use Rattle.mail_session.specs.Scratch.{ScratchEnds};
 
+use crate::compact::say_compacted;
+use crate::decode::say_decoded;
+use crate::exit::{Exit, Status};
+use crate::files::{make, run_lines};
+use crate::fill::say_filled;
+use crate::info::say_info;
+use crate::look::look_lines;
+use crate::mend::say_mended;
+use crate::nodes::say_nodes;
+use crate::scratch::serve_memory;
 use crate::words::{Asked, Form, read_words};
-use call_forms::{
-    Exit, Status, look_lines, make, run_lines, say_compacted, say_decoded, say_filled, say_info,
-    say_mended, say_nodes, serve_memory,
-};
 use pst_base::{Ledger, Steps};
 use pst_outside::Outside;
 use std::alloc::Global;

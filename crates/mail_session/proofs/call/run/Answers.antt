@@ -1,12 +1,12 @@
 use Rattle.std.proofs.Common.{inr, refl, rules}
-use Rattle.call_forms.specs.declared.exit.Status.TheVariants.{Memory}
-use Rattle.call_forms.specs.Compact.{IsCompactedText, IsUnmadeText}
-use Rattle.call_forms.specs.Decode.{IsDecodedText, IsUnreadText}
-use Rattle.call_forms.proofs.CopyLaws.{copy_unread}
-use Rattle.call_forms.proofs.FileLaws.{new_unread, well_as}
-use Rattle.call_forms.proofs.FillLaws.{fill_unasked}
-use Rattle.call_forms.proofs.LookLaws.{look_unread, look_well_as}
-use Rattle.call_forms.proofs.MendLaws.{mend_unasked}
+use Rattle.mail_session.specs.declared.exit.Status.TheVariants.{Memory}
+use Rattle.mail_session.specs.Compact.{IsCompactedText, IsUnmadeText}
+use Rattle.mail_session.specs.Decode.{IsDecodedText, IsUnreadText}
+use Rattle.mail_session.proofs.CopyLaws.{copy_unread}
+use Rattle.mail_session.proofs.FileLaws.{new_unread, well_as}
+use Rattle.mail_session.proofs.FillLaws.{fill_unasked}
+use Rattle.mail_session.proofs.LookLaws.{look_unread, look_well_as}
+use Rattle.mail_session.proofs.MendLaws.{mend_unasked}
 use Rattle.mail_session.proofs.call.run.Goals as goal
 
 pub returns-in_default-clause-new : goal.returns-in_default-clause-new
