@@ -37,10 +37,10 @@ impl OpenViews {
 }
 
 /// The open view of a number.
-fn view_named(open: &[OpenView], number: u32) -> Option<OpenView>
-    ensures { result ≡ find (λ view. view.number == number) open.now }
+fn view_named(views: &[OpenView], number: u32) -> Option<OpenView>
+    ensures { result ≡ find (λ view. view.number == number) views.now }
 {
-    open.iter().find(|view| view.number == number).copied()
+    views.iter().find(|view| view.number == number).copied()
 }
 
 /// The open view that a line names.
@@ -54,17 +54,17 @@ pub fn view_at(views: &OpenViews, view: Option<u32>) -> Option<OpenView>
 }
 
 /// Closes the view of a number.
-pub(crate) fn close_named(open: &mut Vec<OpenView>, number: u32)
-    ensures { open.new.items ≡ filter (λ view. not (view.number == number)) open.old.items }
+pub(crate) fn close_named(views: &mut Vec<OpenView>, number: u32)
+    ensures { views.new.items ≡ filter (λ view. not (view.number == number)) views.old.items }
 {
-    open.retain(|view| view.number != number);
+    views.retain(|view| view.number != number);
 }
 
 /// The views whose folder is there stay.
-fn close_gone(open: &mut Vec<OpenView>, places: &Places)
-    ensures { open.new.items ≡ stand places.now open.old.items }
+fn close_gone(views: &mut Vec<OpenView>, places: &Places)
+    ensures { views.new.items ≡ stand places.now views.old.items }
 {
-    open.retain(|view| places.find(view.folder).is_some());
+    views.retain(|view| places.find(view.folder).is_some());
 }
 
 /// Closes the views whose folder is there no more.
