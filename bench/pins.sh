@@ -6,21 +6,25 @@
 # Needs crates/pstore/out/pstore, which ./pstore builds.
 cd "$(dirname "$0")/.." || exit 1
 exec python3 - crates/pstore/out/pstore "${1:-}" <<'END'
-import os, statistics, subprocess, sys, tempfile, time
+import os, statistics, subprocess, sys, tempfile
+
+sys.path.insert(0, "bench")
+from timed_session import TimedSession, remove
 
 SETS, TURN, MESSAGES, MOST = 2_000, 20, 100, 16
 FOLDER, FIRST = "0x8082", 0x200024
 program, folder = sys.argv[1], sys.argv[2] or tempfile.mkdtemp()
 
 
-class Session:
-    """A session over a file of its own, in which some pins are open, asked line by line."""
+class Session(TimedSession):
+    """A session over a file of its own, in which some pins are open."""
 
     def __init__(self, pins):
-        self.pins, self.path = pins, os.path.join(folder, f"pins-{pins}.pst")
-        self.remove()
-        subprocess.run([program, "new", self.path, "Mail"], check=True, stdout=subprocess.DEVNULL)
-        self.process = subprocess.Popen([program, "run", self.path], stdin=subprocess.PIPE, stdout=subprocess.PIPE)
+        path = os.path.join(folder, f"pins-{pins}.pst")
+        remove(path)
+        subprocess.run([program, "new", path, "Mail"], check=True, stdout=subprocess.DEVNULL)
+        super().__init__(program, path)
+        self.pins = pins
         for line in ["mkdir 0x8022 A", *[f"new {FOLDER} IPM.Note 0"] * MESSAGES]:
             self.ask(line)
         self.longest, self.turns = 0.0, []
@@ -29,32 +33,8 @@ class Session:
                 self.longest = max(self.longest, self.ask("pin"))
             self.set(number)
 
-    def ask(self, line):
-        """The seconds until the reply."""
-        start = time.perf_counter()
-        self.process.stdin.write(line.encode() + b"\n")
-        self.process.stdin.flush()
-        said = self.process.stdout.readline()
-        took = time.perf_counter() - start
-        assert said.startswith(b"ok"), (line, said)
-        return took
-
     def set(self, number):
         return self.ask(f"set {FIRST + 32 * (number % MESSAGES):#x} 0x0037001f Subject {number % 10}")
-
-    def most(self):
-        """Its greatest memory so far, in MB."""
-        with open(f"/proc/{self.process.pid}/status") as it:
-            return next(int(line.split()[1]) for line in it if line.startswith("VmHWM")) / 1_000
-
-    def end(self):
-        self.process.stdin.close()
-        assert self.process.wait() == 0
-
-    def remove(self):
-        for name in self.path, self.path + ".gate":
-            if os.path.exists(name):
-                os.remove(name)
 
 
 sessions = [Session(pins) for pins in (0, 1, MOST)]

@@ -6,10 +6,11 @@
 # Needs crates/pstore/out/pstore, which ./pstore builds.
 cd "$(dirname "$0")/.." || exit 1
 exec python3 - crates/pstore/out/pstore "${1:-}" <<'END'
-import os, shutil, statistics, subprocess, sys, tempfile, time
+import os, shutil, statistics, sys, tempfile
 
 sys.path.insert(0, "bench")
 from lay_stores import store, text, u32
+from timed_session import TimedSession, remove
 
 SETS, TURN, ASKED = {100: 2_000, 2_000: 400, 20_000: 100}, 20, 10
 FOLDER, FIRST = "0x8022", 0x200024
@@ -27,47 +28,25 @@ def laid(size):
     return store({}, {FIRST + 32 * at: (values(at), {}) for at in range(size)})
 
 
-class Session:
-    """A session over a file of its own, in which some views are open, asked line by line."""
+class Session(TimedSession):
+    """A session over a file of its own, in which some views are open."""
 
     def __init__(self, data, size, views):
-        self.size, self.views, self.turns = size, views, []
-        self.path = os.path.join(folder, f"views-{size}-{views}.pst")
-        self.remove()
-        with open(self.path, "wb") as file:
+        path = os.path.join(folder, f"views-{size}-{views}.pst")
+        remove(path)
+        with open(path, "wb") as file:
             file.write(data)
-        self.process = subprocess.Popen([program, "run", self.path], stdin=subprocess.PIPE, stdout=subprocess.PIPE)
+        super().__init__(program, path)
+        self.size, self.views, self.turns = size, views, []
         for number in range(views):
             self.ask(f"view {FOLDER} 0x0037001f {'down' if number % 2 else 'up'}")
-
-    def ask(self, line):
-        """The seconds until the end of the reply."""
-        start = time.perf_counter()
-        self.process.stdin.write(line.encode() + b"\n")
-        self.process.stdin.flush()
-        while (said := self.process.stdout.readline()).startswith(b"- "):
-            pass
-        took = time.perf_counter() - start
-        assert said.startswith(b"ok"), (line, said)
-        return took
 
     def set(self, number):
         return self.ask(f"set {FIRST + 32 * (number % self.size):#x} 0x0037001f {subject(number + self.size)}")
 
-    def most(self):
-        """Its greatest memory so far, in MB."""
-        with open(f"/proc/{self.process.pid}/status") as it:
-            return next(int(line.split()[1]) for line in it if line.startswith("VmHWM")) / 1_000
-
     def end(self):
-        self.process.stdin.close()
-        assert self.process.wait() == 0
+        super().end()
         self.remove()
-
-    def remove(self):
-        for name in self.path, self.path + ".gate":
-            if os.path.exists(name):
-                os.remove(name)
 
 
 for size, sets in SETS.items():
