@@ -2,6 +2,8 @@
 use Rattle.std.specs.Prelude.{ℕ, List, Result, Ok, Err, ok_or}
 use Rattle.pst_base.specs.declared.ids.Nid.{Nid}
 use Rattle.mapi_values.specs.declared.value.Tag.{Tag}
+use Rattle.mapi_values.specs.Values.{Val}
+use Rattle.value_text.specs.Forms.{value_said}
 use Rattle.command_text.specs.declared.command.LineRefusal.{LineRefusal}
 use Rattle.command_text.specs.declared.command.LineRefusal.TheVariants.{Line, Value}
 use Rattle.command_text.specs.Words.{cut, id_of, name_of, tag_of}
@@ -33,6 +35,16 @@ id_and_tag rest = do
   id ← one_id words.0
   tag ← ok_or (tag_of words.1) Line
   Ok (id, tag)
+
+-- an id, a tag, and the value that the rest of the line says, spaces and all
+unfoldable pub id_and_value : List ℕ → Result (Nid × Val) LineRefusal
+id_and_value rest = do
+  words ← ok_or (cut rest) Line
+  id ← one_id words.0
+  others ← ok_or (cut words.1) Line
+  tag ← ok_or (tag_of others.0) Line
+  value ← ok_or (value_said tag.id tag.kind others.1) Value
+  Ok (id, value)
 
 -- an id, and a name that runs to the end of the line
 unfoldable pub id_and_name : List ℕ → Result (Nid × List ℕ) LineRefusal

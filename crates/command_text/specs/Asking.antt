@@ -1,7 +1,7 @@
 -- Which commands only ask.
 use Rattle.std.specs.Prelude.{Bool, true, false}
 use Rattle.command_text.specs.declared.command.Command.{Command}
-use Rattle.command_text.specs.declared.command.Command.TheVariants.{MakeFolder, RenameFolder, MoveFolder, RemoveFolder, ListFolder, NewMessage, SetProperty, UnsetProperty, GetProperty, ListProperties, MoveMessage, CopyMessage, RemoveMessage, AddRecipient, RemoveRecipient, AddAttachment, AppendData, RemoveAttachment, FetchData, Save, Quit, NameProperty, MakeSearch, SetCriteria, GetCriteria}
+use Rattle.command_text.specs.declared.command.Command.TheVariants.{MakeFolder, RenameFolder, MoveFolder, RemoveFolder, ListFolder, NewMessage, SetProperty, UnsetProperty, GetProperty, ListProperties, MoveMessage, CopyMessage, RemoveMessage, AddRecipient, RemoveRecipient, AddAttachment, AppendData, SetEmbedded, RemoveAttachment, FetchData, Save, Quit, NameProperty, MakeSearch, SetCriteria, GetCriteria}
 
 -- whether a command only asks
 unfoldable pub asks : Command → Bool
@@ -20,8 +20,9 @@ asks (CopyMessage message folder) = false
 asks (RemoveMessage message) = false
 asks (AddRecipient message kind address name) = false
 asks (RemoveRecipient message row) = false
-asks (AddAttachment message name content) = false
+asks (AddAttachment message name held) = false
 asks (AppendData message attachment content) = false
+asks (SetEmbedded message attachment node) = false
 asks (RemoveAttachment message attachment) = false
 asks (FetchData message attachment) = true
 asks (NameProperty guid number) = false

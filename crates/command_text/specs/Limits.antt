@@ -1,7 +1,7 @@
 -- Which limit a command would pass, as a word.
 use Rattle.std.specs.Prelude.{ℕ, List, codes}
 use Rattle.command_text.specs.declared.reply.Limit.{Limit}
-use Rattle.command_text.specs.declared.reply.Limit.TheVariants.{Line, Depth, Rows, Properties, Value, Searches, Names}
+use Rattle.command_text.specs.declared.reply.Limit.TheVariants.{Line, Depth, Rows, Properties, Value, Searches, Names, Nesting}
 
 -- the word of a limit
 unfoldable pub limit_word : Limit → List ℕ
@@ -12,3 +12,4 @@ limit_word Properties = codes "properties"
 limit_word Value = codes "value"
 limit_word Searches = codes "searches"
 limit_word Names = codes "names"
+limit_word Nesting = codes "nesting"

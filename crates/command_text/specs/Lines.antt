@@ -1,15 +1,15 @@
 -- What a line asks for.
 use Rattle.std.specs.Prelude.{ℕ, List, [], Option, None, Some, Result, Ok, Err, ok_or, bytes_eq, codes, if◌then◌else◌}
 use Rattle.std.specs.Str.{is_utf8}
-use Rattle.value_text.specs.Forms.{value_said}
 use Rattle.value_text.specs.Hex.{hex_bytes}
 use Rattle.value_text.specs.Numbers.{magnitude}
 use Rattle.command_text.specs.declared.command.Command.{Command}
 use Rattle.command_text.specs.declared.command.Command.TheVariants.{MakeFolder, RenameFolder, MoveFolder, RemoveFolder, ListFolder, NewMessage, SetProperty, UnsetProperty, GetProperty, ListProperties, MoveMessage, CopyMessage, RemoveMessage, AddRecipient, RemoveRecipient, AddAttachment, AppendData, RemoveAttachment, FetchData, Save, Quit, NameProperty, MakeSearch, SetCriteria, GetCriteria}
+use Rattle.command_text.specs.declared.command.Held.TheVariants.{Data}
 use Rattle.command_text.specs.declared.command.LineRefusal.{LineRefusal}
 use Rattle.command_text.specs.declared.command.LineRefusal.TheVariants.{Line, Value}
-use Rattle.command_text.specs.Words.{cut, guid_of, name_of, recipient_type, restriction_of, row_of, scope_of, tag_of}
-use Rattle.command_text.specs.Arguments.{◌>>=◌, one_id, two_ids, id_and_tag, id_and_name}
+use Rattle.command_text.specs.Words.{cut, guid_of, name_of, recipient_type, restriction_of, row_of, scope_of}
+use Rattle.command_text.specs.Arguments.{◌>>=◌, one_id, two_ids, id_and_tag, id_and_value, id_and_name}
 
 -- mkdir: the parent's id, and the name, spaces and all
 unfoldable pub make_folder : List ℕ → Result Command LineRefusal
@@ -54,12 +54,8 @@ new_message rest = do
 -- set: the message's id, the tag, and the value that the rest of the line says, spaces and all
 unfoldable pub set_property : List ℕ → Result Command LineRefusal
 set_property rest = do
-  words ← ok_or (cut rest) Line
-  message ← one_id words.0
-  others ← ok_or (cut words.1) Line
-  tag ← ok_or (tag_of others.0) Line
-  value ← ok_or (value_said tag.id tag.kind others.1) Value
-  Ok (SetProperty message value)
+  given ← id_and_value rest
+  Ok (SetProperty given.0 given.1)
 
 -- unset: the message's id, and the tag
 unfoldable pub unset_property : List ℕ → Result Command LineRefusal
@@ -125,7 +121,7 @@ add_attachment rest = do
   others ← ok_or (cut words.1) Line
   data_bytes ← ok_or (hex_bytes others.1) Line
   name ← ok_or (name_of others.0) Value
-  Ok (AddAttachment message name data_bytes)
+  Ok (AddAttachment message name (Data data_bytes))
 
 -- append: the message's id, the attachment's, and the bytes in hex
 unfoldable pub append_data : List ℕ → Result Command LineRefusal

@@ -2,7 +2,7 @@
 use Rattle.std.specs.Prelude.{ℕ, List, ◌++◌, codes}
 use Rattle.std.specs.Fmt.{decimal}
 use Rattle.command_text.specs.declared.reply.CommandRefusal.{CommandRefusal}
-use Rattle.command_text.specs.declared.reply.CommandRefusal.TheVariants.{Object, NameTaken, NotEmpty, Cycle, Reserved, Property, Value, Line, Protected, Restriction, Scope, Flags, Criteria, Limit, Ids, Full}
+use Rattle.command_text.specs.declared.reply.CommandRefusal.TheVariants.{Object, NameTaken, NotEmpty, Cycle, Reserved, Embedded, Property, Value, Line, Protected, Restriction, Scope, Flags, Criteria, Limit, Ids, Full}
 use Rattle.command_text.specs.Limits.{limit_word}
 
 -- the words of a refusal; offsets and counts of cells are in decimal
@@ -12,6 +12,7 @@ refusal_words NameTaken = codes "name-taken"
 refusal_words NotEmpty = codes "not-empty"
 refusal_words Cycle = codes "cycle"
 refusal_words Reserved = codes "reserved"
+refusal_words Embedded = codes "embedded"
 refusal_words Property = codes "property"
 refusal_words Value = codes "value"
 refusal_words Line = codes "line"

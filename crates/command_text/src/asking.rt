@@ -29,6 +29,7 @@ pub fn only_asks(command: &Command) -> bool
         | Command::RemoveRecipient { .. }
         | Command::AddAttachment { .. }
         | Command::AppendData { .. }
+        | Command::SetEmbedded { .. }
         | Command::RemoveAttachment { .. }
         | Command::NameProperty { .. }
         | Command::MakeSearch { .. }

@@ -1,7 +1,7 @@
 //! What a line asks for.
 use crate::scope::Scope;
 use mapi_values::{Props, Tag, Units, Value};
-use pst_base::{Bytes, Nid};
+use pst_base::{Bytes, Nid, Sub};
 
 /// A command, one variant for each form of line, with its arguments in their order.
 #[derive(Debug, Drop)]
@@ -81,17 +81,23 @@ pub enum Command {
         message: Nid,
         row: u32,
     },
-    /// `attach M NAME HEX`: the message M gets an attachment with a file name and data.
+    /// `attach M NAME HEX`: the message M gets an attachment with a file name and data. Or it gets one that holds a message: what `embed` comes to.
     AddAttachment {
         message: Nid,
         name: Units,
-        data: Bytes,
+        held: Held,
     },
     /// `append M N HEX`: the data of the attachment N of the message M gets these bytes at its end.
     AppendData {
         message: Nid,
         attachment: Nid,
         data: Bytes,
+    },
+    /// The message in the attachment N of the message M becomes another, which this subnode is: what `eset` and `eunset` come to. No line reads so.
+    SetEmbedded {
+        message: Nid,
+        attachment: Nid,
+        node: Sub,
     },
     /// `detach M N`: the attachment N of the message M goes.
     RemoveAttachment {
@@ -128,6 +134,15 @@ pub enum Command {
     Save,
     /// `quit`: the session ends.
     Quit,
+}
+
+/// What a new attachment holds.
+#[derive(Debug, Drop)]
+pub enum Held {
+    /// Data, as lines give it.
+    Data(Bytes),
+    /// A message that tells this size, laid out as this subnode of the attachment.
+    Message { size: u32, node: Sub },
 }
 
 /// Why a line is no command.

@@ -8,15 +8,17 @@
 mod arguments;
 mod asking;
 mod command;
+mod embedded;
 mod printing;
 mod reading;
 mod reply;
 mod scope;
 mod words;
 
-pub use arguments::id_and_tag;
+pub use arguments::{id_and_name, id_and_tag, id_and_value, one_id, two_ids};
 pub use asking::only_asks;
-pub use command::{Command, LineRefusal};
+pub use command::{Command, Held, LineRefusal};
+pub use embedded::EmbeddedCommand;
 pub use printing::reply_text;
 pub use reading::{read_line, read_text};
 pub use reply::{CommandRefusal, DataLine, DataLines, LastLine, Limit, Reply};

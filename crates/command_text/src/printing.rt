@@ -125,6 +125,7 @@ fn limit_word(limit: Limit) -> &'static str
         Limit::Value => "value",
         Limit::Searches => "searches",
         Limit::Names => "names",
+        Limit::Nesting => "nesting",
     }
 }
 
@@ -139,6 +140,7 @@ fn push_refusal(text: &mut String, refusal: CommandRefusal) -> Result<(), AllocE
         CommandRefusal::NotEmpty => text.push_str("not-empty"),
         CommandRefusal::Cycle => text.push_str("cycle"),
         CommandRefusal::Reserved => text.push_str("reserved"),
+        CommandRefusal::Embedded => text.push_str("embedded"),
         CommandRefusal::Property => text.push_str("property"),
         CommandRefusal::Value => text.push_str("value"),
         CommandRefusal::Line => text.push_str("line"),

@@ -2,16 +2,16 @@
 ghost use Rattle.pst_base.specs.Stops.{Gives};
 ghost use Rattle.command_text.specs.Lines.{make_folder, rename_folder, move_folder, remove_folder, list_folder, new_message, set_property, unset_property, get_property, list_properties, move_message, copy_message, remove_message, add_recipient, remove_recipient, add_attachment, append_data, remove_attachment, fetch_data, one_word, on_message, on_part, on_search, with_arguments, text_command, command, name_property, make_search, set_criteria, get_criteria};
 
-use crate::arguments::{id_and_name, id_and_tag, one_id, two_ids};
-use crate::command::{Command, LineRefusal};
+use crate::arguments::{id_and_name, id_and_tag, id_and_value, one_id, two_ids};
+use crate::command::{Command, Held, LineRefusal};
 use crate::words::{
     as_text, cut, read_data, read_guid, read_name, read_recipient_type, read_restriction, read_row,
-    read_scope, read_tag,
+    read_scope,
 };
 use mapi_values::Props;
 use pst_base::MemOr;
 use std::alloc::Global;
-use value_text::{magnitude, parse_value};
+use value_text::magnitude;
 
 /// What stands behind `mkdir `: the parent's id, and the name, spaces and all.
 #[tactic(auto, unfolding(crate::specs::Lines::make_folder))]
@@ -87,21 +87,8 @@ fn new_message(alloc: Global, rest: &str) -> Result<Command, MemOr<LineRefusal>>
 fn set_property(alloc: Global, rest: &str) -> Result<Command, MemOr<LineRefusal>>
     ensures { Gives (λ c. c) result (set_property rest.now) }
 {
-    let Some((message, rest)) = cut(rest) else {
-        return Err(MemOr::Refused(LineRefusal::Line));
-    };
-    let message = one_id(message)?;
-    let Some((tag, value)) = cut(rest) else {
-        return Err(MemOr::Refused(LineRefusal::Line));
-    };
-    let Some(tag) = read_tag(tag) else {
-        return Err(MemOr::Refused(LineRefusal::Line));
-    };
-    match parse_value(alloc, tag, value) {
-        Ok(value) => Ok(Command::SetProperty { message, value }),
-        Err(MemOr::Refused(_)) => Err(MemOr::Refused(LineRefusal::Value)),
-        Err(MemOr::Memory) => Err(MemOr::Memory),
-    }
+    let (message, value) = id_and_value(alloc, rest)?;
+    Ok(Command::SetProperty { message, value })
 }
 
 /// What stands behind `unset `: the message's id, and the tag.
@@ -218,7 +205,7 @@ fn add_attachment(alloc: Global, rest: &str) -> Result<Command, MemOr<LineRefusa
     Ok(Command::AddAttachment {
         message,
         name,
-        data,
+        held: Held::Data(data),
     })
 }
 

@@ -102,6 +102,7 @@ pub enum Limit {
     Value,
     Searches,
     Names,
+    Nesting,
 }
 
 /// Why a command is refused. It has then changed nothing.
@@ -117,6 +118,8 @@ pub enum CommandRefusal {
     Cycle,
     /// The folder is of another kind than the command takes.
     Reserved,
+    /// The attachment holds no message.
+    Embedded,
     /// There is no property of that id and kind.
     Property,
     /// A name or a value isn't of its form.

@@ -13,7 +13,8 @@ use Rattle.mapi_values.specs.Tables.{find_row}
 use Rattle.mapi_values.specs.Values.{Val}
 use Rattle.mapi_values.specs.declared.value.Tag.{Tag}
 use Rattle.command_text.specs.declared.command.Command.{Command}
-use Rattle.command_text.specs.declared.command.Command.TheVariants.{MakeFolder, RenameFolder, MoveFolder, RemoveFolder, ListFolder, NewMessage, SetProperty, UnsetProperty, GetProperty, ListProperties, MoveMessage, CopyMessage, RemoveMessage, AddRecipient, RemoveRecipient, AddAttachment, AppendData, RemoveAttachment, FetchData, Save, Quit, NameProperty, MakeSearch, SetCriteria, GetCriteria}
+use Rattle.command_text.specs.declared.command.Held.{Held}
+use Rattle.command_text.specs.declared.command.Command.TheVariants.{MakeFolder, RenameFolder, MoveFolder, RemoveFolder, ListFolder, NewMessage, SetProperty, UnsetProperty, GetProperty, ListProperties, MoveMessage, CopyMessage, RemoveMessage, AddRecipient, RemoveRecipient, AddAttachment, AppendData, RemoveAttachment, FetchData, Save, Quit, NameProperty, MakeSearch, SetCriteria, GetCriteria, SetEmbedded}
 use Rattle.command_text.specs.declared.reply.LastLine.TheVariants.{Attached, Done, Made, Row}
 use Rattle.command_text.specs.declared.reply.Reply.{Reply}
 use Rattle.mail_objects.specs.Forms.{Ctx, Tbl}
@@ -31,8 +32,8 @@ use Rattle.mail_tree.specs.Columns.{contents_table, hierarchy_table}
 use Rattle.mail_tree.specs.Settling.{message_ids, mirrored, settled, with_context, touched}
 use Rattle.mail_tree.specs.Ids.{folder_kinds, is_spent, is_taken, message_kinds, new_id, next_index}
 use Rattle.mail_tree.specs.Folders.{Outcome, associated_in, changing, folder_lines, has_associated, has_rows, listing, made_folder, making, making_folder, moved_between, moved_folder, nid, place, removed_folder, without_folder, without_node, message_lines, moving, renamed_folder, replied, siblings, unless_full, unless_named, unless_protected, with_folder}
-use Rattle.mail_tree.specs.Messages.{added_attachment, added_message, added_recipient, adding_attachment, adding_recipient, appended_data, appending, fetched_data, removed_attachment, spent_index, too_long, changed_message, copied_message, copy_of, copying, details, in_folder, is_overfull, making_message, message_in, moved_message, new_message, plain_message, remaking, removed_message, removed_recipient, set_value, spent_row, unset_value, value_in, value_of, given_message}
-use Rattle.mail_tree.specs.Parts.{attachment_props, attachment_tags, data_tag, has_recipient, is_full, is_wide, lengthened, new_row, next_part, next_row, part_in, part_nid, part_with, plain_part, recipient_props, recipient_tags, room_for, rows_of, with_attachment, with_bytes, with_part, with_recipient, without_attachment, without_recipient}
+use Rattle.mail_tree.specs.Messages.{added_attachment, added_message, added_recipient, adding_attachment, adding_recipient, appended_data, appending, fetched_data, removed_attachment, spent_index, too_long, changed_message, copied_message, copy_of, copying, details, in_folder, is_overfull, making_message, message_in, moved_message, new_message, plain_message, remaking, removed_message, removed_recipient, set_value, spent_row, unset_value, value_in, value_of, given_message, set_embedded}
+use Rattle.mail_tree.specs.Parts.{attachment_tags, data_tag, has_recipient, is_full, is_wide, lengthened, new_part, new_row, next_part, next_row, part_in, part_nid, part_with, recipient_props, recipient_tags, room_for, rows_of, with_attachment, with_bytes, with_part, with_recipient, without_attachment, without_recipient, part_holding}
 use Rattle.mail_laws.specs.Laws.{AreCountedBut, IsCounted}
 use Rattle.mail_tree.proofs.AfterTree.{puts_object}
 use Rattle.mail_tree.proofs.FineLaws.{cases_Option}
@@ -50,6 +51,7 @@ use Rattle.mail_laws.proofs.CountSteps.{PlainIds, add_counts, any_drop, any_put,
 use Rattle.mail_tree.proofs.Nearly.{Puts, nearly, plain_id}
 use Rattle.mail_tree.proofs.Settles.{store_of}
 use Rattle.pst_base.specs.declared.ids.Nid.{Nid}
+use Rattle.pst_base.specs.declared.subs.Sub.{Sub}
 
 module _ (T : Tree) (w : Before T) (E : ℕ → Type 0) (s : AreCountedBut E T.places (now_at T nothing)) where
   -- the counts of this folder are right too
@@ -165,11 +167,11 @@ module _ (T : Tree) (w : Before T) (E : ℕ → Type 0) (s : AreCountedBut E T.p
       if_test (Home m) (not (has_recipient row M)) NoObject _ (if_weaker (Ends M.folder) (Home m) (remaking T (without_recipient row M) None Done)
       (remakes m M (without_recipient row M) None Done h.0 h.1 refl refl) (λ o k. (M, h.0, k))))
 
-  pub adds_attachment : (m : ℕ) (name bytes : List ℕ) → IfOk (added_attachment T m name bytes) (Home m)
+  pub adds_attachment : (m : ℕ) (name : List ℕ) (held : Held) → IfOk (added_attachment T m name held) (Home m)
   unfolding added_attachment adding_attachment Home
-  adds_attachment m name bytes = if_then _ (Home m) (message_in T m) _ (from_fine _ (message_in T m) (fine_message_in T m w)) (λ M h.
+  adds_attachment m name held = if_then _ (Home m) (message_in T m) _ (from_fine _ (message_in T m) (fine_message_in T m w)) (λ M h.
       let index = next_part M in
-      let new = with_attachment (plain_part (part_nid index) (attachment_props name bytes)) (room_for index M) in
+      let new = with_attachment (new_part (part_nid index) name held) (room_for index M) in
       if_test (Home m) (is_full M.attachments) (Limit Rows) _ (if_test (Home m) (is_wide attachment_tags M.attachments) (Limit Rows) _
       (if_weaker (Ends M.folder) (Home m) (remaking T new (spent_index index) (Attached (part_nid index))) (remakes m M new (spent_index index) (Attached (part_nid index)) h.0 h.1 refl refl) (λ o k. (M, h.0, k)))))
 
@@ -179,6 +181,12 @@ module _ (T : Tree) (w : Before T) (E : ℕ → Type 0) (s : AreCountedBut E T.p
       if_found (Home m) NoObject (part_in n M) _ (λ part is. if_found (Home m) NoProperty (bytes_of 0x3701 0x0102 part.props) _ (λ old is'.
       let props = with_bytes (lengthened old more) part.props in
       (if_weaker (Ends M.folder) (Home m) (remaking T (with_part (part_with props part) M) (too_long old more) Done) (remakes m M (with_part (part_with props part) M) (too_long old more) Done h.0 h.1 refl refl) (λ o k. (M, h.0, k))))))
+
+  pub sets_embedded : (m n : ℕ) (node : Sub) → IfOk (set_embedded T m n node) (Home m)
+  unfolding set_embedded Home
+  sets_embedded m n node = if_then _ (Home m) (message_in T m) _ (from_fine _ (message_in T m) (fine_message_in T m w)) (λ M h.
+      if_found (Home m) NoObject (part_in n M) _ (λ part is.
+      (if_weaker (Ends M.folder) (Home m) (remaking T (with_part (part_holding node part) M) None Done) (remakes m M (with_part (part_holding node part) M) None Done h.0 h.1 refl refl) (λ o k. (M, h.0, k)))))
 
   pub removes_attachment : (m n : ℕ) → IfOk (removed_attachment T m n) (Home m)
   unfolding removed_attachment Home
@@ -586,8 +594,9 @@ module _ (T : Tree) (w : Before T) (E : ℕ → Type 0) (s : AreCountedBut E T.p
   counted_after (RemoveMessage message) = if_weaker (Home message.bits) Keeps (removed_message T message.bits) (removes message.bits) (λ o k. home_fewer message.bits o k)
   counted_after (AddRecipient message kind address name) = if_weaker (Home message.bits) Keeps (added_recipient T message.bits kind address name) (adds_recipient message.bits kind address name) (λ o k. home_fewer message.bits o k)
   counted_after (RemoveRecipient message row) = if_weaker (Home message.bits) Keeps (removed_recipient T message.bits row) (removes_recipient message.bits row) (λ o k. home_fewer message.bits o k)
-  counted_after (AddAttachment message name bytes) = if_weaker (Home message.bits) Keeps (added_attachment T message.bits name bytes) (adds_attachment message.bits name bytes) (λ o k. home_fewer message.bits o k)
+  counted_after (AddAttachment message name held) = if_weaker (Home message.bits) Keeps (added_attachment T message.bits name held) (adds_attachment message.bits name held) (λ o k. home_fewer message.bits o k)
   counted_after (AppendData message attachment bytes) = if_weaker (Home message.bits) Keeps (appended_data T message.bits attachment.bits bytes) (appends_data message.bits attachment.bits bytes) (λ o k. home_fewer message.bits o k)
+  counted_after (SetEmbedded message attachment node) = if_weaker (Home message.bits) Keeps (set_embedded T message.bits attachment.bits node) (sets_embedded message.bits attachment.bits node) (λ o k. home_fewer message.bits o k)
   counted_after (RemoveAttachment message attachment) = if_weaker (Home message.bits) Keeps (removed_attachment T message.bits attachment.bits) (removes_attachment message.bits attachment.bits) (λ o k. home_fewer message.bits o k)
   counted_after (FetchData message attachment) = fetches message.bits attachment.bits
   counted_after (NameProperty guid number) = if_weaker (PutsNames T) Keeps (named_property T guid number) (puts_names_after T guid number w) (λ o k.

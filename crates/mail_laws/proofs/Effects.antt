@@ -1,5 +1,6 @@
 -- What each command on messages makes of them.
 use Rattle.mapi_values.specs.Tables.{find_row}
+use Rattle.command_text.specs.declared.command.Held.{Held}
 use Rattle.command_text.specs.declared.reply.LastLine.{LastLine}
 use Rattle.command_text.specs.declared.reply.Limit.TheVariants.{Rows, Value as LongValue}
 use Rattle.command_text.specs.declared.reply.CommandRefusal.TheVariants.{Ids, Limit, Object as NoObject, Property as NoProperty}
@@ -23,8 +24,8 @@ use Rattle.mail_tree.specs.Changing.{◌>>=◌, add_shown, as_message, contents,
 use Rattle.mail_tree.specs.Settling.{settled, touched}
 use Rattle.mail_tree.specs.Ids.{is_spent, message_kinds, new_id, next_index}
 use Rattle.mail_tree.specs.Folders.{Outcome, changing, making, nid, replied, unless_full}
-use Rattle.mail_tree.specs.Messages.{added_attachment, added_message, added_recipient, adding_attachment, adding_recipient, appended_data, appending, removed_attachment, spent_index, too_long, changed_message, copied_message, copy_of, copying, in_folder, is_overfull, making_message, message_in, moved_message, new_message, plain_message, remaking, removed_message, removed_recipient, set_value, spent_row, unset_value, given_message}
-use Rattle.mail_tree.specs.Parts.{attachment_props, attachment_tags, greatest_kept, greatest_part, has_recipient, is_full, is_spent_row, is_too_long, is_wide, lengthened, new_row, next_part, next_row, part_in, part_nid, part_with, plain_part, recipient_props, recipient_tags, room_for, rows_of, with_attachment, with_bytes, with_part, with_recipient, without_attachment, without_recipient}
+use Rattle.mail_tree.specs.Messages.{added_attachment, added_message, added_recipient, adding_attachment, adding_recipient, appended_data, appending, removed_attachment, spent_index, too_long, changed_message, copied_message, copy_of, copying, in_folder, is_overfull, making_message, message_in, moved_message, new_message, plain_message, remaking, removed_message, removed_recipient, set_value, spent_row, unset_value, given_message, set_embedded}
+use Rattle.mail_tree.specs.Parts.{attachment_tags, greatest_kept, greatest_part, has_recipient, is_full, is_spent_row, is_too_long, is_wide, lengthened, new_part, new_row, next_part, next_row, part_in, part_nid, part_with, recipient_props, recipient_tags, room_for, rows_of, with_attachment, with_bytes, with_part, with_recipient, without_attachment, without_recipient, part_holding}
 use Rattle.mail_tree.specs.Step.{after}
 use Rattle.mail_tree.specs.Whole.{fits_id}
 use Rattle.mail_laws.specs.Laws.{OnlyMessage}
@@ -42,6 +43,7 @@ use Rattle.mail_laws.proofs.Keeping.{Comes, Four, no_table, KeepsAt, PutsMessage
 use Rattle.mail_tree.proofs.Settles.{store_of}
 use Rattle.std.specs.List.{list_any}
 use Rattle.mail_tree.proofs.GivenValues.{find_withheld}
+use Rattle.pst_base.specs.declared.subs.Sub.{Sub}
 
 -- a folder is no message
 pub place_apart : (T : Tree) → Before T → (f : ℕ) (p : FolderPlace) → find_place f T.places ≡ Some p → f % 32 ≡ 4 → ⊥
@@ -321,16 +323,16 @@ free_part M left =
     ap (λ (n : ℕ). part_in n M) (new_id_is 5 index le) ∙ past_parts M.parts index (omega arith)
 
 -- `attach`
-abbrev pub GotAttachment : Tree → ℕ → List ℕ → List ℕ → Outcome → Type 0
-GotAttachment T m name bytes o = (n : Nid) × (r : Remade T m (with_attachment (plain_part n (attachment_props name bytes))) o) × (o.reply ≡ replied (Attached n)) × (part_in n.bits r.0 ≡ None)
+abbrev pub GotAttachment : Tree → ℕ → List ℕ → Held → Outcome → Type 0
+GotAttachment T m name held o = (n : Nid) × (r : Remade T m (with_attachment (new_part n name held)) o) × (o.reply ≡ replied (Attached n)) × (part_in n.bits r.0 ≡ None)
 
-pub adds_attachment : (T : Tree) (m : ℕ) (name bytes : List ℕ) → Before T → IfOk (added_attachment T m name bytes) (GotAttachment T m name bytes)
+pub adds_attachment : (T : Tree) (m : ℕ) (name : List ℕ) (held : Held) → Before T → IfOk (added_attachment T m name held) (GotAttachment T m name held)
 unfolding added_attachment adding_attachment
-adds_attachment T m name bytes w =
-    let Q = GotAttachment T m name bytes in
+adds_attachment T m name held w =
+    let Q = GotAttachment T m name held in
     if_then _ Q (message_in T m) _ (from_fine _ (message_in T m) (fine_message_in T m w)) (λ M h.
     let index = next_part M in
-    let make = with_attachment (plain_part (part_nid index) (attachment_props name bytes)) in
+    let make = with_attachment (new_part (part_nid index) name held) in
     let new = make (room_for index M) in
     let last = Attached (part_nid index) in
     if_test Q (is_full M.attachments) (Limit Rows) _ (if_test Q (is_wide attachment_tags M.attachments) (Limit Rows) _ (no_reason T new (is_spent index) Ids last Q (λ left.
@@ -361,6 +363,21 @@ appends_data T m n more w =
     (remakes T m M new (too_long old more) Done w h.0 h.1 refl refl)
     (λ o k. let r = is_remade T m M make o h.0 (subst (λ x. Changes T m (Some (finished (with_part (part_with (with_bytes x part.props) part) M))) o) (lengthened_is old more short) k.0) in
     ((part, old), (M, r.1, h.0, r.3, r.4), (is, is')))))))
+
+-- `eset` and `eunset`
+abbrev pub HasEmbedded : Tree → ℕ → ℕ → Sub → Outcome → Type 0
+HasEmbedded T m n node o = (part : Part) × (r : Remade T m (with_part (part_holding node part)) o) × (part_in n r.0 ≡ Some part)
+
+pub sets_embedded : (T : Tree) (m n : ℕ) (node : Sub) → Before T → IfOk (set_embedded T m n node) (HasEmbedded T m n node)
+unfolding set_embedded
+sets_embedded T m n node w =
+    let Q = HasEmbedded T m n node in
+    if_then _ Q (message_in T m) _ (from_fine _ (message_in T m) (fine_message_in T m w)) (λ M h.
+    if_found Q NoObject (part_in n M) _ (λ part is.
+    let make = with_part (part_holding node part) in
+    if_weaker (λ o. Changes T m (Some (finished (make M))) o × (o.reply ≡ replied Done)) Q (remaking T (make M) None Done)
+    (remakes T m M (make M) None Done w h.0 h.1 refl refl)
+    (λ o k. let r = is_remade T m M make o h.0 k.0 in (part, (M, r.1, h.0, r.3, r.4), is))))
 
 -- `detach`
 pub removes_attachment : (T : Tree) (m n : ℕ) → Before T → IfOk (removed_attachment T m n) (Remade T m (without_attachment n))

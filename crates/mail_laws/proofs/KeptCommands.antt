@@ -15,7 +15,8 @@ use Rattle.mapi_values.specs.Properties.{put, remove_id}
 use Rattle.mapi_values.specs.Values.{Val}
 use Rattle.mapi_values.specs.declared.value.Tag.{Tag}
 use Rattle.command_text.specs.declared.command.Command.{Command}
-use Rattle.command_text.specs.declared.command.Command.TheVariants.{MakeFolder, RenameFolder, MoveFolder, RemoveFolder, ListFolder, NewMessage, SetProperty, UnsetProperty, GetProperty, ListProperties, MoveMessage, CopyMessage, RemoveMessage, AddRecipient, RemoveRecipient, AddAttachment, AppendData, RemoveAttachment, FetchData, Save, Quit, NameProperty, MakeSearch, SetCriteria, GetCriteria}
+use Rattle.command_text.specs.declared.command.Held.{Held}
+use Rattle.command_text.specs.declared.command.Command.TheVariants.{MakeFolder, RenameFolder, MoveFolder, RemoveFolder, ListFolder, NewMessage, SetProperty, UnsetProperty, GetProperty, ListProperties, MoveMessage, CopyMessage, RemoveMessage, AddRecipient, RemoveRecipient, AddAttachment, AppendData, RemoveAttachment, FetchData, Save, Quit, NameProperty, MakeSearch, SetCriteria, GetCriteria, SetEmbedded}
 use Rattle.command_text.specs.declared.reply.LastLine.TheVariants.{Attached, Done, Row}
 use Rattle.command_text.specs.declared.reply.Reply.{Reply}
 use Rattle.mail_objects.specs.Forms.{Ctx}
@@ -34,8 +35,8 @@ use Rattle.mail_tree.specs.Columns.{contents_table, hierarchy_table}
 use Rattle.mail_tree.specs.Settling.{mirrored, settled, with_context, touched}
 use Rattle.mail_tree.specs.Ids.{folder_kinds, is_spent, is_taken, message_kinds, new_id, next_index}
 use Rattle.mail_tree.specs.Folders.{Outcome, associated_in, changing, has_associated, has_rows, made_folder, making, making_folder, moved_between, moved_folder, moving, place, removed_folder, renamed_folder, replied, siblings, unchanged, unless_full, unless_named, unless_protected, without_folder, without_node, with_folder}
-use Rattle.mail_tree.specs.Messages.{added_attachment, added_message, added_recipient, adding_attachment, adding_recipient, appended_data, appending, removed_attachment, spent_index, too_long, changed_message, copied_message, copy_of, copying, in_folder, is_overfull, making_message, message_in, moved_message, new_message, plain_message, remaking, removed_message, removed_recipient, set_value, spent_row, unset_value, given_message}
-use Rattle.mail_tree.specs.Parts.{attachment_props, attachment_tags, has_recipient, is_full, is_wide, lengthened, new_row, next_part, next_row, part_in, part_nid, part_with, plain_part, recipient_props, recipient_tags, room_for, rows_of, with_attachment, with_bytes, with_part, with_recipient, without_attachment, without_recipient}
+use Rattle.mail_tree.specs.Messages.{added_attachment, added_message, added_recipient, adding_attachment, adding_recipient, appended_data, appending, removed_attachment, spent_index, too_long, changed_message, copied_message, copy_of, copying, in_folder, is_overfull, making_message, message_in, moved_message, new_message, plain_message, remaking, removed_message, removed_recipient, set_value, spent_row, unset_value, given_message, set_embedded}
+use Rattle.mail_tree.specs.Parts.{attachment_tags, has_recipient, is_full, is_wide, lengthened, new_part, new_row, next_part, next_row, part_in, part_nid, part_with, recipient_props, recipient_tags, room_for, rows_of, with_attachment, with_bytes, with_part, with_recipient, without_attachment, without_recipient, part_holding}
 use Rattle.mail_laws.specs.ComesAndGoes.{takes}
 use Rattle.mail_laws.specs.Stays.{StaysFolder, gives_name, adds_name}
 use Rattle.mail_tree.specs.Step.{outcome}
@@ -53,6 +54,7 @@ use Rattle.mail_tree.proofs.Nearly.{nearly, plain_id}
 use Rattle.mail_laws.proofs.NewIds.{new_id_is, next_is_free}
 use Rattle.mail_tree.proofs.Settles.{store_of}
 use Rattle.pst_base.specs.declared.ids.Nid.{Nid}
+use Rattle.pst_base.specs.declared.subs.Sub.{Sub}
 
 -- neither an object nor another node stands there
 abbrev Free : Tree → ℕ → Type 0
@@ -260,11 +262,11 @@ module _ (T : Tree) (whole : IsWhole T) (scope : Scope) where
   removes_recipient m row = if_then _ After (message_in T m) _ (from_fine _ (message_in T m) (fine_message_in T m w)) (λ M h.
       if_test After (not (has_recipient row M)) NoObject _ (remakes m M (without_recipient row M) None Done h.0 h.1 refl refl))
 
-  adds_attachment : (m : ℕ) (name bytes : List ℕ) → IfOk (added_attachment T m name bytes) After
+  adds_attachment : (m : ℕ) (name : List ℕ) (held : Held) → IfOk (added_attachment T m name held) After
   unfolding added_attachment adding_attachment
-  adds_attachment m name bytes = if_then _ After (message_in T m) _ (from_fine _ (message_in T m) (fine_message_in T m w)) (λ M h.
+  adds_attachment m name held = if_then _ After (message_in T m) _ (from_fine _ (message_in T m) (fine_message_in T m w)) (λ M h.
       let index = next_part M in
-      let new = with_attachment (plain_part (part_nid index) (attachment_props name bytes)) (room_for index M) in
+      let new = with_attachment (new_part (part_nid index) name held) (room_for index M) in
       if_test After (is_full M.attachments) (Limit Rows) _ (if_test After (is_wide attachment_tags M.attachments) (Limit Rows) _
       (remakes m M new (spent_index index) (Attached (part_nid index)) h.0 h.1 refl refl)))
 
@@ -274,6 +276,12 @@ module _ (T : Tree) (whole : IsWhole T) (scope : Scope) where
       if_found After NoObject (part_in n M) _ (λ part is. if_found After NoProperty (bytes_of 0x3701 0x0102 part.props) _ (λ old is'.
       let props = with_bytes (lengthened old more) part.props in
       (remakes m M (with_part (part_with props part) M) (too_long old more) Done h.0 h.1 refl refl))))
+
+  sets_embedded : (m n : ℕ) (node : Sub) → IfOk (set_embedded T m n node) After
+  unfolding set_embedded
+  sets_embedded m n node = if_then _ After (message_in T m) _ (from_fine _ (message_in T m) (fine_message_in T m w)) (λ M h.
+      if_found After NoObject (part_in n M) _ (λ part is.
+      (remakes m M (with_part (part_holding node part) M) None Done h.0 h.1 refl refl)))
 
   removes_attachment : (m n : ℕ) → IfOk (removed_attachment T m n) After
   unfolding removed_attachment
@@ -486,8 +494,9 @@ kept_after T w (GetProperty message tag) = if_weaker _ _ (outcome T (GetProperty
 kept_after T w (ListProperties message) = if_weaker _ _ (outcome T (ListProperties message)) (reads_only T (ListProperties message) refl) (looks T w (scope_of T (ListProperties message)))
 kept_after T w (AddRecipient message kind address name) = adds_recipient T w (scope_of T (AddRecipient message kind address name)) message.bits kind address name
 kept_after T w (RemoveRecipient message row) = removes_recipient T w (scope_of T (RemoveRecipient message row)) message.bits row
-kept_after T w (AddAttachment message name bytes) = adds_attachment T w (scope_of T (AddAttachment message name bytes)) message.bits name bytes
+kept_after T w (AddAttachment message name held) = adds_attachment T w (scope_of T (AddAttachment message name held)) message.bits name held
 kept_after T w (AppendData message attachment bytes) = appends_data T w (scope_of T (AppendData message attachment bytes)) message.bits attachment.bits bytes
+kept_after T w (SetEmbedded message attachment node) = sets_embedded T w (scope_of T (SetEmbedded message attachment node)) message.bits attachment.bits node
 kept_after T w (RemoveAttachment message attachment) = removes_attachment T w (scope_of T (RemoveAttachment message attachment)) message.bits attachment.bits
 kept_after T w (FetchData message attachment) = if_weaker _ _ (outcome T (FetchData message attachment)) (reads_only T (FetchData message attachment) refl) (looks T w (scope_of T (FetchData message attachment)))
 kept_after T w (NameProperty guid number) = names_property T w (scope_of T (NameProperty guid number)) guid number refl

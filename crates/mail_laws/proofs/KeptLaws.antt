@@ -7,7 +7,7 @@ use Rattle.node_port.specs.Nodes.{node_at}
 use Rattle.pst_base.specs.Ids.{index_of}
 use Rattle.mapi_values.specs.Messages.{Mes}
 use Rattle.command_text.specs.declared.command.Command.{Command}
-use Rattle.command_text.specs.declared.command.Command.TheVariants.{MakeFolder, RenameFolder, MoveFolder, RemoveFolder, ListFolder, NewMessage, SetProperty, UnsetProperty, GetProperty, ListProperties, MoveMessage, CopyMessage, RemoveMessage, AddRecipient, RemoveRecipient, AddAttachment, AppendData, RemoveAttachment, FetchData, Save, Quit, NameProperty, MakeSearch, SetCriteria, GetCriteria}
+use Rattle.command_text.specs.declared.command.Command.TheVariants.{MakeFolder, RenameFolder, MoveFolder, RemoveFolder, ListFolder, NewMessage, SetProperty, UnsetProperty, GetProperty, ListProperties, MoveMessage, CopyMessage, RemoveMessage, AddRecipient, RemoveRecipient, AddAttachment, AppendData, RemoveAttachment, FetchData, Save, Quit, NameProperty, MakeSearch, SetCriteria, GetCriteria, SetEmbedded}
 use Rattle.command_text.specs.declared.reply.LastLine.TheVariants.{Made}
 use Rattle.command_text.specs.declared.reply.Reply.{Reply}
 use Rattle.mail_objects.specs.Forms.{Ctx, Tbl}
@@ -192,8 +192,9 @@ module _ (T : Tree) (w : IsWhole T) where
   brings (RemoveMessage message) = nothing_comes (RemoveMessage message) (λ q. refl)
   brings (AddRecipient message kind address name) = nothing_comes (AddRecipient message kind address name) (λ q. refl)
   brings (RemoveRecipient message row) = nothing_comes (RemoveRecipient message row) (λ q. refl)
-  brings (AddAttachment message name bytes) = nothing_comes (AddAttachment message name bytes) (λ q. refl)
+  brings (AddAttachment message name held) = nothing_comes (AddAttachment message name held) (λ q. refl)
   brings (AppendData message attachment bytes) = nothing_comes (AppendData message attachment bytes) (λ q. refl)
+  brings (SetEmbedded message attachment node) = nothing_comes (SetEmbedded message attachment node) (λ q. refl)
   brings (RemoveAttachment message attachment) = nothing_comes (RemoveAttachment message attachment) (λ q. refl)
   brings (FetchData message attachment) = nothing_comes (FetchData message attachment) (λ q. refl)
   brings (NameProperty guid number) = nothing_comes (NameProperty guid number) (λ q. refl)

@@ -5,7 +5,7 @@ use Rattle.mapi_values.specs.Messages.{Mes}
 use Rattle.mapi_values.specs.Properties.{find}
 use Rattle.mapi_values.specs.Values.{Val}
 use Rattle.command_text.specs.declared.command.Command.{Command}
-use Rattle.command_text.specs.declared.command.Command.TheVariants.{MakeFolder, RenameFolder, MoveFolder, RemoveFolder, ListFolder, NewMessage, SetProperty, UnsetProperty, GetProperty, ListProperties, MoveMessage, CopyMessage, RemoveMessage, AddRecipient, RemoveRecipient, AddAttachment, AppendData, RemoveAttachment, FetchData, Save, Quit, NameProperty, MakeSearch, SetCriteria, GetCriteria}
+use Rattle.command_text.specs.declared.command.Command.TheVariants.{MakeFolder, RenameFolder, MoveFolder, RemoveFolder, ListFolder, NewMessage, SetProperty, UnsetProperty, GetProperty, ListProperties, MoveMessage, CopyMessage, RemoveMessage, AddRecipient, RemoveRecipient, AddAttachment, AppendData, RemoveAttachment, FetchData, Save, Quit, NameProperty, MakeSearch, SetCriteria, GetCriteria, SetEmbedded}
 use Rattle.command_text.specs.declared.reply.LastLine.TheVariants.{Value}
 use Rattle.mail_objects.specs.declared.object.Object.{Object}
 use Rattle.mail_objects.specs.declared.object.Object.TheVariants.{Context, Table, Message, Bare}
@@ -102,7 +102,8 @@ reads_only T (CopyMessage message folder) e = cc
 reads_only T (RemoveMessage message) e = cc
 reads_only T (AddRecipient message kind address name) e = cc
 reads_only T (RemoveRecipient message row) e = cc
-reads_only T (AddAttachment message name bytes) e = cc
+reads_only T (AddAttachment message name held) e = cc
 reads_only T (AppendData message attachment bytes) e = cc
+reads_only T (SetEmbedded message attachment node) e = cc
 reads_only T (RemoveAttachment message attachment) e = cc
 reads_only T (NameProperty guid number) e = cc

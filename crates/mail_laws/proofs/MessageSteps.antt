@@ -1,5 +1,6 @@
 -- The commands on messages leave a tree whole.
 use Rattle.command_text.specs.declared.reply.Reply.{Reply}
+use Rattle.command_text.specs.declared.command.Held.{Held}
 use Rattle.command_text.specs.declared.reply.LastLine.{LastLine}
 use Rattle.command_text.specs.declared.reply.Limit.TheVariants.{Rows}
 use Rattle.command_text.specs.declared.reply.CommandRefusal.{CommandRefusal}
@@ -27,8 +28,8 @@ use Rattle.mail_tree.specs.Names.{names_in, unless_nameless}
 use Rattle.mail_tree.specs.Changing.{Answer, Changed, ◌>>=◌, add_shown, contents, drop_shown, nothing, now_at, overfills, put_shown, shown_row, with_object, with_rows, within_limits}
 use Rattle.mail_tree.specs.Settling.{settled, touched}
 use Rattle.mail_tree.specs.Folders.{Outcome, changing, making, replied, unless_full, replying, nid}
-use Rattle.mail_tree.specs.Messages.{added_attachment, added_message, added_recipient, adding_attachment, adding_recipient, appended_data, appending, fetched_data, removed_attachment, spent_index, too_long, changed_message, copied_message, copy_of, copying, details, in_folder, is_overfull, making_message, message_in, moved_message, new_message, parent_at, plain_message, remaking, removed_message, removed_recipient, set_value, spent_row, unset_value, value_in, value_of, given_message}
-use Rattle.mail_tree.specs.Parts.{attachment_props, attachment_tags, data_tag, has_recipient, is_full, is_wide, lengthened, new_row, next_part, next_row, part_in, part_nid, part_with, plain_part, recipient_props, recipient_tags, room_for, rows_of, with_attachment, with_bytes, with_part, with_recipient, without_attachment, without_recipient}
+use Rattle.mail_tree.specs.Messages.{added_attachment, added_message, added_recipient, adding_attachment, adding_recipient, appended_data, appending, fetched_data, removed_attachment, spent_index, too_long, changed_message, copied_message, copy_of, copying, details, in_folder, is_overfull, making_message, message_in, moved_message, new_message, parent_at, plain_message, remaking, removed_message, removed_recipient, set_value, spent_row, unset_value, value_in, value_of, given_message, set_embedded}
+use Rattle.mail_tree.specs.Parts.{attachment_tags, data_tag, has_recipient, is_full, is_wide, lengthened, new_part, new_row, next_part, next_row, part_in, part_nid, part_with, recipient_props, recipient_tags, room_for, rows_of, with_attachment, with_bytes, with_part, with_recipient, without_attachment, without_recipient, part_holding}
 use Rattle.mail_tree.specs.Ids.{is_spent, message_kinds, new_id, next_index}
 use Rattle.mail_tree.specs.Whole.{AreWhole, Fine}
 use Rattle.mail_tree.proofs.AfterTree.{now_nothing, puts_object}
@@ -42,6 +43,7 @@ use Rattle.mail_tree.proofs.Settles.{fine_settled, fine_touched, messages_of, st
 use Rattle.mail_laws.proofs.Spent.{fine_planned, new_id_kind, refused_later}
 use Rattle.mail_tree.proofs.StoodLaws.{AreStood, IsNew, added_stood, dropped_stood, none_stood, settled_stood, stood_then, touched_stood, fine_stood}
 use Rattle.mail_laws.proofs.Comparing.{fine_limits, own_new, message_stood, remade_stood, gone_stood, message_comes}
+use Rattle.pst_base.specs.declared.subs.Sub.{Sub}
 
 -- the tree is whole before the command
 abbrev pub Before : Tree → Type 0
@@ -179,11 +181,11 @@ fine_removed_recipient T m row w = fine_then _ (Keeps T) (message_in T m) _ (fin
     after_test (Keeps T) (not (has_recipient row M)) NoObject _ (λ u. fine_remaking T m M (without_recipient row M) None Done w h.0 h.1 refl refl))
 
 -- `attach`
-pub fine_added_attachment : (T : Tree) (m : ℕ) (name bytes : List ℕ) → Before T → Fine (added_attachment T m name bytes) (Keeps T)
+pub fine_added_attachment : (T : Tree) (m : ℕ) (name : List ℕ) (held : Held) → Before T → Fine (added_attachment T m name held) (Keeps T)
 unfolding added_attachment adding_attachment
-fine_added_attachment T m name bytes w = fine_then _ (Keeps T) (message_in T m) _ (fine_message_in T m w) (λ M h.
+fine_added_attachment T m name held w = fine_then _ (Keeps T) (message_in T m) _ (fine_message_in T m w) (λ M h.
     let index = next_part M in
-    let new = with_attachment (plain_part (part_nid index) (attachment_props name bytes)) (room_for index M) in
+    let new = with_attachment (new_part (part_nid index) name held) (room_for index M) in
     after_test (Keeps T) (is_full M.attachments) (Limit Rows) _ (λ u. after_test (Keeps T) (is_wide attachment_tags M.attachments) (Limit Rows) _ (λ v.
     fine_remaking T m M new (spent_index index) (Attached (part_nid index)) w h.0 h.1 refl refl)))
 
@@ -194,6 +196,13 @@ fine_appended_data T m n more w = fine_then _ (Keeps T) (message_in T m) _ (fine
     after_found (Keeps T) NoObject (part_in n M) _ (λ part is. after_found (Keeps T) NoProperty (bytes_of 0x3701 0x0102 part.props) _ (λ old is'.
     let props = with_bytes (lengthened old more) part.props in
     fine_remaking T m M (with_part (part_with props part) M) (too_long old more) Done w h.0 h.1 refl refl)))
+
+-- `eset` and `eunset`
+pub fine_set_embedded : (T : Tree) (m n : ℕ) (node : Sub) → Before T → Fine (set_embedded T m n node) (Keeps T)
+unfolding set_embedded
+fine_set_embedded T m n node w = fine_then _ (Keeps T) (message_in T m) _ (fine_message_in T m w) (λ M h.
+    after_found (Keeps T) NoObject (part_in n M) _ (λ part is.
+    fine_remaking T m M (with_part (part_holding node part) M) None Done w h.0 h.1 refl refl))
 
 -- `detach`
 pub fine_removed_attachment : (T : Tree) (m n : ℕ) → Before T → Fine (removed_attachment T m n) (Keeps T)

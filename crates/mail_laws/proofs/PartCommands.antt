@@ -6,14 +6,14 @@ use Rattle.mapi_values.specs.Messages.{Mes}
 use Rattle.mapi_values.specs.Properties.{put, remove_id}
 use Rattle.mapi_values.specs.Values.{Val}
 use Rattle.command_text.specs.declared.command.Command.{Command}
-use Rattle.command_text.specs.declared.command.Command.TheVariants.{MakeFolder, RenameFolder, MoveFolder, RemoveFolder, ListFolder, NewMessage, SetProperty, UnsetProperty, GetProperty, ListProperties, MoveMessage, CopyMessage, RemoveMessage, AddRecipient, RemoveRecipient, AddAttachment, AppendData, RemoveAttachment, FetchData, Save, Quit, NameProperty, MakeSearch, SetCriteria, GetCriteria}
+use Rattle.command_text.specs.declared.command.Command.TheVariants.{MakeFolder, RenameFolder, MoveFolder, RemoveFolder, ListFolder, NewMessage, SetProperty, UnsetProperty, GetProperty, ListProperties, MoveMessage, CopyMessage, RemoveMessage, AddRecipient, RemoveRecipient, AddAttachment, AppendData, RemoveAttachment, FetchData, Save, Quit, NameProperty, MakeSearch, SetCriteria, GetCriteria, SetEmbedded}
 use Rattle.mail_tree.specs.declared.places.FolderPlace.{FolderPlace}
 use Rattle.mail_tree.specs.Changing.{as_message, now_at}
 use Rattle.mail_tree.specs.Folders.{Outcome, place, unchanged}
 use Rattle.mail_tree.specs.Ids.{new_id}
 use Rattle.mail_tree.specs.Messages.{copy_of, in_folder, plain_message}
 use Rattle.mail_tree.specs.Names.{NAMES, named_property}
-use Rattle.mail_tree.specs.Parts.{attachment_props, part_with, plain_part, recipient_props, with_attachment, with_bytes, with_part, with_recipient, without_attachment, without_recipient}
+use Rattle.mail_tree.specs.Parts.{new_part, part_with, recipient_props, with_attachment, with_bytes, with_part, with_recipient, without_attachment, without_recipient, part_holding}
 use Rattle.mail_tree.specs.Step.{after, outcome}
 use Rattle.mail_tree.specs.Tree.{Tree, object_at}
 use Rattle.mail_tree.specs.Values.{finished, with_props}
@@ -21,7 +21,7 @@ use Rattle.mail_tree.specs.Whole.{IsWhole}
 use Rattle.mail_tree.proofs.AfterTree.{after_now, now_nothing}
 use Rattle.mail_laws.specs.AttachmentLaws.{MirrorsAttachments}
 use Rattle.mail_laws.specs.Laws.{message_with, only_reads}
-use Rattle.mail_laws.proofs.Effects.{Appended, Changes, ChangedValues, Copied, GotAttachment, GotRecipient, MadeNew, Moved, Remade, adds_attachment, adds_recipient, appends_data, copies, makes, moves, only_message, removes, removes_attachment, removes_recipient, sets, unsets}
+use Rattle.mail_laws.proofs.Effects.{Appended, Changes, ChangedValues, Copied, GotAttachment, GotRecipient, MadeNew, Moved, Remade, adds_attachment, adds_recipient, appends_data, copies, makes, moves, only_message, removes, removes_attachment, removes_recipient, sets, unsets, HasEmbedded, sets_embedded}
 use Rattle.mail_laws.proofs.Keeping.{if_weaker}
 use Rattle.mail_laws.proofs.LawSteps.{before, both_hold, reads_only, was_message, was_nothing}
 use Rattle.mail_laws.proofs.MessageSteps.{Keeps}
@@ -91,10 +91,12 @@ module _ (T : Tree) (w : IsWhole T) (D : ℕ → Type 0) (shown : (k : ℕ) (M :
       (λ o k r. remade message.bits (with_recipient r.0 (recipient_props kind address name)) o k r.1 (λ s. s))
   mirror_after (RemoveRecipient message row) = both_hold T (RemoveRecipient message row) w (Remade T message.bits (without_recipient row)) Mirror (removes_recipient T message.bits row (before T w))
       (λ o k r. remade message.bits (without_recipient row) o k r (λ s. s))
-  mirror_after (AddAttachment message name bytes) = both_hold T (AddAttachment message name bytes) w (GotAttachment T message.bits name bytes) Mirror (adds_attachment T message.bits name bytes (before T w))
-      (λ o k r. let part = plain_part r.0 (attachment_props name bytes) in remade message.bits (with_attachment part) o k r.1 (λ s. with_one part r.1.0 s))
+  mirror_after (AddAttachment message name held) = both_hold T (AddAttachment message name held) w (GotAttachment T message.bits name held) Mirror (adds_attachment T message.bits name held (before T w))
+      (λ o k r. let part = new_part r.0 name held in remade message.bits (with_attachment part) o k r.1 (λ s. with_one part r.1.0 s))
   mirror_after (AppendData message attachment bytes) = both_hold T (AppendData message attachment bytes) w (Appended T message.bits attachment.bits bytes) Mirror (appends_data T message.bits attachment.bits bytes (before T w))
       (λ o k r. let part = part_with (with_bytes (r.0.1 ++ bytes) r.0.0.props) r.0.0 in remade message.bits (with_part part) o k r.1 (λ s. with_other part attachment.bits r.0.0 r.1.0 r.2.0 s))
+  mirror_after (SetEmbedded message attachment node) = both_hold T (SetEmbedded message attachment node) w (HasEmbedded T message.bits attachment.bits node) Mirror (sets_embedded T message.bits attachment.bits node (before T w))
+      (λ o k r. let part = part_holding node r.0 in remade message.bits (with_part part) o k r.1 (λ s. with_other part attachment.bits r.0 r.1.0 r.2 s))
   mirror_after (RemoveAttachment message attachment) = both_hold T (RemoveAttachment message attachment) w (Remade T message.bits (without_attachment attachment.bits)) Mirror (removes_attachment T message.bits attachment.bits (before T w))
       (λ o k r. remade message.bits (without_attachment attachment.bits) o k r (λ s. without_one attachment.bits r.0 s))
   mirror_after (NameProperty guid number) = names guid number

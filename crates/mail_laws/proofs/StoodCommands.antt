@@ -10,7 +10,8 @@ use Rattle.mapi_values.specs.Properties.{put, remove_id}
 use Rattle.mapi_values.specs.Values.{Val}
 use Rattle.mapi_values.specs.declared.value.Tag.{Tag}
 use Rattle.command_text.specs.declared.command.Command.{Command}
-use Rattle.command_text.specs.declared.command.Command.TheVariants.{MakeFolder, RenameFolder, MoveFolder, RemoveFolder, ListFolder, NewMessage, SetProperty, UnsetProperty, GetProperty, ListProperties, MoveMessage, CopyMessage, RemoveMessage, AddRecipient, RemoveRecipient, AddAttachment, AppendData, RemoveAttachment, FetchData, Save, Quit, NameProperty, MakeSearch, SetCriteria, GetCriteria}
+use Rattle.command_text.specs.declared.command.Held.{Held}
+use Rattle.command_text.specs.declared.command.Command.TheVariants.{MakeFolder, RenameFolder, MoveFolder, RemoveFolder, ListFolder, NewMessage, SetProperty, UnsetProperty, GetProperty, ListProperties, MoveMessage, CopyMessage, RemoveMessage, AddRecipient, RemoveRecipient, AddAttachment, AppendData, RemoveAttachment, FetchData, Save, Quit, NameProperty, MakeSearch, SetCriteria, GetCriteria, SetEmbedded}
 use Rattle.command_text.specs.declared.reply.CommandRefusal.TheVariants.{Property, NotEmpty, Cycle, Protected, Limit, Ids, Object, Line}
 use Rattle.command_text.specs.declared.reply.Limit.TheVariants.{Depth, Rows}
 use Rattle.command_text.specs.declared.reply.LastLine.TheVariants.{Attached, Done, Row}
@@ -28,13 +29,14 @@ use Rattle.mail_objects.specs.Forms.{Ctx}
 use Rattle.mail_tree.specs.Settling.{message_ids, mirrored, settled, with_context, touched}
 use Rattle.mail_tree.specs.Ids.{folder_kinds, is_spent, message_kinds, new_id, next_index}
 use Rattle.mail_tree.specs.Folders.{Outcome, associated_in, changing, folder_in, folder_lines, has_associated, has_rows, listing, made_folder, making, making_folder, message_lines, moved_between, moved_folder, moving, place, removed_folder, renamed_folder, replied, siblings, unless_full, unless_named, unless_plain, unless_protected, with_folder, without_folder, replying, unless, nid, made_id}
-use Rattle.mail_tree.specs.Messages.{added_attachment, added_message, added_recipient, adding_attachment, adding_recipient, appended_data, appending, fetched_data, removed_attachment, spent_index, too_long, changed_message, copied_message, copy_of, copying, details, in_folder, is_overfull, making_message, message_in, moved_message, new_message, plain_message, remaking, removed_message, removed_recipient, set_value, spent_row, unset_value, value_in, value_of, given_message}
-use Rattle.mail_tree.specs.Parts.{attachment_props, attachment_tags, data_tag, has_recipient, is_full, is_wide, lengthened, new_row, next_part, next_row, part_in, part_nid, part_with, plain_part, recipient_props, recipient_tags, room_for, rows_of, with_attachment, with_bytes, with_part, with_recipient, without_attachment, without_recipient}
+use Rattle.mail_tree.specs.Messages.{added_attachment, added_message, added_recipient, adding_attachment, adding_recipient, appended_data, appending, fetched_data, removed_attachment, spent_index, too_long, changed_message, copied_message, copy_of, copying, details, in_folder, is_overfull, making_message, message_in, moved_message, new_message, plain_message, remaking, removed_message, removed_recipient, set_value, spent_row, unset_value, value_in, value_of, given_message, set_embedded}
+use Rattle.mail_tree.specs.Parts.{attachment_tags, data_tag, has_recipient, is_full, is_wide, lengthened, new_part, new_row, next_part, next_row, part_in, part_nid, part_with, recipient_props, recipient_tags, room_for, rows_of, with_attachment, with_bytes, with_part, with_recipient, without_attachment, without_recipient, part_holding}
 use Rattle.mail_tree.specs.Step.{outcome}
 use Rattle.mail_laws.proofs.Keeping.{if_any, if_test, if_then, from_fine}
 use Rattle.mail_tree.proofs.StoodLaws.{AreStood, IsNew, added_stood, dropped_stood, none_stood, settled_stood, stood_then, values_stood, touched_stood, goes_on, is_context}
 use Rattle.mail_laws.proofs.Comparing.{own_new, message_stood, remade_stood, gone_stood, message_comes, renamed_stood, between_stood, folder_comes, folder_goes}
 use Rattle.mail_laws.proofs.MessageSteps.{finished_id, home_of, fine_message_in, Before}
+use Rattle.pst_base.specs.declared.subs.Sub.{Sub}
 
 module _ (T : Tree) (w : Before T) where
   abbrev Right : Outcome → Type 0
@@ -145,17 +147,22 @@ module _ (T : Tree) (w : Before T) where
   unfolding removed_recipient
   removes_recipient m row = then_message m _ (λ M is. then_any (refused_if (not (has_recipient row M)) Object) _ (λ u. remakes m M (without_recipient row M) None Done is refl refl))
 
-  adds_attachment : (m : ℕ) (name bytes : List ℕ) → IfOk (added_attachment T m name bytes) Right
+  adds_attachment : (m : ℕ) (name : List ℕ) (held : Held) → IfOk (added_attachment T m name held) Right
   unfolding added_attachment adding_attachment
-  adds_attachment m name bytes = then_message m _ (λ M is. then_any (refused_if (is_full M.attachments) (Limit Rows)) _ (λ u. then_any (refused_if (is_wide attachment_tags M.attachments) (Limit Rows)) _ (λ v.
+  adds_attachment m name held = then_message m _ (λ M is. then_any (refused_if (is_full M.attachments) (Limit Rows)) _ (λ u. then_any (refused_if (is_wide attachment_tags M.attachments) (Limit Rows)) _ (λ v.
       let index = next_part M in
-      remakes m M (with_attachment (plain_part (part_nid index) (attachment_props name bytes)) (room_for index M)) (spent_index index) (Attached (part_nid index)) is refl refl)))
+      remakes m M (with_attachment (new_part (part_nid index) name held) (room_for index M)) (spent_index index) (Attached (part_nid index)) is refl refl)))
 
   appends_data : (m n : ℕ) (more : List ℕ) → IfOk (appended_data T m n more) Right
   unfolding appended_data appending
   appends_data m n more = then_message m _ (λ M is. then_any (found Object (part_in n M)) _ (λ part. then_any (found Property (bytes_of 0x3701 0x0102 part.props)) _ (λ old.
       let props = with_bytes (lengthened old more) part.props in
       remakes m M (with_part (part_with props part) M) (too_long old more) Done is refl refl)))
+
+  sets_embedded : (m n : ℕ) (node : Sub) → IfOk (set_embedded T m n node) Right
+  unfolding set_embedded
+  sets_embedded m n node = then_message m _ (λ M is. then_any (found Object (part_in n M)) _ (λ part.
+      remakes m M (with_part (part_holding node part) M) None Done is refl refl))
 
   removes_attachment : (m n : ℕ) → IfOk (removed_attachment T m n) Right
   unfolding removed_attachment
@@ -227,8 +234,9 @@ module _ (T : Tree) (w : Before T) where
   command_stood (RemoveMessage message) = removes message.bits
   command_stood (AddRecipient message kind address name) = adds_recipient message.bits kind address name
   command_stood (RemoveRecipient message row) = removes_recipient message.bits row
-  command_stood (AddAttachment message name bytes) = adds_attachment message.bits name bytes
+  command_stood (AddAttachment message name held) = adds_attachment message.bits name held
   command_stood (AppendData message attachment bytes) = appends_data message.bits attachment.bits bytes
+  command_stood (SetEmbedded message attachment node) = sets_embedded message.bits attachment.bits node
   command_stood (RemoveAttachment message attachment) = removes_attachment message.bits attachment.bits
   command_stood (FetchData message attachment) = fetches message.bits attachment.bits
   command_stood (NameProperty guid number) = names_property guid number

@@ -7,7 +7,7 @@ use Rattle.std.specs.FinMap as map
 use Rattle.node_port.specs.Nodes.{Nodes, node_at}
 use Rattle.node_port.specs.declared.node.NodeRec.{NodeRec}
 use Rattle.command_text.specs.declared.command.Command.{Command}
-use Rattle.command_text.specs.declared.command.Command.TheVariants.{MakeFolder, RenameFolder, MoveFolder, RemoveFolder, ListFolder, NewMessage, SetProperty, UnsetProperty, GetProperty, ListProperties, MoveMessage, CopyMessage, RemoveMessage, AddRecipient, RemoveRecipient, AddAttachment, AppendData, RemoveAttachment, FetchData, Save, Quit, NameProperty, MakeSearch, SetCriteria, GetCriteria}
+use Rattle.command_text.specs.declared.command.Command.TheVariants.{MakeFolder, RenameFolder, MoveFolder, RemoveFolder, ListFolder, NewMessage, SetProperty, UnsetProperty, GetProperty, ListProperties, MoveMessage, CopyMessage, RemoveMessage, AddRecipient, RemoveRecipient, AddAttachment, AppendData, RemoveAttachment, FetchData, Save, Quit, NameProperty, MakeSearch, SetCriteria, GetCriteria, SetEmbedded}
 use Rattle.mapi_values.specs.Messages.{Mes}
 use Rattle.mail_objects.specs.declared.object.Object.{Object}
 use Rattle.mail_tree.specs.declared.places.FolderPlace.{FolderPlace}
@@ -17,7 +17,7 @@ use Rattle.mail_tree.specs.Names.{named_property}
 use Rattle.mail_laws.proofs.NameSteps.{PutsNames, puts_names_after}
 use Rattle.mail_tree.specs.Changing.{Answer, associated, nothing, now_at}
 use Rattle.mail_tree.specs.Folders.{Outcome, moved_folder, made_folder, place, removed_folder, renamed_folder, unchanged}
-use Rattle.mail_tree.specs.Messages.{copied_message, moved_message, new_message, removed_message, set_value, unset_value, added_recipient, removed_recipient, added_attachment, appended_data, removed_attachment}
+use Rattle.mail_tree.specs.Messages.{copied_message, moved_message, new_message, removed_message, set_value, unset_value, added_recipient, removed_recipient, added_attachment, appended_data, removed_attachment, set_embedded}
 use Rattle.mail_tree.specs.Step.{after, outcome, without_changed}
 use Rattle.mail_tree.specs.Whole.{AreWhole, Fine, HasNoStray, IsWhole}
 use Rattle.mail_tree.proofs.AfterLaws.{get-without_changed}
@@ -25,7 +25,7 @@ use Rattle.mail_tree.proofs.AfterTree.{after_now}
 use Rattle.mail_laws.proofs.CommandSteps.{keeps_whole}
 use Rattle.mail_laws.proofs.FolderSteps.{fine_made_folder}
 use Rattle.mail_tree.proofs.Nearly.{nearly, plain_id}
-use Rattle.mail_laws.proofs.Effects.{Changes, Copied, MadeNew, Moved, copies, makes, moves, removes, sets, unsets, adds_recipient, removes_recipient, adds_attachment, appends_data, removes_attachment}
+use Rattle.mail_laws.proofs.Effects.{Changes, Copied, MadeNew, Moved, copies, makes, moves, removes, sets, unsets, adds_recipient, removes_recipient, adds_attachment, appends_data, removes_attachment, sets_embedded}
 use Rattle.mail_tree.proofs.FineLaws.{cases_Option}
 use Rattle.mail_laws.proofs.Keeping.{both, from_fine, if_weaker}
 use Rattle.mail_laws.proofs.LawSteps.{before, reads_only}
@@ -134,8 +134,9 @@ module _ (T : Tree) (w : Before T) (clear : HasNoStray T) where
   stays_clear (ListProperties message) = if_weaker _ (Clear T) (outcome T (ListProperties message)) (reads_only T (ListProperties message) refl) looks
   stays_clear (AddRecipient message kind address name) = if_weaker _ (Clear T) (added_recipient T message.bits kind address name) (adds_recipient T message.bits kind address name w) (λ o k. changes_one _ _ o k.1.3)
   stays_clear (RemoveRecipient message row) = if_weaker _ (Clear T) (removed_recipient T message.bits row) (removes_recipient T message.bits row w) (λ o k. changes_one _ _ o k.3)
-  stays_clear (AddAttachment message name bytes) = if_weaker _ (Clear T) (added_attachment T message.bits name bytes) (adds_attachment T message.bits name bytes w) (λ o k. changes_one _ _ o k.1.3)
+  stays_clear (AddAttachment message name held) = if_weaker _ (Clear T) (added_attachment T message.bits name held) (adds_attachment T message.bits name held w) (λ o k. changes_one _ _ o k.1.3)
   stays_clear (AppendData message attachment bytes) = if_weaker _ (Clear T) (appended_data T message.bits attachment.bits bytes) (appends_data T message.bits attachment.bits bytes w) (λ o k. changes_one _ _ o k.1.3)
+  stays_clear (SetEmbedded message attachment node) = if_weaker _ (Clear T) (set_embedded T message.bits attachment.bits node) (sets_embedded T message.bits attachment.bits node w) (λ o k. changes_one _ _ o k.1.3)
   stays_clear (RemoveAttachment message attachment) = if_weaker _ (Clear T) (removed_attachment T message.bits attachment.bits) (removes_attachment T message.bits attachment.bits w) (λ o k. changes_one _ _ o k.3)
   stays_clear (FetchData message attachment) = if_weaker _ (Clear T) (outcome T (FetchData message attachment)) (reads_only T (FetchData message attachment) refl) looks
   stays_clear (NameProperty guid number) = if_weaker (PutsNames T) (Clear T) (named_property T guid number) (puts_names_after T guid number w) (λ o k. clear_places T o clear k.places_are)

@@ -7,7 +7,8 @@ use Rattle.mapi_values.specs.Properties.{put, remove_id}
 use Rattle.mapi_values.specs.Values.{Val}
 use Rattle.mapi_values.specs.declared.value.Tag.{Tag}
 use Rattle.command_text.specs.declared.command.Command.{Command}
-use Rattle.command_text.specs.declared.command.Command.TheVariants.{SetProperty, UnsetProperty, AddRecipient, RemoveRecipient, AddAttachment, AppendData, RemoveAttachment}
+use Rattle.command_text.specs.declared.command.Held.{Held}
+use Rattle.command_text.specs.declared.command.Command.TheVariants.{SetProperty, UnsetProperty, AddRecipient, RemoveRecipient, AddAttachment, AppendData, RemoveAttachment, SetEmbedded}
 use Rattle.command_text.specs.declared.reply.CommandRefusal.{CommandRefusal}
 use Rattle.command_text.specs.declared.reply.CommandRefusal.TheVariants.{Limit, Object as NoObject, Property as NoProperty}
 use Rattle.command_text.specs.declared.reply.LastLine.{LastLine}
@@ -16,9 +17,9 @@ use Rattle.command_text.specs.declared.reply.Limit.TheVariants.{Rows}
 use Rattle.mail_objects.specs.declared.object.Object.TheVariants.{Message}
 use Rattle.mail_tree.specs.Changing.{Answer, ◌>>=◌, as_message, nothing, now_at}
 use Rattle.mail_tree.specs.Folders.{Outcome, replied}
-use Rattle.mail_tree.specs.Messages.{added_attachment, added_recipient, adding_attachment, adding_recipient, appended_data, appending, changed_message, message_in, remaking, removed_attachment, removed_recipient, set_value, spent_index, spent_row, too_long, unset_value}
+use Rattle.mail_tree.specs.Messages.{added_attachment, added_recipient, adding_attachment, adding_recipient, appended_data, appending, changed_message, message_in, remaking, removed_attachment, removed_recipient, set_value, spent_index, spent_row, too_long, unset_value, set_embedded}
 use Rattle.mail_tree.specs.Names.{unless_nameless}
-use Rattle.mail_tree.specs.Parts.{attachment_props, attachment_tags, has_recipient, is_full, is_wide, lengthened, new_row, next_part, next_row, part_in, part_nid, part_with, plain_part, recipient_props, recipient_tags, room_for, rows_of, with_attachment, with_bytes, with_part, with_recipient, without_attachment, without_recipient}
+use Rattle.mail_tree.specs.Parts.{attachment_tags, has_recipient, is_full, is_wide, lengthened, new_part, new_row, next_part, next_row, part_in, part_nid, part_with, recipient_props, recipient_tags, room_for, rows_of, with_attachment, with_bytes, with_part, with_recipient, without_attachment, without_recipient, part_holding}
 use Rattle.mail_tree.specs.Step.{outcome}
 use Rattle.mail_tree.specs.Tree.{Tree}
 use Rattle.mail_tree.specs.Values.{bytes_of, finished, is_set_protected, is_unset_protected, with_props}
@@ -26,6 +27,7 @@ use Rattle.mail_laws.specs.MessageLaws.{changes}
 use Rattle.mail_laws.proofs.Effects.{Changes, remakes}
 use Rattle.mail_laws.proofs.Keeping.{from_fine, if_any, if_found, if_test, if_then, if_weaker}
 use Rattle.mail_laws.proofs.MessageSteps.{Before, fine_message_in}
+use Rattle.pst_base.specs.declared.subs.Sub.{Sub}
 
 -- the message was made right
 abbrev pub MadeRight : Tree → ℕ → Outcome → Type 0
@@ -51,12 +53,12 @@ module _ (T : Tree) (w : Before T) where
   unfolding removed_recipient
   removes_recipient m row = after_found m _ (λ M is four. if_test (MadeRight T m) (not (has_recipient row M)) NoObject _ (makes_right m M (without_recipient row M) None Done is four refl refl))
 
-  adds_attachment : (m : ℕ) (name bytes : List ℕ) → IfOk (added_attachment T m name bytes) (MadeRight T m)
+  adds_attachment : (m : ℕ) (name : List ℕ) (held : Held) → IfOk (added_attachment T m name held) (MadeRight T m)
   unfolding added_attachment adding_attachment
-  adds_attachment m name bytes = after_found m _ (λ M is four.
+  adds_attachment m name held = after_found m _ (λ M is four.
       let index = next_part M in
       if_test (MadeRight T m) (is_full M.attachments) (Limit Rows) _ (if_test (MadeRight T m) (is_wide attachment_tags M.attachments) (Limit Rows) _
-      (makes_right m M (with_attachment (plain_part (part_nid index) (attachment_props name bytes)) (room_for index M)) (spent_index index) (Attached (part_nid index)) is four refl refl)))
+      (makes_right m M (with_attachment (new_part (part_nid index) name held) (room_for index M)) (spent_index index) (Attached (part_nid index)) is four refl refl)))
 
   appends_data : (m n : ℕ) (more : List ℕ) → IfOk (appended_data T m n more) (MadeRight T m)
   unfolding appended_data appending
@@ -64,6 +66,12 @@ module _ (T : Tree) (w : Before T) where
       if_found (MadeRight T m) NoObject (part_in n M) _ (λ part is_part. if_found (MadeRight T m) NoProperty (bytes_of 0x3701 0x0102 part.props) _ (λ old is_old.
       let props = with_bytes (lengthened old more) part.props in
       makes_right m M (with_part (part_with props part) M) (too_long old more) Done is four refl refl)))
+
+  sets_embedded : (m n : ℕ) (node : Sub) → IfOk (set_embedded T m n node) (MadeRight T m)
+  unfolding set_embedded
+  sets_embedded m n node = after_found m _ (λ M is four.
+      if_found (MadeRight T m) NoObject (part_in n M) _ (λ part is_part.
+      makes_right m M (with_part (part_holding node part) M) None Done is four refl refl))
 
   removes_attachment : (m n : ℕ) → IfOk (removed_attachment T m n) (MadeRight T m)
   unfolding removed_attachment
@@ -92,7 +100,8 @@ module _ (T : Tree) (w : Before T) where
   made_right (UnsetProperty message tag) m e = subst (λ x. IfOk (unset_value T message.bits tag) (MadeRight T x)) (same_Some message.bits m e) (unsets message.bits tag)
   made_right (AddRecipient message kind address name) m e = subst (λ x. IfOk (added_recipient T message.bits kind address name) (MadeRight T x)) (same_Some message.bits m e) (adds_recipient message.bits kind address name)
   made_right (RemoveRecipient message row) m e = subst (λ x. IfOk (removed_recipient T message.bits row) (MadeRight T x)) (same_Some message.bits m e) (removes_recipient message.bits row)
-  made_right (AddAttachment message name bytes) m e = subst (λ x. IfOk (added_attachment T message.bits name bytes) (MadeRight T x)) (same_Some message.bits m e) (adds_attachment message.bits name bytes)
+  made_right (AddAttachment message name held) m e = subst (λ x. IfOk (added_attachment T message.bits name held) (MadeRight T x)) (same_Some message.bits m e) (adds_attachment message.bits name held)
   made_right (AppendData message attachment bytes) m e = subst (λ x. IfOk (appended_data T message.bits attachment.bits bytes) (MadeRight T x)) (same_Some message.bits m e) (appends_data message.bits attachment.bits bytes)
+  made_right (SetEmbedded message attachment node) m e = subst (λ x. IfOk (set_embedded T message.bits attachment.bits node) (MadeRight T x)) (same_Some message.bits m e) (sets_embedded message.bits attachment.bits node)
   made_right (RemoveAttachment message attachment) m e = subst (λ x. IfOk (removed_attachment T message.bits attachment.bits) (MadeRight T x)) (same_Some message.bits m e) (removes_attachment message.bits attachment.bits)
   made_right other m e = absurd (none-some m e)

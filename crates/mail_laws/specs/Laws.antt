@@ -9,7 +9,8 @@ use Rattle.mapi_values.specs.Values.{Val}
 use Rattle.mapi_values.specs.declared.part.Part.{Part}
 use Rattle.mapi_values.specs.declared.value.Tag.{Tag}
 use Rattle.command_text.specs.declared.command.Command.{Command}
-use Rattle.command_text.specs.declared.command.Command.TheVariants.{MakeFolder, RenameFolder, MoveFolder, RemoveFolder, ListFolder, NewMessage, SetProperty, UnsetProperty, GetProperty, ListProperties, MoveMessage, CopyMessage, RemoveMessage, AddRecipient, RemoveRecipient, AddAttachment, AppendData, RemoveAttachment, FetchData, Save, Quit, NameProperty}
+use Rattle.command_text.specs.declared.command.Held.{Held}
+use Rattle.command_text.specs.declared.command.Command.TheVariants.{MakeFolder, RenameFolder, MoveFolder, RemoveFolder, ListFolder, NewMessage, SetProperty, UnsetProperty, GetProperty, ListProperties, MoveMessage, CopyMessage, RemoveMessage, AddRecipient, RemoveRecipient, AddAttachment, AppendData, RemoveAttachment, FetchData, Save, Quit, NameProperty, SetEmbedded}
 use Rattle.command_text.specs.declared.reply.LastLine.TheVariants.{Attached, Made, Row, Value, Named}
 use Rattle.mail_objects.specs.Forms.{Ctx, Tbl}
 use Rattle.mail_objects.specs.declared.object.Object.{Object}
@@ -25,9 +26,10 @@ use Rattle.mail_tree.specs.Names.{NAMES, names_in}
 use Rattle.named_props.specs.Finding.{guids_known, name_at}
 use Rattle.named_props.specs.declared.names.Names.{Names}
 use Rattle.mail_tree.specs.Messages.{copy_of, in_folder}
-use Rattle.mail_tree.specs.Parts.{attachment_props, part_in, part_with, plain_part, recipient_props, rows_of, with_attachment, with_bytes, with_part, with_recipient, without_attachment, without_recipient}
+use Rattle.mail_tree.specs.Parts.{new_part, part_in, part_with, recipient_props, rows_of, with_attachment, with_bytes, with_part, with_recipient, without_attachment, without_recipient, part_holding}
 use Rattle.mail_tree.specs.Step.{after, outcome}
 use Rattle.mail_tree.specs.Whole.{IsWhole}
+use Rattle.pst_base.specs.declared.subs.Sub.{Sub}
 
 -- the message with this id, if there is one
 abbrev pub message_with : Tree → ℕ → Option Mes
@@ -88,15 +90,20 @@ abbrev pub RemovesRecipient : Type 0
 RemovesRecipient = (T : Tree) (m : Nid) (row : ℕ) → IsWhole T → IfOk (outcome T (RemoveRecipient m row)) (λ o. (M : Mes) × (props : List Val) × (message_with T m.bits ≡ Some M)
     × OnlyMessage T (after T o) m.bits (Some (with_props props (without_recipient row M))) × SameButFor 0x0E08 M.props props)
 
--- after `attach` the message has an attachment of this name and data under the id that is replied, which none had, and its others, its other values but for flags and size, and all else that it had
+-- after `attach` or `embed` the message has an attachment of this name that holds this under the id that is replied, which none had, and its others, its other values but for flags and size, and all else that it had
 abbrev pub AddsAttachment : Type 0
-AddsAttachment = (T : Tree) (m : Nid) (name bytes : List ℕ) → IsWhole T → IfOk (outcome T (AddAttachment m name bytes)) (λ o. (M : Mes) × (n : Nid) × (props : List Val) × (message_with T m.bits ≡ Some M)
-    × OnlyMessage T (after T o) m.bits (Some (with_props props (with_attachment (plain_part n (attachment_props name bytes)) M))) × (o.reply ≡ replied (Attached n)) × (part_in n.bits M ≡ None) × SameButFor 0x0E08 M.props props)
+AddsAttachment = (T : Tree) (m : Nid) (name : List ℕ) (held : Held) → IsWhole T → IfOk (outcome T (AddAttachment m name held)) (λ o. (M : Mes) × (n : Nid) × (props : List Val) × (message_with T m.bits ≡ Some M)
+    × OnlyMessage T (after T o) m.bits (Some (with_props props (with_attachment (new_part n name held) M))) × (o.reply ≡ replied (Attached n)) × (part_in n.bits M ≡ None) × SameButFor 0x0E08 M.props props)
 
 -- after `append` the attachment has these bytes behind those that it had, and the message its others, its other values but for flags and size, and all else that it had
 abbrev pub AppendsData : Type 0
 AppendsData = (T : Tree) (m n : Nid) (bytes : List ℕ) → IsWhole T → IfOk (outcome T (AppendData m n bytes)) (λ o. (M : Mes) × (part : Part) × (old : List ℕ) × (props : List Val) × (message_with T m.bits ≡ Some M)
     × (part_in n.bits M ≡ Some part) × (bytes_of 0x3701 0x0102 part.props ≡ Some old) × OnlyMessage T (after T o) m.bits (Some (with_props props (with_part (part_with (with_bytes (old ++ bytes) part.props) part) M))) × SameButFor 0x0E08 M.props props)
+
+-- after `eset` and `eunset` the attachment has this subnode in place of the one of its id, and all else that it had, and the message its others, its other values but for flags and size, and all else that it had
+abbrev pub SetsEmbedded : Type 0
+SetsEmbedded = (T : Tree) (m n : Nid) (node : Sub) → IsWhole T → IfOk (outcome T (SetEmbedded m n node)) (λ o. (M : Mes) × (part : Part) × (props : List Val) × (message_with T m.bits ≡ Some M)
+    × (part_in n.bits M ≡ Some part) × OnlyMessage T (after T o) m.bits (Some (with_props props (with_part (part_holding node part) M))) × SameButFor 0x0E08 M.props props)
 
 -- after `detach` the message has no such attachment, and its others, its other values but for flags and size, and all else that it had
 abbrev pub RemovesAttachment : Type 0
@@ -197,8 +204,9 @@ pub record CountsAnew : Type 0 where
   pub removes : (T : Tree) (m : Nid) → IsWhole T → IfOk (outcome T (RemoveMessage m)) (λ o. (M : Mes) × (message_with T m.bits ≡ Some M) × CountsOf (after T o) M.folder)
   pub adds_recipient : (T : Tree) (m : Nid) (kind : ℕ) (address name : List ℕ) → IsWhole T → IfOk (outcome T (AddRecipient m kind address name)) (λ o. (M : Mes) × (message_with T m.bits ≡ Some M) × CountsOf (after T o) M.folder)
   pub removes_recipient : (T : Tree) (m : Nid) (row : ℕ) → IsWhole T → IfOk (outcome T (RemoveRecipient m row)) (λ o. (M : Mes) × (message_with T m.bits ≡ Some M) × CountsOf (after T o) M.folder)
-  pub adds_attachment : (T : Tree) (m : Nid) (name bytes : List ℕ) → IsWhole T → IfOk (outcome T (AddAttachment m name bytes)) (λ o. (M : Mes) × (message_with T m.bits ≡ Some M) × CountsOf (after T o) M.folder)
+  pub adds_attachment : (T : Tree) (m : Nid) (name : List ℕ) (held : Held) → IsWhole T → IfOk (outcome T (AddAttachment m name held)) (λ o. (M : Mes) × (message_with T m.bits ≡ Some M) × CountsOf (after T o) M.folder)
   pub appends_data : (T : Tree) (m n : Nid) (bytes : List ℕ) → IsWhole T → IfOk (outcome T (AppendData m n bytes)) (λ o. (M : Mes) × (message_with T m.bits ≡ Some M) × CountsOf (after T o) M.folder)
+  pub sets_embedded : (T : Tree) (m n : Nid) (node : Sub) → IsWhole T → IfOk (outcome T (SetEmbedded m n node)) (λ o. (M : Mes) × (message_with T m.bits ≡ Some M) × CountsOf (after T o) M.folder)
   pub removes_attachment : (T : Tree) (m n : Nid) → IsWhole T → IfOk (outcome T (RemoveAttachment m n)) (λ o. (M : Mes) × (message_with T m.bits ≡ Some M) × CountsOf (after T o) M.folder)
   pub moves : (T : Tree) (m folder : Nid) → IsWhole T → IfOk (outcome T (MoveMessage m folder)) (λ o. (M : Mes) × (message_with T m.bits ≡ Some M) × ((M.folder ≡ folder.bits → ⊥) → CountsOf (after T o) M.folder × CountsOf (after T o) folder.bits))
   pub makes_folder : (T : Tree) (parent : Nid) (name : List ℕ) → IsWhole T → IfOk (outcome T (MakeFolder parent name)) (λ o. (f : Nid) × (o.reply ≡ replied (Made f)) × CountsOf (after T o) f.bits × CountsOf (after T o) parent.bits)

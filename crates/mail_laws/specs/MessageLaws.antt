@@ -6,7 +6,7 @@ use Rattle.mapi_values.specs.Messages.{Mes, size}
 use Rattle.mapi_values.specs.Properties.{find}
 use Rattle.mapi_values.specs.Values.{Val}
 use Rattle.command_text.specs.declared.command.Command.{Command}
-use Rattle.command_text.specs.declared.command.Command.TheVariants.{NewMessage, SetProperty, UnsetProperty, AddRecipient, RemoveRecipient, AddAttachment, AppendData, RemoveAttachment}
+use Rattle.command_text.specs.declared.command.Command.TheVariants.{NewMessage, SetProperty, UnsetProperty, AddRecipient, RemoveRecipient, AddAttachment, AppendData, RemoveAttachment, SetEmbedded}
 use Rattle.command_text.specs.declared.reply.CommandRefusal.TheVariants.{Object}
 use Rattle.command_text.specs.declared.reply.LastLine.TheVariants.{Made}
 use Rattle.mail_objects.specs.Forms.{Ctx}
@@ -39,8 +39,9 @@ changes (SetProperty message value) = Some message.bits
 changes (UnsetProperty message tag) = Some message.bits
 changes (AddRecipient message kind address name) = Some message.bits
 changes (RemoveRecipient message row) = Some message.bits
-changes (AddAttachment message name bytes) = Some message.bits
+changes (AddAttachment message name held) = Some message.bits
 changes (AppendData message attachment bytes) = Some message.bits
+changes (SetEmbedded message attachment node) = Some message.bits
 changes (RemoveAttachment message attachment) = Some message.bits
 changes other = None
 

@@ -2,7 +2,7 @@
 ghost use Rattle.std.specs.Prelude.{ℕ, List};
 ghost use Rattle.command_text.specs.declared.command.Command.{Command};
 ghost use Rattle.mail_laws.specs.ComesAndGoes.{ComesAndGoes};
-ghost use Rattle.mail_laws.specs.Laws.{AddsAttachment, AddsRecipient, AppendsData, Copies, Counts, CountsAnew, CountsStay, GetsWhatWasSet, MakesFolder, MakesMessage, Mirrors, MirrorsStay, Moves, MovesFolder, Reads, Removes, RemovesAttachment, RemovesFolder, RemovesRecipient, RenamesFolder, Sets, Unsets, NamesProperty};
+ghost use Rattle.mail_laws.specs.Laws.{AddsAttachment, AddsRecipient, AppendsData, Copies, Counts, CountsAnew, CountsStay, GetsWhatWasSet, MakesFolder, MakesMessage, Mirrors, MirrorsStay, Moves, MovesFolder, Reads, Removes, RemovesAttachment, RemovesFolder, RemovesRecipient, SetsEmbedded, RenamesFolder, Sets, Unsets, NamesProperty};
 ghost use Rattle.mail_tree.specs.Start.{IsStart};
 ghost use Rattle.mail_laws.specs.Stays.{GivesNewIds, KeepsNodes, KeepsTables, KeepsValues, LeavesSearches, StaysFound};
 ghost use Rattle.mail_tree.specs.Step.{after, outcome};
@@ -79,7 +79,7 @@ pub fn removes_recipient()
     ensures { RemovesRecipient }
 {}
 
-/// `attach` gives a message the attachment that it is told under an id that none had, and leaves its others and all other messages as they were.
+/// `attach` and `embed` give a message the attachment that they are told under an id that none had, and leave its others and all other messages as they were.
 pub fn adds_attachment()
     ensures { AddsAttachment }
 {}
@@ -87,6 +87,11 @@ pub fn adds_attachment()
 /// `append` puts bytes behind the data of an attachment, and leaves the message's others and all other messages as they were.
 pub fn appends_data()
     ensures { AppendsData }
+{}
+
+/// `eset` and `eunset` put another message into an attachment, and leave the message's others and all other messages as they were.
+pub fn sets_embedded()
+    ensures { SetsEmbedded }
 {}
 
 /// `detach` takes an attachment from a message, and leaves its others and all other messages as they were.

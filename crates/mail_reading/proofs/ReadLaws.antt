@@ -4,7 +4,7 @@ use Rattle.std.proofs.lemmas.Bool.{cases_Bool}
 use Rattle.pst_base.specs.declared.ids.Nid.{Nid}
 use Rattle.command_text.specs.Asking.{asks}
 use Rattle.command_text.specs.declared.command.Command.{Command}
-use Rattle.command_text.specs.declared.command.Command.TheVariants.{MakeFolder, RenameFolder, MoveFolder, RemoveFolder, ListFolder, NewMessage, SetProperty, UnsetProperty, GetProperty, ListProperties, MoveMessage, CopyMessage, RemoveMessage, AddRecipient, RemoveRecipient, AddAttachment, AppendData, RemoveAttachment, FetchData, NameProperty, Save, Quit, MakeSearch, SetCriteria, GetCriteria}
+use Rattle.command_text.specs.declared.command.Command.TheVariants.{MakeFolder, RenameFolder, MoveFolder, RemoveFolder, ListFolder, NewMessage, SetProperty, UnsetProperty, GetProperty, ListProperties, MoveMessage, CopyMessage, RemoveMessage, AddRecipient, RemoveRecipient, AddAttachment, AppendData, RemoveAttachment, FetchData, NameProperty, Save, Quit, MakeSearch, SetCriteria, GetCriteria, SetEmbedded}
 use Rattle.command_text.specs.declared.reply.CommandRefusal.TheVariants as refusals
 use Rattle.command_text.specs.declared.reply.Reply.{Reply}
 use Rattle.mail_tree.specs.Changing.{Answer, Changed, ◌>>=◌, nothing, within_limits}
@@ -153,8 +153,9 @@ reads_leave X (CopyMessage message folder) whole are is = cc
 reads_leave X (RemoveMessage message) whole are is = cc
 reads_leave X (AddRecipient message kind address name) whole are is = cc
 reads_leave X (RemoveRecipient message row) whole are is = cc
-reads_leave X (AddAttachment message name bytes) whole are is = cc
+reads_leave X (AddAttachment message name held) whole are is = cc
 reads_leave X (AppendData message attachment bytes) whole are is = cc
+reads_leave X (SetEmbedded message attachment node) whole are is = cc
 reads_leave X (RemoveAttachment message attachment) whole are is = cc
 reads_leave X (NameProperty guid number) whole are is = cc
 reads_leave X (MakeSearch parent name) whole are is = cc

@@ -70,6 +70,7 @@ pub fn ask<W: Outside, K: NodeReader<W>>(
         | Command::RemoveRecipient { .. }
         | Command::AddAttachment { .. }
         | Command::AppendData { .. }
+        | Command::SetEmbedded { .. }
         | Command::RemoveAttachment { .. }
         | Command::NameProperty { .. }
         | Command::MakeSearch { .. }

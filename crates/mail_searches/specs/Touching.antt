@@ -3,7 +3,7 @@ use Rattle.std.specs.Prelude.{ℕ, ◌&&◌, ◌==◌, ◌++◌, Bool, false, Li
 use Rattle.std.specs.Option.{is_some}
 use Rattle.std.specs.FinMap as map
 use Rattle.command_text.specs.declared.command.Command.{Command}
-use Rattle.command_text.specs.declared.command.Command.TheVariants.{MoveFolder, NewMessage, SetProperty, UnsetProperty, MoveMessage, CopyMessage, RemoveMessage, AddRecipient, RemoveRecipient, AddAttachment, AppendData, RemoveAttachment}
+use Rattle.command_text.specs.declared.command.Command.TheVariants.{MoveFolder, NewMessage, SetProperty, UnsetProperty, MoveMessage, CopyMessage, RemoveMessage, AddRecipient, RemoveRecipient, AddAttachment, AppendData, RemoveAttachment, SetEmbedded}
 use Rattle.command_text.specs.declared.reply.LastLine.{LastLine}
 use Rattle.command_text.specs.declared.reply.LastLine.TheVariants.{Made}
 use Rattle.restr_eval.specs.Eval.{holds_of}
@@ -51,8 +51,9 @@ touched T (MoveMessage message folder) o = Ok (touch_at T o message.bits ∷ [])
 touched T (RemoveMessage message) o = Ok (touch_at T o message.bits ∷ [])
 touched T (AddRecipient message kind address name) o = Ok (touch_at T o message.bits ∷ [])
 touched T (RemoveRecipient message row) o = Ok (touch_at T o message.bits ∷ [])
-touched T (AddAttachment message name bytes) o = Ok (touch_at T o message.bits ∷ [])
+touched T (AddAttachment message name held) o = Ok (touch_at T o message.bits ∷ [])
 touched T (AppendData message attachment bytes) o = Ok (touch_at T o message.bits ∷ [])
+touched T (SetEmbedded message attachment node) o = Ok (touch_at T o message.bits ∷ [])
 touched T (RemoveAttachment message attachment) o = Ok (touch_at T o message.bits ∷ [])
 touched T (MoveFolder folder parent) o = if stands_in T folder.bits parent.bits then Ok [] else messages_below T folder.bits T.places
 touched T other o = Ok []

@@ -12,7 +12,8 @@ use Rattle.mapi_values.specs.Properties.{put, remove_id}
 use Rattle.mapi_values.specs.Values.{Val}
 use Rattle.mapi_values.specs.declared.value.Tag.{Tag}
 use Rattle.command_text.specs.declared.command.Command.{Command}
-use Rattle.command_text.specs.declared.command.Command.TheVariants.{MakeFolder, RenameFolder, MoveFolder, RemoveFolder, ListFolder, NewMessage, SetProperty, UnsetProperty, GetProperty, ListProperties, MoveMessage, CopyMessage, RemoveMessage, AddRecipient, RemoveRecipient, AddAttachment, AppendData, RemoveAttachment, FetchData, NameProperty, MakeSearch, SetCriteria, GetCriteria, Save, Quit}
+use Rattle.command_text.specs.declared.command.Held.{Held}
+use Rattle.command_text.specs.declared.command.Command.TheVariants.{MakeFolder, RenameFolder, MoveFolder, RemoveFolder, ListFolder, NewMessage, SetProperty, UnsetProperty, GetProperty, ListProperties, MoveMessage, CopyMessage, RemoveMessage, AddRecipient, RemoveRecipient, AddAttachment, AppendData, RemoveAttachment, FetchData, NameProperty, MakeSearch, SetCriteria, GetCriteria, Save, Quit, SetEmbedded}
 use Rattle.command_text.specs.declared.reply.CommandRefusal.{CommandRefusal}
 use Rattle.command_text.specs.declared.reply.CommandRefusal.TheVariants.{Property, NotEmpty, Cycle, Protected, Limit, Line, Ids, Object}
 use Rattle.command_text.specs.declared.reply.Limit.TheVariants.{Depth, Rows}
@@ -28,18 +29,19 @@ use Rattle.mail_tree.specs.Changing.{Answer, Changed, ◌>>=◌, add_shown, cont
 use Rattle.mail_tree.specs.Settling.{counted, message_ids, mirrored, settled, table_as_is, touched, unread_among, with_context}
 use Rattle.mail_tree.specs.Ids.{folder_kinds, is_spent, message_kinds, new_id, next_index}
 use Rattle.mail_tree.specs.Folders.{Outcome, associated_in, changing, folder_in, folder_lines, has_associated, has_rows, listing, made_folder, making, making_folder, message_lines, moved_between, moved_folder, moving, place, removed_folder, renamed_folder, replied, replying, siblings, unless, unless_full, unless_named, unless_plain, unless_protected, with_folder, without_folder}
-use Rattle.mail_tree.specs.Messages.{added_attachment, added_message, added_recipient, adding_attachment, adding_recipient, appended_data, appending, fetched_data, removed_attachment, spent_index, too_long, changed_message, copied_message, copy_of, copying, details, in_folder, is_overfull, making_message, message_in, moved_message, new_message, plain_message, remaking, removed_message, removed_recipient, set_value, spent_row, unset_value, value_in, value_of, given_message}
+use Rattle.mail_tree.specs.Messages.{added_attachment, added_message, added_recipient, adding_attachment, adding_recipient, appended_data, appending, fetched_data, removed_attachment, spent_index, too_long, changed_message, copied_message, copy_of, copying, details, in_folder, is_overfull, making_message, message_in, moved_message, new_message, plain_message, remaking, removed_message, removed_recipient, set_value, spent_row, unset_value, value_in, value_of, given_message, set_embedded}
 use Rattle.mail_tree.specs.Names.{NAMES, found_or_added, is_name, named_property, no_room, unless_nameless, with_another}
 use Rattle.named_props.specs.Finding.{name_at}
 use Rattle.named_props.specs.Holding.{names_of, written}
 use Rattle.named_props.specs.declared.names.Names.{Names as Held}
 use Rattle.mail_objects.specs.Forms.{Ctx}
-use Rattle.mail_tree.specs.Parts.{attachment_props, attachment_tags, data_tag, lengthened, next_part, part_in, part_nid, part_with, plain_part, room_for, with_attachment, with_bytes, with_part, without_attachment, has_recipient, is_full, is_wide, new_row, next_row, recipient_props, recipient_tags, rows_of, with_recipient, without_recipient}
+use Rattle.mail_tree.specs.Parts.{attachment_tags, data_tag, has_recipient, is_full, is_wide, lengthened, new_part, new_row, next_part, next_row, part_in, part_nid, part_with, recipient_props, recipient_tags, room_for, rows_of, with_attachment, with_bytes, with_part, with_recipient, without_attachment, without_recipient, part_holding}
 use Rattle.mail_tree.specs.Step.{outcome, with_changes, without_changed}
 use Rattle.mail_tree.proofs.AfterTree.{tied}
 use Rattle.mail_draft.proofs.FitLaws.{no-entries}
 use Rattle.mail_store.specs.Planning.{StaysUnwritten}
 use Rattle.mail_store.specs.Space.{WritesNodes}
+use Rattle.pst_base.specs.declared.subs.Sub.{Sub}
 
 -- a step, and what follows it
 pub if_then : {A B : Type 0} (P : A → Type 0) (Q : B → Type 0) (a : Answer A) (f : A → Answer B) → IfOk a P → ((x : A) → P x → IfOk (f x) Q) → IfOk (a >>= f) Q
@@ -194,17 +196,21 @@ module _ (T : Tree) where
   unfolding removed_recipient
   removes_recipient m row = then_any (message_in T m) _ (λ M. then_any (refused_if (not (has_recipient row M)) Object) _ (λ u. remakes (without_recipient row M) None Done))
 
-  adds_attachment : (m : ℕ) (name bytes : List ℕ) → IfOk (added_attachment T m name bytes) Right
+  adds_attachment : (m : ℕ) (name : List ℕ) (held : Held) → IfOk (added_attachment T m name held) Right
   unfolding added_attachment adding_attachment
-  adds_attachment m name bytes = then_any (message_in T m) _ (λ M. then_any (refused_if (is_full M.attachments) (Limit Rows)) _ (λ u. then_any (refused_if (is_wide attachment_tags M.attachments) (Limit Rows)) _ (λ v.
+  adds_attachment m name held = then_any (message_in T m) _ (λ M. then_any (refused_if (is_full M.attachments) (Limit Rows)) _ (λ u. then_any (refused_if (is_wide attachment_tags M.attachments) (Limit Rows)) _ (λ v.
       let index = next_part M in
-      remakes (with_attachment (plain_part (part_nid index) (attachment_props name bytes)) (room_for index M)) (spent_index index) (Attached (part_nid index)))))
+      remakes (with_attachment (new_part (part_nid index) name held) (room_for index M)) (spent_index index) (Attached (part_nid index)))))
 
   appends_data : (m n : ℕ) (more : List ℕ) → IfOk (appended_data T m n more) Right
   unfolding appended_data appending
   appends_data m n more = then_any (message_in T m) _ (λ M. then_any (found Object (part_in n M)) _ (λ part. then_any (found Property (bytes_of 0x3701 0x0102 part.props)) _ (λ old.
       let props = with_bytes (lengthened old more) part.props in
       remakes (with_part (part_with props part) M) (too_long old more) Done)))
+
+  sets_embedded : (m n : ℕ) (node : Sub) → IfOk (set_embedded T m n node) Right
+  unfolding set_embedded
+  sets_embedded m n node = then_any (message_in T m) _ (λ M. then_any (found Object (part_in n M)) _ (λ part. remakes (with_part (part_holding node part) M) None Done))
 
   removes_attachment : (m n : ℕ) → IfOk (removed_attachment T m n) Right
   unfolding removed_attachment
@@ -270,8 +276,9 @@ module _ (T : Tree) where
   right (RemoveMessage message) = removes message.bits
   right (AddRecipient message kind address name) = adds_recipient message.bits kind address name
   right (RemoveRecipient message row) = removes_recipient message.bits row
-  right (AddAttachment message name bytes) = adds_attachment message.bits name bytes
+  right (AddAttachment message name held) = adds_attachment message.bits name held
   right (AppendData message attachment bytes) = appends_data message.bits attachment.bits bytes
+  right (SetEmbedded message attachment node) = sets_embedded message.bits attachment.bits node
   right (RemoveAttachment message attachment) = removes_attachment message.bits attachment.bits
   right (FetchData message attachment) = fetches_data message.bits attachment.bits
   right (NameProperty guid number) = names_property guid number

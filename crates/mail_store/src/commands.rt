@@ -89,13 +89,18 @@ pub fn outcome<W: Outside, K: Keeper<W>>(
         Command::AddAttachment {
             message,
             name,
-            data,
-        } => attach(alloc, keeper, w, known, *message, name, data),
+            held,
+        } => attach(alloc, keeper, w, known, *message, name, held),
         Command::AppendData {
             message,
             attachment,
             data,
         } => append(alloc, keeper, w, known, *message, *attachment, data),
+        Command::SetEmbedded {
+            message,
+            attachment,
+            node,
+        } => set_embedded(alloc, keeper, w, known, *message, *attachment, node),
         Command::RemoveAttachment {
             message,
             attachment,

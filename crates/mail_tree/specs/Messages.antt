@@ -3,6 +3,8 @@ use Rattle.std.specs.Prelude.{ℕ, ◌==◌, Bool, not, nat_lt, List, [], ◌++�
 use Rattle.std.specs.List.{list_any}
 use Rattle.std.specs.Option.{option_map, option_and_then, is_some}
 use Rattle.pst_base.specs.Ids.{kind_of}
+use Rattle.pst_base.specs.declared.subs.Sub.{Sub}
+use Rattle.command_text.specs.declared.command.Held.{Held}
 use Rattle.node_port.specs.Nodes.{node_at}
 use Rattle.node_port.specs.declared.node.NodeRec.{NodeRec}
 use Rattle.mapi_values.specs.Messages.{Mes}
@@ -25,7 +27,7 @@ use Rattle.mail_tree.specs.Tree.{Tree, object_at}
 use Rattle.mail_tree.specs.Values.{bytes_of, finished, is_set_protected, is_unset_protected, is_withheld, length_of, message_props, number_of, text_of, with_props}
 use Rattle.mail_tree.specs.Changing.{Answer, Changed, ◌>>=◌, add_shown, contents, context_at, drop_shown, found, message_at, nothing, put_shown, refused_if, table_at, with_object}
 use Rattle.mail_tree.specs.Settling.{settled, touched}
-use Rattle.mail_tree.specs.Parts.{attachment_props, attachment_tags, data_tag, has_recipient, is_full, is_spent_row, is_too_long, is_wide, lengthened, new_row, next_part, next_row, part_in, part_nid, part_with, plain_part, recipient_props, recipient_tags, room_for, rows_of, with_attachment, with_bytes, with_part, with_recipient, without_attachment, without_recipient}
+use Rattle.mail_tree.specs.Parts.{attachment_tags, data_tag, has_recipient, is_full, is_spent_row, is_too_long, is_wide, lengthened, new_row, new_part, next_part, next_row, part_holding, part_in, part_nid, part_with, recipient_props, recipient_tags, room_for, rows_of, with_attachment, with_bytes, with_part, with_recipient, without_attachment, without_recipient}
 use Rattle.mail_tree.specs.Ids.{is_spent, message_kinds, new_id, next_index}
 use Rattle.mail_tree.specs.Names.{unless_nameless}
 use Rattle.mail_tree.specs.Folders.{Outcome, changing, folder_in, listed, making, replied, replying, unchanged, unless_full, unless_plain}
@@ -168,14 +170,14 @@ removed_recipient T m row = message_in T m >>= λ M. refused_if (not (has_recipi
 abbrev pub spent_index : ℕ → Option CommandRefusal
 spent_index index = if is_spent index then Some Ids else None
 
--- a message gets an attachment of these values and this index
-unfoldable pub adding_attachment : Tree → Mes → List Val → ℕ → Answer Outcome
-adding_attachment T M props index = remaking T (with_attachment (plain_part (part_nid index) props) (room_for index M)) (spent_index index) (Attached (part_nid index))
+-- a message gets an attachment of this name and this index that holds this
+unfoldable pub adding_attachment : Tree → Mes → List ℕ → Held → ℕ → Answer Outcome
+adding_attachment T M name held index = remaking T (with_attachment (new_part (part_nid index) name held) (room_for index M)) (spent_index index) (Attached (part_nid index))
 
--- `attach`
-unfoldable pub added_attachment : Tree → ℕ → List ℕ → List ℕ → Answer Outcome
-added_attachment T m name bytes = message_in T m >>= λ M. refused_if (is_full M.attachments) (Limit Rows) >>= λ u. refused_if (is_wide attachment_tags M.attachments) (Limit Rows) >>= λ v.
-    adding_attachment T M (attachment_props name bytes) (next_part M)
+-- `attach`, and what `embed` comes to
+unfoldable pub added_attachment : Tree → ℕ → List ℕ → Held → Answer Outcome
+added_attachment T m name held = message_in T m >>= λ M. refused_if (is_full M.attachments) (Limit Rows) >>= λ u. refused_if (is_wide attachment_tags M.attachments) (Limit Rows) >>= λ v.
+    adding_attachment T M name held (next_part M)
 
 -- the data would be too long
 abbrev pub too_long : List ℕ → List ℕ → Option CommandRefusal
@@ -192,6 +194,10 @@ appending T M part old more = changing_part T M part (with_bytes (lengthened old
 -- `append`
 unfoldable pub appended_data : Tree → ℕ → ℕ → List ℕ → Answer Outcome
 appended_data T m n more = message_in T m >>= λ M. found Object (part_in n M) >>= λ part. found Property (bytes_of 0x3701 0x0102 part.props) >>= λ old. appending T M part old more
+
+-- what `eset` and `eunset` come to: the message in an attachment becomes another
+unfoldable pub set_embedded : Tree → ℕ → ℕ → Sub → Answer Outcome
+set_embedded T m n node = message_in T m >>= λ M. found Object (part_in n M) >>= λ part. remaking T (with_part (part_holding node part) M) None Done
 
 -- `detach`
 unfoldable pub removed_attachment : Tree → ℕ → ℕ → Answer Outcome

@@ -1,9 +1,14 @@
 -- The recipients and attachments of a message: what stands in them, and what a message is with others.
 use Rattle.std.specs.Prelude.{ℕ, ◌+◌, ◌==◌, ◌&&◌, Bool, false, nat_le, nat_lt, List, [], ◌∷◌, ◌++◌, length, map, max, min, suc, Option, None, Some, if◌then◌else◌}
 use Rattle.std.specs.Option.{is_some, option_map}
+use Rattle.byteorder.specs.Endian.{little_bytes}
 use Rattle.pst_base.specs.Flat.{Flat}
 use Rattle.pst_base.specs.Ids.{index_of, kind_of}
+use Rattle.pst_base.specs.Subs.{flattened}
 use Rattle.pst_base.specs.declared.ids.Nid.{Nid}
+use Rattle.pst_base.specs.declared.subs.Sub.{Sub}
+use Rattle.command_text.specs.declared.command.Held.{Held}
+use Rattle.command_text.specs.declared.command.Held.TheVariants.{Data, Message}
 use Rattle.column_layout.specs.Layout.{completed, has_columns, with_columns}
 use Rattle.mapi_values.specs.Keyed.{drop_key, find_key, put_key}
 use Rattle.mapi_values.specs.Messages.{Mes, part_id}
@@ -81,9 +86,19 @@ attachment_tags = tag 0x0E20 0x0003 ∷ tag 0x3704 0x001F ∷ tag 0x3705 0x0003 
 abbrev pub data_tag : Tag
 data_tag = tag 0x3701 0x0102
 
--- the values of an attachment: how long its data is, the data, its name, that it holds them itself, and that the text shows it nowhere
-abbrev pub attachment_props : List ℕ → List ℕ → List Val
-attachment_props name bytes = number 0x0E20 (length bytes) ∷ value 0x3701 0x0102 bytes ∷ text 0x3704 name ∷ number 0x3705 1 ∷ number 0x370B 4294967295 ∷ []
+-- the object that an attachment has in place of data: the subnode of a message, and the size that this tells
+abbrev pub object_bytes : ℕ → ℕ → List ℕ
+object_bytes nid size = little_bytes 4 nid ++ little_bytes 4 size
+
+-- the values of an attachment with data: how long that is, the data, its name, that it holds it itself, and that the text shows it nowhere; with a message: its size, its subnode, the name, that it is a message, and the same
+abbrev pub attachment_props : List ℕ → Held → List Val
+attachment_props name (Data bytes) = number 0x0E20 (length bytes) ∷ value 0x3701 0x0102 bytes ∷ text 0x3704 name ∷ number 0x3705 1 ∷ number 0x370B 4294967295 ∷ []
+attachment_props name (Message size node) = number 0x0E20 size ∷ value 0x3701 0x000D (object_bytes node.nid.bits size) ∷ text 0x3704 name ∷ number 0x3705 5 ∷ number 0x370B 4294967295 ∷ []
+
+-- the subnodes of an attachment that no value uses: that of the message, if it holds one
+abbrev pub held_subnodes : Held → List Flat
+held_subnodes (Data bytes) = []
+held_subnodes (Message size node) = flattened (node ∷ [])
 
 -- the row that shows an attachment
 abbrev pub part_row : List Column → Part → ℕ × List Val
@@ -116,9 +131,9 @@ greatest_kept (f ∷ fs) = max (if f.level == 0 then part_index f.nid else 0) (g
 unfoldable pub next_part : Mes → ℕ
 next_part m = suc (max 1024 (max (greatest_part m.parts) (greatest_kept m.kept)))
 
--- an attachment of these values, without other subnodes
-abbrev pub plain_part : Nid → List Val → Part
-plain_part nid props = record { nid = nid; props = props; kept = [] }
+-- a new attachment of this name that holds this
+abbrev pub new_part : Nid → List ℕ → Held → Part
+new_part nid name held = record { nid = nid; props = attachment_props name held; kept = held_subnodes held }
 
 -- the id of a new attachment of this index
 abbrev pub part_nid : ℕ → Nid
@@ -160,3 +175,17 @@ with_bytes bytes props = put (number 0x0E20 (length bytes)) (put (value 0x3701 0
 -- the same attachment with other values
 abbrev pub part_with : List Val → Part → Part
 part_with props part = record part { props = props }
+
+-- what stands behind the subnode before the list and all below that
+abbrev pub behind : List Flat → List Flat
+behind [] = []
+behind (f ∷ fs) = if f.level == 0 then f ∷ fs else behind fs
+
+-- the list with this in place of the first subnode directly in it that has the same id, if there is one
+abbrev pub with_subnode : Sub → List Flat → List Flat
+with_subnode node [] = []
+with_subnode node (f ∷ fs) = if (f.level == 0) && (f.nid == node.nid.bits) then flattened (node ∷ []) ++ behind fs else f ∷ with_subnode node fs
+
+-- the same attachment with another message in it
+abbrev pub part_holding : Sub → Part → Part
+part_holding node part = record part { kept = with_subnode node part.kept }

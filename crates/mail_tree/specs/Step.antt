@@ -2,7 +2,7 @@
 use Rattle.std.specs.Prelude.{ℕ, List, [], ◌∷◌, Option, None, Some, Ok, Err}
 use Rattle.std.specs.FinMap as map
 use Rattle.command_text.specs.declared.command.Command.{Command}
-use Rattle.command_text.specs.declared.command.Command.TheVariants.{MakeFolder, RenameFolder, MoveFolder, RemoveFolder, ListFolder, NewMessage, SetProperty, UnsetProperty, GetProperty, ListProperties, MoveMessage, CopyMessage, RemoveMessage, AddRecipient, RemoveRecipient, AddAttachment, AppendData, RemoveAttachment, FetchData, Save, Quit, NameProperty, MakeSearch, SetCriteria, GetCriteria}
+use Rattle.command_text.specs.declared.command.Command.TheVariants.{MakeFolder, RenameFolder, MoveFolder, RemoveFolder, ListFolder, NewMessage, SetProperty, UnsetProperty, GetProperty, ListProperties, MoveMessage, CopyMessage, RemoveMessage, AddRecipient, RemoveRecipient, AddAttachment, AppendData, SetEmbedded, RemoveAttachment, FetchData, Save, Quit, NameProperty, MakeSearch, SetCriteria, GetCriteria}
 use Rattle.command_text.specs.declared.reply.CommandRefusal.TheVariants.{Line}
 use Rattle.command_text.specs.declared.reply.LastLine.TheVariants.{Done, Refused}
 use Rattle.command_text.specs.declared.reply.Reply.{Reply}
@@ -11,7 +11,7 @@ use Rattle.node_port.specs.Nodes.{Nodes, set_at}
 use Rattle.mail_tree.specs.Tree.{Objects, Tree}
 use Rattle.mail_tree.specs.Changing.{Answer}
 use Rattle.mail_tree.specs.Folders.{Outcome, listing, made_folder, moved_folder, removed_folder, renamed_folder, replied, unchanged}
-use Rattle.mail_tree.specs.Messages.{added_attachment, added_recipient, appended_data, copied_message, details, fetched_data, moved_message, new_message, removed_attachment, removed_message, removed_recipient, set_value, unset_value, value_in}
+use Rattle.mail_tree.specs.Messages.{added_attachment, added_recipient, appended_data, copied_message, details, fetched_data, moved_message, new_message, removed_attachment, removed_message, removed_recipient, set_embedded, set_value, unset_value, value_in}
 use Rattle.mail_tree.specs.Names.{named_property}
 
 -- what a command comes to, or why it is refused; a tree by itself knows no searches, and their lines are none of its
@@ -31,8 +31,9 @@ outcome T (CopyMessage message folder) = copied_message T message.bits folder.bi
 outcome T (RemoveMessage message) = removed_message T message.bits
 outcome T (AddRecipient message kind address name) = added_recipient T message.bits kind address name
 outcome T (RemoveRecipient message row) = removed_recipient T message.bits row
-outcome T (AddAttachment message name bytes) = added_attachment T message.bits name bytes
+outcome T (AddAttachment message name held) = added_attachment T message.bits name held
 outcome T (AppendData message attachment bytes) = appended_data T message.bits attachment.bits bytes
+outcome T (SetEmbedded message attachment node) = set_embedded T message.bits attachment.bits node
 outcome T (RemoveAttachment message attachment) = removed_attachment T message.bits attachment.bits
 outcome T (FetchData message attachment) = fetched_data T message.bits attachment.bits
 outcome T (NameProperty guid number) = named_property T guid number

@@ -17,7 +17,7 @@ use Rattle.command_text.specs.Arguments.{◌>>=◌, id_and_tag}
 use Rattle.command_text.specs.Lines.{text_command}
 use Rattle.command_text.specs.Words.{cut}
 use Rattle.command_text.specs.declared.command.Command.{Command}
-use Rattle.command_text.specs.declared.command.Command.TheVariants.{MakeFolder, RenameFolder, MoveFolder, RemoveFolder, ListFolder, NewMessage, SetProperty, UnsetProperty, GetProperty, ListProperties, MoveMessage, CopyMessage, RemoveMessage, AddRecipient, RemoveRecipient, AddAttachment, AppendData, RemoveAttachment, FetchData, NameProperty, Save, Quit, MakeSearch, SetCriteria, GetCriteria}
+use Rattle.command_text.specs.declared.command.Command.TheVariants.{MakeFolder, RenameFolder, MoveFolder, RemoveFolder, ListFolder, NewMessage, SetProperty, UnsetProperty, GetProperty, ListProperties, MoveMessage, CopyMessage, RemoveMessage, AddRecipient, RemoveRecipient, AddAttachment, AppendData, RemoveAttachment, FetchData, NameProperty, Save, Quit, MakeSearch, SetCriteria, GetCriteria, SetEmbedded}
 use Rattle.command_text.specs.declared.command.LineRefusal.{LineRefusal}
 use Rattle.command_text.specs.declared.command.LineRefusal.TheVariants.{Line}
 use Rattle.mail_reading.specs.Asked.{reads}
@@ -44,8 +44,9 @@ asks_reads (CopyMessage message folder) is = cc
 asks_reads (RemoveMessage message) is = cc
 asks_reads (AddRecipient message kind address name) is = cc
 asks_reads (RemoveRecipient message row) is = cc
-asks_reads (AddAttachment message name bytes) is = cc
+asks_reads (AddAttachment message name held) is = cc
 asks_reads (AppendData message attachment bytes) is = cc
+asks_reads (SetEmbedded message attachment node) is = cc
 asks_reads (RemoveAttachment message attachment) is = cc
 asks_reads (FetchData message attachment) is = refl
 asks_reads (NameProperty guid number) is = cc

@@ -4,7 +4,7 @@ use Rattle.std.proofs.lemmas.Bool.{cases_Bool}
 use Rattle.std.specs.FinMap as map
 use Rattle.std.specs.Ordering.{nat_cmp}
 use Rattle.command_text.specs.declared.command.Command.{Command}
-use Rattle.command_text.specs.declared.command.Command.TheVariants.{MakeFolder, RenameFolder, MoveFolder, RemoveFolder, ListFolder, NewMessage, SetProperty, UnsetProperty, GetProperty, ListProperties, MoveMessage, CopyMessage, RemoveMessage, AddRecipient, RemoveRecipient, AddAttachment, AppendData, RemoveAttachment, FetchData, NameProperty, Save, Quit, MakeSearch, SetCriteria, GetCriteria}
+use Rattle.command_text.specs.declared.command.Command.TheVariants.{MakeFolder, RenameFolder, MoveFolder, RemoveFolder, ListFolder, NewMessage, SetProperty, UnsetProperty, GetProperty, ListProperties, MoveMessage, CopyMessage, RemoveMessage, AddRecipient, RemoveRecipient, AddAttachment, AppendData, RemoveAttachment, FetchData, NameProperty, Save, Quit, MakeSearch, SetCriteria, GetCriteria, SetEmbedded}
 use Rattle.command_text.specs.declared.reply.CommandRefusal.TheVariants as refusals
 use Rattle.command_text.specs.declared.reply.Reply.{Reply}
 use Rattle.pst_base.specs.declared.ids.Nid.{Nid}
@@ -229,8 +229,9 @@ stays_in_order tidy X (CopyMessage message folder) h = plain tidy X h (CopyMessa
 stays_in_order tidy X (RemoveMessage message) h = plain tidy X h (RemoveMessage message)
 stays_in_order tidy X (AddRecipient message kind address name) h = plain tidy X h (AddRecipient message kind address name)
 stays_in_order tidy X (RemoveRecipient message row) h = plain tidy X h (RemoveRecipient message row)
-stays_in_order tidy X (AddAttachment message name bytes) h = plain tidy X h (AddAttachment message name bytes)
+stays_in_order tidy X (AddAttachment message name held) h = plain tidy X h (AddAttachment message name held)
 stays_in_order tidy X (AppendData message attachment bytes) h = plain tidy X h (AppendData message attachment bytes)
+stays_in_order tidy X (SetEmbedded message attachment node) h = plain tidy X h (SetEmbedded message attachment node)
 stays_in_order tidy X (RemoveAttachment message attachment) h = plain tidy X h (RemoveAttachment message attachment)
 stays_in_order tidy X (FetchData message attachment) h = plain tidy X h (FetchData message attachment)
 stays_in_order tidy X (NameProperty guid number) h = plain tidy X h (NameProperty guid number)

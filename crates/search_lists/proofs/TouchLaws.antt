@@ -3,7 +3,7 @@ use Rattle.std.proofs.Common.{◌≡◌, ◌∙◌, ℕ, ◌==◌, true, false, 
 use Rattle.std.proofs.lemmas.Bool.{cases_Bool, cases_eq, eq-eqb, false≢true}
 use Rattle.mapi_values.specs.Messages.{Mes}
 use Rattle.command_text.specs.declared.command.Command.{Command}
-use Rattle.command_text.specs.declared.command.Command.TheVariants.{MakeFolder, RenameFolder, MoveFolder, RemoveFolder, ListFolder, NewMessage, SetProperty, UnsetProperty, GetProperty, ListProperties, MoveMessage, CopyMessage, RemoveMessage, AddRecipient, RemoveRecipient, AddAttachment, AppendData, RemoveAttachment, FetchData, Save, Quit, NameProperty, MakeSearch, SetCriteria, GetCriteria}
+use Rattle.command_text.specs.declared.command.Command.TheVariants.{MakeFolder, RenameFolder, MoveFolder, RemoveFolder, ListFolder, NewMessage, SetProperty, UnsetProperty, GetProperty, ListProperties, MoveMessage, CopyMessage, RemoveMessage, AddRecipient, RemoveRecipient, AddAttachment, AppendData, RemoveAttachment, FetchData, Save, Quit, NameProperty, MakeSearch, SetCriteria, GetCriteria, SetEmbedded}
 use Rattle.command_text.specs.declared.reply.CommandRefusal.TheVariants.{Cycle}
 use Rattle.command_text.specs.declared.reply.LastLine.TheVariants.{Done, Made}
 use Rattle.command_text.specs.declared.reply.Reply.{Reply}
@@ -15,7 +15,7 @@ use Rattle.mail_tree.specs.Folders.{Outcome, folder_in, moved_folder, nid, place
 use Rattle.mail_tree.specs.Ids.{new_id}
 use Rattle.mail_tree.specs.Messages.{copy_of, in_folder}
 use Rattle.mail_tree.specs.Names.{NAMES}
-use Rattle.mail_tree.specs.Parts.{attachment_props, part_with, plain_part, recipient_props, with_attachment, with_bytes, with_part, with_recipient, without_attachment, without_recipient}
+use Rattle.mail_tree.specs.Parts.{new_part, part_with, recipient_props, with_attachment, with_bytes, with_part, with_recipient, without_attachment, without_recipient, part_holding}
 use Rattle.mail_tree.specs.Places.{ROOT, find_place, is_within, path}
 use Rattle.mail_tree.specs.Step.{after, outcome}
 use Rattle.mail_tree.specs.Tree.{Tree, object_at}
@@ -201,10 +201,12 @@ touches_all T (AddRecipient message kind address name) w = let b = before T w in
     (λ o k r. remade T o message.bits (with_recipient r.0 (recipient_props kind address name)) b k r.1)
 touches_all T (RemoveRecipient message row) w = let b = before T w in both_hold T (RemoveRecipient message row) w _ (Touches T (RemoveRecipient message row)) (effects.removes_recipient T message.bits row b)
     (λ o k r. remade T o message.bits (without_recipient row) b k r)
-touches_all T (AddAttachment message name bytes) w = let b = before T w in both_hold T (AddAttachment message name bytes) w _ (Touches T (AddAttachment message name bytes)) (effects.adds_attachment T message.bits name bytes b)
-    (λ o k r. remade T o message.bits (with_attachment (plain_part r.0 (attachment_props name bytes))) b k r.1)
+touches_all T (AddAttachment message name held) w = let b = before T w in both_hold T (AddAttachment message name held) w _ (Touches T (AddAttachment message name held)) (effects.adds_attachment T message.bits name held b)
+    (λ o k r. remade T o message.bits (with_attachment (new_part r.0 name held)) b k r.1)
 touches_all T (AppendData message attachment bytes) w = let b = before T w in both_hold T (AppendData message attachment bytes) w _ (Touches T (AppendData message attachment bytes)) (effects.appends_data T message.bits attachment.bits bytes b)
     (λ o k r. remade T o message.bits (with_part (part_with (with_bytes (r.0.1 ++ bytes) r.0.0.props) r.0.0)) b k r.1)
+touches_all T (SetEmbedded message attachment node) w = let b = before T w in both_hold T (SetEmbedded message attachment node) w _ (Touches T (SetEmbedded message attachment node)) (effects.sets_embedded T message.bits attachment.bits node b)
+    (λ o k r. remade T o message.bits (with_part (part_holding node r.0)) b k r.1)
 touches_all T (RemoveAttachment message attachment) w = let b = before T w in both_hold T (RemoveAttachment message attachment) w _ (Touches T (RemoveAttachment message attachment)) (effects.removes_attachment T message.bits attachment.bits b)
     (λ o k r. remade T o message.bits (without_attachment attachment.bits) b k r)
 touches_all T (FetchData message attachment) w = reading T (FetchData message attachment) (reads_only T (FetchData message attachment) refl)

@@ -1,7 +1,7 @@
 -- A command touches the messages that its form says.
 use Rattle.std.proofs.Common.{◌≡◌, ℕ, List, [], Result, Ok, refl, ap, sym, subst, ◌∙◌, if◌then◌else◌}
 use Rattle.command_text.specs.declared.command.Command.{Command}
-use Rattle.command_text.specs.declared.command.Command.TheVariants.{MakeFolder, RenameFolder, MoveFolder, RemoveFolder, ListFolder, NewMessage, SetProperty, UnsetProperty, GetProperty, ListProperties, MoveMessage, CopyMessage, RemoveMessage, AddRecipient, RemoveRecipient, AddAttachment, AppendData, RemoveAttachment, FetchData, NameProperty, MakeSearch, SetCriteria, GetCriteria, Save, Quit}
+use Rattle.command_text.specs.declared.command.Command.TheVariants.{MakeFolder, RenameFolder, MoveFolder, RemoveFolder, ListFolder, NewMessage, SetProperty, UnsetProperty, GetProperty, ListProperties, MoveMessage, CopyMessage, RemoveMessage, AddRecipient, RemoveRecipient, AddAttachment, AppendData, RemoveAttachment, FetchData, NameProperty, MakeSearch, SetCriteria, GetCriteria, Save, Quit, SetEmbedded}
 use Rattle.mail_tree.specs.Folders.{Outcome}
 use Rattle.mail_tree.specs.Changing.{Answer}
 use Rattle.mail_tree.specs.Tree.{Tree}
@@ -32,8 +32,9 @@ touched_is T (CopyMessage message folder) o = refl
 touched_is T (RemoveMessage message) o = refl
 touched_is T (AddRecipient message kind address name) o = refl
 touched_is T (RemoveRecipient message row) o = refl
-touched_is T (AddAttachment message name bytes) o = refl
+touched_is T (AddAttachment message name held) o = refl
 touched_is T (AppendData message attachment bytes) o = refl
+touched_is T (SetEmbedded message attachment node) o = refl
 touched_is T (RemoveAttachment message attachment) o = refl
 touched_is T (FetchData message attachment) o = refl
 touched_is T (NameProperty guid number) o = refl

@@ -9,13 +9,13 @@ use Rattle.mapi_values.specs.Messages.{Mes}
 use Rattle.mapi_values.specs.Tables.{find_row}
 use Rattle.mapi_values.specs.Values.{Val}
 use Rattle.command_text.specs.declared.command.Command.{Command}
-use Rattle.command_text.specs.declared.command.Command.TheVariants.{MakeFolder, RenameFolder, MoveFolder, RemoveFolder, ListFolder, NewMessage, SetProperty, UnsetProperty, GetProperty, ListProperties, MoveMessage, CopyMessage, RemoveMessage, AddRecipient, RemoveRecipient, AddAttachment, AppendData, RemoveAttachment, FetchData, NameProperty, MakeSearch, SetCriteria, GetCriteria, Save, Quit}
+use Rattle.command_text.specs.declared.command.Command.TheVariants.{MakeFolder, RenameFolder, MoveFolder, RemoveFolder, ListFolder, NewMessage, SetProperty, UnsetProperty, GetProperty, ListProperties, MoveMessage, CopyMessage, RemoveMessage, AddRecipient, RemoveRecipient, AddAttachment, AppendData, RemoveAttachment, FetchData, NameProperty, MakeSearch, SetCriteria, GetCriteria, Save, Quit, SetEmbedded}
 use Rattle.command_text.specs.declared.reply.CommandRefusal.TheVariants.{Object as NoObject}
 use Rattle.mail_objects.specs.declared.object.Object.{Object}
 use Rattle.mail_tree.specs.Changing.{Answer, Changed, ◌>>=◌, as_message, contents, context_at, found, known, message_at, newest, nothing, now_at, refused_if, table_at, within_limits}
 use Rattle.mail_tree.specs.Folders.{Outcome, folder_in, making, unless_full, unless_plain}
 use Rattle.mail_tree.specs.Ids.{LAST_INDEX, greatest, is_spent, is_taken, is_used, message_kinds, new_id, next_index}
-use Rattle.mail_tree.specs.Messages.{added_attachment, added_recipient, appended_data, copied_message, copying, making_message, message_in, moved_message, new_message, parent_at, removed_attachment, removed_message, removed_recipient, set_value, unset_value, given_message}
+use Rattle.mail_tree.specs.Messages.{added_attachment, added_recipient, appended_data, copied_message, copying, making_message, message_in, moved_message, new_message, parent_at, removed_attachment, removed_message, removed_recipient, set_value, unset_value, given_message, set_embedded}
 use Rattle.mail_tree.specs.Places.{find_place, is_plain}
 use Rattle.mail_tree.specs.Step.{outcome}
 use Rattle.mail_tree.specs.Tree.{Tree, object_at}
@@ -122,7 +122,7 @@ module _ (T : Tree) where
       if_next New (message_in T m) _ (λ M. if_next New (folder_in T folder) _ (λ p. if_next New (unless_plain p) _ (λ u. if_next New _ _ (λ v. if_next New (unless_full T (contents folder)) _ (λ w. then_making _)))))
 
   pub stood : (c : Command) → IfOk (outcome T c) (Stood T (form_of c))
-  unfolding outcome set_value unset_value moved_message removed_message added_recipient removed_recipient added_attachment appended_data removed_attachment
+  unfolding outcome set_value unset_value moved_message removed_message added_recipient removed_recipient added_attachment appended_data set_embedded removed_attachment
   stood (MakeFolder parent name) = always (outcome T (MakeFolder parent name))
   stood (RenameFolder folder name) = always (outcome T (RenameFolder folder name))
   stood (MoveFolder folder parent) = always (outcome T (MoveFolder folder parent))
@@ -138,8 +138,9 @@ module _ (T : Tree) where
   stood (RemoveMessage message) = after_message message.bits _
   stood (AddRecipient message kind address name) = after_message message.bits _
   stood (RemoveRecipient message row) = after_message message.bits _
-  stood (AddAttachment message name bytes) = after_message message.bits _
+  stood (AddAttachment message name held) = after_message message.bits _
   stood (AppendData message attachment bytes) = after_message message.bits _
+  stood (SetEmbedded message attachment node) = after_message message.bits _
   stood (RemoveAttachment message attachment) = after_message message.bits _
   stood (FetchData message attachment) = always (outcome T (FetchData message attachment))
   stood (NameProperty guid number) = always (outcome T (NameProperty guid number))

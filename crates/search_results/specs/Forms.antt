@@ -2,7 +2,7 @@
 use Rattle.std.specs.Prelude.{◌≡◌, true, List, [], ◌∷◌, None, Ok, if◌then◌else◌}
 use Rattle.std.specs.Option.{is_some}
 use Rattle.command_text.specs.declared.command.Command.{Command}
-use Rattle.command_text.specs.declared.command.Command.TheVariants.{MakeFolder, RenameFolder, MoveFolder, RemoveFolder, ListFolder, NewMessage, SetProperty, UnsetProperty, GetProperty, ListProperties, MoveMessage, CopyMessage, RemoveMessage, AddRecipient, RemoveRecipient, AddAttachment, AppendData, RemoveAttachment, FetchData, NameProperty, MakeSearch, SetCriteria, GetCriteria, Save, Quit}
+use Rattle.command_text.specs.declared.command.Command.TheVariants.{MakeFolder, RenameFolder, MoveFolder, RemoveFolder, ListFolder, NewMessage, SetProperty, UnsetProperty, GetProperty, ListProperties, MoveMessage, CopyMessage, RemoveMessage, AddRecipient, RemoveRecipient, AddAttachment, AppendData, RemoveAttachment, FetchData, NameProperty, MakeSearch, SetCriteria, GetCriteria, Save, Quit, SetEmbedded}
 use Rattle.command_text.specs.declared.reply.LastLine.{LastLine}
 use Rattle.command_text.specs.declared.reply.LastLine.TheVariants.{Made}
 use Rattle.mail_tree.specs.Changing.{Answer, as_message}
@@ -30,8 +30,9 @@ form_of (CopyMessage message folder) = forms.Made
 form_of (RemoveMessage message) = forms.Message message
 form_of (AddRecipient message kind address name) = forms.Message message
 form_of (RemoveRecipient message row) = forms.Message message
-form_of (AddAttachment message name bytes) = forms.Message message
+form_of (AddAttachment message name held) = forms.Message message
 form_of (AppendData message attachment bytes) = forms.Message message
+form_of (SetEmbedded message attachment node) = forms.Message message
 form_of (RemoveAttachment message attachment) = forms.Message message
 form_of (FetchData message attachment) = forms.Nothing
 form_of (NameProperty guid number) = forms.Nothing

@@ -32,6 +32,7 @@ pub(crate) fn form_of(command: &Command) -> TouchForm
         Command::RemoveRecipient { message, .. } => TouchForm::Message(*message),
         Command::AddAttachment { message, .. } => TouchForm::Message(*message),
         Command::AppendData { message, .. } => TouchForm::Message(*message),
+        Command::SetEmbedded { message, .. } => TouchForm::Message(*message),
         Command::RemoveAttachment { message, .. } => TouchForm::Message(*message),
         Command::MoveFolder { folder, parent } => TouchForm::Within {
             folder: *folder,

@@ -10,7 +10,7 @@ use Rattle.search_obj.specs.Crits.{Crit, CritSet}
 use Rattle.search_obj.specs.Flags.{flags_of}
 use Rattle.search_obj.specs.Writing.{written}
 use Rattle.command_text.specs.declared.command.Command.{Command}
-use Rattle.command_text.specs.declared.command.Command.TheVariants.{MakeFolder, RenameFolder, MoveFolder, RemoveFolder, ListFolder, NewMessage, SetProperty, UnsetProperty, GetProperty, ListProperties, MoveMessage, CopyMessage, RemoveMessage, AddRecipient, RemoveRecipient, AddAttachment, AppendData, RemoveAttachment, FetchData, NameProperty, Save, Quit, MakeSearch, SetCriteria, GetCriteria}
+use Rattle.command_text.specs.declared.command.Command.TheVariants.{MakeFolder, RenameFolder, MoveFolder, RemoveFolder, ListFolder, NewMessage, SetProperty, UnsetProperty, GetProperty, ListProperties, MoveMessage, CopyMessage, RemoveMessage, AddRecipient, RemoveRecipient, AddAttachment, AppendData, RemoveAttachment, FetchData, NameProperty, Save, Quit, MakeSearch, SetCriteria, GetCriteria, SetEmbedded}
 use Rattle.command_text.specs.declared.reply.CommandRefusal.TheVariants as refusals
 use Rattle.command_text.specs.declared.reply.Limit.TheVariants.{Depth}
 use Rattle.command_text.specs.declared.reply.LastLine.TheVariants.{Done}
@@ -182,8 +182,9 @@ module _ (X : Searching) where
   right_all (RemoveMessage message) = right_plain (RemoveMessage message)
   right_all (AddRecipient message kind address name) = right_plain (AddRecipient message kind address name)
   right_all (RemoveRecipient message row) = right_plain (RemoveRecipient message row)
-  right_all (AddAttachment message name bytes) = right_plain (AddAttachment message name bytes)
+  right_all (AddAttachment message name held) = right_plain (AddAttachment message name held)
   right_all (AppendData message attachment bytes) = right_plain (AppendData message attachment bytes)
+  right_all (SetEmbedded message attachment node) = right_plain (SetEmbedded message attachment node)
   right_all (RemoveAttachment message attachment) = right_plain (RemoveAttachment message attachment)
   right_all (FetchData message attachment) = right_plain (FetchData message attachment)
   right_all (NameProperty guid number) = right_plain (NameProperty guid number)

@@ -136,6 +136,7 @@ pub(crate) fn outcome<W: Outside, K: Keeper<W>, L: Ledger>(
         | Command::RemoveRecipient { .. }
         | Command::AddAttachment { .. }
         | Command::AppendData { .. }
+        | Command::SetEmbedded { .. }
         | Command::RemoveAttachment { .. }
         | Command::FetchData { .. }
         | Command::NameProperty { .. }

@@ -3,7 +3,7 @@ use Rattle.mapi_values.specs.Messages.{Mes}
 use Rattle.mail_tree.specs.Changing.{nothing, now_at}
 use Rattle.mail_tree.specs.Folders.{Outcome, made_folder, moved_folder, nid, removed_folder}
 use Rattle.mail_laws.specs.Laws.{AreCountedBut, CountsOf, message_with}
-use Rattle.mail_tree.specs.Messages.{added_attachment, added_recipient, appended_data, copied_message, moved_message, new_message, removed_attachment, removed_message, removed_recipient, set_value, unset_value}
+use Rattle.mail_tree.specs.Messages.{added_attachment, added_recipient, appended_data, copied_message, moved_message, new_message, removed_attachment, removed_message, removed_recipient, set_value, unset_value, set_embedded}
 use Rattle.mail_tree.specs.Step.{after, outcome}
 use Rattle.mail_tree.specs.Tree.{Tree}
 use Rattle.mail_tree.proofs.AfterTree.{after_now}
@@ -43,8 +43,9 @@ returns c = record {
   removes = λ T m w. let b = before T w in if_weaker (Home T b (λ x. Unit {0}) (any T) m.bits) _ (removed_message T m.bits) (removes T b (λ x. Unit {0}) (any T) m.bits) (λ o k. home T b m.bits o k);
   adds_recipient = λ T m kind address name w. let b = before T w in if_weaker (Home T b (λ x. Unit {0}) (any T) m.bits) _ (added_recipient T m.bits kind address name) (adds_recipient T b (λ x. Unit {0}) (any T) m.bits kind address name) (λ o k. home T b m.bits o k);
   removes_recipient = λ T m row w. let b = before T w in if_weaker (Home T b (λ x. Unit {0}) (any T) m.bits) _ (removed_recipient T m.bits row) (removes_recipient T b (λ x. Unit {0}) (any T) m.bits row) (λ o k. home T b m.bits o k);
-  adds_attachment = λ T m name bytes w. let b = before T w in if_weaker (Home T b (λ x. Unit {0}) (any T) m.bits) _ (added_attachment T m.bits name bytes) (adds_attachment T b (λ x. Unit {0}) (any T) m.bits name bytes) (λ o k. home T b m.bits o k);
+  adds_attachment = λ T m name held w. let b = before T w in if_weaker (Home T b (λ x. Unit {0}) (any T) m.bits) _ (added_attachment T m.bits name held) (adds_attachment T b (λ x. Unit {0}) (any T) m.bits name held) (λ o k. home T b m.bits o k);
   appends_data = λ T m n bytes w. let b = before T w in if_weaker (Home T b (λ x. Unit {0}) (any T) m.bits) _ (appended_data T m.bits n.bits bytes) (appends_data T b (λ x. Unit {0}) (any T) m.bits n.bits bytes) (λ o k. home T b m.bits o k);
+  sets_embedded = λ T m n node w. let b = before T w in if_weaker (Home T b (λ x. Unit {0}) (any T) m.bits) _ (set_embedded T m.bits n.bits node) (sets_embedded T b (λ x. Unit {0}) (any T) m.bits n.bits node) (λ o k. home T b m.bits o k);
   removes_attachment = λ T m n w. let b = before T w in if_weaker (Home T b (λ x. Unit {0}) (any T) m.bits) _ (removed_attachment T m.bits n.bits) (removes_attachment T b (λ x. Unit {0}) (any T) m.bits n.bits) (λ o k. home T b m.bits o k);
   moves = λ T m folder w. let b = before T w in if_weaker (Moved T b (λ x. Unit {0}) (any T) m.bits folder.bits) _ (moved_message T m.bits folder.bits) (moves T b (λ x. Unit {0}) (any T) m.bits folder.bits)
       (λ o k. (k.0, was_message T m.bits k.0 k.1, λ other. both_right T b k.0.folder folder.bits o (k.3 other)));
