@@ -39,7 +39,7 @@ pub use ending::finish;
 pub use flags::{flag_changes, flag_of};
 pub use glance::{content_at, glance_of, has_row, message_content, number_told, text_told};
 pub use ids::{new_id, next_index};
-pub use limits::within_limits;
+pub use limits::{crowds_message, within_limits};
 pub use listed::{message_ids, message_ids_at};
 pub use on_keeper::StoreDesk;
 pub use outcome::Outcome;

@@ -97,7 +97,7 @@ fn crowds_part(old: &Mail, part: &Part) -> bool
 }
 
 /// Whether a message, or an attachment of it, has more than 1,000 properties, and more than it had.
-fn crowds_message(old: &Mail, mail: &Mail) -> bool
+pub fn crowds_message(old: &Mail, mail: &Mail) -> bool
     ensures { result ≡ crowds_message old.now mail.now }
 {
     let message = mail.message();

@@ -217,7 +217,7 @@ fine_fetched_data T m n w = fine_then _ (Keeps T) (message_in T m) _ (fine_messa
     after_found (Keeps T) NoObject (part_in n M) _ (λ part is. after_found (Keeps T) NoProperty (value_of data_tag part.props) _ (λ v is'. w)))
 
 -- the names are there
-fine_nameless : (T : Tree) (id : ℕ) → Before T → Fine (unless_nameless T id) (λ u. Unit {0})
+pub fine_nameless : (T : Tree) (id : ℕ) → Before T → Fine (unless_nameless T id) (λ u. Unit {0})
 unfolding unless_nameless names_in
 fine_nameless T id w =
     let names = w.names in

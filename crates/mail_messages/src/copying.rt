@@ -22,7 +22,7 @@ use pst_base::Nid;
 const MOST_ROWS: usize = 100_000;
 
 /// Whether a table has more rows than a command may give one.
-fn is_overfull(table: &Option<Table>) -> bool
+pub fn is_overfull(table: &Option<Table>) -> bool
     ensures { result ≡ is_overfull table.now }
 {
     match table {

@@ -21,6 +21,7 @@ mod reading;
 mod removing;
 mod values;
 
+pub use copying::is_overfull;
 pub use details::rows_of;
 pub use ending::Ending;
 pub use entry::{
@@ -28,4 +29,6 @@ pub use entry::{
     remove_message, set_value, unset_value,
 };
 pub use mail_names;
-pub use reading::tell_value;
+pub use mails::{finished, with_value, without_value};
+pub use reading::{details_reply, reply_of, tell_value};
+pub use values::{check_set, check_unset};

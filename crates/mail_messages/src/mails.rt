@@ -88,7 +88,7 @@ fn finish(alloc: Global, message: &mut Message) -> Result<(), AllocError>
 
 /// The message with its flags and its size right. It is lost with an `Err`.
 #[tactic(auto, unfolding(mail_tree::specs::Values::finished, mail_objects::specs::Message::is_formed))]
-pub(crate) fn finished(alloc: Global, mail: Mail) -> Result<Mail, AllocError>
+pub fn finished(alloc: Global, mail: Mail) -> Result<Mail, AllocError>
     ensures { IfOk result (λ m. m ≡ finished mail) }
 {
     let mut message = mail.into_message();
@@ -105,7 +105,7 @@ fn put_copy(alloc: Global, props: &mut Props, value: &Value) -> Result<(), Alloc
 
 /// The same message with a value in place of the one of its id. It is lost with an `Err`.
 #[tactic(auto, unfolding(mail_objects::specs::Message::is_formed))]
-pub(crate) fn with_value(alloc: Global, mail: Mail, value: &Value) -> Result<Mail, AllocError>
+pub fn with_value(alloc: Global, mail: Mail, value: &Value) -> Result<Mail, AllocError>
     ensures { IfOk result (λ m. m ≡ with_props (put value.now mail.props) mail) }
 {
     let mut message = mail.into_message();
@@ -115,7 +115,7 @@ pub(crate) fn with_value(alloc: Global, mail: Mail, value: &Value) -> Result<Mai
 
 /// The same message without the value of this id.
 #[tactic(auto, unfolding(mail_objects::specs::Message::is_formed))]
-pub(crate) fn without_value(mail: Mail, id: u16) -> Mail
+pub fn without_value(mail: Mail, id: u16) -> Mail
     ensures { result ≡ with_props (remove_id id mail.props) mail }
 {
     let mut message = mail.into_message();

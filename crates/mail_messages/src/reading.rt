@@ -55,7 +55,7 @@ pub fn tell_value(alloc: Global, props: &Props, tag: Tag) -> Result<Outcome, Sto
 }
 
 /// The value of a message of this id and kind as a reply. Refused where there is none.
-fn reply_of(alloc: Global, mail: &Mail, tag: Tag) -> Result<Reply, Stop>
+pub fn reply_of(alloc: Global, mail: &Mail, tag: Tag) -> Result<Reply, Stop>
     ensures answer { Says (λ r. r) (value_reply tag mail.now.props) result }
     ensures cause { IfErr result IsCalm }
 {
@@ -74,7 +74,7 @@ pub fn get_value<D: Desk>(desk: &mut D, message: Nid, tag: Tag) -> Result<Coming
 }
 
 /// The lines that tell of a message as a reply.
-fn details_reply(alloc: Global, mail: &Mail) -> Result<Reply, AllocError>
+pub fn details_reply(alloc: Global, mail: &Mail) -> Result<Reply, AllocError>
     ensures { IfOk result (λ reply. reply ≡ listed (detail_lines mail.now)) }
 {
     let lines = detail_lines(alloc, mail)?;

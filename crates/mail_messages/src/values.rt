@@ -54,7 +54,7 @@ fn is_unset_protected(tag: Tag, props: &Props) -> bool
 }
 
 /// Checks that a value of this id isn't the store's own.
-fn check_set(id: u16, mail: &Mail) -> Result<(), Stop>
+pub fn check_set(id: u16, mail: &Mail) -> Result<(), Stop>
     ensures answer { Says (λ u. u) (may_set id mail.now.props) result }
     ensures cause { IfErr result IsCalm }
 {
@@ -65,7 +65,7 @@ fn check_set(id: u16, mail: &Mail) -> Result<(), Stop>
 }
 
 /// Checks that the value of this tag may be removed.
-fn check_unset(tag: Tag, mail: &Mail) -> Result<(), Stop>
+pub fn check_unset(tag: Tag, mail: &Mail) -> Result<(), Stop>
     ensures answer { Says (λ u. u) (may_unset tag mail.now.props) result }
     ensures cause { IfErr result IsCalm }
 {

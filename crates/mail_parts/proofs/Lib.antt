@@ -1,4 +1,6 @@
 pub mod PartTables
+pub mod Subnodes
 pub mod PartChanges
 pub mod KeptIds
 pub mod Tests
+pub use Rattle.mail_messages.proofs as mail_messages_laws

@@ -16,7 +16,10 @@ use Rattle.node_values.specs.Subnodes.{ids_ascend}
 use Rattle.pst_base.specs.Ids.{nid_of}
 use Rattle.mail_tree.specs.Changing.{shown_row}
 use Rattle.mail_tree.specs.Ids.{is_spent, new_id}
-use Rattle.mail_tree.specs.Parts.{attachment_tags, attachments_for, greatest_kept, greatest_part, next_part, part_in, part_nid, part_row, plain_part, room_for, with_part, without_attachment}
+use Rattle.mail_tree.specs.Parts.{attachment_tags, attachments_for, greatest_kept, greatest_part, held_subnodes, new_part, next_part, part_in, part_nid, part_row, room_for, with_part, without_attachment}
+use Rattle.command_text.specs.declared.command.Held.{Held}
+use Rattle.command_text.specs.declared.command.Held.TheVariants.{Data, Message}
+use Rattle.mail_parts.proofs.Subnodes.{one_ascends}
 use Rattle.mail_tree.proofs.PartLaws.{ids_drop, ids_put, kept_still, past_kept}
 
 -- equal keys ascend alike
@@ -152,11 +155,16 @@ back_free M k old part ascend found others is =
     subst (λ (n : ℕ). are_others (put_key part_id part (drop_key part_id n M.parts)) M.kept ≡ true) is
     (rw (put_drop part_id 0 part M.parts ascend) (kept_still M.parts old part M.kept (ap (λ (n : ℕ). find_key part_id n M.parts) is ∙ found) others))
 
+-- what an attachment holds stands in order
+held_ascend : (held : Held) → ids_ascend 0 (held_subnodes held) ≡ true
+held_ascend (Data bytes) = refl
+held_ascend (Message bytes node) = one_ascends node
+
 -- the id of a new attachment is that of no table
-pub new_formed : (index : ℕ) (props : List Val) → part_is_formed (plain_part (part_nid index) props) ≡ true
-new_formed index props =
+pub new_formed : (index : ℕ) (name : List ℕ) (held : Held) → part_is_formed (new_part (part_nid index) name held) ≡ true
+new_formed index name held =
     let n = min index 134217727 * 32 + 5 in
-    rw (ne_eqb n 0x692 (λ e. omega arith), ne_eqb n 0x671 (λ e. omega arith)) refl
+    rw (held_ascend held, ne_eqb n 0x692 (λ e. omega arith), ne_eqb n 0x671 (λ e. omega arith)) refl
 
 -- where a message gets an attachment of the next index, what it keeps is beside it
 pub room_free : (M : Mes) (part : Part) → part_id part ≡ new_id 5 (next_part M) → are_others M.parts M.kept ≡ true → are_others (put_key part_id part M.parts) (room_for (next_part M) M).kept ≡ true

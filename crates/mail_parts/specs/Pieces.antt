@@ -1,6 +1,8 @@
 -- The commands on recipients and attachments, part by part.
 use Rattle.std.specs.Prelude.{ℕ, List, not, None}
 use Rattle.std.specs.Option.{is_some}
+use Rattle.pst_base.specs.declared.subs.Sub.{Sub}
+use Rattle.command_text.specs.declared.command.Held.{Held}
 use Rattle.command_text.specs.declared.reply.CommandRefusal.TheVariants.{Limit, Object, Property}
 use Rattle.command_text.specs.declared.reply.Limit.TheVariants.{Rows}
 use Rattle.command_text.specs.declared.reply.LastLine.TheVariants.{Done}
@@ -12,7 +14,7 @@ use Rattle.mail_tree.specs.Values.{bytes_of}
 use Rattle.mail_tree.specs.Changing.{Answer, ◌>>=◌, found, refused_if}
 use Rattle.mail_tree.specs.Folders.{Outcome}
 use Rattle.mail_tree.specs.Messages.{adding_attachment, adding_recipient, appending, remaking}
-use Rattle.mail_tree.specs.Parts.{attachment_tags, data_tag, has_recipient, is_full, is_wide, next_part, next_row, part_in, recipient_tags, rows_of, without_attachment, without_recipient}
+use Rattle.mail_tree.specs.Parts.{attachment_tags, data_tag, has_recipient, is_full, is_wide, next_part, next_row, part_holding, part_in, recipient_tags, rows_of, with_part, without_attachment, without_recipient}
 use Rattle.mail_messages.specs.Parts.{telling_value}
 
 -- a message with a recipient table that has room gets a recipient
@@ -28,12 +30,16 @@ abbrev pub removing_one : Tree → ℕ → Mes → Answer Outcome
 removing_one T row M = refused_if (not (has_recipient row M)) Object >>= λ u. remaking T (without_recipient row M) None Done
 
 -- a message with an attachment table that has room gets an attachment
-abbrev pub attaching_to : Tree → Mes → List Val → Answer Outcome
-attaching_to T M props = refused_if (is_wide attachment_tags M.attachments) (Limit Rows) >>= λ u. adding_attachment T M props (next_part M)
+abbrev pub attaching_to : Tree → Mes → List ℕ → Held → Answer Outcome
+attaching_to T M name held = refused_if (is_wide attachment_tags M.attachments) (Limit Rows) >>= λ u. adding_attachment T M name held (next_part M)
 
--- a message gets an attachment of these values
-abbrev pub attaching : Tree → Mes → List Val → Answer Outcome
-attaching T M props = refused_if (is_full M.attachments) (Limit Rows) >>= λ u. attaching_to T M props
+-- a message gets an attachment of this name that holds this
+abbrev pub attaching : Tree → Mes → List ℕ → Held → Answer Outcome
+attaching T M name held = refused_if (is_full M.attachments) (Limit Rows) >>= λ u. attaching_to T M name held
+
+-- an attachment of a message gets another message
+abbrev pub holding_in : Tree → ℕ → Sub → Mes → Answer Outcome
+holding_in T n node M = found Object (part_in n M) >>= λ part. remaking T (with_part (part_holding node part) M) None Done
 
 -- a message loses the attachment with this id
 abbrev pub detaching : Tree → ℕ → Mes → Answer Outcome

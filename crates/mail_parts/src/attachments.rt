@@ -7,24 +7,24 @@ ghost use Rattle.mail_tree.specs.Knowing.{Knows};
 ghost use Rattle.mail_tree.specs.Tree.{Shown, Tree};
 ghost use Rattle.mail_tree.specs.Changing.{refused_if};
 ghost use Rattle.mail_tree.specs.Messages.{added_attachment, fetched_data, removed_attachment, spent_index};
-ghost use Rattle.mail_tree.specs.Parts.{attachment_tags, is_full, is_wide, next_part, part_nid, plain_part, room_for, with_attachment};
+ghost use Rattle.mail_tree.specs.Parts.{attachment_tags, is_full, is_wide, next_part, part_nid, new_part, room_for, with_attachment};
 ghost use Rattle.mail_draft.specs.Outcomes.{outcome_of};
 ghost use Rattle.mail_draft.specs.Answers.{IsCalm, IsCaused, Looks, Says};
 ghost use Rattle.mail_parts.specs.Pieces.{attaching, attaching_to, detaching, telling_data};
 
 use crate::part_ids::next_part;
 use crate::part_places::part_in;
-use crate::part_values::attachment_props;
+use crate::part_values::{attachment_props, held_subnodes};
 use crate::with_attachments::{LAST_INDEX, room_for, take_attachment, with_part, with_table};
-use command_text::{CommandRefusal, LastLine, Limit};
+use command_text::{CommandRefusal, Held, LastLine, Limit};
 use mail_draft::{Outcome, Stop, new_id};
 use mail_messages::{Ending, message_in, remake_message, rows_of, tell_value};
 use mail_objects::Mail;
 use mail_tree::{Known, Places};
 use mapi_values::tags::PID_TAG_ATTACH_DATA_BINARY;
-use mapi_values::{Part, Props, Units};
+use mapi_values::{Part, Units};
 use node_port::NodeReader;
-use pst_base::{Bytes, Nid, Subs};
+use pst_base::Nid;
 use pst_outside::Outside;
 use std::alloc::{AllocError, Global};
 
@@ -47,46 +47,53 @@ fn attachment_ending(index: u64) -> Ending
     }
 }
 
-/// The message with an attachment of the next index and these values; `None` where its table would have more than 255 columns. It is lost with an `Err`.
-fn with_attachment(
+/// A new attachment of this index and name that holds this. An `Err` says that memory ran out, or that the data or the name is too long for a value.
+fn new_part(alloc: Global, index: u64, name: &Units, held: &Held) -> Result<Part, AllocError>
+    ensures { IfOk result (λ part. part ≡ new_part (part_nid index) name.now held.now) }
+{
+    Ok(Part {
+        nid: new_id(5, index),
+        props: attachment_props(alloc, name, held)?,
+        kept: held_subnodes(alloc, held)?,
+    })
+}
+
+/// The message with an attachment of the next index and this name that holds this; `None` where its table would have more than 255 columns. It is lost with an `Err`, which says that memory ran out, or that the data or the name is too long for a value.
+pub fn with_attachment(
     alloc: Global,
     mail: Mail,
     index: u64,
-    props: Props,
+    name: &Units,
+    held: &Held,
 ) -> Result<Option<Mail>, AllocError>
     requires { index ≡ next_part mail }
-    ensures { IfOk result (λ m. m ≡ (if is_wide attachment_tags mail.attachments then None else Some (with_attachment (plain_part (part_nid index) props) (room_for index mail)))) }
+    ensures { IfOk result (λ m. m ≡ (if is_wide attachment_tags mail.attachments then None else Some (with_attachment (new_part (part_nid index) name.now held.now) (room_for index mail)))) }
 {
+    let part = new_part(alloc, index, name, held)?;
     let room = room_for(alloc, index, mail);
     let tabled = with_table(alloc, room)?;
     match tabled {
-        Some(mail) => {
-            let part = Part {
-                nid: new_id(5, index),
-                props,
-                kept: Subs::new(alloc),
-            };
-            Ok(Some(with_part(alloc, mail, part)?))
-        }
+        Some(mail) => Ok(Some(with_part(alloc, mail, part)?)),
         None => Ok(None),
     }
 }
 
-/// Gives a message an attachment of these values. Refused where its table would have too many columns.
+/// Gives a message an attachment of this name that holds this. Refused where its table would have too many columns.
 fn attach_to<W: Outside, K: NodeReader<W>>(
     alloc: Global,
     keeper: &mut K,
     w: &mut W,
     known: &Known,
     mail: Mail,
-    props: Props,
+    name: &Units,
+    held: &Held,
 ) -> Result<Outcome, Stop>
-    ensures answer { (T : Tree) → Shown (K.holds keeper.old (W.view w.old)) (K.last keeper.old) T → Knows T known.now → Says (outcome_of T) (attaching_to T mail props) result }
+    ensures answer { (T : Tree) → Shown (K.holds keeper.old (W.view w.old)) (K.last keeper.old) T → Knows T known.now → Says (outcome_of T) (attaching_to T mail name.now held.now) result }
     ensures looks { Looks (K.holds keeper.old (W.view w.old)) (K.holds keeper.new (W.view w.new)) (K.last keeper.old) (K.last keeper.new) (K.room keeper.old) (K.room keeper.new) (W.view w.old) (W.view w.new) }
     ensures cause { IfErr result (IsCaused K.has_disk (W.view w.old).disk_faults (W.view w.new).disk_faults) }
 {
     let index = next_part(&mail);
-    let added = with_attachment(alloc, mail, index, props)?;
+    let added = with_attachment(alloc, mail, index, name, held)?;
     match added {
         Some(mail) => { remake_message(alloc, keeper, w, known, mail, attachment_ending(index)) }
         None => Err(Stop::Refused(CommandRefusal::Limit(Limit::Rows))),
@@ -104,24 +111,25 @@ fn check_room(mail: &Mail) -> Result<(), Stop>
     Ok(())
 }
 
-/// Gives a message an attachment of these values.
+/// Gives a message an attachment of this name that holds this.
 fn attach_one<W: Outside, K: NodeReader<W>>(
     alloc: Global,
     keeper: &mut K,
     w: &mut W,
     known: &Known,
     mail: Mail,
-    props: Props,
+    name: &Units,
+    held: &Held,
 ) -> Result<Outcome, Stop>
-    ensures answer { (T : Tree) → Shown (K.holds keeper.old (W.view w.old)) (K.last keeper.old) T → Knows T known.now → Says (outcome_of T) (attaching T mail props) result }
+    ensures answer { (T : Tree) → Shown (K.holds keeper.old (W.view w.old)) (K.last keeper.old) T → Knows T known.now → Says (outcome_of T) (attaching T mail name.now held.now) result }
     ensures looks { Looks (K.holds keeper.old (W.view w.old)) (K.holds keeper.new (W.view w.new)) (K.last keeper.old) (K.last keeper.new) (K.room keeper.old) (K.room keeper.new) (W.view w.old) (W.view w.new) }
     ensures cause { IfErr result (IsCaused K.has_disk (W.view w.old).disk_faults (W.view w.new).disk_faults) }
 {
     check_room(&mail)?;
-    attach_to(alloc, keeper, w, known, mail, props)
+    attach_to(alloc, keeper, w, known, mail, name, held)
 }
 
-/// Gives a message an attachment with a file name and data, under the id whose index follows the greatest of its subnodes of that kind. Refused, in this order: the message isn't there (`Object`), its table of attachments would have too many rows or columns (`Limit(Rows)`), an object would have too many values (`Limit(Properties)`), no index is left (`Ids`).
+/// Gives a message an attachment with a file name that holds data or a message, under the id whose index follows the greatest of its subnodes of that kind. Refused, in this order: the message isn't there (`Object`), its table of attachments would have too many rows or columns (`Limit(Rows)`), an object would have too many values (`Limit(Properties)`), no index is left (`Ids`).
 pub fn attach<W: Outside, K: NodeReader<W>>(
     alloc: Global,
     keeper: &mut K,
@@ -129,15 +137,14 @@ pub fn attach<W: Outside, K: NodeReader<W>>(
     known: &Known,
     message: Nid,
     name: &Units,
-    bytes: &Bytes,
+    held: &Held,
 ) -> Result<Outcome, Stop>
-    ensures answer { (T : Tree) → Shown (K.holds keeper.old (W.view w.old)) (K.last keeper.old) T → Knows T known.now → Says (outcome_of T) (added_attachment T message.bits name.now bytes.now) result }
+    ensures answer { (T : Tree) → Shown (K.holds keeper.old (W.view w.old)) (K.last keeper.old) T → Knows T known.now → Says (outcome_of T) (added_attachment T message.bits name.now held.now) result }
     ensures looks { Looks (K.holds keeper.old (W.view w.old)) (K.holds keeper.new (W.view w.new)) (K.last keeper.old) (K.last keeper.new) (K.room keeper.old) (K.room keeper.new) (W.view w.old) (W.view w.new) }
     ensures cause { IfErr result (IsCaused K.has_disk (W.view w.old).disk_faults (W.view w.new).disk_faults) }
 {
     let mail = message_in(alloc, keeper, w, &known.places, message)?;
-    let props = attachment_props(alloc, name, bytes)?;
-    attach_one(alloc, keeper, w, known, mail, props)
+    attach_one(alloc, keeper, w, known, mail, name, held)
 }
 
 /// Removes the attachment with this id from a message.

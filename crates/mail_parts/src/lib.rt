@@ -7,6 +7,7 @@
 
 mod appending;
 mod attachments;
+mod embedding;
 mod part_ids;
 mod part_places;
 mod part_values;
@@ -15,7 +16,12 @@ mod with_attachments;
 mod with_recipients;
 
 pub use appending::append;
-pub use attachments::{attach, detach, fetch};
+pub use attachments::{attach, detach, fetch, with_attachment};
+pub use embedding::set_embedded;
+pub use mail_draft;
 pub use mail_messages;
 pub use mail_messages::mail_names;
+pub use part_ids::next_part;
+pub use part_places::part_in;
 pub use recipients::{add_recipient, remove_recipient};
+pub use with_attachments::LAST_INDEX;

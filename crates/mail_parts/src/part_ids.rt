@@ -41,7 +41,7 @@ fn greatest_kept(kept: &Subs) -> u32
 
 /// The index that follows 400h and those of all subnodes of an attachment's kind directly in the message. It may be past the last one.
 #[tactic(auto, unfolding(mail_tree::specs::Parts::next_part))]
-pub(crate) fn next_part(mail: &Mail) -> u64
+pub fn next_part(mail: &Mail) -> u64
     ensures { result ≡ next_part mail.now }
 {
     let message = mail.message();

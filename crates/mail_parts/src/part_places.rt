@@ -29,7 +29,7 @@ pub(crate) fn place(mail: &Mail, nid: Nid) -> Result<usize, usize>
 }
 
 /// The attachment of a message with this id.
-pub(crate) fn part_in(mail: &Mail, nid: Nid) -> Option<&Part>
+pub fn part_in(mail: &Mail, nid: Nid) -> Option<&Part>
     ensures { option_copied result ≡ part_in nid.bits mail.now }
 {
     match place(mail, nid) {

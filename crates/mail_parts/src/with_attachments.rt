@@ -26,7 +26,7 @@ const ATTACHMENT_TAGS: [Tag; 4] = [
 ];
 
 /// The last index of a node or a subnode.
-pub(crate) const LAST_INDEX: u64 = 134_217_727;
+pub const LAST_INDEX: u64 = 134_217_727;
 
 /// A table of attachments in which the row of each shows it. The table is lost with an `Err`.
 fn shown_anew(alloc: Global, parts: &[Part], table: Table) -> Result<Table, AllocError>

@@ -1,6 +1,7 @@
 pub mod AskLaws
 pub mod Ending
 pub mod LineLaws
+pub mod EmbeddingLaws
 pub mod ViewLaws
 pub mod MakeLaws
 pub mod PinnedKeeps

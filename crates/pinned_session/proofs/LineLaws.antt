@@ -11,15 +11,19 @@ use Rattle.node_port.specs.Stops.{Room}
 use Rattle.mail_searches.specs.Searching.{Searching}
 use Rattle.session_lines.specs.Lines.{session_line}
 use Rattle.session_lines.specs.declared.line.SessionLine.{SessionLine}
-use Rattle.session_lines.specs.declared.line.SessionLine.TheVariants.{Pin, At, Unpin, OpenView, ShowView, CloseView, Command as StoreCommand}
+use Rattle.session_lines.specs.declared.line.SessionLine.TheVariants.{Pin, At, Unpin, OpenView, ShowView, CloseView, Embedded, Command as StoreCommand}
 use Rattle.store_session.specs.Carrying.{CarriesOut, IsCaused}
 use Rattle.store_session.specs.Disks.{Effects, Medium, SameMedium, medium}
 use Rattle.store_session.specs.Run.{CommandAnswers}
+use Rattle.store_session.specs.mail_draft.declared.stop.Stop.{Stop}
+use Rattle.store_session.specs.mail_draft.declared.stop.Stop.TheVariants.{Refused, Fault, Changed as StopChanged, Memory}
+use Rattle.mail_embedding.specs.declared.meaning.Meaning.{Meaning}
+use Rattle.mail_embedding.specs.declared.meaning.Meaning.TheVariants.{Replies, Becomes}
 use Rattle.store_session.specs.declared.carrying.StoreStop.{StoreStop}
 use Rattle.store_session.specs.declared.carrying.StoreStop.TheVariants.{Disk, Changed}
 use Rattle.store_session.proofs.Between.{command_on, same_between}
 use Rattle.pinned_session.specs.Lines.{AnswersLine, StopsLine}
-use Rattle.pinned_session.specs.Run.{Answers, Carries, SaysTo, Stays}
+use Rattle.pinned_session.specs.Run.{Answers, Carries, CarriesMeant, SaysTo, Stays}
 use Rattle.pinned_session.specs.Sitting.{Sitting, pins_of, with_tree}
 
 -- ---- what was carried out, seen otherwise
@@ -82,8 +86,16 @@ module _ (effects : Pins → Effects) (room : Room) (S : Sitting) {old from new 
   disk_on : (told → SameMedium old new) → also → SameMedium from to
   disk_on same t = same_between (starts t) (ends t) (same (tells t))
 
-  stays_on : (Z : Sitting) → Stays effects room S old told Z new → Stays effects room S from also Z to
+  pub stays_on : (Z : Sitting) → Stays effects room S old told Z new → Stays effects room S from also Z to
   stays_on Z is = (is.0, disk_on is.1)
+
+  pub meant_on : (meant : Result Meaning Stop) (said : List ℕ) (Z : Sitting) → CarriesMeant effects room S old told meant said Z new → CarriesMeant effects room S from also meant said Z to
+  meant_on (Ok (Replies reply)) said Z is = (is.0, stays_on Z is.1)
+  meant_on (Ok (Becomes c)) said Z is = (is.0, command_on (effects (pins_of S)) room S.now tells starts ends c said is.0 is.1, is.2)
+  meant_on (Err (Refused refusal)) said Z is = (is.0, stays_on Z is.1)
+  meant_on (Err Fault) said Z is = is
+  meant_on (Err (StopChanged ib stored computed)) said Z is = is
+  meant_on (Err Memory) said Z is = is
 
   carries_on : (asked : Result SessionLine LineRefusal) (said : List ℕ) (Z : Sitting) → Carries effects room S old told asked said Z new → Carries effects room S from also asked said Z to
   carries_on (Ok (StoreCommand c)) said Z is = (is.0, command_on (effects (pins_of S)) room S.now tells starts ends c said is.0 is.1, is.2)
@@ -94,6 +106,7 @@ module _ (effects : Pins → Effects) (room : Room) (S : Sitting) {old from new 
   carries_on (Ok (OpenView folder tag direction)) said Z is = (is.0, is.1, is.2, disk_on is.3)
   carries_on (Ok (ShowView view grouped)) said Z is = (is.0, is.1, is.2, disk_on is.3)
   carries_on (Ok (CloseView view)) said Z is = (is.0, is.1, is.2, disk_on is.3)
+  carries_on (Ok (Embedded line)) said Z is = (is.0, is.1, meant_on is.0 said Z is.2)
   carries_on (Err refusal) said Z is = (is.0, stays_on Z is.1)
 
   pub answers_on : (piece : Piece) (said : List ℕ) (Z : Sitting) → Answers effects room S old told piece said Z new → Answers effects room S from also piece said Z to

@@ -8,6 +8,9 @@ use Rattle.command_text.specs.declared.reply.LastLine.TheVariants.{NoMemory}
 use Rattle.command_text.specs.Refused.{refusal_of}
 use Rattle.command_text.specs.Replies.{text}
 use Rattle.line_server.specs.Lines.{Piece, line, too_long, further}
+use Rattle.mail_embedding.specs.Meant.{Means}
+use Rattle.mail_embedding.specs.declared.meaning.Meaning.{Meaning}
+use Rattle.mail_embedding.specs.declared.meaning.Meaning.TheVariants.{Replies, Becomes}
 use Rattle.mail_tree.specs.Folders.{replied}
 use Rattle.mail_searches.specs.Searching.{Searching}
 use Rattle.node_port.specs.Pins.{Pins}
@@ -16,10 +19,12 @@ use Rattle.session_lines.specs.Lines.{session_line}
 use Rattle.session_lines.specs.Texts.{pin_text}
 use Rattle.session_lines.specs.declared.line.PinReply.TheVariants.{Pinned, Unpinned, NoPin, PinsFull}
 use Rattle.session_lines.specs.declared.line.SessionLine.{SessionLine}
-use Rattle.session_lines.specs.declared.line.SessionLine.TheVariants.{Pin, At, Unpin, OpenView, ShowView, CloseView, Command as StoreCommand}
+use Rattle.session_lines.specs.declared.line.SessionLine.TheVariants.{Pin, At, Unpin, OpenView, ShowView, CloseView, Embedded, Command as StoreCommand}
 use Rattle.store_session.specs.Disks.{Effects, Medium, SameMedium}
 use Rattle.store_session.specs.Run.{CommandAnswers, Steps, refused}
 use Rattle.store_session.specs.Turns.{StoreTurn}
+use Rattle.store_session.specs.mail_draft.declared.stop.Stop.{Stop}
+use Rattle.store_session.specs.mail_draft.declared.stop.Stop.TheVariants.{Refused}
 use Rattle.pinned_session.specs.Sitting.{Sitting, pins_of, tree_at, with_tree, without_pin}
 use Rattle.pinned_session.specs.Showing.{AnswersView}
 use Rattle.pinned_session.specs.Viewing.{Viewing}
@@ -66,6 +71,13 @@ module _ (effects : Pins → Effects) (room : Room) (before : Sitting) (old : Me
   abbrev pub CarriesView : SessionLine → List ℕ → Sitting → Medium → Type 0
   CarriesView asked said after new = (V : Viewing) × AnswersView before.now before.views asked said V × (after ≡ record before { views = V }) × (told → SameMedium old new)
 
+  -- what a line on the message in an attachment comes to: a reply, a command of the store, or a refusal
+  abbrev pub CarriesMeant : Result Meaning Stop → List ℕ → Sitting → Medium → Type 0
+  CarriesMeant (Ok (Replies reply)) said after new = (said ≡ text reply) × Stays after new
+  CarriesMeant (Ok (Becomes c)) said after new = CarriesCommand c said after new
+  CarriesMeant (Err (Refused refusal)) said after new = (said ≡ refused refusal) × Stays after new
+  CarriesMeant (Err lost) said after new = ⊥
+
   -- what a line asks for
   abbrev pub Carries : Result SessionLine LineRefusal → List ℕ → Sitting → Medium → Type 0
   Carries (Ok (StoreCommand c)) said after new = CarriesCommand c said after new
@@ -75,6 +87,7 @@ module _ (effects : Pins → Effects) (room : Room) (before : Sitting) (old : Me
   Carries (Ok (OpenView folder tag direction)) said after new = CarriesView (OpenView folder tag direction) said after new
   Carries (Ok (ShowView view grouped)) said after new = CarriesView (ShowView view grouped) said after new
   Carries (Ok (CloseView view)) said after new = CarriesView (CloseView view) said after new
+  Carries (Ok (Embedded asked)) said after new = (meant : Result Meaning Stop) × Means before.now.tree asked meant × CarriesMeant meant said after new
   Carries (Err refusal) said after new = (said ≡ refused (refusal_of refusal)) × Stays after new
 
   -- want of memory: the line changes nothing

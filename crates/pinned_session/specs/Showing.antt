@@ -14,7 +14,7 @@ use Rattle.sorted_views.specs.declared.rows.Direction.{Direction}
 use Rattle.sorted_views.specs.declared.rows.ViewRow.{ViewRow}
 use Rattle.session_lines.specs.Texts.{groups_text, rows_text, view_text}
 use Rattle.session_lines.specs.declared.line.SessionLine.{SessionLine}
-use Rattle.session_lines.specs.declared.line.SessionLine.TheVariants.{Pin, At, Unpin, OpenView, ShowView, CloseView, Command as StoreCommand}
+use Rattle.session_lines.specs.declared.line.SessionLine.TheVariants.{Pin, At, Unpin, OpenView, ShowView, CloseView, Embedded, Command as StoreCommand}
 use Rattle.session_lines.specs.declared.line.ViewReply.TheVariants.{Opened, Closed, NoView, NoColumn, ViewsFull}
 use Rattle.store_session.specs.Run.{refused}
 use Rattle.pinned_session.specs.Viewing.{Viewing, view_at, viewing_of, without_view}
@@ -81,6 +81,7 @@ AnswersView X V (CloseView view) said after = (said ≡ closed_text (view_at vie
 AnswersView X V Pin said after = ⊥
 AnswersView X V (At pin c) said after = ⊥
 AnswersView X V (Unpin pin) said after = ⊥
+AnswersView X V (Embedded line) said after = ⊥
 AnswersView X V (StoreCommand c) said after = ⊥
 
 -- there was no memory, and the views stay

@@ -12,6 +12,7 @@ ghost use Rattle.pinned_session.specs.Sitting.{Sitting};
 
 use crate::asking::ask_keeping;
 use crate::commands::carry_keeping;
+use crate::embedding::answer_embedded;
 use crate::pinning::{give_up, make_pin, pin_spoken};
 use crate::pins::{PinnedStore, place_of};
 use crate::viewing::{close_view, open_view, show_view};
@@ -27,7 +28,7 @@ use store_session::search_store::SearchStore;
 use store_session::{Store, StoreStop, refusal_spoken, reply_spoken, stopped};
 
 /// Carries out a command of the store. Its pins tell what they told, and the views of a folder that is gone are closed.
-fn carry_command<W: Outside, K: Pinner<W> + Saver<W>>(
+pub(crate) fn carry_command<W: Outside, K: Pinner<W> + Saver<W>>(
     alloc: Global,
     pinned: PinnedStore<K>,
     world: &mut W,
@@ -141,6 +142,7 @@ pub(crate) fn answer_line<W: Outside, K: Pinner<W> + Saver<W>>(
             let spoken = close_view(alloc, &mut pinned.views, view);
             (pinned, Ok(spoken))
         }
+        Ok(SessionLine::Embedded(line)) => answer_embedded(alloc, pinned, world, &line),
         Err(MemOr::Refused(refusal)) => {
             let spoken = refusal_spoken(alloc, CommandRefusal::from(refusal));
             (pinned, Ok(spoken))

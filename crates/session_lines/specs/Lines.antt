@@ -1,4 +1,4 @@
--- What a line of a session over a file asks for.
+-- What a line of a session asks for.
 use Rattle.std.specs.Prelude.{ℕ, ◌-◌, ◌&&◌, Bool, true, false, List, drop, length, nat_eq, nat_le, nat_lt, take, bytes_eq, codes, Option, None, Some, option_map, Result, Ok, Err, ok_or, if◌then◌else◌}
 use Rattle.std.specs.Cmp.Lexicographic.{pointwise}
 use Rattle.std.specs.Option.{option_or}
@@ -7,16 +7,17 @@ use Rattle.std.specs.Char.{is_ascii_digit}
 use Rattle.std.specs.Str.{is_utf8}
 use Rattle.std.specs.Str.Parse.{digits_value}
 use Rattle.command_text.specs.declared.command.Command.{Command}
+use Rattle.command_text.specs.declared.embedded.EmbeddedCommand.TheVariants.{Embed, List as ListsInside, Get, Set, Unset}
 use Rattle.command_text.specs.declared.command.LineRefusal.{LineRefusal}
 use Rattle.command_text.specs.declared.command.LineRefusal.TheVariants.{Line}
 use Rattle.sorted_views.specs.declared.rows.Direction.{Direction}
 use Rattle.sorted_views.specs.declared.rows.Direction.TheVariants.{Up, Down}
-use Rattle.command_text.specs.Arguments.{◌>>=◌, id_and_tag}
+use Rattle.command_text.specs.Arguments.{◌>>=◌, id_and_name, id_and_tag, id_and_value, one_id, two_ids}
 use Rattle.command_text.specs.Asking.{asks}
 use Rattle.command_text.specs.Lines.{text_command}
 use Rattle.command_text.specs.Words.{cut}
 use Rattle.session_lines.specs.declared.line.SessionLine.{SessionLine}
-use Rattle.session_lines.specs.declared.line.SessionLine.TheVariants.{Pin, At, Unpin, OpenView, ShowView, CloseView, Command as StoreCommand}
+use Rattle.session_lines.specs.declared.line.SessionLine.TheVariants.{Pin, At, Unpin, OpenView, ShowView, CloseView, Embedded, Command as StoreCommand}
 
 -- a number that a pin or a view may have, of at most 32 bits
 abbrev pub within : ℕ → Option ℕ
@@ -90,6 +91,54 @@ store_line text = do
   c ← text_command text
   Ok (StoreCommand c)
 
+-- embed: the message, the one to be embedded, and the name, spaces and all
+unfoldable pub embed : List ℕ → Result SessionLine LineRefusal
+embed rest = do
+  words ← ok_or (cut rest) Line
+  message ← one_id words.0
+  given ← id_and_name words.1
+  Ok (Embedded (Embed message given.0 given.1))
+
+-- eprops: the message and the attachment
+unfoldable pub list_embedded : List ℕ → Result SessionLine LineRefusal
+list_embedded rest = do
+  ids ← two_ids rest
+  Ok (Embedded (ListsInside ids.0 ids.1))
+
+-- eget: the message, the attachment and the tag
+unfoldable pub get_embedded : List ℕ → Result SessionLine LineRefusal
+get_embedded rest = do
+  words ← ok_or (cut rest) Line
+  message ← one_id words.0
+  given ← id_and_tag words.1
+  Ok (Embedded (Get message given.0 given.1))
+
+-- eset: the message, the attachment, the tag and the value, spaces and all
+unfoldable pub set_embedded : List ℕ → Result SessionLine LineRefusal
+set_embedded rest = do
+  words ← ok_or (cut rest) Line
+  message ← one_id words.0
+  given ← id_and_value words.1
+  Ok (Embedded (Set message given.0 given.1))
+
+-- eunset: the message, the attachment and the tag
+unfoldable pub unset_embedded : List ℕ → Result SessionLine LineRefusal
+unset_embedded rest = do
+  words ← ok_or (cut rest) Line
+  message ← one_id words.0
+  given ← id_and_tag words.1
+  Ok (Embedded (Unset message given.0 given.1))
+
+-- a line on the message in an attachment: its first word, and what stands behind the space
+unfoldable pub on_embedded : List ℕ → List ℕ → List ℕ → Result SessionLine LineRefusal
+on_embedded text word rest =
+    if bytes_eq word (codes "embed") then embed rest
+    else (if bytes_eq word (codes "eprops") then list_embedded rest
+    else (if bytes_eq word (codes "eget") then get_embedded rest
+    else (if bytes_eq word (codes "eset") then set_embedded rest
+    else (if bytes_eq word (codes "eunset") then unset_embedded rest
+    else store_line text))))
+
 -- a line on views: its first word, and what stands behind the space
 unfoldable pub on_views : List ℕ → List ℕ → List ℕ → Result SessionLine LineRefusal
 on_views text word rest =
@@ -97,7 +146,7 @@ on_views text word rest =
     else (if bytes_eq word (codes "rows") then show_view false rest
     else (if bytes_eq word (codes "groups") then show_view true rest
     else (if bytes_eq word (codes "unview") then close_view rest
-    else store_line text)))
+    else on_embedded text word rest)))
 
 -- a line with a space: its first word, and what stands behind the space
 unfoldable pub with_word : List ℕ → List ℕ → List ℕ → Result SessionLine LineRefusal

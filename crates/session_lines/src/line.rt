@@ -1,10 +1,10 @@
 //! What a line asks for, and what is said to a line on pins and on views.
-use command_text::Command;
+use command_text::{Command, EmbeddedCommand};
 use mapi_values::Tag;
 use pst_base::Nid;
 use sorted_views::Direction;
 
-/// What a line of a session over a file asks for.
+/// What a line of a session asks for.
 #[derive(Debug, Drop)]
 pub enum SessionLine {
     /// `pin`: the present tree stays readable.
@@ -33,6 +33,8 @@ pub enum SessionLine {
     CloseView {
         view: Option<u32>,
     },
+    /// `embed`, `eprops`, `eget`, `eset` and `eunset`: what a line on the message in an attachment asks for.
+    Embedded(EmbeddedCommand),
     /// Any other line: a command of the store.
     Command(Command),
 }

@@ -7,7 +7,7 @@ use Rattle.mail_tree.specs.Messages.{added_attachment, added_recipient, appended
 use Rattle.mail_tree.specs.Step.{after, outcome}
 use Rattle.mail_tree.specs.Tree.{Tree}
 use Rattle.mail_tree.proofs.AfterTree.{after_now}
-use Rattle.mail_laws.proofs.CountCommands.{Ends, EndsBoth, Home, MadeFolder, Moved, MovedFolder, RemovedFolder, adds_attachment, adds_recipient, appends_data, copies, makes, makes_folder, moves, moves_folder, removes, removes_attachment, removes_folder, removes_recipient, sets, unsets}
+use Rattle.mail_laws.proofs.CountCommands.{Ends, EndsBoth, Home, MadeFolder, Moved, MovedFolder, RemovedFolder, adds_attachment, adds_recipient, appends_data, copies, makes, makes_folder, moves, moves_folder, removes, removes_attachment, removes_folder, removes_recipient, sets, unsets, sets_embedded}
 use Rattle.mail_laws.proofs.Keeping.{if_weaker}
 use Rattle.mail_laws.proofs.LawSteps.{before, was_message}
 use Rattle.mail_laws.proofs.MessageSteps.{Before}

@@ -10,4 +10,4 @@ use Rattle.mail_parts.proofs.attachments.attach_one.Goals as goal
 pub returns-in_err-check_room-clause-answer : goal.returns-in_err-check_room-clause-answer
 returns-in_err-check_room-clause-answer g c = λ T s p.
     let M = c.args.mail in
-    exits (λ (u : Unit {0}). u) (outcome_of T) (refused_if (is_full M.attachments) (Limit Rows)) (λ u. attaching_to T M c.args.props) _ _ c.in_err-check_room.ensures.answer c.from_residual.ensures.1
+    exits (λ (u : Unit {0}). u) (outcome_of T) (refused_if (is_full M.attachments) (Limit Rows)) (λ u. attaching_to T M c.args.name.now c.args.held.now) _ _ c.in_err-check_room.ensures.answer c.from_residual.ensures.1

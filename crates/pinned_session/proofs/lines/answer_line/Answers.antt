@@ -1,7 +1,7 @@
 use Rattle.std.proofs.Common.{Ok, inl, refl, subst}
 use Rattle.store_session.proofs.mail_draft_laws.Looking.{untouched_same}
 use Rattle.node_port.specs.Pins.{Pins}
-use Rattle.session_lines.specs.declared.line.SessionLine.TheVariants.{Pin, At, Unpin, OpenView, ShowView, CloseView, Command as StoreCommand}
+use Rattle.session_lines.specs.declared.line.SessionLine.TheVariants.{Pin, At, Unpin, OpenView, ShowView, CloseView, Embedded, Command as StoreCommand}
 use Rattle.store_session.specs.Carrying.{SaysRefusal}
 use Rattle.store_session.specs.Disks.{Effects, effects_of}
 use Rattle.store_session.proofs.Carry.{its_medium, quiet_leaves}
@@ -106,3 +106,12 @@ returns-in-Ok-CloseView-clause-carries g c = λ found tidy S h tells.
     line_carries has stands effects room v v S (CloseView c.in-Ok-CloseView.view) c.args.bytes.now (Ok c.close_view-spoken.result) (rw c.in-Ok-CloseView.field-0-is at c.in-Ok-CloseView.ensures)
     (answers_view effects room S v v (λ t. its_medium v) has stands (CloseView c.in-Ok-CloseView.view) c.args.pinned.views c.close_view-spoken.new.views h.shows (λ V is. sitting_shows S h (λ store. store) (λ q N told. told) refl refl V is)
     (λ Z. quiet_leaves stands S Z h.store.settled (untouched_same v) here) (λ said V is. inl (V, is, refl, λ t. its_medium v)) c.close_view-spoken.result c.close_view-spoken.ensures)
+
+pub returns-in-Ok-Embedded-clause-carries : goal.returns-in-Ok-Embedded-clause-carries
+returns-in-Ok-Embedded-clause-carries g c = λ found tidy S h tells.
+    let v = g.W.Outside.view c.args.world.now in
+    let effects : Pins → Effects = λ pins. effects_of pins g.K.Keeper.measures g.K.Keeper.applied g.K.Saver.saved in
+    let room = g.K.NodeReader.room c.args.pinned.store.store.keeper in
+    let stands = StandsNow g.K.Keeper.stands found tidy in
+    line_carries (λ (Z : Sitting). Sits g.W.Outside.view g.K.NodeReader.holds g.K.NodeReader.last g.K.NodeReader.pinned g.K.NodeReader.room g.K.Keeper.rests c.answer_embedded.result.0 c.answer_embedded.new.world found tidy Z) stands effects room v (g.W.Outside.view c.answer_embedded.new.world) S (Embedded c.in-Ok-Embedded.line) c.args.bytes.now c.answer_embedded.result.1
+    (rw c.in-Ok-Embedded.field-0-is at c.in-Ok-Embedded.ensures) (c.answer_embedded.ensures.carries found tidy S h tells)
