@@ -1,5 +1,5 @@
 -- Messages in attachments: which attachment holds which message, and what the lines on them come to.
-use Rattle.std.specs.Prelude.{◌≡◌, ℕ, ◌+◌, ◌==◌, ◌&&◌, Bool, false, not, nat_lt, List, [], ◌∷◌, length, Option, None, Some, Ok, if◌then◌else◌, ◌||◌}
+use Rattle.std.specs.Prelude.{◌≡◌, ℕ, ◌+◌, ◌==◌, ◌&&◌, Bool, false, not, nat_lt, List, [], length, Option, None, Some, Ok, if◌then◌else◌, ◌||◌}
 use Rattle.std.specs.List.{list_any}
 use Rattle.std.specs.Option.{is_some, option_and_then}
 use Rattle.pst_base.specs.Fields.{number_at}
@@ -14,7 +14,6 @@ use Rattle.mapi_values.specs.declared.part.Part.{Part}
 use Rattle.mapi_values.specs.declared.value.Tag.{Tag}
 use Rattle.node_port.specs.declared.node.NodeRec.{NodeRec}
 use Rattle.node_values.specs.Subnodes.{subnode}
-use Rattle.command_text.specs.declared.command.Held.{Held}
 use Rattle.command_text.specs.declared.command.Held.TheVariants.{Message}
 use Rattle.command_text.specs.declared.reply.CommandRefusal.TheVariants.{Ids, Limit, Property, Protected}
 use Rattle.command_text.specs.declared.reply.Limit.TheVariants.{Nesting, Properties, Rows}

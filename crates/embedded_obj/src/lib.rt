@@ -5,12 +5,12 @@
 //! Leaves to others: which message gets which attachment, and the commands.
 #![tactic(auto)]
 
-mod inner;
 mod law;
 mod laying;
 mod nesting;
+mod reading;
 
-pub use inner::inner;
 pub use law::{holds_what_was_laid, holds_what_was_put};
 pub use laying::lay;
 pub use nesting::nests_deep;
+pub use reading::inner;

@@ -1,0 +1,4 @@
+pub mod DepthLaws
+pub mod HoldLaws
+pub mod InnerLaws
+pub mod NameLaws
