@@ -5,7 +5,12 @@ use Rattle.command_text.specs.declared.command.LineRefusal.{LineRefusal}
 use Rattle.command_text.specs.Replies.{text, last_text, last_words}
 use Rattle.command_text.specs.Refusals.{refusal_words}
 use Rattle.command_text.specs.Limits.{limit_word}
+use Rattle.command_text.specs.declared.embedded.EmbeddedCommand.{EmbeddedCommand}
 use Rattle.command_text.specs.declared.reply.CommandRefusal.{CommandRefusal}
+use Rattle.command_text.specs.declared.reply.Reply.{Reply}
+use Rattle.file_filling.specs.pinned_session.mail_embedding.Meant.{Means}
+use Rattle.file_filling.specs.pinned_session.mail_embedding.declared.meaning.Meaning.{Meaning}
+use Rattle.file_filling.specs.pinned_session.mail_embedding.declared.meaning.Meaning.TheVariants.{Replies, Becomes}
 use Rattle.line_server.specs.Spoken.{no_memory_text, spoken_text}
 use Rattle.line_server.specs.declared.spoken.Spoken.{Spoken}
 use Rattle.mail_objects.specs.Forms.{Tbl}
@@ -18,7 +23,7 @@ use Rattle.file_filling.specs.mail_reading.Viewed.{listing_view}
 use Rattle.file_filling.specs.mail_reading.declared.viewing.Listing.{Listing}
 use Rattle.session_lines.specs.Lines.{session_line}
 use Rattle.session_lines.specs.declared.line.SessionLine.{SessionLine}
-use Rattle.session_lines.specs.declared.line.SessionLine.TheVariants.{Command as StoreCommand}
+use Rattle.session_lines.specs.declared.line.SessionLine.TheVariants.{Embedded, Command as StoreCommand}
 use Rattle.file_filling.specs.store_session.Carrying.{SaysRefusal}
 use Rattle.file_filling.proofs.store_session_laws.Carry.{memory_text}
 use Rattle.file_filling.specs.pinned_session.Showing.{AnswersView, LacksMemory as LacksViews}
@@ -102,3 +107,25 @@ listing_refused listed stop said fine says (inr is) = inr is
 -- the same where the views stayed
 pub views_same : (X : Searching) (asked : SessionLine) (said : List ℕ) (views after : OpenViews) → after ≡ views → AnswersView X (viewing_of views) asked said (viewing_of views) ⊎ LacksViews views views said → AnswersView X (viewing_of views) asked said (viewing_of after) ⊎ LacksViews views after said
 views_same X asked said views after same is = subst (λ (vs : OpenViews). AnswersView X (viewing_of views) asked said (viewing_of vs) ⊎ LacksViews views vs said) (sym same) is
+
+-- ---- what a line on the message in an attachment comes to
+
+module _ (old : Mailbox) (line : EmbeddedCommand) (meant : Result Meaning Stop) (means : (X : Searching) → Holds old.store X → Means X.tree line meant) where
+  -- a reply
+  pub meant_replies : (new : Mailbox) (reply : Reply) (said : List ℕ) → meant ≡ Ok (Replies reply) → StaysAs old.store new.store → new.views ≡ old.views → (said ≡ text reply) ⊎ (said ≡ no_memory_text) → Responds old (Ok (Embedded line)) said new
+  meant_replies new reply said is stays same (inl says) S sits = (S, inl (Ok (Replies reply), subst (Means S.now.tree line) is (means S.now sits.stands), (says, refl)), record { stands = stays S.now sits.stands; shows = sits.shows ∙ ap viewing_of (sym same) })
+  meant_replies new reply said is stays same (inr says) S sits = (S, inr (says ∙ memory_text, refl), record { stands = stays S.now sits.stands; shows = sits.shows ∙ ap viewing_of (sym same) })
+
+  -- a refusal, or want of memory
+  pub meant_stops : (new : Mailbox) (stop : Stop) (said : List ℕ) → meant ≡ Err stop → StaysAs old.store new.store → new.views ≡ old.views → ((refusal : CommandRefusal) × (stop ≡ Refused refusal) × (said ≡ refused refusal)) ⊎ (said ≡ no_memory_text) → Responds old (Ok (Embedded line)) said new
+  meant_stops new stop said is stays same (inl refuses) S sits =
+      (S, inl (Err (Refused refuses.0), subst (Means S.now.tree line) (is ∙ ap (λ (s : Stop). Err s) refuses.1) (means S.now sits.stands), (refuses.2, refl)), record { stands = stays S.now sits.stands; shows = sits.shows ∙ ap viewing_of (sym same) })
+  meant_stops new stop said is stays same (inr says) S sits = (S, inr (says ∙ memory_text, refl), record { stands = stays S.now sits.stands; shows = sits.shows ∙ ap viewing_of (sym same) })
+
+  -- a command, which was carried out
+  pub meant_becomes : (mid new : Mailbox) (c : Command) (said : List ℕ) → meant ≡ Ok (Becomes c) → StaysAs old.store mid.store → mid.views ≡ old.views → Responds mid (Ok (StoreCommand c)) said new → Responds old (Ok (Embedded line)) said new
+  meant_becomes mid new c said is stays same responds S sits = by (responds S (record { stands = stays S.now sits.stands; shows = sits.shows ∙ ap viewing_of (sym same) }))
+    where
+      by : (Z : InMemory) × (Carries S (Ok (StoreCommand c)) said Z ⊎ LacksMemory S said Z) × Sits new Z → (Z : InMemory) × (Carries S (Ok (Embedded line)) said Z ⊎ LacksMemory S said Z) × Sits new Z
+      by (Z, inl done, has) = (Z, inl (Ok (Becomes c), subst (Means S.now.tree line) is (means S.now sits.stands), done), has)
+      by (Z, inr lacks, has) = (Z, inr lacks, has)

@@ -16,8 +16,12 @@ use Rattle.mail_session.specs.Boxes.{AllInOrder, NAME}
 use Rattle.line_server.specs.Lines.{Piece, further, line, too_long}
 use Rattle.session_lines.specs.Lines.{session_line}
 use Rattle.session_lines.specs.declared.line.SessionLine.{SessionLine}
-use Rattle.session_lines.specs.declared.line.SessionLine.TheVariants.{Pin, At, Unpin, OpenView, ShowView, CloseView, Command as StoreCommand}
-use Rattle.mail_session.specs.Run.{Answers, Carries, InMemory, Run, Steps, begins}
+use Rattle.session_lines.specs.declared.line.SessionLine.TheVariants.{Pin, At, Unpin, OpenView, ShowView, CloseView, Embedded, Command as StoreCommand}
+use Rattle.mail_session.specs.Run.{Answers, Carries, CarriesMeant, InMemory, Run, Steps, begins}
+use Rattle.tree_look.specs.mail_draft.declared.stop.Stop.{Stop}
+use Rattle.tree_look.specs.mail_draft.declared.stop.Stop.TheVariants.{Refused, Fault, Changed, Memory}
+use Rattle.file_filling.specs.pinned_session.mail_embedding.declared.meaning.Meaning.{Meaning}
+use Rattle.file_filling.specs.pinned_session.mail_embedding.declared.meaning.Meaning.TheVariants.{Replies, Becomes}
 
 -- the tree after an answer or a refusal
 step_in_order : (X Y : Searching) (reply : Reply) (answer : Answer Coming) → InOrder true X → Fine answer (λ o. InOrder true (after X o)) → stepped X answer ≡ Some (Y, reply) → InOrder true Y
@@ -37,6 +41,15 @@ carried_in_order S Z (Ok (StoreCommand c)) said h is = subst (λ (Y : InMemory).
 carried_in_order S Z (Ok (OpenView folder tag direction)) said h is = subst (λ (Y : InMemory). InOrder true Y.now) (sym is.2) h
 carried_in_order S Z (Ok (ShowView view grouped)) said h is = subst (λ (Y : InMemory). InOrder true Y.now) (sym is.2) h
 carried_in_order S Z (Ok (CloseView view)) said h is = subst (λ (Y : InMemory). InOrder true Y.now) (sym is.2) h
+carried_in_order S Z (Ok (Embedded line)) said h is = by is.0 is.2
+  where
+    by : (meant : Result Meaning Stop) → CarriesMeant S meant said Z → InOrder true Z.now
+    by (Ok (Replies reply)) done = same_in_order S Z h done.1
+    by (Ok (Becomes c)) done = subst (λ (Y : InMemory). InOrder true Y.now) (sym done.2) (command_in_order S.now done.0 c said h done.1)
+    by (Err (Refused refusal)) done = same_in_order S Z h done.1
+    by (Err Fault) done = absurd done
+    by (Err (Changed ib stored computed)) done = absurd done
+    by (Err Memory) done = absurd done
 carried_in_order S Z (Ok Pin) said h is = same_in_order S Z h is.1
 carried_in_order S Z (Ok (At pin c)) said h is = same_in_order S Z h is.1
 carried_in_order S Z (Ok (Unpin pin)) said h is = same_in_order S Z h is.1

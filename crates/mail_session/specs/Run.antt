@@ -13,9 +13,14 @@ use Rattle.mail_tree.specs.Folders.{replied}
 use Rattle.mail_searches.specs.Searching.{Searching}
 use Rattle.mail_searches.specs.Step.{step}
 use Rattle.line_server.specs.Lines.{Piece, line, too_long, further}
+use Rattle.tree_look.specs.mail_draft.declared.stop.Stop.{Stop}
+use Rattle.tree_look.specs.mail_draft.declared.stop.Stop.TheVariants.{Refused as StopRefused}
 use Rattle.session_lines.specs.Lines.{session_line}
 use Rattle.session_lines.specs.declared.line.SessionLine.{SessionLine}
-use Rattle.session_lines.specs.declared.line.SessionLine.TheVariants.{Pin, At, Unpin, OpenView, ShowView, CloseView, Command as StoreCommand}
+use Rattle.session_lines.specs.declared.line.SessionLine.TheVariants.{Pin, At, Unpin, OpenView, ShowView, CloseView, Embedded, Command as StoreCommand}
+use Rattle.file_filling.specs.pinned_session.mail_embedding.Meant.{Means}
+use Rattle.file_filling.specs.pinned_session.mail_embedding.declared.meaning.Meaning.{Meaning}
+use Rattle.file_filling.specs.pinned_session.mail_embedding.declared.meaning.Meaning.TheVariants.{Replies, Becomes}
 use Rattle.file_filling.specs.pinned_session.Showing.{AnswersView}
 use Rattle.file_filling.specs.pinned_session.Viewing.{Viewing, standing}
 
@@ -44,12 +49,24 @@ with_tree Y S = record { now = Y; views = standing Y.tree.places S.views }
 abbrev pub CarriesView : InMemory → SessionLine → List ℕ → InMemory → Type 0
 CarriesView before asked said after = (V : Viewing) × AnswersView before.now before.views asked said V × (after ≡ record before { views = V })
 
--- what a line asks for was done: a command of the store, a line on views, or a refusal, which changes nothing; there are no pins
+-- a command of the store was carried out
+abbrev pub CarriesCommand : InMemory → Command → List ℕ → InMemory → Type 0
+CarriesCommand before c said after = (Y : Searching) × Steps before.now c said Y × (after ≡ with_tree Y before)
+
+-- what a line on the message in an attachment comes to was done: a reply, a command of the store, or a refusal
+abbrev pub CarriesMeant : InMemory → Result Meaning Stop → List ℕ → InMemory → Type 0
+CarriesMeant before (Ok (Replies reply)) said after = (said ≡ text reply) × (after ≡ before)
+CarriesMeant before (Ok (Becomes c)) said after = CarriesCommand before c said after
+CarriesMeant before (Err (StopRefused refusal)) said after = (said ≡ refused refusal) × (after ≡ before)
+CarriesMeant before (Err lost) said after = ⊥
+
+-- what a line asks for was done: a command of the store, a line on views or on the message in an attachment, or a refusal, which changes nothing; there are no pins
 abbrev pub Carries : InMemory → Result SessionLine LineRefusal → List ℕ → InMemory → Type 0
-Carries before (Ok (StoreCommand c)) said after = (Y : Searching) × Steps before.now c said Y × (after ≡ with_tree Y before)
+Carries before (Ok (StoreCommand c)) said after = CarriesCommand before c said after
 Carries before (Ok (OpenView folder tag direction)) said after = CarriesView before (OpenView folder tag direction) said after
 Carries before (Ok (ShowView view grouped)) said after = CarriesView before (ShowView view grouped) said after
 Carries before (Ok (CloseView view)) said after = CarriesView before (CloseView view) said after
+Carries before (Ok (Embedded asked)) said after = (meant : Result Meaning Stop) × Means before.now.tree asked meant × CarriesMeant before meant said after
 Carries before (Ok Pin) said after = (said ≡ refused Line) × (after ≡ before)
 Carries before (Ok (At pin c)) said after = (said ≡ refused Line) × (after ≡ before)
 Carries before (Ok (Unpin pin)) said after = (said ≡ refused Line) × (after ≡ before)

@@ -3,18 +3,19 @@ ghost use Rattle.std.specs.Prelude.{◌≡◌, ◌⊎◌, Ok, IfOk};
 ghost use Rattle.command_text.specs.declared.reply.CommandRefusal.{CommandRefusal as Refusal};
 ghost use Rattle.line_server.specs.Lines.{line};
 ghost use Rattle.line_server.specs.Spoken.{no_memory_text, spoken_text};
-ghost use Rattle.session_lines.specs.declared.line.SessionLine.TheVariants.{CloseView, Command as StoreCommand, OpenView, ShowView};
+ghost use Rattle.session_lines.specs.declared.line.SessionLine.TheVariants.{CloseView, Command as StoreCommand, Embedded, OpenView, ShowView};
 ghost use Rattle.tree_look.specs.mail_draft.declared.stop.Stop.TheVariants.{Refused};
 ghost use Rattle.mail_session.specs.Mailboxes.{Answering, Responds};
 ghost use Rattle.mail_session.specs.Run.{refused};
 
 use crate::mailbox::Mailbox;
-use command_text::{Command, CommandRefusal, LastLine, Reply, reply_text};
+use command_text::{Command, CommandRefusal, EmbeddedCommand, LastLine, Reply, reply_text};
 use file_filling::pinned_session::session_lines::{SessionLine, ViewReply, read_session_line};
 use file_filling::pinned_session::{
     add_listed, close_view, close_views, shown_spoken, view_at, view_spoken,
 };
-use file_filling::store_session::refusal_spoken;
+use file_filling::pinned_session::mail_embedding::Meaning;
+use file_filling::store_session::{refusal_spoken, reply_spoken};
 use line_server::{LineAnswerer, Spoken};
 use mapi_values::Tag;
 use pst_base::{Bytes, MemOr, Nid};
@@ -92,6 +93,17 @@ fn close_named(alloc: Global, mailbox: &mut Mailbox, view: Option<u32>) -> Spoke
     close_view(alloc, &mut mailbox.views, view)
 }
 
+/// Answers a line on the message in an attachment: by its reply, or by carrying out the command that it comes to.
+fn answer_embedded(alloc: Global, mailbox: &mut Mailbox, line: &EmbeddedCommand) -> Spoken
+    ensures { Responds mailbox.old (Ok (Embedded line.now)) (spoken_text result) mailbox.new }
+{
+    match mailbox.mean(alloc, line) {
+        Ok(Meaning::Replies(reply)) => reply_spoken(alloc, &reply),
+        Ok(Meaning::Becomes(command)) => carry_out(alloc, mailbox, &command),
+        Err(stop) => stop_spoken(alloc, stop),
+    }
+}
+
 /// Answers a line. There are no pins.
 pub(crate) fn answer_line(alloc: Global, mailbox: &mut Mailbox, bytes: &[u8]) -> Spoken
     ensures { Answering mailbox.old (line bytes.now) (spoken_text result) mailbox.new }
@@ -107,6 +119,7 @@ pub(crate) fn answer_line(alloc: Global, mailbox: &mut Mailbox, bytes: &[u8]) ->
         ) => open_view(alloc, mailbox, folder, tag, direction),
         Ok(SessionLine::ShowView { view, grouped }) => show_view(alloc, mailbox, view, grouped),
         Ok(SessionLine::CloseView { view }) => close_named(alloc, mailbox, view),
+        Ok(SessionLine::Embedded(line)) => answer_embedded(alloc, mailbox, &line),
         Ok(SessionLine::Pin) => refusal_spoken(alloc, CommandRefusal::Line),
         Ok(SessionLine::At { .. }) => refusal_spoken(alloc, CommandRefusal::Line),
         Ok(SessionLine::Unpin { .. }) => refusal_spoken(alloc, CommandRefusal::Line),

@@ -7,16 +7,18 @@ ghost use Rattle.command_text.specs.declared.reply.CommandRefusal.{CommandRefusa
 ghost use Rattle.tree_look.specs.mail_draft.declared.stop.Stop.TheVariants.{Refused};
 ghost use Rattle.mail_session.specs.Run.{refused};
 ghost use Rattle.mail_session.specs.Boxes.{DoesStep, Holds, NAME, StaysAs, is_full};
+ghost use Rattle.file_filling.specs.pinned_session.mail_embedding.Meant.{Means};
 ghost use Rattle.file_filling.specs.pinned_session.Viewing.{viewing_of};
 ghost use Rattle.file_filling.specs.mail_reading.Viewed.{listing_of, listing_view};
 ghost use Rattle.tree_look.specs.mail_draft.Answers.{Says};
 
 use crate::answers::refusal_text;
 use crate::nowhere::Nowhere;
-use command_text::{Command, CommandRefusal, reply_text};
+use command_text::{Command, CommandRefusal, EmbeddedCommand, reply_text};
 use file_filling::mail_reading::{Listing, list_rows};
 use file_filling::mail_store::Store;
 use file_filling::pinned_session::OpenViews;
+use file_filling::pinned_session::mail_embedding::{Meaning, mean};
 use file_filling::search_store::{SearchStore, commit};
 use file_filling::store_session::plan_counted;
 use mail_searches::{KnownSearches, OwnFolders, Searches};
@@ -145,6 +147,17 @@ impl Mailbox {
             Ok(_) => Ok(text),
             Err(_) => Err(AllocError),
         }
+    }
+
+    /// What a line on the message in an attachment comes to.
+    pub(crate) fn mean(&mut self, alloc: Global, line: &EmbeddedCommand) -> Result<Meaning, Stop>
+        ensures answer { (X : Searching) → Holds self.old.store X → Means X.tree line.now result }
+        ensures stays { StaysAs self.old.store self.new.store }
+        ensures views { self.new.views ≡ self.old.views }
+    {
+        let mut nowhere = Nowhere::new();
+        let Store { keeper, known } = &mut self.store.store;
+        mean(alloc, keeper, &mut nowhere, known, line)
     }
 
     /// What a folder lists.

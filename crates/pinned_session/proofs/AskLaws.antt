@@ -13,7 +13,9 @@ use Rattle.mail_tree.specs.Folders.{replied}
 use Rattle.pst_base.specs.declared.ids.Nid.{Nid}
 use Rattle.mapi_values.specs.declared.value.Tag.{Tag}
 use Rattle.sorted_views.specs.declared.rows.Direction.{Direction}
-use Rattle.command_text.specs.Arguments.{◌>>=◌, id_and_tag}
+use Rattle.command_text.specs.Arguments.{◌>>=◌, id_and_name, id_and_tag, id_and_value, one_id, two_ids}
+use Rattle.command_text.specs.declared.embedded.EmbeddedCommand.{EmbeddedCommand}
+use Rattle.command_text.specs.declared.embedded.EmbeddedCommand.TheVariants.{Embed, List as ListsInside, Get, Set, Unset}
 use Rattle.command_text.specs.Lines.{text_command}
 use Rattle.command_text.specs.Words.{cut}
 use Rattle.command_text.specs.declared.command.Command.{Command}
@@ -22,9 +24,9 @@ use Rattle.command_text.specs.declared.command.LineRefusal.{LineRefusal}
 use Rattle.command_text.specs.declared.command.LineRefusal.TheVariants.{Line}
 use Rattle.mail_reading.specs.Asked.{reads}
 use Rattle.command_text.specs.Asking.{asks}
-use Rattle.session_lines.specs.Lines.{asked, at_pin, close_view, cut_line, direction_of, number_of, on_views, only_asked, open_view, session_line, show_view, store_line, text_in, unpin, with_word}
+use Rattle.session_lines.specs.Lines.{asked, at_pin, close_view, cut_line, direction_of, embed, get_embedded, list_embedded, number_of, on_embedded, on_views, only_asked, open_view, session_line, set_embedded, show_view, store_line, text_in, unpin, unset_embedded, with_word}
 use Rattle.session_lines.specs.declared.line.SessionLine.{SessionLine}
-use Rattle.session_lines.specs.declared.line.SessionLine.TheVariants.{Pin, At, Unpin, OpenView, ShowView, CloseView, Command as StoreCommand}
+use Rattle.session_lines.specs.declared.line.SessionLine.TheVariants.{Pin, At, Unpin, OpenView, ShowView, CloseView, Embedded, Command as StoreCommand}
 
 -- a command that only asks only reads
 pub asks_reads : (c : Command) → asks c ≡ true → reads c ≡ true
@@ -64,6 +66,7 @@ OnlyAsks (Ok (Unpin pin)) = Unit {0}
 OnlyAsks (Ok (OpenView folder tag direction)) = Unit {0}
 OnlyAsks (Ok (ShowView view grouped)) = Unit {0}
 OnlyAsks (Ok (CloseView view)) = Unit {0}
+OnlyAsks (Ok (Embedded line)) = Unit {0}
 OnlyAsks (Ok (StoreCommand c)) = Unit {0}
 OnlyAsks (Err refusal) = Unit {0}
 
@@ -139,11 +142,43 @@ either_asks : (b : Bool) (x y : Result SessionLine LineRefusal) → OnlyAsks x �
 either_asks true x y first second = first
 either_asks false x y first second = second
 
+-- what is asked of the message in an attachment isn't asked a pin
+list_asks : (rest : List ℕ) → OnlyAsks (list_embedded rest)
+unfolding list_embedded
+list_asks rest = by (two_ids rest)
+  where
+    by : (r : Result (Nid × Nid) LineRefusal) → OnlyAsks (r >>= λ ids. Ok (Embedded (ListsInside ids.0 ids.1)))
+    by (Ok ids) = tt
+    by (Err refusal) = tt
+
+-- a line of a message, an attachment and what is asked of the message in it
+inside_asks : {A : Type 0} (rest : List ℕ) (read : List ℕ → Result (Nid × A) LineRefusal) (line : Nid → Nid → A → EmbeddedCommand) → OnlyAsks (ok_or (cut rest) Line >>= λ w. one_id w.0 >>= λ message. read w.1 >>= λ g. Ok (Embedded (line message g.0 g.1)))
+inside_asks {A} rest read line = by (cut rest)
+  where
+    given : (message : Nid) (r : Result (Nid × A) LineRefusal) → OnlyAsks (r >>= λ g. Ok (Embedded (line message g.0 g.1)))
+    given message (Ok g) = tt
+    given message (Err refusal) = tt
+
+    named : (words : List ℕ) (r : Result Nid LineRefusal) → OnlyAsks (r >>= λ message. read words >>= λ g. Ok (Embedded (line message g.0 g.1)))
+    named words (Ok message) = given message (read words)
+    named words (Err refusal) = tt
+
+    by : (words : Option (List ℕ × List ℕ)) → OnlyAsks (ok_or words Line >>= λ w. one_id w.0 >>= λ message. read w.1 >>= λ g. Ok (Embedded (line message g.0 g.1)))
+    by (Some w) = named w.1 (one_id w.0)
+    by None = tt
+
+embedded_asks : (bytes word rest : List ℕ) → OnlyAsks (on_embedded bytes word rest)
+unfolding on_embedded embed get_embedded set_embedded unset_embedded
+embedded_asks bytes word rest =
+    either_asks (bytes_eq word (codes "embed")) _ _ (inside_asks rest id_and_name Embed) (either_asks (bytes_eq word (codes "eprops")) _ _ (list_asks rest)
+    (either_asks (bytes_eq word (codes "eget")) _ _ (inside_asks rest id_and_tag Get) (either_asks (bytes_eq word (codes "eset")) _ _ (inside_asks rest id_and_value Set)
+    (either_asks (bytes_eq word (codes "eunset")) _ _ (inside_asks rest id_and_tag Unset) (store_asks bytes)))))
+
 views_ask : (bytes word rest : List ℕ) → OnlyAsks (on_views bytes word rest)
 unfolding on_views
 views_ask bytes word rest =
     either_asks (bytes_eq word (codes "view")) _ _ (open_asks rest) (either_asks (bytes_eq word (codes "rows")) _ _ (show_asks false rest) (either_asks (bytes_eq word (codes "groups")) _ _ (show_asks true rest)
-    (either_asks (bytes_eq word (codes "unview")) _ _ (close_asks rest) (store_asks bytes))))
+    (either_asks (bytes_eq word (codes "unview")) _ _ (close_asks rest) (embedded_asks bytes word rest))))
 
 word_asks : (bytes word rest : List ℕ) → OnlyAsks (with_word bytes word rest)
 unfolding with_word

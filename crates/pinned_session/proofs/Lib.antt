@@ -9,3 +9,4 @@ pub mod PinAnswers
 pub mod PinLaws
 pub mod Sessions
 pub use Rattle.store_session.proofs as store_session_laws
+pub use Rattle.mail_embedding.proofs as mail_embedding_laws

@@ -16,6 +16,7 @@ mod session;
 mod viewing;
 mod views;
 
+pub use mail_embedding;
 pub use session::run_session;
 pub use session_lines;
 pub use store_session;

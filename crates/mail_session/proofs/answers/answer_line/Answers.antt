@@ -3,7 +3,7 @@ use Rattle.command_text.specs.Refused.{refusal_of}
 use Rattle.command_text.specs.declared.reply.CommandRefusal.TheVariants.{Line}
 use Rattle.line_server.specs.Spoken.{no_memory_text, spoken_text}
 use Rattle.session_lines.specs.Lines.{session_line}
-use Rattle.session_lines.specs.declared.line.SessionLine.TheVariants.{Pin, At, Unpin, OpenView, ShowView, CloseView, Command as StoreCommand}
+use Rattle.session_lines.specs.declared.line.SessionLine.TheVariants.{Pin, At, Unpin, OpenView, ShowView, CloseView, Embedded, Command as StoreCommand}
 use Rattle.file_filling.specs.store_session.Carrying.{SaysRefusal}
 use Rattle.mail_session.proofs.AnswerLaws.{line_responds, refuses, silent}
 use Rattle.mail_session.proofs.answers.answer_line.Goals as goal
@@ -19,6 +19,9 @@ returns-in-Ok-ShowView c = line_responds c.args.mailbox.now _ c.args.bytes.now (
 
 pub returns-in-Ok-CloseView : goal.returns-in-Ok-CloseView
 returns-in-Ok-CloseView c = line_responds c.args.mailbox.now _ c.args.bytes.now (spoken_text c.close_named.result) (Ok (CloseView c.in-Ok-CloseView.view)) (rw c.in-Ok-CloseView.field-0-is at c.in-Ok-CloseView.ensures) c.close_named.ensures
+
+pub returns-in-Ok-Embedded : goal.returns-in-Ok-Embedded
+returns-in-Ok-Embedded c = line_responds c.args.mailbox.now _ c.args.bytes.now (spoken_text c.answer_embedded.result) (Ok (Embedded c.in-Ok-Embedded.line)) (rw c.in-Ok-Embedded.field-0-is at c.in-Ok-Embedded.ensures) c.answer_embedded.ensures
 
 pub returns-in-Ok-Pin : goal.returns-in-Ok-Pin
 returns-in-Ok-Pin c = line_responds c.args.mailbox.now _ c.args.bytes.now (spoken_text c.refusal_spoken.result) (Ok Pin) (rw c.in-Ok-Pin.field-0-is at c.in-Ok-Pin.ensures)
