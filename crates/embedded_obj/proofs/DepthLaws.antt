@@ -4,7 +4,7 @@ use Rattle.std.specs.Prelude.{nat_le}
 use Rattle.std.specs.List.{list_any}
 use Rattle.std.proofs.lemmas.Bool.{ne_eqb}
 use Rattle.std.proofs.lemmas.Bool.Decides.{nat_tests}
-use Rattle.std.proofs.lemmas.List.{drop_all, drop_more}
+use Rattle.std.proofs.lemmas.List.{drop_more}
 use Rattle.pst_base.specs.Flat.{Flat}
 use Rattle.pst_base.specs.Subs.{flattened, one_deeper}
 use Rattle.pst_base.specs.declared.subs.Sub.{Sub}
@@ -42,10 +42,7 @@ reach-any [] = refl
 reach-any (s ∷ subs) = let some : (length (s ∷ subs) == 0) ≡ false = ne_eqb (length (s ∷ subs)) 0 (λ e. omega arith) in rw some refl
 
 -- with one subnode more
-pub reach-next : (level i : ℕ) (subs : List Sub) (s : Sub) → 1 ≤ level → i < length subs → s ≡ get_or subs i s → reach level (flattened (drop i subs)) ≡ (reach (level - 1) s.subs || reach level (flattened (drop (i + 1) subs)))
+pub reach-next : (level i : ℕ) (subs : List Sub) (s : Sub) → 1 ≤ level → i < length subs → s ≡ get_or subs i s
+    → reach level (flattened (drop i subs)) ≡ (reach (level - 1) s.subs || reach level (flattened (drop (i + 1) subs)))
 reach-next level i subs s some h is =
     ap (λ (xs : List Sub). reach level (flattened xs)) (drop_more subs i s h ∙ ap (λ (x : Sub). x ∷ drop (i + 1) subs) (sym is)) ∙ reach-first level s (drop (i + 1) subs) some
-
--- past them all there is none
-pub reach-none : (level i : ℕ) (subs : List Sub) → length subs ≤ i → reach level (flattened (drop i subs)) ≡ false
-reach-none level i subs h = rw (drop_all i subs h) refl
