@@ -395,6 +395,37 @@ def many_values():
     return store({}, {0x200024: (props, {})})
 
 
+def embedded_messages():
+    """A message with attachments of which one holds a message, one a message without values, and each of the others nothing that counts as one."""
+    deep = {(0x3701, 0x102): b"\1\2\3", (0x3704, 0x1F): text("deep.bin")}
+    recipients = table(Columns([(0x0C15, 3), (0x3001, 0x1F)]), {0: {(0x0C15, 3): u32(2), (0x3001, 0x1F): text("Bee")}})
+    attachments = table(Columns([(0x3704, 0x1F)]), {0x8025: deep})
+    props = {(0x001A, 0x1F): text("IPM.Note"), (0x0037, 0x1F): text("Inner"), (0x0E07, 3): u32(0), (0x0E08, 3): u32(7), (0x6600, 0xD): bytes(8)}
+    inner = properties(props), {0x671: attachments, 0x692: recipients, 0x8025: (properties(deep), {})}
+    lacking = properties(props), {0x671: attachments}
+    is_one, named = {(0x3705, 3): u32(5)}, lambda nid: {(0x3701, 0xD): u32(nid) + u32(99)}
+    parts = [
+        ("right", {**is_one, **named(0x200064)}, {0x200064: inner}),
+        ("method", {(0x3705, 3): u32(1), **named(0x200064)}, {0x200064: inner}),
+        ("data", {**is_one, (0x3701, 0x102): u32(0x200064) + u32(99)}, {0x200064: inner}),
+        ("short", {**is_one, (0x3701, 0xD): u32(0x200064)}, {0x200064: inner}),
+        ("long", {**is_one, (0x3701, 0xD): u32(0x200064) + u32(99) + b"\0"}, {0x200064: inner}),
+        ("nowhere", {**is_one, **named(0x8024)}, {0x200064: inner}),
+        ("kind", {**is_one, **named(0x8022)}, {0x8022: inner}),
+        ("broken", {**is_one, **named(0x8024)}, {0x8024: ([b"\1\2\3"], {})}),
+        ("rows", {**is_one, **named(0x8024)}, {0x8024: lacking}),
+        ("none", named(0x8024), {0x8024: inner}),
+        ("bare", {**is_one, **named(0x8024)}, {0x8024: (properties({}), {})}),
+        ("word", {(0x3705, 2): struct.pack("<H", 5), **named(0x8024)}, {0x8024: inner}),
+    ]
+    values = {0x8025 + 32 * at: ({**it, (0x3704, 0x1F): text(name)}, kept) for at, (name, it, kept) in enumerate(parts)}
+    columns = Columns([(0x0E20, 3), (0x3704, 0x1F), (0x3705, 3), (0x370B, 3)])
+    subs = {0x671: table(columns, {nid: it for nid, (it, _) in values.items()})}
+    subs |= {nid: (properties(it), kept) for nid, (it, kept) in values.items()}
+    outer = {(0x001A, 0x1F): text("IPM.Note"), (0x0037, 0x1F): text("Outer"), (0x0E07, 3): u32(16), (0x0E08, 3): u32(5)}
+    return store({}, {0x200024: (outer, subs)})
+
+
 def large_attachment():
     """A search folder with criteria of another program, two tables of messages that are one block, a size of another count, and an attachment of 20,000,000 bytes
     in a file of 90 regions, of which those behind the pages are zeros and left out here."""
@@ -466,6 +497,7 @@ if __name__ == "__main__":
         ("many_rows.pst", many_rows()),
         ("other_programs.pst", other_programs()),
         ("many_values.pst", many_values()),
+        ("embedded_messages.pst", embedded_messages()),
         ("large_attachment.pst", large_attachment()),
         ("deep_folders.pst", deep_folders()),
         ("stale_searches.pst", stale_searches()),
