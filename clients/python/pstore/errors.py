@@ -59,6 +59,12 @@ class RowLimitRefusal(LimitRefusal):
     kind = "limit rows"
 
 
+class NestingLimitRefusal(LimitRefusal):
+    """Messages would stand too deep in one another: a subnode below level 8 of the outermost."""
+
+    kind = "limit nesting"
+
+
 class PropertyLimitRefusal(LimitRefusal):
     """An object would get more than 1,000 values."""
 
@@ -129,6 +135,12 @@ class ReservedRefusal(Refusal):
     """The folder is a search folder, or of another program, where the line takes none such."""
 
     kind = "reserved"
+
+
+class NoEmbedded(Refusal):
+    """The attachment holds no message."""
+
+    kind = "embedded"
 
 
 class ProtectedRefusal(Refusal):

@@ -6,10 +6,11 @@ from typing import TYPE_CHECKING, Iterable, Iterator, List, Optional, Tuple, Uni
 
 from .codepages import decoded
 from .errors import NotFound, PropertyRefusal, Refusal
-from .messages import Message, candidates
+from .messages import Message
 from .replies import ListedFolder, ListedMessage, Reply, listed
 from .spelling import spell
 from .tags import BYTE_TEXT, TEXT, Tag, Value, tag_of, value_of
+from .valued import candidates
 
 if TYPE_CHECKING:
     from .drafts import Draft

@@ -1,18 +1,17 @@
-"""Messages of a store, with their values, recipients and attachments."""
+"""Messages of a store and in attachments, with their values, recipients and attachments."""
 
 from __future__ import annotations
 
 import io
 import shutil
-from datetime import datetime
-from typing import TYPE_CHECKING, BinaryIO, Dict, List, Optional, Tuple, Union
+from typing import TYPE_CHECKING, BinaryIO, List, Optional, Tuple, Union
 
-from .codepages import charset_of
-from .drafts import recipient_line, set_line
-from .errors import NotFound, PropertyRefusal
-from .replies import Details, ListedAttachment, ListedMessage, Recipient, details
-from .spelling import clip, spell_word
-from .tags import BINARY, BYTE_TEXT, READ, TEXT, Tag, Value, tag_of, value_of
+from .drafts import recipient_line
+from .errors import NoEmbedded, NotFound
+from .replies import ListedAttachment, ListedMessage, Recipient
+from .spelling import clip, spell, spell_word
+from .tags import BINARY, value_of
+from .valued import Valued
 
 if TYPE_CHECKING:
     from .folders import Folder
@@ -24,117 +23,31 @@ PIECE = 500_000
 ATTACHMENT_BYTES = 8_000_000
 """How many bytes the data of an attachment may have."""
 
-
-def candidates(tag: Tag) -> Tuple[Tag, ...]:
-    """The kinds in which files hold a property: text also in a code page, HTML as bytes or as text."""
-    if tag.kind == TEXT:
-        return tag, Tag(tag.id, BYTE_TEXT)
-    if tag == tag_of("html"):
-        return tag, Tag(tag.id, TEXT), Tag(tag.id, BYTE_TEXT)
-    return (tag,)
+OBJECT_BYTES = 8
+"""How many bytes stand in the place of an attachment's data where it holds a message."""
 
 
-class _Named:
-    """A value of a message as an attribute; it is None where there is none, and setting it is a commit."""
-
-    def __set_name__(self, owner: type, name: str) -> None:
-        self._name = name
-        self.__doc__ = f"The value {name!r} of the message."
-
-    def __get__(self, message: Optional["Message"], owner: type = None):
-        return self if message is None else message.get(self._name)
-
-    def __set__(self, message: "Message", value: Optional[Value]) -> None:
-        if value is None:
-            message.unset(self._name)
-        else:
-            message.set(**{self._name: value})
-
-
-class Message:
+class Message(Valued):
     """A message, by its id. What `props` lists of it is asked once, and anew after a change through this object."""
 
-    message_class, body, html = _Named(), _Named(), _Named()
-    sender, sender_address, sent, received, created = _Named(), _Named(), _Named(), _Named(), _Named()
-    to, cc, headers, message_id, flags = _Named(), _Named(), _Named(), _Named(), _Named()
-
     def __init__(self, store: "Tree", ident: int, listing: Optional[ListedMessage] = None) -> None:
-        self.store, self.id, self.listing = store, ident, listing
-        self._details: Optional[Details] = None
+        super().__init__(store)
+        self.id, self.listing = ident, listing
 
     def __repr__(self) -> str:
         return f"<Message 0x{self.id:x}>"
 
-    @property
-    def details(self) -> Details:
-        """The ids and kinds of all values, the recipients and the attachments."""
-        if self._details is None:
-            self._details = details(self.store.session.ask(f"props 0x{self.id:x}"))
-        return self._details
-
-    def get(self, name: Union[str, int, Tag], default: Optional[Value] = None) -> Optional[Value]:
-        """A value by its name or tag. Text that another program wrote in a code page comes as text too."""
-        wanted = tag_of(name)
-        for tag in candidates(wanted):
-            try:
-                value = value_of(tag.kind, self.store.session.ask(f"get 0x{self.id:x} {tag}").rest)
-            except PropertyRefusal:
-                continue
-            return self._as_wanted(wanted, tag, value)
-        return default
-
-    def _as_wanted(self, wanted: Tag, tag: Tag, value: Value) -> Value:
-        if tag.kind == BYTE_TEXT and wanted.kind == TEXT:
-            value = value.decode(charset_of(self.get("message_codepage") or self.get("codepage")), "replace")
-        if tag.kind == TEXT and wanted.kind == BINARY:
-            value = value.encode(charset_of(self.get("codepage")), "xmlcharrefreplace")
-        return value
-
-    def set(self, **values: Value) -> None:
-        """Gives the message values by their names, one commit each."""
-        self.put({tag_of(name): value for name, value in values.items()})
-
-    def put(self, values: Dict[Tag, Value]) -> None:
-        """Gives the message values by their tags, one commit each."""
-        self._details = None
-        self.store.session.ask_all([set_line(self.id, tag, value) for tag, value in values.items()])
-
-    def unset(self, name: Union[str, int, Tag]) -> None:
-        """Takes away a value."""
-        self._details = None
-        self.store.session.ask(f"unset 0x{self.id:x} {tag_of(name)}")
-
-    @property
-    def subject(self) -> Optional[str]:
-        """The subject, without the mark of its prefix that Outlook puts before it ([MS-PST] 2.5.3.1.1.1)."""
-        subject = self.get("subject")
-        return subject[2:] if subject and subject[0] == "\x01" else subject
-
-    @subject.setter
-    def subject(self, subject: str) -> None:
-        self.set(subject=subject)
-
-    @property
-    def read(self) -> bool:
-        return bool((self.flags or 0) & READ)
-
-    @read.setter
-    def read(self, read: bool) -> None:
-        flags = self.flags or 0
-        self.set(flags=flags | READ if read else flags & ~READ)
-
-    @property
-    def recipients(self) -> Tuple[Recipient, ...]:
-        return self.details.recipients
+    def _words(self, word: str) -> str:
+        return f"{word} 0x{self.id:x}"
 
     def add_recipient(self, type: int, address: str, name: str = "") -> Recipient:
         """Gives the message a recipient: 1 is To, 2 Cc and 3 Bcc."""
-        self._details = None
+        self._changed()
         row = int(self.store.session.ask(recipient_line(self.id, Recipient(type, address, name))).rest)
         return Recipient(type, address, name or address, row)
 
     def remove_recipient(self, recipient: Recipient) -> None:
-        self._details = None
+        self._changed()
         self.store.session.ask(f"unrcpt 0x{self.id:x} {recipient.row}")
 
     @property
@@ -160,6 +73,13 @@ class Message:
         """A file to write the bytes of a new attachment to, which is whole once that is closed."""
         return AttachmentWriter(self, name)
 
+    def embed(self, other: "Message", name: str) -> "Attachment":
+        """Gives the message an attachment that holds a copy of another message, or of itself as it is now. What becomes of that one later leaves the copy."""
+        self._changed()
+        name = clip(name) or "message"
+        ident = self.store.session.ask(f"{self._words('embed')} 0x{other.id:x} {spell(name)}").id
+        return Attachment(self, ListedAttachment(ident, OBJECT_BYTES, name))
+
     def move(self, folder: "Folder") -> None:
         self.store.session.ask(f"mv 0x{self.id:x} 0x{folder.id:x}")
 
@@ -180,23 +100,59 @@ class Attachment:
         return f"<Attachment 0x{self.id:x} {self.name!r}>"
 
     def read(self) -> bytes:
-        """Its bytes. One that holds a message or an object has none, and is refused as `property`."""
+        """Its bytes. One that holds a message or an object has none, and is refused as `PropertyRefusal`."""
         return value_of(BINARY, self.message.store.session.ask(f"fetch 0x{self.message.id:x} 0x{self.id:x}").rest)
 
     def open(self) -> BinaryIO:
         """Its bytes as a file to read."""
         return io.BytesIO(self.read())
 
+    @property
+    def embedded(self) -> Optional["EmbeddedMessage"]:
+        """The message that it holds, None where it holds none. A store that was opened by `look`, and a pin, refuse to tell as `LineRefusal`."""
+        found = EmbeddedMessage(self)
+        try:
+            found.details
+        except NoEmbedded:
+            return None
+        return found
+
     def append(self, data: bytes) -> None:
         """Puts bytes behind its data, a piece a line."""
-        self.message._details = None
+        self.message._changed()
         pieces = (data[at : at + PIECE] for at in range(0, len(data), PIECE))
         self.message.store.session.ask_all(f"append 0x{self.message.id:x} 0x{self.id:x} {it.hex()}" for it in pieces)
         self.length += len(data)
 
     def remove(self) -> None:
-        self.message._details = None
+        self.message._changed()
         self.message.store.session.ask(f"detach 0x{self.message.id:x} 0x{self.id:x}")
+
+
+class EmbeddedMessage(Valued):
+    """The message that an attachment holds.
+
+    Its values are read and changed as those of a message. Its recipients are told, and of its attachments their ids,
+    names and lengths: no line reads or changes more of them.
+    """
+
+    def __init__(self, attachment: Attachment) -> None:
+        super().__init__(attachment.message.store)
+        self.attachment = attachment
+
+    def __repr__(self) -> str:
+        return f"<EmbeddedMessage in 0x{self.attachment.id:x} of 0x{self.attachment.message.id:x}>"
+
+    def _words(self, word: str) -> str:
+        return f"e{word} 0x{self.attachment.message.id:x} 0x{self.attachment.id:x}"
+
+    def _changed(self) -> None:
+        super()._changed()
+        self.attachment.message._changed()
+
+    @property
+    def attachments(self) -> Tuple[ListedAttachment, ...]:
+        return self.details.attachments
 
 
 class AttachmentWriter(io.RawIOBase):
@@ -228,7 +184,7 @@ class AttachmentWriter(io.RawIOBase):
             self.attachment.append(piece)
             return
         message = self._message
-        message._details = None
+        message._changed()
         line = f"attach 0x{message.id:x} {spell_word(self._name)} {piece.hex() or '-'}"
         ident = message.store.session.ask(line).id
         self.attachment = Attachment(message, ListedAttachment(ident, len(piece), self._name))

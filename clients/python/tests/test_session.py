@@ -256,3 +256,73 @@ class Views(OverScript):
                 view.number = 4  # so that its end is refused too
                 self.store.message(0x200044).get("subject")
         self.assertEqual(self.asked()[-1], "unview 4")
+
+
+EMBEDDED = """
+while read -r line; do
+  echo "$line" >>"$(dirname "$0")/asked"
+  case "$line" in
+    'ls 0x122') echo '- 0x8022 folder "Top of Personal Folders"'; echo 'ok 1' ;;
+    'props 0x200024') echo '- 0x0037001f 10'; echo '- attach 0x8025 8 "a.msg"'; echo '- attach 0x8045 2 "b"'; echo 'ok 3' ;;
+    'eprops 0x200024 0x8025') echo '- 0x0037001f 6'; echo '- 0x0e070003 4'; echo '- rcpt 0 1 "a@b" "Ann"'; echo '- attach 0x8025 5 "c.txt"'; echo 'ok 4' ;;
+    'eget 0x200024 0x8025 0x0037001f') echo 'ok "Bye"' ;;
+    'eget 0x200024 0x8025 0x0e070003') echo 'ok 16' ;;
+    'eget 0x200024 0x8025 '*) echo 'no property' ;;
+    'eset 0x200024 0x8025 0x0e080003 5') echo 'no protected' ;;
+    'eset 0x200024 0x8025 '* | 'eunset 0x200024 0x8025 0x0037001f') echo ok ;;
+    'eprops 0x200024 0x8045' | 'eget 0x200024 0x8045 '*) echo 'no embedded' ;;
+    'embed 0x200024 0x200044 '*) echo 'ok 0x8065' ;;
+    'embed 0x200024 0x200064 '*) echo 'no limit nesting' ;;
+    quit) echo ok ;;
+    *) echo 'no line' ;;
+  esac
+done
+"""
+
+
+class Embedded(OverScript):
+    """Which lines are sent for messages in attachments, by a program that knows a message with two attachments."""
+
+    def setUp(self):
+        super().setUp()
+        self.store = Store("FILE", self.program(EMBEDDED))
+        self.addCleanup(self.store.close)
+        self.message = self.store.message(0x200024)
+
+    def asked(self):
+        return (self.folder / "asked").read_text().splitlines()[1:]
+
+    def test_what_an_attachment_holds(self):
+        first, second = self.message.attachments
+        self.assertIsNone(second.embedded)
+        found = first.embedded
+        self.assertEqual((found.subject, found.body, found.read, found.get("flags")), ("Bye", None, False, 16))
+        self.assertEqual([(it.type, it.address, it.name) for it in found.recipients], [(1, "a@b", "Ann")])
+        self.assertEqual([(it.id, it.length, it.name) for it in found.attachments], [(0x8025, 5, "c.txt")])
+        self.assertEqual(self.asked()[:4], ["props 0x200024", "eprops 0x200024 0x8045", "eprops 0x200024 0x8025", "eget 0x200024 0x8025 0x0037001f"])
+        self.assertEqual(self.asked().count("eprops 0x200024 0x8025"), 1)
+
+    def test_values_are_given_and_taken_away(self):
+        found = self.message.attachment("a.msg").embedded
+        found.set(subject="a\nb", body=" c")
+        found.read = True
+        found.subject = "d"
+        found.unset("subject")
+        self.assertEqual(
+            [it for it in self.asked() if it.startswith(("eset", "eunset"))],
+            ["eset 0x200024 0x8025 0x0037001f a\\u000ab", "eset 0x200024 0x8025 0x1000001f  c", "eset 0x200024 0x8025 0x0e070003 17", "eset 0x200024 0x8025 0x0037001f d", "eunset 0x200024 0x8025 0x0037001f"],
+        )
+        with self.assertRaises(errors.ProtectedRefusal):
+            found.set(size=5)
+        self.assertEqual((len(found.details.values), len(self.message.attachments)), (2, 2))
+        self.assertEqual((self.asked().count("eprops 0x200024 0x8025"), self.asked().count("props 0x200024")), (2, 2))
+
+    def test_a_message_is_embedded(self):
+        attachment = self.message.embed(self.store.message(0x200044), "the mail.msg")
+        self.assertEqual((attachment.id, attachment.length, attachment.name), (0x8065, 8, "the mail.msg"))
+        self.assertEqual(self.message.embed(self.store.message(0x200044), "").name, "message")
+        with self.assertRaises(errors.NestingLimitRefusal):
+            self.message.embed(self.store.message(0x200064), "x" * 300)
+        self.assertEqual(self.asked(), ["embed 0x200024 0x200044 the mail.msg", "embed 0x200024 0x200044 message", f"embed 0x200024 0x200064 {'x' * 255}"])
+        with self.assertRaises(errors.LineRefusal):
+            attachment.embedded

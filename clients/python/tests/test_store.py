@@ -4,7 +4,7 @@ import unittest
 from datetime import datetime, timezone
 from pathlib import Path
 
-from pstore import Draft, Folder, Message, Pin, Recipient, Store, compact, decode, errors, fill, mend
+from pstore import Attachment, Draft, Folder, Message, Pin, Recipient, Store, compact, decode, errors, fill, mend
 from pstore.drafts import DraftAttachment
 from pstore.program import find_program, knows_look
 from pstore.tags import TAGS, Tag
@@ -141,6 +141,59 @@ class Stores(InFolder):
             store.view(other, "size")
         with store.view(inbox, "size") as view:
             self.assertEqual(view.number, 19)
+
+    def test_a_message_in_an_attachment(self):
+        with Store.create(self.file) as store:
+            inbox = store.make_folder("Inbox")
+            inner = inbox.add(Draft(values={TAGS["subject"]: "Hello"}, recipients=[Recipient(1, "a@b.c", "Ann")], attachments=[DraftAttachment("a.txt", b"hello")]))
+            outer = inbox.add(Draft(values={TAGS["subject"]: "Outer"}, attachments=[DraftAttachment("b.txt", b"data")]))
+            attachment = outer.embed(inner, "the mail.msg")
+            self.assertEqual([(it.id, it.length, it.name) for it in outer.attachments], [(0x8025, 4, "b.txt"), (attachment.id, 8, "the mail.msg")])
+            self.check_embedded(inner, attachment)
+            self.check_embedded_refusals(inner, outer, attachment)
+            inner.remove()
+            copy = outer.copy(inbox)
+            copy.attachment("the mail.msg").embedded.subject = "In the copy"
+        with Store(self.file) as store:
+            outer, copy = store.folder("Inbox").messages()
+            self.assertEqual([it.attachment("the mail.msg").embedded.subject for it in (outer, copy)], ["Bye", "In the copy"])
+            outer.attachment("the mail.msg").remove()
+            self.assertEqual([it.name for it in outer.attachments], ["b.txt"])
+            with store.pin() as then, self.assertRaises(errors.LineRefusal):
+                then.message(copy.id).attachment("the mail.msg").embedded
+        with Store.look(self.file) as store, self.assertRaises(errors.LineRefusal):
+            store.message(copy.id).attachment("the mail.msg").embedded
+
+    def check_embedded(self, inner: Message, attachment: Attachment):
+        found = attachment.embedded
+        self.assertEqual((found.subject, found.message_class, found.body, found.get("size")), ("Hello", "IPM.Note", None, inner.get("size")))
+        self.assertEqual([(it.type, it.address, it.name) for it in found.recipients], [(1, "a@b.c", "Ann")])
+        self.assertEqual([(it.id, it.length, it.name) for it in found.attachments], [(0x8025, 5, "a.txt")])
+        size, outer_size = found.get("size"), attachment.message.get("size")
+        found.set(subject="Bye", body="x" * 5000)
+        found.read = True
+        self.assertEqual((found.subject, found.body, found.flags, found.get("size")), ("Bye", "x" * 5000, 17, size - 4 + 10_000))
+        found.unset("body")
+        self.assertEqual((found.body, found.get("size"), attachment.message.get("size")), (None, size - 4, outer_size))
+        self.assertEqual((inner.subject, inner.read), ("Hello", False))
+
+    def check_embedded_refusals(self, inner: Message, outer: Message, attachment: Attachment):
+        self.assertIsNone(outer.attachment("b.txt").embedded)
+        for it, kind in (
+            (attachment.read, errors.PropertyRefusal), (lambda: attachment.append(b"x"), errors.PropertyRefusal), (lambda: attachment.embedded.set(size=5), errors.ProtectedRefusal),
+            (lambda: attachment.embedded.unset("html"), errors.PropertyRefusal), (lambda: outer.store.session.ask(f"eget 0x{outer.id:x} 0x8025 {TAGS['subject']}"), errors.NoEmbedded),
+            (lambda: outer.embed(Message(outer.store, 0x999), "x"), errors.ObjectRefusal),
+        ):  # fmt: skip
+            with self.assertRaises(kind):
+                it()
+        # An attachment stands at level 1 and its message at level 2, so that of the fourth stands at level 8 and has no room for one of its own.
+        folder = outer.store.make_folder("Deep")
+        chain = [folder.add(Draft()) for _ in range(6)]
+        for above, below in zip(chain[1:5], chain):
+            above.embed(below, "x")
+        with self.assertRaises(errors.NestingLimitRefusal):
+            chain[5].embed(chain[4], "x")
+        self.assertEqual(chain[4].attachment("x").embedded.attachments[0].length, 8)
 
     def check_folders(self, store: Store):
         self.assertEqual(store.top.name, "Top of Personal Folders")
