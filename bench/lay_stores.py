@@ -396,7 +396,7 @@ def many_values():
 
 
 def embedded_messages():
-    """A message with attachments of which one holds a message, one a message without values, and each of the others nothing that counts as one."""
+    """A message with attachments of which one holds a message, one a message without values, and each of the others nothing that counts as one; one whose table of attachments has no room for columns; and one with 999 values and neither flags nor a size, and an attachment that holds a message."""
     deep = {(0x3701, 0x102): b"\1\2\3", (0x3704, 0x1F): text("deep.bin")}
     recipients = table(Columns([(0x0C15, 3), (0x3001, 0x1F)]), {0: {(0x0C15, 3): u32(2), (0x3001, 0x1F): text("Bee")}})
     attachments = table(Columns([(0x3704, 0x1F)]), {0x8025: deep})
@@ -423,7 +423,11 @@ def embedded_messages():
     subs = {0x671: table(columns, {nid: it for nid, (it, _) in values.items()})}
     subs |= {nid: (properties(it), kept) for nid, (it, kept) in values.items()}
     outer = {(0x001A, 0x1F): text("IPM.Note"), (0x0037, 0x1F): text("Outer"), (0x0E07, 3): u32(16), (0x0E08, 3): u32(5)}
-    return store({}, {0x200024: (outer, subs)})
+    wide = {(0x001A, 0x1F): text("IPM.Note"), (0x0037, 0x1F): text("Wide"), (0x0E07, 3): u32(0), (0x0E08, 3): u32(0)}
+    room = {0x671: table(Columns([(0x4000 + at, 3) for at in range(253)]), {})}
+    many = {(0x001A, 0x1F): text("A"), **{(0x4000 + at, 3): u32(0) for at in range(998)}}
+    holding = {0x671: table(columns, {0x8025: values[0x8025][0]}), 0x8025: subs[0x8025]}
+    return store({}, {0x200024: (outer, subs), 0x200044: (wide, room), 0x200064: (many, holding)})
 
 
 def large_attachment():
