@@ -1,5 +1,5 @@
 #!/bin/sh
-# Makes a store of several regions with mail and a search folder in it, and has other readers of .pst files read it: libpst's `readpst` and libpff's `pffexport`, where they are installed (Debian: pst-utils and pff-tools).
+# Makes a store of several regions with mail, a message in an attachment and a search folder in it, and has other readers of .pst files read it: libpst's `readpst` and libpff's `pffexport`, where they are installed (Debian: pst-utils and pff-tools).
 # They also read the store with its blocks encoded by each of the two methods, which `decode` then makes the store again, byte for byte; and the copy without holes that `compact` makes of it, which must be the one that bench/compact_stores.py makes.
 # Says of each what of the mail it found, and what not.
 # Needs crates/pstore/out/pstore, which ./pstore builds, or the program named by PSTORE.
@@ -15,6 +15,8 @@ LINES = [
     "set 0x200024 0x0037001f Hello", "set 0x200024 0x1000001f Body of the first", "set 0x200024 0x0c1a001f Alice", "set 0x200024 0x0042001f Alice",
     "rcpt 0x200024 1 bob@example.org Bob", "rcpt 0x200024 2 carol@example.org Carol", "attach 0x200024 note.txt 48656c6c6f",
     "new 0x80a2 IPM.Note 133500000000000000", "set 0x200044 0x0037001f Second", "attach 0x200044 big.bin " + DATA[:400_000].hex(), "append 0x200044 0x8025 " + DATA[400_000:].hex(),
+    "new 0x8082 IPM.Note 133500000000000000", "set 0x200064 0x0037001f A letter", "set 0x200064 0x1000001f Body of the letter", "rcpt 0x200064 1 dan@example.org Dan", "attach 0x200064 sketch.txt 536b65746368",
+    "embed 0x200024 0x200064 letter.msg", "rm 0x200064", "eset 0x200024 0x8045 0x0037001f A letter within",
     "mksearch 0x8042 Greetings", "criteria 0x80023 0x6 0x8082 03010001001f0037001f00370068000000",  # the subject begins with `h`
     "name 0329060000000000c000000000000046 0x8554",  # libpff wants a name that is known
     "save",
@@ -121,7 +123,8 @@ def lines_of(data):
 
 
 SAID = {"folders": b"Projects", "subjects": b"Second", "body": b"Body of the first", "sender": b"Alice"}
+EMBEDDED = {"embedded subject": b"A letter within", "embedded body": b"Body of the letter", "embedded recipient": b"dan@example.org", "embedded attachment": b"Sketch"}
 tell("readpst", lambda to: ["-q", "-M", "-o", to], SAID | {"attachment": base64.b64encode(b"Hello"), "long attachment": lines_of(DATA)})
-tell("pffexport", lambda to: ["-q", "-t", os.path.join(to, "all")], SAID | {"search folder": b"Greetings", "recipients": b"carol@example.org", "attachment": b"Hello", "long attachment": DATA})
+tell("pffexport", lambda to: ["-q", "-t", os.path.join(to, "all")], SAID | {"search folder": b"Greetings", "recipients": b"carol@example.org", "attachment": b"Hello", "long attachment": DATA} | EMBEDDED)
 shutil.rmtree(folder)
 END

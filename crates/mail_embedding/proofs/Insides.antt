@@ -76,7 +76,7 @@ told_is (Err None) x none = absurd none
 
 -- ---- the message in an attachment
 
-abbrev IsIt : Part → Mes → Result Mes Stop → Type 0
+abbrev pub IsIt : Part → Mes → Result Mes Stop → Type 0
 IsIt part m result = result ≡ Ok m
 
 -- the attachment was found: what is made of it is made of this one
@@ -84,13 +84,13 @@ pub inside_found : {A : Type 0} (a : Answer Part) (part : Part) (P : Part → Me
 inside_found a part P result told is = subst (λ b. Inside b P result) (sym (told_is a part told)) is
 
 -- it couldn't be read
-pub inside_lost : {A : Type 0} (a : Answer Part) (stop : Stop) (P : Part → Mes → Result A Stop → Type 0) → Tells {Part} a (Err stop) → Inside a P (Err stop)
+pub inside_lost : {A : Type 0} (a : Answer Part) (stop : Stop) (P : Part → Mes → Result A Stop → Type 0) → Tells {A = Part} a (Err stop) → Inside a P (Err stop)
 inside_lost (Ok part) stop P lost = inr (inr lost)
 inside_lost (Err (Some refusal)) stop P refused = refused
 inside_lost (Err None) stop P none = none
 
 -- the message was found: what is made of it is made of this one
-pub inside_next : {A : Type 0} (a : Answer Part) (m : Mes) (P : Part → Mes → Result A Stop → Type 0) (result : Result A Stop) → Inside {Mes} a IsIt (Ok m) → ((part : Part) → ShowsInner part m → P part m result) → Inside a P result
+pub inside_next : {A : Type 0} (a : Answer Part) (m : Mes) (P : Part → Mes → Result A Stop → Type 0) (result : Result A Stop) → Inside {A = Mes} a IsIt (Ok m) → ((part : Part) → ShowsInner part m → P part m result) → Inside a P result
 inside_next (Ok part) m P result (inl is) next =
     let same : m ≡ is.0 = ok_is is.2 in
     inl (m, subst (λ e. ShowsInner part e) (sym same) is.1, next part (subst (λ e. ShowsInner part e) (sym same) is.1))
@@ -103,7 +103,7 @@ inside_next (Err (Some refusal)) m P result is next = absurd is
 inside_next (Err None) m P result is next = absurd is
 
 -- it couldn't be read, or there is none
-pub inside_stops : {A : Type 0} (a : Answer Part) (stop : Stop) (P : Part → Mes → Result A Stop → Type 0) → Inside {Mes} a IsIt (Err stop) → Inside a P (Err stop)
+pub inside_stops : {A : Type 0} (a : Answer Part) (stop : Stop) (P : Part → Mes → Result A Stop → Type 0) → Inside {A = Mes} a IsIt (Err stop) → Inside a P (Err stop)
 inside_stops (Ok part) stop P (inl is) = absurd (err_ok is.2)
   where
     err_ok : {e : Mes} → ◌≡◌ {A = Result Mes Stop} (Err stop) (Ok e) → ⊥
@@ -118,7 +118,7 @@ inside_stops (Err None) stop P is = is
 pub puts_it : (a : Answer Mes) (m : Mes) (c : Command) (P : Mes → Command → Type 0) → Tells a (Ok m) → P m c → Puts a P (Ok (Becomes c))
 puts_it a m c P told is = subst (λ b. Puts b P (Ok (Becomes c))) (sym (told_is a m told)) is
 
-pub puts_lost : (a : Answer Mes) (stop : Stop) (P : Mes → Command → Type 0) → Tells {Mes} a (Err stop) → Puts a P (Err stop)
+pub puts_lost : (a : Answer Mes) (stop : Stop) (P : Mes → Command → Type 0) → Tells {A = Mes} a (Err stop) → Puts a P (Err stop)
 puts_lost (Ok m) stop P lost = lost
 puts_lost (Err (Some refusal)) stop P refused = refused
 puts_lost (Err None) stop P none = none

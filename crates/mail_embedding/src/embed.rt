@@ -26,7 +26,7 @@ fn embedding_of<D: Desk>(
 ) -> Result<Mail, Stop>
     ensures reads { Reads (D.view desk.old) (D.view desk.new) result }
     ensures answer { Answers (D.view desk.old) (λ m. m) (λ T c. embedding_of T message.bits source.bits name.now) result }
-    ensures fits { OnOk result (λ m. message_fits m ≡ true) }
+    ensures fits { IfOk result (λ m. message_fits m ≡ true) }
 {
     let mail = message_in(desk, message)?;
     let copied = message_in(desk, source)?;

@@ -1,8 +1,8 @@
 -- Subnodes of which one comes in place of another.
-use Rattle.std.proofs.Common.{◌≡◌, ℕ, ◌+◌, ◌<◌, ◌≤◌, ◌==◌, ◌&&◌, suc, Bool, true, false, List, [], ◌∷◌, ◌++◌, length, map, set, nat_le, arith, refl, sym, ap, ◌∙◌, inl, inr}
-use Rattle.std.specs.List.{position_or_len}
-use Rattle.std.proofs.lemmas.Bool.{and_from, and_parts, cases_Bool, eqb-true, ne_eqb}
-use Rattle.std.proofs.lemmas.List.{append-nil, append-assoc}
+use Rattle.std.proofs.Common.{◌≡◌, ℕ, ◌+◌, ◌<◌, ◌≤◌, ◌==◌, ◌&&◌, suc, zero, Bool, true, false, Option, None, Some, List, [], ◌∷◌, ◌++◌, get_or, length, map, set, nat_le, arith, refl, sym, ap, ◌∙◌, inl, inr}
+use Rattle.std.specs.List.{position_from}
+use Rattle.std.proofs.lemmas.Bool.{and_from, and_parts, cases_Bool, eqb-true, le-leb, ne_eqb}
+use Rattle.std.proofs.lemmas.List.{append-nil}
 use Rattle.pst_base.specs.Flat.{Flat}
 use Rattle.pst_base.specs.Subs.{flattened, one_deeper}
 use Rattle.pst_base.specs.declared.subs.Sub.{Sub}
@@ -21,7 +21,7 @@ ascend_past low (f ∷ fs) gs = rw (is_below f) (ascend_past low fs gs)
 ascend_behind : (low : ℕ) (fs : List Flat) → ids_ascend low (behind fs) ≡ ids_ascend low fs
 ascend_behind low [] = refl
 ascend_behind low (f ∷ fs) = elim (cases_Bool (f.level == 0)) [
-  | inl top ↦ rw top refl
+  | inl top ↦ rw top (rw top refl)
   | inr below ↦ rw below (ascend_behind low fs)
 ]
 
@@ -37,7 +37,7 @@ with_past node (f ∷ fs) gs = rw (is_below f) (ap (λ (hs : List Flat). one_dee
 
 -- a subnode by itself
 pub one_ascends : (node : Sub) → ids_ascend 0 (flattened (node ∷ [])) ≡ true
-one_ascends node = rw (append-nil (map one_deeper node.subs)) (rw (sym (append-nil (map one_deeper node.subs))) (ascend_past (suc node.nid.bits) node.subs []))
+one_ascends node = and_from (nat_le 0 node.nid.bits) (ids_ascend (suc node.nid.bits) (map one_deeper node.subs ++ [])) (le-leb 0 node.nid.bits (omega arith)) (ascend_past (suc node.nid.bits) node.subs [])
 
 -- subnodes ascend still where one comes in place of another of its id
 pub with_ascends : (node : Sub) (low : ℕ) (fs : List Flat) → ids_ascend low fs ≡ true → ids_ascend low (with_subnode node fs) ≡ true
@@ -57,26 +57,26 @@ with_ascends node low (f ∷ fs) ascend = elim (cases_Bool (f.level == 0)) [
   | inr below ↦ rw below (rw below (with_ascends node low fs (rw below at ascend)))
 ]
 
--- the place of the first subnode of an id, or their number
-abbrev pub place_of : Sub → List Sub → ℕ
-place_of node subs = position_or_len (λ (s : Sub). s.nid.bits == node.nid.bits) subs
+-- the subnode has this id
+abbrev pub has_id : Sub → Sub → Bool
+has_id node s = s.nid.bits == node.nid.bits
 
 -- the first subnode of an id gives way to another
-pub replaced : (node : Sub) (subs : List Sub) → place_of node subs < length subs → flattened (set subs (place_of node subs) node) ≡ with_subnode node (flattened subs)
-replaced node [] less = absurd (omega arith)
-replaced node (s ∷ subs) less = elim (cases_Bool (s.nid.bits == node.nid.bits)) [
-  | inl same ↦ rw (same, append-nil (map one_deeper node.subs), behind_past s.subs subs) refl
-  | inr other ↦
-    let less' : place_of node subs < length subs = let l = rw other at less in omega arith in
-    rw (other, with_past node s.subs (flattened subs)) (ap (λ (gs : List Flat). record { level = 0; nid = s.nid.bits; blocks = s.blocks } ∷ map one_deeper s.subs ++ gs) (replaced node subs less'))
-]
+pub replaced : (node : Sub) (subs : List Sub) (i : ℕ) → i < length subs → has_id node (get_or subs i node) ≡ true → ((k : ℕ) → k < i → has_id node (get_or subs k node) ≡ false) → flattened (set subs i node) ≡ with_subnode node (flattened subs)
+replaced node [] i less here before = absurd (omega (arith, less))
+replaced node (s ∷ subs) zero less here before = rw (here, append-nil (map one_deeper node.subs), behind_past s.subs subs) refl
+replaced node (s ∷ subs) (suc i) less here before =
+    let other : has_id node s ≡ false = before 0 (omega arith) in
+    rw (other, with_past node s.subs (flattened subs)) (ap (λ (gs : List Flat). record { level = 0; nid = s.nid.bits; blocks = s.blocks } ∷ map one_deeper s.subs ++ gs)
+    (replaced node subs i (omega (arith, less)) here (λ k lt. before (suc k) (omega (arith, lt)))))
 
 -- where none has the id they stay
-pub none_replaced : (node : Sub) (subs : List Sub) → length subs ≤ place_of node subs → flattened subs ≡ with_subnode node (flattened subs)
-none_replaced node [] more = refl
-none_replaced node (s ∷ subs) more = elim (cases_Bool (s.nid.bits == node.nid.bits)) [
-  | inl same ↦ let m = rw same at more in absurd (omega arith)
-  | inr other ↦
-    let more' : length subs ≤ place_of node subs = let m = rw other at more in omega arith in
-    rw (other, with_past node s.subs (flattened subs)) (ap (λ (gs : List Flat). record { level = 0; nid = s.nid.bits; blocks = s.blocks } ∷ map one_deeper s.subs ++ gs) (none_replaced node subs more'))
+pub none_replaced : (node : Sub) (subs : List Sub) (from : ℕ) → position_from (has_id node) from subs ≡ None → flattened subs ≡ with_subnode node (flattened subs)
+none_replaced node [] from none = refl
+none_replaced node (s ∷ subs) from none = elim (cases_Bool (has_id node s)) [
+  | inl same ↦ absurd (some_none (rw same at none))
+  | inr other ↦ rw (other, with_past node s.subs (flattened subs)) (ap (λ (gs : List Flat). record { level = 0; nid = s.nid.bits; blocks = s.blocks } ∷ map one_deeper s.subs ++ gs) (none_replaced node subs (from + 1) (rw other at none)))
 ]
+  where
+    some_none : {n : ℕ} → ◌≡◌ {A = Option ℕ} (Some n) None → ⊥
+    some_none is = cc

@@ -1,5 +1,5 @@
 //! What `eset` and `eunset` come to: another message in an attachment.
-ghost use Rattle.std.specs.Prelude.{◌≡◌, IfErr, IfOk, IsSome, None, true};
+ghost use Rattle.std.specs.Prelude.{◌≡◌, ◌<◌, ◌==◌, IfErr, IfOk, IsSome, None, length, position, set, true};
 ghost use Rattle.command_text.specs.declared.reply.LastLine.TheVariants.{Done};
 ghost use Rattle.mapi_values.specs.Keyed.{put_key};
 ghost use Rattle.mapi_values.specs.Messages.{Mes, are_others, part_id};
@@ -26,16 +26,33 @@ use pst_base::{Nid, Sub, Subs};
 use pst_outside::Outside;
 use std::alloc::{AllocError, Global};
 
+/// The place of the first subnode with this id.
+fn place_of(entries: &[Sub], bits: u32) -> Option<usize>
+    ensures { result ≡ position (λ sub. sub.nid.bits == bits) entries.now }
+{
+    entries.iter().position(|sub| sub.nid.bits == bits)
+}
+
+/// Puts this subnode in place of the one there.
+fn put_at(entries: &mut Vec<Sub>, i: usize, node: Sub)
+    requires { i < length entries.old.items }
+    ensures { entries.new.items ≡ set entries.old.items i node }
+{
+    entries[i] = node;
+}
+
 /// The subnodes with a copy of this one in place of the first of its id, if there is one.
 fn with_subnode(alloc: Global, kept: Subs, node: &Sub) -> Result<Subs, AllocError>
     ensures { IfOk result (λ subs. subs ≡ with_subnode node.now kept) }
 {
-    let bits = node.nid.bits;
     let mut entries = kept.into_vec();
-    if let Some(i) = entries.iter().position(|sub| sub.nid.bits == bits) {
-        entries[i] = copy_sub(alloc, node)?;
+    match place_of(entries.as_slice(), node.nid.bits) {
+        Some(i) => {
+            put_at(&mut entries, i, copy_sub(alloc, node)?);
+            Ok(Subs::from_vec(entries))
+        }
+        None => Ok(Subs::from_vec(entries)),
     }
-    Ok(Subs::from_vec(entries))
 }
 
 /// The attachment with another message in it. It is lost with an `Err`.
@@ -88,7 +105,7 @@ fn hold_in<W: Outside, K: NodeReader<W>>(
     ensures cause { IfErr result (IsCaused K.has_disk (W.view w.old).disk_faults (W.view w.new).disk_faults) }
 {
     match take_attachment(mail, attachment) {
-        Some((mail, part)) => hold(alloc, keeper, w, known, mail, part, node),
+        Some(taken) => hold(alloc, keeper, w, known, taken.0, taken.1, node),
         None => Err(Stop::Refused(CommandRefusal::Object)),
     }
 }
