@@ -89,10 +89,17 @@ unlaid = record { nid = record { bits = EMBEDDED }; blocks = []; subs = [] }
 unfoldable pub with_room : List ℕ → ℕ → Mes → Mes
 with_room name bytes m = with_attachment (new_part (part_nid (next_part m)) name (Message bytes unlaid)) (room_for (next_part m) m)
 
+-- the table of attachments would have too many columns with one for a message of this size, or the message couldn't be written
+unfoldable pub lacks_room : List ℕ → ℕ → Mes → Bool
+lacks_room name bytes m = is_wide attachment_tags m.attachments || not (message_fits (with_room name bytes m))
+
+-- a table has too many rows, or the copy of the message couldn't be written
+unfoldable pub is_uncopied : Mes → Mes → Bool
+is_uncopied m x = is_full m.attachments || (is_overfull x.recipients || (is_overfull x.attachments || not (message_fits x)))
+
 -- a table would have too many rows or columns, or what is written couldn't be: of the message that gets the attachment, or of the copy of the other
 unfoldable pub lacks_rows : Mes → Mes → List ℕ → Bool
-lacks_rows m x name = is_full m.attachments || (is_wide attachment_tags m.attachments || (is_overfull x.recipients || (is_overfull x.attachments
-    || (not (message_fits x) || not (message_fits (with_room name (size x) m))))))
+lacks_rows m x name = is_uncopied m x || lacks_room name (size x) m
 
 -- a message may get an attachment of this name with a copy of the other
 unfoldable pub embedding : Mes → Mes → List ℕ → Answer (Unit {0})

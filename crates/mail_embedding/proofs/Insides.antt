@@ -1,8 +1,8 @@
 -- What is made of the message in an attachment, step by step.
-use Rattle.std.proofs.Common.{◌≡◌, ◌⊎◌, inl, inr, ℕ, List, Option, None, Some, Result, Ok, Err, not, ap, refl, subst, sym, ◌||◌}
+use Rattle.std.proofs.Common.{◌≡◌, ◌⊎◌, inl, inr, ℕ, List, Bool, true, false, Option, None, Some, Result, Ok, Err, not, ap, refl, subst, sym, ◌||◌}
 use Rattle.std.specs.Option.{is_some}
 use Rattle.pst_base.specs.declared.ids.Nid.{Nid}
-use Rattle.mapi_values.specs.Messages.{Mes}
+use Rattle.mapi_values.specs.Messages.{Mes, size}
 use Rattle.mapi_values.specs.Properties.{put, remove_id}
 use Rattle.mapi_values.specs.Values.{Val}
 use Rattle.mapi_values.specs.declared.part.Part.{Part}
@@ -13,21 +13,24 @@ use Rattle.command_text.specs.declared.reply.Limit.TheVariants.{Nesting, Propert
 use Rattle.mail_tree.specs.Tree.{Tree}
 use Rattle.mail_tree.specs.Changing.{Answer, ◌>>=◌, crowds_message, found, refused_if}
 use Rattle.mail_tree.specs.Ids.{is_spent}
-use Rattle.mail_tree.specs.Messages.{message_in}
+use Rattle.command_text.specs.declared.reply.LastLine.TheVariants.{Value}
+use Rattle.mail_tree.specs.Folders.{replied}
+use Rattle.mail_tree.specs.Messages.{is_overfull, message_in, value_of}
+use Rattle.mail_parts.specs.mail_messages.Parts.{value_reply}
 use Rattle.mail_tree.specs.Names.{unless_nameless}
-use Rattle.mail_tree.specs.Parts.{next_part, part_in}
+use Rattle.mail_tree.specs.Parts.{is_full, next_part, part_in}
 use Rattle.mail_tree.specs.Values.{bytes_of, finished, is_set_protected, is_unset_protected, with_props}
 use Rattle.mail_tree.specs.Whole.{Fine, IsWhole}
 use Rattle.mail_tree.proofs.FineLaws.{after_found, after_test, fine_test, fine_then}
 use Rattle.mail_laws.proofs.LawSteps.{before}
 use Rattle.mail_laws.proofs.MessageSteps.{fine_message_in, fine_nameless}
 use Rattle.write_limits.specs.Limits.{message_fits}
-use Rattle.embedded_obj.specs.Embedding.{IsInner, ShowsInner, becoming, embedding, lacks_rows, nests_deep, set_inside, unset_inside}
+use Rattle.embedded_obj.specs.Embedding.{IsInner, ShowsInner, becoming, embedding, is_uncopied, lacks_room, lacks_rows, nests_deep, set_inside, unset_inside}
 use Rattle.mail_parts.specs.mail_draft.declared.stop.Stop.{Stop}
 use Rattle.mail_parts.specs.mail_draft.Answers.{IsNoMatter, Says}
 use Rattle.mail_embedding.specs.Meant.{Inside, IsLost, Puts, Tells, attachment_of, embedding_of}
 use Rattle.mail_embedding.specs.declared.meaning.Meaning.{Meaning}
-use Rattle.mail_embedding.specs.declared.meaning.Meaning.TheVariants.{Becomes}
+use Rattle.mail_embedding.specs.declared.meaning.Meaning.TheVariants.{Becomes, Replies}
 
 -- ---- all that is asked is of its form
 
@@ -61,6 +64,13 @@ pub fine_unset : (tag : Tag) (m : Mes) → Fine (unset_inside tag m) (λ e. Unit
 unfolding unset_inside
 fine_unset tag m = after_test (λ e. Unit {0}) (is_unset_protected tag.id tag.kind m.props) Protected _ (λ a. after_test (λ e. Unit {0}) (not (is_some (bytes_of tag.id tag.kind m.props))) Property _
     (λ b. fine_becoming m (with_props (remove_id tag.id m.props) m)))
+
+pub fine_reply : (tag : Tag) (props : List Val) → Fine (value_reply tag props >>= λ r. Ok (Replies r)) (λ m. Unit {0})
+fine_reply tag props = by (value_of tag props)
+  where
+    by : (o : Option Val) → Fine ((found Property o >>= λ v. Ok (replied (Value v))) >>= λ r. Ok (Replies r)) (λ m. Unit {0})
+    by None = tt
+    by (Some v) = tt
 
 -- ---- what is told of it
 
@@ -126,3 +136,21 @@ puts_lost (Err None) stop P none = none
 -- where it is as it is to be, but memory runs out
 pub puts_none : (a : Answer Mes) (m : Mes) (stop : Stop) (P : Mes → Command → Type 0) → Tells a (Ok m) → IsNoMatter stop → Puts a P (Err stop)
 puts_none a m stop P told lost = subst (λ b. Puts b P (Err stop)) (sym (told_is a m told)) lost
+
+-- ---- a copy that may be made may be written
+
+or_false : (a b : Bool) → (a || b) ≡ false → (a ≡ false) × (b ≡ false)
+or_false false b is = (refl, is)
+or_false true b is = cc
+
+not_false : (b : Bool) → not b ≡ false → b ≡ true
+not_false true is = refl
+not_false false is = cc
+
+pub copy_fits : (m x : Mes) (name : List ℕ) → lacks_rows m x name ≡ false → message_fits x ≡ true
+unfolding lacks_rows is_uncopied
+copy_fits m x name lacks =
+    let rows = (or_false (is_uncopied m x) (lacks_room name (size x) m) lacks).0 in
+    let copied = (or_false (is_full m.attachments) (is_overfull x.recipients || (is_overfull x.attachments || not (message_fits x))) rows).1 in
+    let parts = (or_false (is_overfull x.recipients) (is_overfull x.attachments || not (message_fits x)) copied).1 in
+    not_false (message_fits x) (or_false (is_overfull x.attachments) (not (message_fits x)) parts).1

@@ -7,7 +7,7 @@ ghost use Rattle.mail_embedding.specs.Meant.{Means};
 use crate::embed::embed;
 use crate::inside::message_inside;
 use crate::meaning::Meaning;
-use crate::putting::{put, set_inside, unset_inside};
+use crate::putting::{replaced, set_inside, unset_inside};
 use command_text::EmbeddedCommand;
 use mail_parts::mail_draft::{Desk, Stop};
 use mail_parts::mail_messages::{details_reply, reply_of};
@@ -46,7 +46,7 @@ fn set<D: Desk>(
 {
     let mail = message_inside(desk, message, attachment)?;
     let changed = set_inside(desk, mail, value)?;
-    let command = put(desk.alloc(), message, attachment, changed)?;
+    let command = replaced(desk.alloc(), message, attachment, changed)?;
     Ok(Meaning::Becomes(command))
 }
 
@@ -62,7 +62,7 @@ fn unset<D: Desk>(
 {
     let mail = message_inside(desk, message, attachment)?;
     let changed = unset_inside(desk.alloc(), mail, tag)?;
-    let command = put(desk.alloc(), message, attachment, changed)?;
+    let command = replaced(desk.alloc(), message, attachment, changed)?;
     Ok(Meaning::Becomes(command))
 }
 

@@ -2,7 +2,7 @@
 ghost use Rattle.std.specs.Prelude.{◌≡◌, IfErr, IfOk, None, OnOk, Some, if◌then◌else◌, true};
 ghost use Rattle.mail_tree.specs.Parts.{attachment_tags, is_wide};
 ghost use Rattle.write_limits.specs.Limits.{message_fits};
-ghost use Rattle.embedded_obj.specs.Embedding.{EMBEDDED, embedding, lacks_rows, unlaid, with_room};
+ghost use Rattle.embedded_obj.specs.Embedding.{embedding, is_uncopied, lacks_room, lacks_rows, unlaid, with_room};
 ghost use Rattle.mail_parts.specs.mail_draft.Answers.{IsCalm, Says};
 
 use command_text::{CommandRefusal, Held, Limit};
@@ -51,6 +51,35 @@ fn with_room(
     with_attachment(alloc, mail, index, name, &held)
 }
 
+/// Whether the table of attachments would have too many columns with one for a message of this size, or the message couldn't be written.
+#[tactic(auto, unfolding(embedded_obj::specs::Embedding::lacks_room))]
+fn lacks_room(
+    alloc: Global,
+    mail: Mail,
+    name: &Units,
+    size: u32,
+) -> Result<bool, AllocError>
+    ensures { IfOk result (λ b. b ≡ lacks_room name.now size mail) }
+{
+    let roomy = with_room(alloc, mail, name, size)?;
+    match roomy {
+        Some(mail) => Ok(!message_fits(mail.message())),
+        None => Ok(true),
+    }
+}
+
+/// Whether a table has too many rows, or the copy of the message couldn't be written.
+#[tactic(auto, unfolding(embedded_obj::specs::Embedding::is_uncopied))]
+fn is_uncopied(mail: &Mail, source: &Mail) -> bool
+    ensures { result ≡ is_uncopied mail.now source.now }
+{
+    let copied = source.message();
+    rows_of(&mail.message().attachments).len() >= MOST_ROWS
+        || is_overfull(&copied.recipients)
+        || is_overfull(&copied.attachments)
+        || !message_fits(copied)
+}
+
 /// Whether a message or its copy would have a table of too many rows or columns, or couldn't be written.
 #[tactic(auto, unfolding(embedded_obj::specs::Embedding::lacks_rows))]
 fn lacks_rows(
@@ -61,18 +90,10 @@ fn lacks_rows(
 ) -> Result<bool, AllocError>
     ensures { IfOk result (λ b. b ≡ lacks_rows mail source.now name.now) }
 {
-    let copied = source.message();
-    if rows_of(&mail.message().attachments).len() >= MOST_ROWS
-        || is_overfull(&copied.recipients)
-        || is_overfull(&copied.attachments)
-        || !message_fits(copied)
-    {
+    if is_uncopied(&mail, source) {
         return Ok(true);
     }
-    match with_room(alloc, mail, name, size(copied))? {
-        Some(mail) => Ok(!message_fits(mail.message())),
-        None => Ok(true),
-    }
+    lacks_room(alloc, mail, name, size(source.message()))
 }
 
 /// Checks that a message may get an attachment of this name with a copy of the other. Refused, in this order: a table would have too many rows or columns, or something couldn't be written (`Limit(Rows)`), a subnode would stand below level 8 (`Limit(Nesting)`), no index is left (`Ids`).
