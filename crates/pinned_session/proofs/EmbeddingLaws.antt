@@ -53,7 +53,7 @@ module _ (effects : Pins → Effects) (room : Room) (S : Sitting) (has : Sitting
 
   -- ---- it became a command, which was carried out
 
-  module _ {old mid new : World} (settled : Settled old) (same : Untouched old mid) (here : stands old.here S) (tells : new.tells → mid.tells) (c : Command) (is : meant ≡ Ok (Becomes c)) where
+  module _ {old mid : World} (new : World) (settled : Settled old) (same : Untouched old mid) (here : stands old.here S) (tells : new.tells → mid.tells) (c : Command) (is : meant ≡ Ok (Becomes c)) where
     -- each moment from the start on
     leaves_on : (Z : Sitting) → Leaves stands mid new S Z → Leaves stands old new S Z
     leaves_on Z leaves = continues (quiet_leaves stands S Z settled same here) leaves (λ i told k. (k.0 ∙ ap (λ (j : Image). j.said) (same.stays.here (tells told)), k.1))

@@ -106,7 +106,7 @@ module _ (effects : Pins → Effects) (room : Room) (S : Sitting) {old from new 
   carries_on (Ok (OpenView folder tag direction)) said Z is = (is.0, is.1, is.2, disk_on is.3)
   carries_on (Ok (ShowView view grouped)) said Z is = (is.0, is.1, is.2, disk_on is.3)
   carries_on (Ok (CloseView view)) said Z is = (is.0, is.1, is.2, disk_on is.3)
-  carries_on (Ok (Embedded line)) said Z is = (is.0, is.1, meant_on is.0 said Z is.2)
+  carries_on (Ok (Embedded asked)) said Z is = (is.0, is.1, meant_on is.0 said Z is.2)
   carries_on (Err refusal) said Z is = (is.0, stays_on Z is.1)
 
   pub answers_on : (piece : Piece) (said : List ℕ) (Z : Sitting) → Answers effects room S old told piece said Z new → Answers effects room S from also piece said Z to
