@@ -1,5 +1,5 @@
 -- What a line on the message in an attachment comes to, to a session.
-use Rattle.std.proofs.Common.{◌≡◌, ◌∙◌, ◌⊎◌, inl, inr, ℕ, List, Result, Ok, Err, ap, refl, subst, sym}
+use Rattle.std.proofs.Common.{◌≡◌, ◌∙◌, ◌⊎◌, inl, inr, ℕ, List, Result, Ok, Err, ap, refl, subst}
 use Rattle.pst_outside.specs.World.{Image, World}
 use Rattle.pst_outside.specs.Calls.{Settled, Untouched}
 use Rattle.pst_outside.proofs.Moments.{continues}

@@ -1,4 +1,4 @@
-use Rattle.std.proofs.Common.{◌≡◌, ap, refl, subst, sym}
+use Rattle.std.proofs.Common.{ap, subst}
 use Rattle.node_port.specs.Pins.{Pins}
 use Rattle.node_port.specs.Stops.{Room}
 use Rattle.session_lines.specs.declared.line.SessionLine.TheVariants.{Command as StoreCommand}
