@@ -1,5 +1,5 @@
 -- Nothing is ever found changed by a line on the message in an attachment.
-use Rattle.std.proofs.Common.{◌≡◌, ◌⊎◌, inl, inr, ℕ, List, Option, None, Some, Result, Ok, Err}
+use Rattle.std.proofs.Common.{inl, inr, ℕ, None, Some, Result, Ok, Err}
 use Rattle.mapi_values.specs.Messages.{Mes}
 use Rattle.mapi_values.specs.declared.part.Part.{Part}
 use Rattle.command_text.specs.declared.command.Command.{Command}
@@ -13,7 +13,6 @@ use Rattle.mail_parts.specs.mail_messages.Parts.{detail_lines, value_reply}
 use Rattle.mail_parts.specs.mail_draft.declared.stop.Stop.{Stop}
 use Rattle.mail_parts.specs.mail_draft.declared.stop.Stop.TheVariants.{Changed}
 use Rattle.mail_embedding.specs.Meant.{Inside, IsAdded, IsPut, Means, Puts, Tells, attachment_of, embedding_of}
-use Rattle.mail_embedding.specs.declared.meaning.Meaning.{Meaning}
 use Rattle.mail_embedding.specs.declared.meaning.Meaning.TheVariants.{Replies}
 
 module _ (ib stored computed : ℕ) where

@@ -1,7 +1,6 @@
 -- What is made of the message in an attachment, step by step.
-use Rattle.std.proofs.Common.{◌≡◌, ◌⊎◌, inl, inr, ℕ, List, Bool, true, false, Option, None, Some, Result, Ok, Err, not, ap, refl, subst, sym, ◌||◌}
+use Rattle.std.proofs.Common.{◌≡◌, inl, inr, ℕ, List, Bool, true, false, Option, None, Some, Result, Ok, Err, not, ap, refl, subst, sym, ◌||◌}
 use Rattle.std.specs.Option.{is_some}
-use Rattle.pst_base.specs.declared.ids.Nid.{Nid}
 use Rattle.mapi_values.specs.Messages.{Mes, size}
 use Rattle.mapi_values.specs.Properties.{put, remove_id}
 use Rattle.mapi_values.specs.Values.{Val}
@@ -11,7 +10,7 @@ use Rattle.command_text.specs.declared.command.Command.{Command}
 use Rattle.command_text.specs.declared.reply.CommandRefusal.TheVariants.{Ids, Limit, Object, Property, Protected}
 use Rattle.command_text.specs.declared.reply.Limit.TheVariants.{Nesting, Properties, Rows}
 use Rattle.mail_tree.specs.Tree.{Tree}
-use Rattle.mail_tree.specs.Changing.{Answer, ◌>>=◌, crowds_message, found, refused_if}
+use Rattle.mail_tree.specs.Changing.{Answer, ◌>>=◌, crowds_message, found}
 use Rattle.mail_tree.specs.Ids.{is_spent}
 use Rattle.command_text.specs.declared.reply.LastLine.TheVariants.{Value}
 use Rattle.mail_tree.specs.Folders.{replied}
@@ -21,15 +20,14 @@ use Rattle.mail_tree.specs.Names.{unless_nameless}
 use Rattle.mail_tree.specs.Parts.{is_full, next_part, part_in}
 use Rattle.mail_tree.specs.Values.{bytes_of, finished, is_set_protected, is_unset_protected, with_props}
 use Rattle.mail_tree.specs.Whole.{Fine, IsWhole}
-use Rattle.mail_tree.proofs.FineLaws.{after_found, after_test, fine_test, fine_then}
+use Rattle.mail_tree.proofs.FineLaws.{after_test, fine_test, fine_then}
 use Rattle.mail_laws.proofs.LawSteps.{before}
 use Rattle.mail_laws.proofs.MessageSteps.{fine_message_in, fine_nameless}
 use Rattle.write_limits.specs.Limits.{message_fits}
-use Rattle.embedded_obj.specs.Embedding.{IsInner, ShowsInner, becoming, embedding, is_uncopied, lacks_room, lacks_rows, nests_deep, set_inside, unset_inside}
+use Rattle.embedded_obj.specs.Embedding.{ShowsInner, becoming, embedding, is_uncopied, lacks_room, lacks_rows, nests_deep, set_inside, unset_inside}
 use Rattle.mail_parts.specs.mail_draft.declared.stop.Stop.{Stop}
 use Rattle.mail_parts.specs.mail_draft.Answers.{IsNoMatter, Says}
-use Rattle.mail_embedding.specs.Meant.{Inside, IsLost, Puts, Tells, attachment_of, embedding_of}
-use Rattle.mail_embedding.specs.declared.meaning.Meaning.{Meaning}
+use Rattle.mail_embedding.specs.Meant.{Inside, Puts, Tells, attachment_of, embedding_of}
 use Rattle.mail_embedding.specs.declared.meaning.Meaning.TheVariants.{Becomes, Replies}
 
 -- ---- all that is asked is of its form

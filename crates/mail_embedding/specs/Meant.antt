@@ -1,5 +1,5 @@
 -- What a line on the message in an attachment comes to.
-use Rattle.std.specs.Prelude.{◌≡◌, ◌⊎◌, ℕ, List, Option, None, Some, Result, Ok, Err}
+use Rattle.std.specs.Prelude.{◌≡◌, ◌⊎◌, ℕ, List, None, Some, Result, Ok, Err}
 use Rattle.pst_base.specs.declared.ids.Nid.{Nid}
 use Rattle.pst_base.specs.declared.subs.Sub.{Sub}
 use Rattle.mapi_values.specs.Messages.{Mes, size}
@@ -18,7 +18,7 @@ use Rattle.mail_tree.specs.Parts.{new_part, part_holding, part_in}
 use Rattle.embedded_obj.specs.Embedding.{EMBEDDED, IsInner, ShowsInner, embedded, embedding, set_inside, unset_inside}
 use Rattle.mail_parts.specs.mail_messages.Parts.{detail_lines, value_reply}
 use Rattle.mail_parts.specs.mail_draft.declared.stop.Stop.{Stop}
-use Rattle.mail_parts.specs.mail_draft.Answers.{IsNoMatter, IsRefusal, Says}
+use Rattle.mail_parts.specs.mail_draft.Answers.{IsNoMatter, Says}
 use Rattle.mail_embedding.specs.declared.meaning.Meaning.{Meaning}
 use Rattle.mail_embedding.specs.declared.meaning.Meaning.TheVariants.{Replies, Becomes}
 

@@ -1,6 +1,6 @@
-use Rattle.std.proofs.Common.{◌≡◌, ℕ, ap, refl, subst, sym}
+use Rattle.std.proofs.Common.{ap, refl}
 use Rattle.mapi_values.specs.Messages.{size}
-use Rattle.embedded_obj.specs.Embedding.{EMBEDDED, IsLaid, embedded}
+use Rattle.embedded_obj.specs.Embedding.{EMBEDDED, embedded}
 use Rattle.embedded_obj.proofs.HoldLaws.{laid-held}
 use Rattle.pst_base.specs.declared.ids.Nid.{Nid}
 use Rattle.mail_embedding.proofs.embed.added.Goals as goal

@@ -1,4 +1,4 @@
-use Rattle.std.proofs.Common.{Err, Ok}
+use Rattle.std.proofs.Common.{Ok}
 use Rattle.std.proofs.lemmas.Result.{err_from_is_err_and}
 use Rattle.mail_parts.specs.mail_draft.declared.stop.Stop.TheVariants.{Memory}
 use Rattle.mail_embedding.specs.Meant.{IsAdded, embedding_of}

@@ -1,4 +1,4 @@
-use Rattle.mail_parts.proofs.mail_draft_laws.DeskCalls.{answers_exit, answers_then, told}
+use Rattle.mail_parts.proofs.mail_draft_laws.DeskCalls.{answers_exit}
 use Rattle.mail_embedding.specs.Meant.{attachment_of}
 use Rattle.mail_embedding.proofs.inside.attachment_of.Goals as goal
 

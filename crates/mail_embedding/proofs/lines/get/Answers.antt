@@ -2,7 +2,6 @@ use Rattle.std.proofs.Common.{Err, Ok}
 use Rattle.std.proofs.lemmas.Result.{err_from_is_err_and}
 use Rattle.command_text.specs.declared.reply.Reply.{Reply}
 use Rattle.mapi_values.specs.Messages.{Mes}
-use Rattle.mapi_values.specs.declared.part.Part.{Part}
 use Rattle.mail_tree.specs.Changing.{◌>>=◌}
 use Rattle.mail_parts.specs.mail_messages.Parts.{value_reply}
 use Rattle.mail_parts.proofs.mail_draft_laws.Passes.{stop_says}

@@ -1,4 +1,4 @@
-use Rattle.std.proofs.Common.{Err, Ok, sym}
+use Rattle.std.proofs.Common.{Err, Ok}
 use Rattle.std.proofs.lemmas.Result.{err_from_is_err_and}
 use Rattle.mapi_values.specs.Messages.{Mes}
 use Rattle.mapi_values.specs.declared.part.Part.{Part}
