@@ -41,7 +41,7 @@ carried_in_order S Z (Ok (StoreCommand c)) said h is = subst (λ (Y : InMemory).
 carried_in_order S Z (Ok (OpenView folder tag direction)) said h is = subst (λ (Y : InMemory). InOrder true Y.now) (sym is.2) h
 carried_in_order S Z (Ok (ShowView view grouped)) said h is = subst (λ (Y : InMemory). InOrder true Y.now) (sym is.2) h
 carried_in_order S Z (Ok (CloseView view)) said h is = subst (λ (Y : InMemory). InOrder true Y.now) (sym is.2) h
-carried_in_order S Z (Ok (Embedded line)) said h is = by is.0 is.2
+carried_in_order S Z (Ok (Embedded asked)) said h is = by is.0 is.2
   where
     by : (meant : Result Meaning Stop) → CarriesMeant S meant said Z → InOrder true Z.now
     by (Ok (Replies reply)) done = same_in_order S Z h done.1
