@@ -10,11 +10,11 @@ ghost use Rattle.mail_session.specs.Run.{refused};
 
 use crate::mailbox::Mailbox;
 use command_text::{Command, CommandRefusal, EmbeddedCommand, LastLine, Reply, reply_text};
+use file_filling::pinned_session::mail_embedding::Meaning;
 use file_filling::pinned_session::session_lines::{SessionLine, ViewReply, read_session_line};
 use file_filling::pinned_session::{
     add_listed, close_view, close_views, shown_spoken, view_at, view_spoken,
 };
-use file_filling::pinned_session::mail_embedding::Meaning;
 use file_filling::store_session::{refusal_spoken, reply_spoken};
 use line_server::{LineAnswerer, Spoken};
 use mapi_values::Tag;
