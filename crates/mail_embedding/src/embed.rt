@@ -35,12 +35,7 @@ fn embedding_of<D: Desk>(
 }
 
 /// The command that gives a message an attachment of this name with the other, which is lost.
-fn added(
-    alloc: Global,
-    message: Nid,
-    source: Mail,
-    name: &Units,
-) -> Result<Command, AllocError>
+fn added(alloc: Global, message: Nid, source: Mail, name: &Units) -> Result<Command, AllocError>
     requires { message_fits source ≡ true }
     ensures { IfOk result (IsAdded message name.now source) }
 {

@@ -35,12 +35,7 @@ fn get<D: Desk>(desk: &mut D, message: Nid, attachment: Nid, tag: Tag) -> Result
 }
 
 /// `eset`
-fn set<D: Desk>(
-    desk: &mut D,
-    message: Nid,
-    attachment: Nid,
-    value: &Value,
-) -> Result<Meaning, Stop>
+fn set<D: Desk>(desk: &mut D, message: Nid, attachment: Nid, value: &Value) -> Result<Meaning, Stop>
     ensures reads { Reads (D.view desk.old) (D.view desk.new) result }
     ensures answer { IsAbout (D.view desk.old) (λ T. IsWhole T → Means T (lines.Set message attachment value.now) result) }
 {
@@ -51,12 +46,7 @@ fn set<D: Desk>(
 }
 
 /// `eunset`
-fn unset<D: Desk>(
-    desk: &mut D,
-    message: Nid,
-    attachment: Nid,
-    tag: Tag,
-) -> Result<Meaning, Stop>
+fn unset<D: Desk>(desk: &mut D, message: Nid, attachment: Nid, tag: Tag) -> Result<Meaning, Stop>
     ensures reads { Reads (D.view desk.old) (D.view desk.new) result }
     ensures answer { IsAbout (D.view desk.old) (λ T. IsWhole T → Means T (lines.Unset message attachment tag) result) }
 {

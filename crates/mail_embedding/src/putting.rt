@@ -15,9 +15,7 @@ use command_text::{Command, CommandRefusal, Limit};
 use embedded_obj::lay;
 use mail_objects::Mail;
 use mail_parts::mail_draft::{Desk, Stop, crowds_message};
-use mail_parts::mail_messages::{
-    check_set, check_unset, finished, with_value, without_value,
-};
+use mail_parts::mail_messages::{check_set, check_unset, finished, with_value, without_value};
 use mail_parts::mail_names::on_desk::check_named;
 use mapi_values::{Part, Tag, Value};
 use pst_base::Nid;

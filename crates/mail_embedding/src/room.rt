@@ -35,12 +35,7 @@ fn unlaid(alloc: Global) -> Sub
 
 /// The message with an attachment for a message of this size; `None` where its table would have more than 255 columns. It is lost with an `Err`.
 #[tactic(auto, unfolding(embedded_obj::specs::Embedding::with_room))]
-fn with_room(
-    alloc: Global,
-    mail: Mail,
-    name: &Units,
-    size: u32,
-) -> Result<Option<Mail>, AllocError>
+fn with_room(alloc: Global, mail: Mail, name: &Units, size: u32) -> Result<Option<Mail>, AllocError>
     ensures { IfOk result (λ m. m ≡ (if is_wide attachment_tags mail.attachments then None else Some (with_room name.now size mail))) }
 {
     let index = next_part(&mail);
@@ -53,12 +48,7 @@ fn with_room(
 
 /// Whether the table of attachments would have too many columns with one for a message of this size, or the message couldn't be written.
 #[tactic(auto, unfolding(embedded_obj::specs::Embedding::lacks_room))]
-fn lacks_room(
-    alloc: Global,
-    mail: Mail,
-    name: &Units,
-    size: u32,
-) -> Result<bool, AllocError>
+fn lacks_room(alloc: Global, mail: Mail, name: &Units, size: u32) -> Result<bool, AllocError>
     ensures { IfOk result (λ b. b ≡ lacks_room name.now size mail) }
 {
     let roomy = with_room(alloc, mail, name, size)?;
@@ -82,12 +72,7 @@ fn is_uncopied(mail: &Mail, source: &Mail) -> bool
 
 /// Whether a message or its copy would have a table of too many rows or columns, or couldn't be written.
 #[tactic(auto, unfolding(embedded_obj::specs::Embedding::lacks_rows))]
-fn lacks_rows(
-    alloc: Global,
-    mail: Mail,
-    source: &Mail,
-    name: &Units,
-) -> Result<bool, AllocError>
+fn lacks_rows(alloc: Global, mail: Mail, source: &Mail, name: &Units) -> Result<bool, AllocError>
     ensures { IfOk result (λ b. b ≡ lacks_rows mail source.now name.now) }
 {
     if is_uncopied(&mail, source) {
@@ -98,12 +83,7 @@ fn lacks_rows(
 
 /// Checks that a message may get an attachment of this name with a copy of the other. Refused, in this order: a table would have too many rows or columns, or something couldn't be written (`Limit(Rows)`), a subnode would stand below level 8 (`Limit(Nesting)`), no index is left (`Ids`).
 #[tactic(auto, unfolding(embedded_obj::specs::Embedding::embedding))]
-pub(crate) fn check_room(
-    alloc: Global,
-    mail: Mail,
-    source: &Mail,
-    name: &Units,
-) -> Result<(), Stop>
+pub(crate) fn check_room(alloc: Global, mail: Mail, source: &Mail, name: &Units) -> Result<(), Stop>
     ensures answer { Says (λ u. u) (embedding mail source.now name.now) result }
     ensures fits { OnOk result (message_fits source.now ≡ true) }
     ensures cause { IfErr result IsCalm }

@@ -17,6 +17,7 @@ pub use law::{
     counts_stay, gets_what_was_set, gives_new_ids, keeps_nodes, keeps_tables, keeps_values,
     leaves_searches, makes_folder, makes_message, mirrors_stay, moves, moves_folder,
     names_property, reads, removes, removes_attachment, removes_folder, removes_recipient,
-    renames_folder, sets, sets_embedded, some_is_whole, starts_whole, stays_found, stays_whole, unsets,
+    renames_folder, sets, sets_embedded, some_is_whole, starts_whole, stays_found, stays_whole,
+    unsets,
 };
 pub use message::{finds_messages, makes_bare_message, tell_rightly};

@@ -1,5 +1,5 @@
 -- Subnodes of which one comes in place of another.
-use Rattle.std.proofs.Common.{◌≡◌, ℕ, ◌+◌, ◌<◌, ◌≤◌, ◌==◌, ◌&&◌, suc, zero, Bool, true, false, Option, None, Some, List, [], ◌∷◌, ◌++◌, get_or, length, map, set, nat_le, arith, refl, sym, ap, ◌∙◌, inl, inr}
+use Rattle.std.proofs.Common.{◌≡◌, ℕ, ◌+◌, ◌<◌, ◌==◌, suc, zero, Bool, true, false, Option, None, Some, List, [], ◌∷◌, ◌++◌, get_or, length, map, set, nat_le, arith, refl, sym, ap, ◌∙◌, inl, inr}
 use Rattle.std.specs.List.{position_from}
 use Rattle.std.proofs.lemmas.Bool.{and_from, and_parts, cases_Bool, eqb-true, le-leb, ne_eqb}
 use Rattle.std.proofs.lemmas.List.{append-nil}
@@ -44,16 +44,16 @@ pub with_ascends : (node : Sub) (low : ℕ) (fs : List Flat) → ids_ascend low 
 with_ascends node low [] ascend = refl
 with_ascends node low (f ∷ fs) ascend = elim (cases_Bool (f.level == 0)) [
   | inl top ↦
-    let parts = and_parts (nat_le low f.nid) (ids_ascend (suc f.nid) fs) (rw top at ascend) in
-    elim (cases_Bool (f.nid == node.nid.bits)) [
-      | inl same ↦
-        let is = eqb-true f.nid node.nid.bits same in
-        let rest : ids_ascend (suc node.nid.bits) ((map one_deeper node.subs ++ []) ++ behind fs) ≡ true =
+      let parts = and_parts (nat_le low f.nid) (ids_ascend (suc f.nid) fs) (rw top at ascend) in
+      elim (cases_Bool (f.nid == node.nid.bits)) [
+        | inl same ↦
+            let is = eqb-true f.nid node.nid.bits same in
+            let rest : ids_ascend (suc node.nid.bits) ((map one_deeper node.subs ++ []) ++ behind fs) ≡ true =
             ap (λ (gs : List Flat). ids_ascend (suc node.nid.bits) (gs ++ behind fs)) (append-nil (map one_deeper node.subs))
             ∙ ascend_past (suc node.nid.bits) node.subs (behind fs) ∙ ascend_behind (suc node.nid.bits) fs ∙ ap (λ (n : ℕ). ids_ascend (suc n) fs) (sym is) ∙ parts.1 in
-        rw (top, same) (and_from (nat_le low node.nid.bits) _ (ap (λ (n : ℕ). nat_le low n) (sym is) ∙ parts.0) rest)
-      | inr other ↦ rw (top, other) (rw top (and_from (nat_le low f.nid) _ parts.0 (with_ascends node (suc f.nid) fs parts.1)))
-    ]
+            rw (top, same) (and_from (nat_le low node.nid.bits) _ (ap (λ (n : ℕ). nat_le low n) (sym is) ∙ parts.0) rest)
+        | inr other ↦ rw (top, other) (rw top (and_from (nat_le low f.nid) _ parts.0 (with_ascends node (suc f.nid) fs parts.1)))
+      ]
   | inr below ↦ rw below (rw below (with_ascends node low fs (rw below at ascend)))
 ]
 

@@ -25,6 +25,7 @@ const PID_TAG_ATTACH_DATA_OBJECT: Tag = Tag {
 
 /// How an attachment holds data of its own, or a message ([MS-OXCMSG] 2.2.2.9).
 const BY_VALUE: u64 = 1;
+
 const EMBEDDED_MESSAGE: u64 = 5;
 
 /// How long a command may make the data of an attachment.
@@ -53,12 +54,7 @@ fn object_bytes(alloc: Global, nid: Nid, size: u32) -> Result<Bytes, AllocError>
 
 /// Puts what an attachment with a message has in place of data: the message's size, its subnode, and that it is one.
 #[tactic(auto, unfolding(mapi_values::specs::Values::fits, mapi_values::specs::Values::in_field))]
-fn put_object(
-    alloc: Global,
-    props: &mut Props,
-    nid: Nid,
-    size: u32,
-) -> Result<(), AllocError>
+fn put_object(alloc: Global, props: &mut Props, nid: Nid, size: u32) -> Result<(), AllocError>
     ensures { OnOk result (props.new ≡ put (value 0x3701 0x000D (object_bytes nid.bits size)) props.old) }
 {
     let bytes = object_bytes(alloc, nid, size)?;

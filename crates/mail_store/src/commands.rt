@@ -14,9 +14,7 @@ use mail_parts::mail_messages::{
     unset_value,
 };
 use mail_parts::mail_names::name_property;
-use mail_parts::{
-    add_recipient, append, attach, detach, fetch, remove_recipient, set_embedded,
-};
+use mail_parts::{add_recipient, append, attach, detach, fetch, remove_recipient, set_embedded};
 use mail_tree::Known;
 use node_port::Keeper;
 use pst_outside::Outside;

@@ -1,10 +1,7 @@
-use Rattle.std.proofs.Common.{◌≡◌, ◌∙◌, ℕ, Bool, IsSome, true, false, None, Some, List, [], refl, sym, ap, subst, if◌then◌else◌}
-use Rattle.pst_base.specs.Flat.{Flat}
-use Rattle.pst_base.specs.declared.ids.Nid.{Nid}
+use Rattle.std.proofs.Common.{◌≡◌, ◌∙◌, ℕ, Bool, IsSome, true, false, None, Some, refl, sym, ap, subst, if◌then◌else◌}
 use Rattle.mapi_values.specs.declared.part.Part.{Part}
 use Rattle.mapi_values.specs.Keyed.{put_key}
 use Rattle.mapi_values.specs.Messages.{Mes, are_others, part_id}
-use Rattle.mapi_values.specs.Values.{Val}
 use Rattle.mail_objects.specs.Message.{part_is_formed}
 use Rattle.mail_tree.specs.Parts.{attachment_tags, attachments_for, is_wide, new_part, part_nid, room_for, with_attachment, with_part}
 use Rattle.mail_parts.proofs.PartTables.{new_formed, room_free}

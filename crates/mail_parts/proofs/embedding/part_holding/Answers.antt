@@ -1,4 +1,3 @@
-use Rattle.std.proofs.Common.{true}
 use Rattle.std.proofs.lemmas.Bool.{and_from, and_parts}
 use Rattle.node_values.specs.Subnodes.{ids_ascend}
 use Rattle.mail_tree.specs.Parts.{with_subnode}

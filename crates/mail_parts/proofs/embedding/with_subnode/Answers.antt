@@ -1,4 +1,4 @@
-use Rattle.std.proofs.Common.{◌≡◌, ◌∙◌, ap, arith, length, set, subst, sym, List}
+use Rattle.std.proofs.Common.{◌∙◌, ap, arith, length, set, sym, List}
 use Rattle.std.proofs.lemmas.Iterator.Adapters.{position_from-zero}
 use Rattle.std.proofs.lemmas.List.Quantifiers.{position-Some}
 use Rattle.pst_base.specs.Subs.{flattened}
