@@ -5,7 +5,8 @@
   tools/kept.py gate                as rt ci, but for crates, tests and edits whose texts and libraries are as kept
   tools/kept.py check NAME [WORD..] one crate over kept libraries (--only FUNCTION, --fix-imports, --jobs N)
   tools/kept.py edits NAME [FILE..] tries edits against the crate: all of its must-fail/ and edits/ where none is named
-  tools/kept.py rt NAME WORD..      rt with these words (plant, tidy) in the crate's folder over kept libraries
+  tools/kept.py plant NAME [WORD..] rt plant with these words over kept libraries
+  tools/kept.py rt NAME WORD..      rt with these words (tidy) in the crate's folder over kept libraries
 
 Runs at the top of a checkout. What is kept lies in the folder that KEPT names, or in out/kept, each crate under a sum of
 all that it is made from, so that several checkouts can share it. The verdict is that of rt ci alone, which keeps nothing.
@@ -216,6 +217,16 @@ def edits(name, files):
     return 0 if all(is_refused for is_refused, _ in tried) else 1
 
 
+def plant(name, words):
+    """rt plant has the code of rt a second time, which looks for its own sums."""
+    folder = one(name).folder
+    plants = load("rtplant", f"{rtlib.KIT}/bin/rt-plant")
+    plants.rt.Crate.below = once(plants.rt.Crate.below)
+    plants.rt.Crate.stamp = key
+    os.chdir(folder)
+    return plants.main(*words)
+
+
 def by_rt(name, words):
     os.chdir(one(name).folder)
     return rt.main(words)
@@ -227,7 +238,7 @@ def main(words):
         return prove(words[1:])
     if words == ["gate"]:
         return rt.ci()
-    for verb, call in ("check", check), ("edits", edits), ("rt", by_rt):
+    for verb, call in ("check", check), ("edits", edits), ("plant", plant), ("rt", by_rt):
         if words[:1] == [verb] and len(words) > 1:
             return call(words[1], words[2:])
     print(__doc__)
