@@ -123,8 +123,8 @@ def lines_of(data):
 
 
 SAID = {"folders": b"Projects", "subjects": b"Second", "body": b"Body of the first", "sender": b"Alice"}
-EMBEDDED = {"embedded subject": b"A letter within", "embedded body": b"Body of the letter", "embedded recipient": b"dan@example.org", "embedded attachment": b"Sketch"}
-tell("readpst", lambda to: ["-q", "-M", "-o", to], SAID | {"attachment": base64.b64encode(b"Hello"), "long attachment": lines_of(DATA)})
-tell("pffexport", lambda to: ["-q", "-t", os.path.join(to, "all")], SAID | {"search folder": b"Greetings", "recipients": b"carol@example.org", "attachment": b"Hello", "long attachment": DATA} | EMBEDDED)
+SAID |= {"embedded subject": b"A letter within", "embedded body": b"Body of the letter"}
+tell("readpst", lambda to: ["-q", "-M", "-o", to], SAID | {"attachment": base64.b64encode(b"Hello"), "long attachment": lines_of(DATA), "embedded message": b"message/rfc822", "embedded attachment": base64.b64encode(b"Sketch")})
+tell("pffexport", lambda to: ["-q", "-t", os.path.join(to, "all")], SAID | {"search folder": b"Greetings", "recipients": b"carol@example.org", "attachment": b"Hello", "long attachment": DATA, "embedded recipient": b"dan@example.org", "embedded attachment": b"Sketch"})
 shutil.rmtree(folder)
 END
