@@ -4,7 +4,10 @@
 # Needs crates/pstore/out/pstore, which ./pstore builds.
 cd "$(dirname "$0")/.." || exit 1
 exec python3 - "$PWD/crates/pstore/out/pstore" <<'END'
-import os, subprocess, sys, tempfile, time
+import os, subprocess, sys, tempfile
+
+sys.path.insert(0, "bench")
+from timed_session import TimedSession
 
 TURNS, MOST = 10, 200_000
 SOURCE, MESSAGE, PART = "0x200024", "0x200044", "0x8025"
@@ -21,40 +24,18 @@ WORK = {
 }
 program = sys.argv[1]
 
-
-class Session:
-    """A session over the file, asked line by line."""
-
-    def __init__(self, path):
-        self.process = subprocess.Popen([program, "run", path], stdin=subprocess.PIPE, stdout=subprocess.PIPE)
-
-    def ask(self, line):
-        self.process.stdin.write(line.encode() + b"\n")
-        self.process.stdin.flush()
-        while not (said := self.process.stdout.readline()).startswith((b"ok", b"no")):
-            assert said.startswith(b"- "), said
-        assert said.startswith(b"ok"), said
-
-    def written(self):
-        with open(f"/proc/{self.process.pid}/io") as it:
-            return int(next(line for line in it if line.startswith("wchar")).split()[1])
-
-
 too_much = False
 with tempfile.TemporaryDirectory() as room:
     path = os.path.join(room, "store.pst")
     subprocess.run([program, "new", path, "Mail"], check=True, stdout=subprocess.DEVNULL)
-    session = Session(path)
+    session = TimedSession(program, path)
     for line in ["new 0x8022 IPM.Note 0"] * 2 + [f"attach {SOURCE} a.bin " + "5a" * CHUNK] + [f"append {SOURCE} {PART} " + "5a" * CHUNK] * 15:
         session.ask(line)
     for name, lines in WORK.items():
-        before, start = session.written(), time.perf_counter()
-        for line in lines:
-            session.ask(line)
-        took, size = (time.perf_counter() - start) / len(lines), (session.written() - before) // len(lines)
+        before = session.written()
+        took, size = sum(map(session.ask, lines)) / len(lines), (session.written() - before) // len(lines)
         print(f"{name:20} {took * 1e6:9.0f} us {size:9,} bytes")
         too_much |= size > MOST and name != "embed"
-    session.process.stdin.close()
-    assert session.process.wait() == 0
+    session.end()
 sys.exit(too_much)
 END

@@ -25,6 +25,11 @@ class TimedSession:
         with open(f"/proc/{self.process.pid}/status") as it:
             return next(int(line.split()[1]) for line in it if line.startswith("VmHWM")) / 1_000
 
+    def written(self):
+        """How many bytes it has written so far, replies among them."""
+        with open(f"/proc/{self.process.pid}/io") as it:
+            return int(next(line for line in it if line.startswith("wchar")).split()[1])
+
     def end(self):
         self.process.stdin.close()
         assert self.process.wait() == 0
