@@ -59,9 +59,10 @@ pub record IsAdded (m : Nid) (name : List ℕ) (x : Mes) (c : Command) : Type 0 
   pub holds : (n : Nid) → ShowsInner (new_part n name (Message (size x) node)) (embedded EMBEDDED x)
   pub is : c ≡ AddAttachment m name (Message (size x) node)
 
--- The command puts another message into an attachment, which holds this then.
+-- The command puts another message into an attachment, which holds this then, in the place of its own subnode: no other one that the attachment keeps is touched.
 pub record IsPut (m n : Nid) (part : Part) (e : Mes) (c : Command) : Type 0 where
   pub node : Sub
+  pub place : node.nid.bits ≡ e.nid
   pub holds : ShowsInner (part_holding node part) e
   pub is : c ≡ SetEmbedded m n node
 

@@ -14,6 +14,7 @@ returns c = λ part old held id folder.
     let same : embedded c.behind-mail.inside.nid.bits mail ≡ mail = ap (λ (n : ℕ). embedded n mail) own ∙ ap (λ (f : ℕ). record mail { folder = f }) (sym nowhere) in
     record {
       node = node;
+      place = named;
       holds = put-held part old mail node held (named ∙ id) (subst (IsLaid node) same c.in_ok-node.ensures.laid);
       is = refl;
     }
