@@ -11,6 +11,7 @@ from email.errors import HeaderParseError
 from email.headerregistry import Address
 from email.message import EmailMessage
 from email.utils import format_datetime
+from os.path import splitext
 from typing import Dict, List, Optional, Sequence, Set, Tuple
 from uuid import uuid4
 
@@ -27,6 +28,8 @@ _NAMES = (
 )  # fmt: skip
 _POLICY = policy.SMTP.clone(cte_type="7bit")
 _HEADERS = {1: "To", 2: "Cc", 3: "Bcc"}
+_NOT_IN_NAMES = re.compile("[\x00-\x1f\x7f-\x9f\ud800-\udfff]")
+"""What no header carries in the name of a file: controls, and surrogates without their other half."""
 _TOLD = {"subject": "Subject", "message_id": "Message-ID", "in_reply_to": "In-Reply-To", "references": "References"}
 
 
@@ -204,13 +207,14 @@ def _html_part(content: Content) -> Optional[bytes]:
 
 def _attachment_part(name: str, data: bytes) -> bytes:
     """An attachment by the kind that its name tells. A mail is told as one, since its lines may stand as they are."""
+    name = _NOT_IN_NAMES.sub("_", name)
     if name.lower().endswith(".eml") and headers_of(split_head(data)[0]).keys():
         head = EmailMessage(policy=_POLICY)
         head["Content-Type"] = "message/rfc822"
         head["Content-Transfer-Encoding"] = "8bit"
         head.add_header("Content-Disposition", "attachment", filename=name)
         return _lines(head) + b"\r\n" + data
-    kind, coding = mimetypes.guess_type(name)
+    kind, coding = mimetypes.guess_type(f"name{splitext(name)[1]}")  # A whole name may be taken for an address of the net.
     main, _, sub = (kind if kind and not coding else "application/octet-stream").partition("/")
     return _part(data, main, sub, disposition="attachment", filename=name)
 

@@ -71,6 +71,13 @@ class Anew(unittest.TestCase):
         self.assertEqual((first.get_filename(), first.get_content(), second.get_content()["Subject"]), ("a ü.pdf", b"\0", "inner"))
         self.assertTrue(all(len(it) < 999 for it in raw.split(b"\r\n")))
 
+    def test_names_that_no_header_carries(self):
+        names = {"d\ne\ud800.pdf": "d_e_.pdf", "\0\x85.bin": "__.bin", "//[x": "//[x", "data:a/b c,": "data:a/b c,", "": None}
+        raw = _anew(SimpleNamespace(recipients=()), Content({}, [(it, b"\0") for it in names]))
+        parts = list(message_from_bytes(raw, policy=policy.default).iter_attachments())
+        self.assertEqual([it.get_filename() or None for it in parts], list(names.values()))
+        self.assertEqual([it.get_content_type() for it in parts], ["application/pdf", *["application/octet-stream"] * 4])
+
     def test_headers_as_they_came(self):
         told = "Subject: x\r\nX-Mine:  1\r\nContent-Type: multipart/mixed; boundary=b\r\n"
         raw = _anew(SimpleNamespace(recipients=()), Content({"headers": told, "body": "new"}, []))
