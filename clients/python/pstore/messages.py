@@ -109,7 +109,7 @@ class Attachment:
 
     @property
     def embedded(self) -> Optional["EmbeddedMessage"]:
-        """The message that it holds, None where it holds none. A store that was opened by `look`, and a pin, refuse to tell as `LineRefusal`."""
+        """The message that it holds, None where it holds none. A pin refuses to tell as `LineRefusal`."""
         found = EmbeddedMessage(self)
         try:
             found.details

@@ -161,8 +161,11 @@ class Stores(InFolder):
             self.assertEqual([it.name for it in outer.attachments], ["b.txt"])
             with store.pin() as then, self.assertRaises(errors.LineRefusal):
                 then.message(copy.id).attachment("the mail.msg").embedded
-        with Store.look(self.file) as store, self.assertRaises(errors.LineRefusal):
-            store.message(copy.id).attachment("the mail.msg").embedded
+        with Store.look(self.file) as store:
+            found = store.message(copy.id).attachment("the mail.msg").embedded
+            self.assertEqual((found.subject, found.recipients[0].address, found.attachments[0].name), ("In the copy", "a@b.c", "a.txt"))
+            with self.assertRaises(errors.LineRefusal):
+                found.subject = "Other"
 
     def check_embedded(self, inner: Message, attachment: Attachment):
         found = attachment.embedded
