@@ -4,7 +4,7 @@ from __future__ import annotations
 
 import io
 import shutil
-from typing import TYPE_CHECKING, BinaryIO, List, Optional, Tuple, Union
+from typing import TYPE_CHECKING, BinaryIO, List, Optional, Union
 
 from .drafts import recipient_line
 from .errors import NoEmbedded, NotFound
@@ -149,10 +149,6 @@ class EmbeddedMessage(Valued):
     def _changed(self) -> None:
         super()._changed()
         self.attachment.message._changed()
-
-    @property
-    def attachments(self) -> Tuple[ListedAttachment, ...]:
-        return self.details.attachments
 
 
 class AttachmentWriter(io.RawIOBase):

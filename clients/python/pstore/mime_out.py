@@ -4,7 +4,7 @@ from __future__ import annotations
 
 import mimetypes
 import re
-from dataclasses import dataclass, field
+from dataclasses import dataclass
 from datetime import datetime
 from email import policy
 from email.errors import HeaderParseError
@@ -12,15 +12,17 @@ from email.headerregistry import Address
 from email.message import EmailMessage
 from email.utils import format_datetime
 from os.path import splitext
-from typing import Dict, List, Optional, Sequence, Set, Tuple
+from typing import Dict, List, NamedTuple, Optional, Sequence, Set, Union
 from uuid import uuid4
 
 from .codepages import charset_of
-from .errors import PropertyRefusal
-from .messages import Message
+from .errors import LineRefusal, PropertyRefusal
+from .messages import Attachment
 from .mime_in import NO_ID, PART, as_lines, encoded, headers_of, laid_out, mime_lines, text_bytes
 from .mime_parts import Leaf, split, split_head, to_base64
+from .replies import ListedAttachment
 from .tags import TAGS, Value
+from .valued import Valued
 
 _NAMES = (
     "headers", "mime_skeleton", "body", "html", "rtf", "codepage", "subject", "sent", "message_id", "in_reply_to", "references",
@@ -30,16 +32,33 @@ _POLICY = policy.SMTP.clone(cte_type="7bit")
 _HEADERS = {1: "To", 2: "Cc", 3: "Bcc"}
 _NOT_IN_NAMES = re.compile("[\x00-\x1f\x7f-\x9f\ud800-\udfff]")
 """What no header carries in the name of a file: controls, and surrogates without their other half."""
+_MAIL_ENDING = re.compile(r"\.(?:msg|eml)\Z", re.IGNORECASE)
 _TOLD = {"subject": "Subject", "message_id": "Message-ID", "in_reply_to": "In-Reply-To", "references": "References"}
+
+BYTES, MAIL, NOTE = "bytes", "mail", "note"
+"""What is told of an attachment: its bytes, the mail of the message that it holds, or a text that says why it is left out."""
+
+
+class Attached(NamedTuple):
+    """An attachment as it is told: its name, the bytes of its part, and what of it is left out."""
+
+    name: str
+    data: bytes
+    kind: str = BYTES
+    lost: Sequence[str] = ()
 
 
 @dataclass
 class Content:
-    """What is read of a message to tell it: its values by their names, and the names and bytes of its attachments."""
+    """What is read of a message to tell it: its values by their names, and its attachments."""
 
     values: Dict[str, Value]
-    attachments: List[Tuple[str, bytes]]
-    lost: List[str] = field(default_factory=list)
+    attachments: List[Attached]
+
+    @property
+    def lost(self) -> List[str]:
+        """What of the attachments is left out."""
+        return [it for attached in self.attachments for it in attached.lost]
 
 
 @dataclass(frozen=True)
@@ -50,26 +69,46 @@ class Mail:
     lost: Sequence[str] = ()
 
 
-def mail_of(message: Message) -> Mail:
-    """The mail that a message is."""
+def mail_of(message: Valued) -> Mail:
+    """The mail that a message is, be it one of a folder or one that an attachment holds."""
     content = content_of(message)
     raw = _as_it_came(content) or _anew(message, content)
     return Mail(raw, content.lost)
 
 
-def content_of(message: Message) -> Content:
-    """Reads what is to be told of a message. An attachment that has no bytes, as one that holds a message, is lost."""
+def content_of(message: Valued) -> Content:
+    """Reads what is to be told of a message."""
     there = {it.id for it in message.details.values}
     values = {name: message.get(name) for name in _NAMES if TAGS[name].id in there}
     if "subject" in values:
         values["subject"] = message.subject
-    content = Content({name: it for name, it in values.items() if it is not None}, [])
-    for it in message.attachments:
+    return Content({name: it for name, it in values.items() if it is not None}, [_attached(it) for it in message.attachments])
+
+
+def _attached(attachment: Union[Attachment, ListedAttachment]) -> Attached:
+    """An attachment with its bytes, else with the mail that it holds, else with a text in their place.
+
+    Those of an embedded message are listed alone: no line reads what they hold.
+    """
+    name, place = attachment.name, f"attachment 0x{attachment.id:x} {attachment.name!r}"
+    if isinstance(attachment, Attachment):
         try:
-            content.attachments.append((it.name, it.read()))
+            return Attached(name, attachment.read())
         except PropertyRefusal:
-            content.lost.append(f"attachment 0x{it.id:x} {it.name!r} has no bytes that the program reads")
-    return content
+            mail = _held(attachment)
+        if mail is not None:
+            return Attached(name, mail.raw, MAIL, [f"in {place}: {it}" for it in mail.lost])
+    note = f"The attachment {name!r} was left out: the program reads no bytes of it.\r\n"
+    return Attached(name, note.encode("utf-8"), NOTE, [f"{place} has no bytes that the program reads"])
+
+
+def _held(attachment: Attachment) -> Optional[Mail]:
+    """The mail of the message that an attachment holds, if there is one and the session tells it: a pin doesn't."""
+    try:
+        message = attachment.embedded
+    except LineRefusal:
+        return None
+    return mail_of(message) if message is not None else None
 
 
 def _as_it_came(content: Content) -> Optional[bytes]:
@@ -105,7 +144,8 @@ class _Filler:
     def is_whole(self) -> bool:
         """Whether all that the message has was told."""
         has = {name for name in ("body", "html") if self._content.values.get(name)}
-        return has <= self._told and len(self._places) == len(self._content.attachments) and not self._content.lost
+        attachments = self._content.attachments
+        return has <= self._told and len(self._places) == len(attachments) and all(it.kind == BYTES for it in attachments)
 
     def fill(self, leaf: Leaf) -> Leaf:
         lines = leaf.head.splitlines(keepends=True)
@@ -136,13 +176,13 @@ class _Filler:
         if not layout or not 0 < layout[0] <= len(self._content.attachments):
             raise _Unfit
         self._places.add(layout[0])
-        data = self._content.attachments[layout[0] - 1][1]
+        data = self._content.attachments[layout[0] - 1].data
         if len(layout) == 3:
             return leaf.with_content(laid_out(data, layout[1], layout[2], leaf.eol))
         return leaf if leaf.content and leaf.data == data else leaf.with_content(encoded(leaf, data))
 
 
-def _anew(message: Message, content: Content) -> bytes:
+def _anew(message: Valued, content: Content) -> bytes:
     """The mail of a message without a skeleton that fits: its headers as they came or by its values, its texts, and its attachments."""
     told = content.values.get("headers")
     head = mime_lines(_crlf(told.encode("utf-8", "surrogateescape")), others=True) if isinstance(told, str) else b""
@@ -151,7 +191,7 @@ def _anew(message: Message, content: Content) -> bytes:
     return head + (b"" if head.endswith(b"\n") or not head else b"\r\n") + b"MIME-Version: 1.0\r\n" + _entity(content)
 
 
-def _headers(message: Message, content: Content) -> bytes:
+def _headers(message: Valued, content: Content) -> bytes:
     """Headers of the values of a message that came by no transport."""
     values, told = content.values, EmailMessage(policy=_POLICY)
     for name, header in (("representing", "From"), ("sender", "Sender")):
@@ -190,9 +230,9 @@ def _entity(content: Content) -> bytes:
     parts = [it for it in (_text_part(content), _html_part(content)) if it]
     attachments = list(content.attachments)
     if not parts and isinstance(content.values.get("rtf"), bytes):
-        attachments.append(("body.rtf.lzfu", content.values["rtf"]))
+        attachments.append(Attached("body.rtf.lzfu", content.values["rtf"]))
     shown = _joined("alternative", parts) if len(parts) > 1 else (parts or [_part(b"", "text", "plain")])[0]
-    return _joined("mixed", [shown, *(_attachment_part(*it) for it in attachments)]) if attachments else shown
+    return _joined("mixed", [shown, *map(_attachment_part, attachments)]) if attachments else shown
 
 
 def _text_part(content: Content) -> Optional[bytes]:
@@ -205,18 +245,27 @@ def _html_part(content: Content) -> Optional[bytes]:
     return _part(html, "text", "html", charset=charset_of(codepage)) if isinstance(html, bytes) else None
 
 
-def _attachment_part(name: str, data: bytes) -> bytes:
+def _attachment_part(it: Attached) -> bytes:
     """An attachment by the kind that its name tells. A mail is told as one, since its lines may stand as they are."""
-    name = _NOT_IN_NAMES.sub("_", name)
-    if name.lower().endswith(".eml") and headers_of(split_head(data)[0]).keys():
-        head = EmailMessage(policy=_POLICY)
-        head["Content-Type"] = "message/rfc822"
-        head["Content-Transfer-Encoding"] = "8bit"
-        head.add_header("Content-Disposition", "attachment", filename=name)
-        return _lines(head) + b"\r\n" + data
+    name = _NOT_IN_NAMES.sub("_", it.name)
+    if it.kind == NOTE:
+        return _part(it.data, "text", "plain", charset="utf-8")
+    if it.kind == MAIL:
+        return _mail_part(f"{_MAIL_ENDING.sub('', name) or 'message'}.eml", it.data)
+    if name.lower().endswith(".eml") and headers_of(split_head(it.data)[0]).keys():
+        return _mail_part(name, it.data)
     kind, coding = mimetypes.guess_type(f"name{splitext(name)[1]}")  # A whole name may be taken for an address of the net.
     main, _, sub = (kind if kind and not coding else "application/octet-stream").partition("/")
-    return _part(data, main, sub, disposition="attachment", filename=name)
+    return _part(it.data, main, sub, disposition="attachment", filename=name)
+
+
+def _mail_part(name: str, raw: bytes) -> bytes:
+    """A mail within a mail."""
+    head = EmailMessage(policy=_POLICY)
+    head["Content-Type"] = "message/rfc822"
+    head["Content-Transfer-Encoding"] = "8bit"
+    head.add_header("Content-Disposition", "attachment", filename=name)
+    return _lines(head) + b"\r\n" + raw
 
 
 def _part(data: bytes, main: str, sub: str, **how: str) -> bytes:

@@ -2,14 +2,15 @@
 
 from __future__ import annotations
 
-from typing import TYPE_CHECKING, Dict, Optional, Tuple, Union
+from typing import TYPE_CHECKING, Dict, Optional, Sequence, Tuple, Union
 
 from .codepages import charset_of
 from .errors import PropertyRefusal
-from .replies import Details, Recipient, details
+from .replies import Details, ListedAttachment, Recipient, details
 from .tags import BINARY, BYTE_TEXT, READ, TEXT, Tag, Value, spelled, tag_of, value_of
 
 if TYPE_CHECKING:
+    from .messages import Attachment
     from .store import Tree
 
 
@@ -116,6 +117,11 @@ class Valued:
     def read(self, read: bool) -> None:
         flags = self.flags or 0
         self.set(flags=flags | READ if read else flags & ~READ)
+
+    @property
+    def attachments(self) -> Sequence[Union["Attachment", ListedAttachment]]:
+        """Its attachments; those of an embedded message are listed alone."""
+        return self.details.attachments
 
     @property
     def recipients(self) -> Tuple[Recipient, ...]:

@@ -8,15 +8,16 @@ import subprocess
 import sys
 import unittest
 from collections import Counter
-from email import message_from_bytes
+from email import message_from_bytes, policy
 from email.message import Message
 from pathlib import Path
 from typing import Dict, Iterator, List, Tuple
 
-from pstore import Store
+from pstore import Draft, Recipient, Store
 from pstore.importing import STAGING
 from pstore.mail_files import mbox_entry
 from pstore.mime_in import message_id_of, text_of
+from pstore.tags import TAGS
 from tests.support import MAILS, TOP, InFolder, generated, large_mail, needs_program, opened
 
 
@@ -78,6 +79,91 @@ class ThereAndBack(InFolder):
         said = self.mail("import", "Inbox", str(self.folder / "in"), status=1)
         self.assertIn("1 new, 0 there before, 1 failed\n", said)
         self.assertIn("where an attachment may have 8000000", said)
+
+
+INNER = (
+    b"From: Eff <eff@example.org>\r\nTo: Gee <gee@example.org>\r\nSubject: The inner one\r\nX-Mine:  kept\r\nMessage-ID: <inner@x>\r\n"
+    b"MIME-Version: 1.0\r\nContent-Type: text/plain; charset=utf-8\r\nContent-Transfer-Encoding: 8bit\r\n\r\nGr\xc3\xbc\xc3\x9fe,\r\nEff\r\n"
+)
+OUTER = (
+    b"From: Ann <ann@example.org>\r\nSubject: The outer one\r\nMessage-ID: <outer@x>\r\nMIME-Version: 1.0\r\nContent-Type: multipart/mixed; boundary=b\r\n\r\n"
+    b"--b\r\n\r\nSee below.\r\n--b\r\nContent-Type: message/rfc822\r\n\r\n" + INNER + b"\r\n--b--\r\n"
+)
+PLAIN = b"From: Ann <ann@example.org>\r\nSubject: Outer\r\nMessage-ID: <plain@x>\r\n\r\nSee below.\r\n"
+PARTS = (
+    b"From: Eff <eff@example.org>\r\nSubject: With a part\r\nMessage-ID: <parts@x>\r\nMIME-Version: 1.0\r\nContent-Type: multipart/mixed; boundary=b\r\n\r\n"
+    b'--b\r\n\r\nThe text.\r\n--b\r\nContent-Type: application/pdf; name="n.pdf"\r\nContent-Transfer-Encoding: base64\r\n\r\nQUJD\r\n--b--\r\n'
+)
+
+
+@needs_program
+class Nested(InFolder):
+    def setUp(self):
+        super().setUp()
+        Store.create(self.file).close()
+
+    def exported(self, *told: str, status: int = 0) -> Dict[str, Message]:
+        """The mails of the folder by their ids, as an export writes them that tells this."""
+        said = self.mail("export", "Inbox", str(self.folder / "out"), status=status)
+        for it in told:
+            self.assertIn(it, said)
+        return {ident: message_from_bytes(raw, policy=policy.default) for ident, raw in by_id(self.folder / "out").items()}
+
+    def check_inner(self, inner: Message) -> None:
+        wanted = message_from_bytes(INNER, policy=policy.default)
+        self.assertEqual(inner.items(), wanted.items())
+        self.assertEqual(inner.get_content().splitlines(), wanted.get_content().splitlines())
+
+    def test_a_mail_in_a_mail_that_was_imported(self):
+        write_mails(self.folder / "in", [OUTER])
+        self.mail("import", "Inbox", str(self.folder / "in"))
+        mail = self.exported("1 written, 0 parts left out\n")["<outer@x>"]
+        body, part = mail.iter_parts()
+        self.assertEqual((body.get_content().strip(), part.get_content_type()), ("See below.", "message/rfc822"))
+        self.check_inner(part.get_content())
+        self.assertEqual(by_id(self.folder / "out"), {"<outer@x>": OUTER})
+
+    def test_a_message_that_was_embedded(self):
+        write_mails(self.folder / "in", [INNER, PLAIN])
+        self.mail("import", "Inbox", str(self.folder / "in"))
+        with Store(self.file) as store:
+            inner, outer = store.folder("Inbox").messages()
+            outer.embed(inner, "The inner one")
+            inner.remove()
+        before = Path(self.file).read_bytes()
+        mail = self.exported("1 written, 0 parts left out\n")["<plain@x>"]
+        self.assertEqual(Path(self.file).read_bytes(), before)
+        body, part = mail.iter_parts()
+        self.assertEqual((mail["Subject"], body.get_content().strip()), ("Outer", "See below."))
+        self.assertEqual((part.get_content_type(), part.get_filename()), ("message/rfc822", "The inner one.eml"))
+        self.check_inner(part.get_content())
+
+    def test_a_message_that_came_by_no_transport(self):
+        values = {TAGS["subject"]: "Hello", TAGS["body"]: "A line.\r\n", TAGS["sender"]: "Eff", TAGS["sender_address"]: "eff@example.org"}
+        with Store(self.file) as store:
+            inbox = store.make_folder("Inbox")
+            inner = inbox.add(Draft(values=values, recipients=[Recipient(1, "gee@example.org", "Gee"), Recipient(2, "dee@example.org", "")]))
+            outer = inbox.add(Draft(values={TAGS["message_id"]: "<outer@x>"}))
+            outer.embed(inner, "mail.msg")
+            inner.remove()
+        mail = self.exported("1 written, 0 parts left out\n")["<outer@x>"]
+        _, part = mail.iter_parts()
+        inner = part.get_content()
+        self.assertEqual([str(inner[it]) for it in ("From", "To", "Cc", "Subject")], ["Eff <eff@example.org>", "Gee <gee@example.org>", "dee@example.org", "Hello"])
+        self.assertEqual((inner.get_content().strip(), part.get_filename()), ("A line.", "mail.eml"))
+
+    def test_attachments_of_an_embedded_message_are_left_out(self):
+        write_mails(self.folder / "in", [PARTS, PLAIN])
+        self.mail("import", "Inbox", str(self.folder / "in"))
+        with Store(self.file) as store:
+            inner, outer = store.folder("Inbox").messages()
+            outer.embed(inner, "mail")
+            inner.remove()
+        mail = self.exported("1 written, 1 parts left out\n", "in attachment 0x8025 'mail': attachment 0x8025 'n.pdf' has no bytes that the program reads, and is left out\n", status=1)["<plain@x>"]
+        _, part = mail.iter_parts()
+        body, note = part.get_content().iter_parts()
+        self.assertEqual((part.get_content()["Subject"], body.get_content().strip(), note.get_content_type()), ("With a part", "The text.", "text/plain"))
+        self.assertIn("'n.pdf' was left out", note.get_content())
 
 
 @needs_program

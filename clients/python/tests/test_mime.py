@@ -8,7 +8,7 @@ from types import SimpleNamespace
 from pstore import tags
 from pstore.mail_files import _mbox, mbox_entry
 from pstore.mime_in import decoded_words, draft_of, message_id_of
-from pstore.mime_out import Content, _anew, _as_it_came, _entity
+from pstore.mime_out import MAIL, NOTE, Attached, Content, _anew, _as_it_came, _entity
 from pstore.mime_parts import Leaf, split
 from pstore.replies import Recipient
 from tests.support import generated, large_mail
@@ -19,7 +19,7 @@ NAMES = {tag: name for name, tag in tags.TAGS.items()}
 def content_of(raw: bytes) -> Content:
     """What would be read of the message that a mail becomes."""
     draft = draft_of(raw)
-    return Content({NAMES[tag]: it for tag, it in draft.values.items()}, [(it.name, it.data) for it in draft.attachments])
+    return Content({NAMES[tag]: it for tag, it in draft.values.items()}, [Attached(it.name, it.data) for it in draft.attachments])
 
 
 class ThereAndBack(unittest.TestCase):
@@ -43,7 +43,7 @@ class ThereAndBack(unittest.TestCase):
 
     def test_another_attachment_asks_for_a_new_layout(self):
         content = content_of(b"Subject: x\n\nbody\n")
-        content.attachments.append(("a.bin", b"\0"))
+        content.attachments.append(Attached("a.bin", b"\0"))
         self.assertIsNone(_as_it_came(content))
         leaves = [it for it in split(_entity(content)) if isinstance(it, Leaf)]
         self.assertEqual([it.data for it in leaves], [b"body\r\n", b"\0"])
@@ -58,7 +58,7 @@ class Anew(unittest.TestCase):
             "sender": "Bee", "sender_address": "/O=ORG/CN=BEE", "message_id": "<1@x>", "body": "a\r\n" + "ü" * 2000, "html": b"<p>\xe4</p>", "codepage": 1252,
         }  # fmt: skip
         recipients = (Recipient(1, "cee@example.org", "Cee, C."), Recipient(2, "dee@example.org", ""), Recipient(3, "eff@example.org", "Eff"))
-        raw = _anew(SimpleNamespace(recipients=recipients), Content(values, [("a ü.pdf", b"\0"), ("b.eml", b"Subject: inner\n\nx")]))
+        raw = _anew(SimpleNamespace(recipients=recipients), Content(values, [Attached("a ü.pdf", b"\0"), Attached("b.eml", b"Subject: inner\n\nx")]))
         mail = message_from_bytes(raw, policy=policy.default)
         told = {name: str(mail[name]) for name in ("From", "Sender", "To", "Cc", "Bcc", "Subject", "Date", "Message-ID")}
         self.assertEqual(told["From"], "Ann Ärmel <ann@example.org>")
@@ -73,10 +73,27 @@ class Anew(unittest.TestCase):
 
     def test_names_that_no_header_carries(self):
         names = {"d\ne\ud800.pdf": "d_e_.pdf", "\0\x85.bin": "__.bin", "//[x": "//[x", "data:a/b c,": "data:a/b c,", "": None}
-        raw = _anew(SimpleNamespace(recipients=()), Content({}, [(it, b"\0") for it in names]))
+        raw = _anew(SimpleNamespace(recipients=()), Content({}, [Attached(it, b"\0") for it in names]))
         parts = list(message_from_bytes(raw, policy=policy.default).iter_attachments())
         self.assertEqual([it.get_filename() or None for it in parts], list(names.values()))
         self.assertEqual([it.get_content_type() for it in parts], ["application/pdf", *["application/octet-stream"] * 4])
+
+    def test_a_mail_that_an_attachment_holds(self):
+        raw = b"Subject: inner\r\nMIME-Version: 1.0\r\n\r\nx"
+        content = Content({"body": "outer"}, [*(Attached(it, raw, MAIL) for it in ("a/b.MSG", "", "c\nd")), Attached("e.txt", b"left out", NOTE)])
+        mail = message_from_bytes(_anew(SimpleNamespace(recipients=()), content), policy=policy.default)
+        body, *mails, note = mail.iter_parts()
+        self.assertEqual((body.get_content(), note.get_content(), note.get_content_type(), note.get_filename()), ("outer", "left out", "text/plain", None))
+        self.assertEqual([it.get_filename() for it in mails], ["a/b.eml", "message.eml", "c_d.eml"])
+        for it in mails:
+            self.assertEqual((it.get_content_type(), it.get_content()["Subject"], it.get_content().get_content()), ("message/rfc822", "inner", "x"))
+
+    def test_a_skeleton_tells_no_attachment_that_holds_a_mail(self):
+        content = content_of(b"Subject: x\nContent-Type: application/pdf; name=a.pdf\nContent-Transfer-Encoding: base64\n\nQUJD\n")
+        self.assertIsNotNone(_as_it_came(content))
+        for kind in (MAIL, NOTE):
+            content.attachments[0] = Attached("a.pdf", b"ABC", kind)
+            self.assertIsNone(_as_it_came(content))
 
     def test_headers_as_they_came(self):
         told = "Subject: x\r\nX-Mine:  1\r\nContent-Type: multipart/mixed; boundary=b\r\n"

@@ -3,8 +3,10 @@
 import os
 import unittest
 from datetime import datetime, timezone
+from email import message_from_bytes, policy
 
 from pstore import Draft, errors
+from pstore.mime_out import mail_of
 from pstore.program import find_program
 from pstore.session import Session
 from pstore.store import Store
@@ -270,7 +272,16 @@ while read -r line; do
     'eget 0x200024 0x8025 '*) echo 'no property' ;;
     'eset 0x200024 0x8025 0x0e080003 5') echo 'no protected' ;;
     'eset 0x200024 0x8025 '* | 'eunset 0x200024 0x8025 0x0037001f') echo ok ;;
-    'eprops 0x200024 0x8045' | 'eget 0x200024 0x8045 '*) echo 'no embedded' ;;
+    'eprops 0x200024 0x8045' | 'eget 0x200024 0x8045 '* | 'eprops 0x200084 0x8025') echo 'no embedded' ;;
+    'props 0x200084') printf '%s\\n' '- attach 0x8025 8 "o\\u000a.ole"' 'ok 1' ;;
+    'fetch 0x200084 0x8025') echo 'no property' ;;
+    'fetch 0x200024 0x8025') echo 'no property' ;;
+    'fetch 0x200024 0x8045') echo 'ok 6869' ;;
+    'get 0x200024 0x0037001f') echo 'ok "Outer"' ;;
+    'at 1 props 0x200024') echo '- attach 0x8025 8 "a.msg"'; echo 'ok 1' ;;
+    'at 1 fetch 0x200024 0x8025') echo 'no property' ;;
+    pin) echo 'ok 1' ;;
+    unpin*) echo ok ;;
     'embed 0x200024 0x200044 '*) echo 'ok 0x8065' ;;
     'embed 0x200024 0x200064 '*) echo 'no limit nesting' ;;
     quit) echo ok ;;
@@ -301,6 +312,29 @@ class Embedded(OverScript):
         self.assertEqual([(it.id, it.length, it.name) for it in found.attachments], [(0x8025, 5, "c.txt")])
         self.assertEqual(self.asked()[:4], ["props 0x200024", "eprops 0x200024 0x8045", "eprops 0x200024 0x8025", "eget 0x200024 0x8025 0x0037001f"])
         self.assertEqual(self.asked().count("eprops 0x200024 0x8025"), 1)
+
+    def test_it_is_told_as_a_mail(self):
+        told = mail_of(self.message)
+        self.assertEqual(told.lost, ["in attachment 0x8025 'a.msg': attachment 0x8025 'c.txt' has no bytes that the program reads"])
+        mail = message_from_bytes(told.raw, policy=policy.default)
+        _, inner, last = mail.iter_parts()
+        self.assertEqual((mail["Subject"], inner.get_content_type(), inner.get_filename(), last.get_payload(decode=True)), ("Outer", "message/rfc822", "a.eml", b"hi"))
+        inner = inner.get_content()
+        self.assertEqual((inner["Subject"], inner["To"]), ("Bye", "Ann <a@b>"))
+        body, note = inner.iter_parts()
+        self.assertEqual((body.get_content().strip(), note.get_content().strip()), ("", "The attachment 'c.txt' was left out: the program reads no bytes of it."))
+
+    def test_an_attachment_without_bytes_or_message_leaves_a_text(self):
+        told = mail_of(self.store.message(0x200084))
+        self.assertEqual(told.lost, [r"attachment 0x8025 'o\n.ole' has no bytes that the program reads"])
+        _, note = message_from_bytes(told.raw, policy=policy.default).iter_parts()
+        self.assertEqual(note.get_content().strip(), r"The attachment 'o\n.ole' was left out: the program reads no bytes of it.")
+
+    def test_a_pin_tells_none(self):
+        with self.store.pin() as then:
+            told = mail_of(then.message(0x200024))
+        self.assertEqual(told.lost, ["attachment 0x8025 'a.msg' has no bytes that the program reads"])
+        self.assertIn(b"The attachment 'a.msg' was left out", told.raw)
 
     def test_values_are_given_and_taken_away(self):
         found = self.message.attachment("a.msg").embedded
