@@ -109,10 +109,7 @@ class Tree:
         return Message(self, ident)
 
     def write(self, draft: Draft, folder: Folder) -> Message:
-        """Sends the lines of a whole mail. Should one be refused, the message goes again.
-
-        Each line is a commit of its own. Where the program has transactions, this is the place where one begins and ends.
-        """
+        """Sends the lines of a whole mail, each a commit of its own. Should one be refused, the message goes again."""
         ident = self.session.ask(f"new 0x{folder.id:x} {draft.class_word} {draft.time}").id
         message = Message(self, ident)
         try:
