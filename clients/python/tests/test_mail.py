@@ -12,11 +12,12 @@ from email import message_from_bytes, policy
 from email.message import Message
 from pathlib import Path
 from typing import Dict, Iterator, List, Tuple
+from unittest.mock import patch
 
 from pstore import Draft, Recipient, Store
-from pstore.importing import STAGING
-from pstore.mail_files import mbox_entry
-from pstore.mime_in import message_id_of, text_of
+from pstore.importing import STAGING, Importer
+from pstore.mail_files import MailFile, mbox_entry
+from pstore.mime_in import draft_of, message_id_of, text_of
 from pstore.tags import TAGS
 from tests.support import MAILS, TOP, InFolder, generated, large_mail, needs_program, opened
 
@@ -71,6 +72,23 @@ class ThereAndBack(InFolder):
         self.assertEqual((len(marks), sum(it[0] == "u" for it in marks), sum(it[2] == "f" for it in marks)), (9, 6, 1))
         self.mail("export", "Both", str(self.folder / "out"))
         self.assertEqual({lines_of(it) for it in by_id(self.folder / "out").values()}, {lines_of(it) for it in mails})
+
+    def test_a_mail_that_is_refused_leaves_nothing(self):
+        def spoiled(raw: bytes, *marks: bool) -> Draft:
+            draft = draft_of(raw, *marks)
+            if b"Subject: two" in raw:
+                draft.values[TAGS["size"]] = 7  # which no line sets
+            return draft
+
+        mails = [MailFile(it, f"Subject: {it}\n\nbody\n".encode("ascii")) for it in ("one", "two", "three")]
+        with Store(self.file) as store, patch("pstore.importing.draft_of", spoiled):
+            inbox = store.make_folder("Inbox")
+            with Importer(store, inbox) as importer:
+                *_, done = importer.run(mails)
+                self.assertEqual(store.root.child(STAGING).messages(), [])
+            self.assertEqual([it.subject for it in inbox.messages()], ["one", "three"])
+        self.assertEqual((done.new, done.there, len(done.failed)), (2, 0, 1))
+        self.assertTrue(done.failed[0].startswith("two: no protected"), done.failed)
 
     def test_a_mail_that_is_too_large(self):
         mails = [large_mail().replace(b"Content-Type: application", b"X-More: 1\r\nContent-Type: application"), b"Subject: next\n\nbody\n"]
