@@ -1,40 +1,39 @@
-use Rattle.file_filling.specs.search_folders.Comings.{coming_of}
+use Rattle.std.proofs.Common.{Err, Ok, refl}
 use Rattle.tree_look.proofs.mail_draft_laws.Looking.{untouched_same}
-use Rattle.file_filling.proofs.mail_reading_laws.Answered.{asked_given, asked_stop}
-use Rattle.mail_session.proofs.LookingLaws.{lacks_memory, looks_on, no_line_answers, reply_answers, stop_answers, stop_stops}
+use Rattle.command_text.specs.declared.reply.CommandRefusal.TheVariants.{Line}
+use Rattle.session_lines.specs.declared.line.SessionLine.TheVariants.{Pin, At, Unpin, OpenView, ShowView, CloseView, Embedded, Command as StoreCommand}
+use Rattle.mail_session.proofs.LookingLaws.{answers_if, lacks_line, refusal_answers}
 use Rattle.mail_session.proofs.looking.answer_look.Goals as goal
-use Rattle.std.proofs.Common.{refl}
 
-pub returns-in-Ok-ask-clause-answers : goal.returns-in-Ok-ask-clause-answers
-returns-in-Ok-ask-clause-answers g c = record {
-  same = c.ask.ensures.looks.world;
-  answered = λ X h. (
-    reply_answers X c.args.bytes.now _ c.in-Ok.command _ c.in-Ok.ensures (asked_given (coming_of X) X c.in-Ok.command h.whole h.are c.in-Ok-ask.coming (c.in-Ok-ask.ensures.answer X h.shown h.knows h.searches)) c.reply_spoken.ensures,
-    looks_on _ _ X c.ask.ensures.looks h,
-  );
-}
+pub returns-in-Ok-Command-clause-answers : goal.returns-in-Ok-Command-clause-answers
+returns-in-Ok-Command-clause-answers g c = answers_if _ _ (g.W.Outside.view c.args.world.now) _ c.args.bytes.now (Ok (StoreCommand c.in-Ok-Command.command)) (rw c.in-Ok-Command.field-0-is at c.in-Ok-Command.ensures) c.answer_command.result c.answer_command.ensures.says
 
-pub returns-in-Ok-clause-answers : goal.returns-in-Ok-clause-answers
-returns-in-Ok-clause-answers g c =
-    stop_answers _ _ (g.W.Outside.view c.args.world.now) (g.W.Outside.view c.ask.new.w) c.args.bytes.now c.in-Ok.command c.in-Err.stop c.in-Ok.ensures c.ask.ensures.looks.world g.K.NodeReader.has_disk c.in-Err.ensures.cause
-    (λ X h. asked_stop (coming_of X) X c.in-Ok.command h.whole h.are c.in-Err.stop (c.in-Err.ensures.answer X h.shown h.knows h.searches)) (λ X h. looks_on _ _ X c.ask.ensures.looks h) c.stopped.result c.stopped.ensures
+pub returns-in-Ok-Embedded-clause-answers : goal.returns-in-Ok-Embedded-clause-answers
+returns-in-Ok-Embedded-clause-answers g c = answers_if _ _ (g.W.Outside.view c.args.world.now) _ c.args.bytes.now (Ok (Embedded c.in-Ok-Embedded.line)) (rw c.in-Ok-Embedded.field-0-is at c.in-Ok-Embedded.ensures) c.answer_inside.result c.answer_inside.ensures.says
 
-pub returns-in-Ok-clause-stops : goal.returns-in-Ok-clause-stops
-returns-in-Ok-clause-stops g c =
-    stop_stops _ _ (g.W.Outside.view c.args.world.now) (g.W.Outside.view c.ask.new.w) c.args.bytes.now c.in-Ok.command c.in-Err.stop c.in-Ok.ensures c.ask.ensures.looks.world g.K.NodeReader.has_disk c.in-Err.ensures.cause
-    (λ X h. asked_stop (coming_of X) X c.in-Ok.command h.whole h.are c.in-Err.stop (c.in-Err.ensures.answer X h.shown h.knows h.searches)) (λ X h. looks_on _ _ X c.ask.ensures.looks h) c.stopped.result c.stopped.ensures
+pub returns-in-Ok-Pin-clause-answers : goal.returns-in-Ok-Pin-clause-answers
+returns-in-Ok-Pin-clause-answers g c = refusal_answers _ (untouched_same (g.W.Outside.view c.args.world.now)) c.args.bytes.now (Ok Pin) (rw c.in-Ok-Pin.field-0-is at c.in-Ok-Pin.ensures) Line c.refusal_spoken.result (λ X e. e) c.refusal_spoken.ensures
+
+pub returns-in-Ok-At-clause-answers : goal.returns-in-Ok-At-clause-answers
+returns-in-Ok-At-clause-answers g c = refusal_answers _ (untouched_same (g.W.Outside.view c.args.world.now)) c.args.bytes.now (Ok (At c.in-Ok-At.field-0-0 c.in-Ok-At.field-0-1)) (rw c.in-Ok-At.field-0-is at c.in-Ok-At.ensures) Line c.refusal_spoken-in-Ok-At.result (λ X e. e) c.refusal_spoken-in-Ok-At.ensures
+
+pub returns-in-Ok-Unpin-clause-answers : goal.returns-in-Ok-Unpin-clause-answers
+returns-in-Ok-Unpin-clause-answers g c = refusal_answers _ (untouched_same (g.W.Outside.view c.args.world.now)) c.args.bytes.now (Ok (Unpin c.in-Ok-Unpin.field-0-0)) (rw c.in-Ok-Unpin.field-0-is at c.in-Ok-Unpin.ensures) Line c.refusal_spoken-in-Ok-Unpin.result (λ X e. e) c.refusal_spoken-in-Ok-Unpin.ensures
+
+pub returns-in-Ok-OpenView-clause-answers : goal.returns-in-Ok-OpenView-clause-answers
+returns-in-Ok-OpenView-clause-answers g c = refusal_answers _ (untouched_same (g.W.Outside.view c.args.world.now)) c.args.bytes.now (Ok (OpenView c.in-Ok-OpenView.field-0-0 c.in-Ok-OpenView.field-0-1 c.in-Ok-OpenView.field-0-2)) (rw c.in-Ok-OpenView.field-0-is at c.in-Ok-OpenView.ensures) Line c.refusal_spoken-in-Ok-OpenView.result (λ X e. e) c.refusal_spoken-in-Ok-OpenView.ensures
+
+pub returns-in-Ok-ShowView-clause-answers : goal.returns-in-Ok-ShowView-clause-answers
+returns-in-Ok-ShowView-clause-answers g c = refusal_answers _ (untouched_same (g.W.Outside.view c.args.world.now)) c.args.bytes.now (Ok (ShowView c.in-Ok-ShowView.field-0-0 c.in-Ok-ShowView.field-0-1)) (rw c.in-Ok-ShowView.field-0-is at c.in-Ok-ShowView.ensures) Line c.refusal_spoken-in-Ok-ShowView.result (λ X e. e) c.refusal_spoken-in-Ok-ShowView.ensures
+
+pub returns-in-Ok-CloseView-clause-answers : goal.returns-in-Ok-CloseView-clause-answers
+returns-in-Ok-CloseView-clause-answers g c = refusal_answers _ (untouched_same (g.W.Outside.view c.args.world.now)) c.args.bytes.now (Ok (CloseView c.in-Ok-CloseView.field-0-0)) (rw c.in-Ok-CloseView.field-0-is at c.in-Ok-CloseView.ensures) Line c.refusal_spoken-in-Ok-CloseView.result (λ X e. e) c.refusal_spoken-in-Ok-CloseView.ensures
 
 pub returns-in-Err-Refused-clause-answers : goal.returns-in-Err-Refused-clause-answers
-returns-in-Err-Refused-clause-answers g c = record {
-  same = untouched_same (g.W.Outside.view c.args.world.now);
-  answered = λ X h. (no_line_answers X c.args.bytes.now _ c.refusal_spoken.result (rw c.in-Err-Refused.field-0-is at c.in-Err-Refused.ensures) c.refusal_spoken.ensures, h);
-}
-
-pub returns-in-Err-Refused-clause-same : goal.returns-in-Err-Refused-clause-same
-returns-in-Err-Refused-clause-same g c = untouched_same (g.W.Outside.view c.args.world.now)
+returns-in-Err-Refused-clause-answers g c = refusal_answers _ (untouched_same (g.W.Outside.view c.args.world.now)) c.args.bytes.now (Err c.in-Err-Refused.field-0-0) (rw c.in-Err-Refused.field-0-is at c.in-Err-Refused.ensures) Line c.refusal_spoken-in-Err-Refused.result (λ X e. e) c.refusal_spoken-in-Err-Refused.ensures
 
 pub returns-clause-answers : goal.returns-clause-answers
-returns-clause-answers g c = record { same = untouched_same (g.W.Outside.view c.args.world.now); answered = λ X h. (lacks_memory X c.args.bytes.now _ refl, h) }
+returns-clause-answers g c = lacks_line _ (untouched_same (g.W.Outside.view c.args.world.now)) c.args.bytes.now _ refl
 
 pub returns-clause-same : goal.returns-clause-same
 returns-clause-same g c = untouched_same (g.W.Outside.view c.args.world.now)
