@@ -29,7 +29,7 @@ pub returns-in-Ok-Becomes-clause-says : goal.returns-in-Ok-Becomes-clause-says
 returns-in-Ok-Becomes-clause-says g c = record {
   same = c.mean.ensures.looks.world;
   says = λ X h. absurd (becomes_none X.tree c.args.line.now c.in-Ok-Becomes.field-0-0 (sym c.reads_inside.ensures ∙ c.if-not-reads_inside.false)
-    (subst (Means X.tree c.args.line.now) (rw c.in-Ok-Becomes.field-0-is at c.in-Ok-Becomes.is) (c.mean.ensures.answer X.tree h.shown h.knows h.whole)));
+      (subst (Means X.tree c.args.line.now) (rw c.in-Ok-Becomes.field-0-is at c.in-Ok-Becomes.is) (c.mean.ensures.answer X.tree h.shown h.knows h.whole)));
 }
 
 pub returns-clause-says : goal.returns-clause-says
