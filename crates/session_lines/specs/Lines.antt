@@ -17,6 +17,8 @@ use Rattle.command_text.specs.Asking.{asks}
 use Rattle.command_text.specs.Lines.{text_command}
 use Rattle.command_text.specs.Words.{cut}
 use Rattle.session_lines.specs.declared.line.SessionLine.{SessionLine}
+use Rattle.session_lines.specs.declared.line.TransactionLine.{TransactionLine}
+use Rattle.session_lines.specs.declared.line.TransactionLine.TheVariants.{Begin, Commit, Rollback, Session}
 use Rattle.session_lines.specs.declared.line.SessionLine.TheVariants.{Pin, At, Unpin, OpenView, ShowView, CloseView, Embedded, Command as StoreCommand}
 
 -- a number that a pin or a view may have, of at most 32 bits
@@ -163,3 +165,18 @@ cut_line text None = if bytes_eq text (codes "pin") then Ok Pin else store_line 
 -- what a line asks for, or why it is refused
 unfoldable pub session_line : List ℕ → Result SessionLine LineRefusal
 session_line line = if is_utf8 line then cut_line line (cut line) else Err Line
+
+-- a line that isn't on transactions
+abbrev pub other_line : List ℕ → Result TransactionLine LineRefusal
+other_line line = do
+  asked ← session_line line
+  Ok (Session asked)
+
+-- what a line of a session with transactions asks for, or why it is refused
+unfoldable pub transaction_line : List ℕ → Result TransactionLine LineRefusal
+transaction_line line =
+    if is_utf8 line then (if bytes_eq line (codes "begin") then Ok Begin
+    else (if bytes_eq line (codes "commit") then Ok Commit
+    else (if bytes_eq line (codes "rollback") then Ok Rollback
+    else other_line line)))
+    else Err Line

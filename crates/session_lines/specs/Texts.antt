@@ -1,4 +1,4 @@
--- What is said to a line on pins and on views, as text.
+-- What is said to a line on transactions, on pins and on views, as text.
 use Rattle.std.specs.Prelude.{ℕ, List, [], ◌∷◌, ◌++◌, codes, length, Option, None, Some}
 use Rattle.std.specs.Fmt.{decimal}
 use Rattle.std.specs.List.{flat_map}
@@ -9,6 +9,8 @@ use Rattle.sorted_views.specs.Groups.{groups}
 use Rattle.sorted_views.specs.declared.rows.ViewRow.{ViewRow}
 use Rattle.session_lines.specs.declared.line.PinReply.{PinReply}
 use Rattle.session_lines.specs.declared.line.PinReply.TheVariants.{Pinned, Unpinned, NoPin, PinsFull}
+use Rattle.session_lines.specs.declared.line.TransactionReply.{TransactionReply}
+use Rattle.session_lines.specs.declared.line.TransactionReply.TheVariants as transactions
 use Rattle.session_lines.specs.declared.line.ViewReply.{ViewReply}
 use Rattle.session_lines.specs.declared.line.ViewReply.TheVariants.{Opened, Closed, NoView, NoColumn, ViewsFull}
 
@@ -26,6 +28,11 @@ view_text Closed = codes "ok" ++ 10 ∷ []
 view_text NoView = codes "no view" ++ 10 ∷ []
 view_text NoColumn = codes "no column" ++ 10 ∷ []
 view_text ViewsFull = codes "no limit views" ++ 10 ∷ []
+
+-- one line with its LF
+unfoldable pub transaction_text : TransactionReply → List ℕ
+transaction_text transactions.Done = codes "ok" ++ 10 ∷ []
+transaction_text transactions.Full = codes "no limit transaction" ++ 10 ∷ []
 
 -- a cell, as `get` prints it
 unfoldable pub cell_text : Option Val → List ℕ

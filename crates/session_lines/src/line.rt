@@ -1,4 +1,4 @@
-//! What a line asks for, and what is said to a line on pins and on views.
+//! What a line asks for, and what is said to a line on transactions, on pins and on views.
 use command_text::{Command, EmbeddedCommand};
 use mapi_values::Tag;
 use pst_base::Nid;
@@ -37,6 +37,28 @@ pub enum SessionLine {
     Embedded(EmbeddedCommand),
     /// Any other line: a command of the store.
     Command(Command),
+}
+
+/// What a line of a session with transactions asks for.
+#[derive(Debug, Drop)]
+pub enum TransactionLine {
+    /// `begin`: a transaction is opened.
+    Begin,
+    /// `commit`: what the lines since then changed is committed as one.
+    Commit,
+    /// `rollback`: it is dropped.
+    Rollback,
+    /// Any other line.
+    Session(SessionLine),
+}
+
+/// What is said to a line on transactions.
+#[derive(Clone, Copy, Debug, PartialEq, Eq)]
+pub enum TransactionReply {
+    /// `ok`
+    Done,
+    /// `no limit transaction`: the transaction would put too much with the line.
+    Full,
 }
 
 /// What is said to a line on pins beside what its command says.

@@ -1,8 +1,8 @@
-//! What is said to a line on pins, and to one on views that lists nothing, as text.
+//! What is said to a line on transactions or on pins, and to one on views that lists nothing, as text.
 ghost use Rattle.std.specs.Prelude.{◌≡◌, ◌++◌, IfOk, OnOk, string_bytes};
-ghost use Rattle.session_lines.specs.Texts.{pin_text, view_text};
+ghost use Rattle.session_lines.specs.Texts.{pin_text, transaction_text, view_text};
 
-use crate::line::{PinReply, ViewReply};
+use crate::line::{PinReply, TransactionReply, ViewReply};
 use pst_base::Bytes;
 use std::alloc::{AllocError, Global};
 use std::fmt::Write;
@@ -49,5 +49,25 @@ pub fn view_reply_text(alloc: Global, reply: ViewReply) -> Result<Bytes, AllocEr
 {
     let mut text = String::new(alloc);
     push_view_reply(&mut text, reply)?;
+    Ok(Bytes::from_vec(text.into_bytes()))
+}
+
+/// Puts what is said to a line on transactions at the end of a text.
+#[tactic(auto, unfolding(crate::specs::Texts::transaction_text))]
+fn push_transaction_reply(text: &mut String, reply: TransactionReply) -> Result<(), AllocError>
+    ensures { OnOk result (string_bytes text.new ≡ string_bytes text.old ++ transaction_text reply) }
+{
+    match reply {
+        TransactionReply::Done => text.push_str("ok\n"),
+        TransactionReply::Full => text.push_str("no limit transaction\n"),
+    }
+}
+
+/// The bytes of what is said to a line on transactions: one line, with its LF. It fails only where memory runs out.
+pub fn transaction_reply_text(alloc: Global, reply: TransactionReply) -> Result<Bytes, AllocError>
+    ensures { IfOk result (λ bytes. bytes ≡ transaction_text reply) }
+{
+    let mut text = String::new(alloc);
+    push_transaction_reply(&mut text, reply)?;
     Ok(Bytes::from_vec(text.into_bytes()))
 }

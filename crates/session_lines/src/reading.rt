@@ -1,8 +1,8 @@
 //! A line read as what it asks for.
 ghost use Rattle.pst_base.specs.Stops.{Gives};
-ghost use Rattle.session_lines.specs.Lines.{asked, at_pin, close_view, embed, get_embedded, list_embedded, on_embedded, on_views, open_view, session_line, set_embedded, show_view, store_line, unpin, unset_embedded, with_word};
+ghost use Rattle.session_lines.specs.Lines.{asked, at_pin, close_view, embed, get_embedded, list_embedded, on_embedded, on_views, open_view, session_line, set_embedded, show_view, store_line, transaction_line, unpin, unset_embedded, with_word};
 
-use crate::line::SessionLine;
+use crate::line::{SessionLine, TransactionLine};
 use crate::words::{read_direction, read_number};
 use command_text::{
     Command, EmbeddedCommand, LineRefusal, as_text, cut, id_and_name, id_and_tag, id_and_value,
@@ -257,5 +257,27 @@ pub fn read_session_line(alloc: Global, line: &[u8]) -> Result<SessionLine, MemO
             "pin" => Ok(SessionLine::Pin),
             _ => store_line(alloc, text),
         },
+    }
+}
+
+/// What a line of a session with transactions asks for, without its LF: `begin`, `commit`, `rollback`, or what `read_session_line` reads, which is refused as there.
+#[tactic(auto, unfolding(crate::specs::Lines::transaction_line))]
+pub fn read_transaction_line(
+    alloc: Global,
+    line: &[u8],
+) -> Result<TransactionLine, MemOr<LineRefusal>>
+    ensures { Gives (λ l. l) result (transaction_line line.now) }
+{
+    let Some(text) = as_text(line) else {
+        return Err(MemOr::Refused(LineRefusal::Line));
+    };
+    match text {
+        "begin" => Ok(TransactionLine::Begin),
+        "commit" => Ok(TransactionLine::Commit),
+        "rollback" => Ok(TransactionLine::Rollback),
+        _ => {
+            let asked = read_session_line(alloc, line)?;
+            Ok(TransactionLine::Session(asked))
+        }
     }
 }
