@@ -2,17 +2,14 @@
 use Rattle.std.proofs.Common.{◌≡◌, inl, inr, ℕ, Bool, true, List, Result, Ok, Err, IfErr, IfOk, refl, sym, subst}
 use Rattle.pst_outside.specs.World.{Image, World}
 use Rattle.command_text.specs.declared.command.Command.{Command}
-use Rattle.command_text.specs.declared.command.LineRefusal.{LineRefusal}
-use Rattle.line_server.specs.Lines.{Piece, further, line, too_long}
 use Rattle.line_server.specs.Spoken.{spoken_text}
 use Rattle.line_server.specs.declared.spoken.Spoken.{Spoken}
 use Rattle.node_port.specs.Pins.{Pins}
 use Rattle.node_port.specs.Stops.{Room}
 use Rattle.mail_searches.specs.Searching.{Searching}
-use Rattle.session_lines.specs.Lines.{session_line}
 use Rattle.session_lines.specs.declared.line.SessionLine.{SessionLine}
 use Rattle.session_lines.specs.declared.line.SessionLine.TheVariants.{Pin, At, Unpin, OpenView, ShowView, CloseView, Embedded, Command as StoreCommand}
-use Rattle.store_session.specs.Carrying.{CarriesOut, IsCaused}
+use Rattle.store_session.specs.Carrying.{CarriesOut}
 use Rattle.store_session.specs.Disks.{Effects, Medium, SameMedium, medium}
 use Rattle.store_session.specs.Run.{CommandAnswers}
 use Rattle.store_session.specs.mail_draft.declared.stop.Stop.{Stop}
@@ -22,8 +19,7 @@ use Rattle.mail_embedding.specs.declared.meaning.Meaning.TheVariants.{Replies, B
 use Rattle.store_session.specs.declared.carrying.StoreStop.{StoreStop}
 use Rattle.store_session.specs.declared.carrying.StoreStop.TheVariants.{Disk, Changed}
 use Rattle.store_session.proofs.Between.{command_on, same_between}
-use Rattle.pinned_session.specs.Lines.{AnswersLine, StopsLine}
-use Rattle.pinned_session.specs.Run.{Answers, Carries, CarriesMeant, SaysTo, Stays}
+use Rattle.pinned_session.specs.Run.{Carries, CarriesMeant, SaysTo, Stays}
 use Rattle.pinned_session.specs.Sitting.{Sitting, pins_of, with_tree}
 
 -- ---- what was carried out, seen otherwise
@@ -54,31 +50,10 @@ command_sits has has' stands effects room old new S c on (Ok spoken) is = (with_
 command_sits has has' stands effects room old new S c on (Err Disk) is = (with_tree is.0 S, is.1, inl (is.0, is.2, refl), is.3)
 command_sits has has' stands effects room old new S c on (Err (Changed ib stored computed)) is = is
 
--- what is said to what a line asks for is said to the line
-line_asks : (effects : Pins → Effects) (room : Room) (S : Sitting) (old : Medium) (asked : SessionLine) (bytes : List ℕ) → session_line bytes ≡ Ok asked
-    → (told : Type 0) (said : List ℕ) (Z : Sitting) (m : Medium) → SaysTo effects room S old asked told said Z m → Answers effects room S old told (line bytes) said Z m
-line_asks effects room S old asked bytes e told said Z m (inl is) = inl (subst (λ a. Carries effects room S old told a said Z m) (sym e) is)
-line_asks effects room S old asked bytes e told said Z m (inr is) = inr is
-
--- so what was carried out for it is its line's
-pub line_carries : (has : Sitting → Type 0) (stands : Image → Sitting → Type 0) (effects : Pins → Effects) (room : Room) (old new : World) (S : Sitting) (asked : SessionLine) (bytes : List ℕ) (r : Result Spoken StoreStop) → session_line bytes ≡ Ok asked
-    → CarriesOut has stands (SaysTo effects room S (medium old) asked) old new S r → CarriesOut has stands (λ told. Answers effects room S (medium old) told (line bytes)) old new S r
-line_carries has stands effects room old new S asked bytes r e is =
-    carries_map has has stands (SaysTo effects room S (medium old) asked) (λ told. Answers effects room S (medium old) told (line bytes)) (line_asks effects room S (medium old) asked bytes e) (λ Z h. h) old new S r is
-
--- ---- the answer to a line, and the stop at one
-
-module _ (has has' : List ℕ → Bool → Sitting → Type 0) (stands : List ℕ → Bool → Image → Sitting → Type 0) (effects : Pins → Effects) (room : Room) (disk : Bool) (old new : World) (bytes : List ℕ) where
-  pub line_answered : (r : Result Spoken StoreStop) → ((found : List ℕ) (tidy : Bool) (S : Sitting) → has found tidy S → (disk ≡ true → new.tells) → CarriesOut (has' found tidy) (stands found tidy) (λ told. Answers effects room S (medium old) told (line bytes)) old new S r)
-      → IfOk r (λ spoken. AnswersLine has has' stands effects room disk old new bytes (spoken_text spoken))
-  line_answered (Ok spoken) carries = record { carried = carries }
-  line_answered (Err stop) carries = tt
-
-  pub line_stopped : (r : Result Spoken StoreStop) → ((found : List ℕ) (tidy : Bool) (S : Sitting) → has found tidy S → (disk ≡ true → new.tells) → CarriesOut (has' found tidy) (stands found tidy) (λ told. Answers effects room S (medium old) told (line bytes)) old new S r)
-      → IfErr r (IsCaused disk old new) → IfErr r (λ stop. StopsLine has stands effects room disk old new bytes stop)
-  line_stopped (Ok spoken) carries cause = tt
-  line_stopped (Err Disk) carries cause = record { cause = cause; leaves = carries }
-  line_stopped (Err (Changed ib stored computed)) carries cause = record { cause = cause; leaves = carries }
+-- what a line asks for was carried out, under another name of it
+pub asked_carries : (has : Sitting → Type 0) (stands : Image → Sitting → Type 0) (effects : Pins → Effects) (room : Room) (old new : World) (S : Sitting) (asked named : SessionLine) (r : Result Spoken StoreStop) → asked ≡ named
+    → CarriesOut has stands (SaysTo effects room S (medium old) named) old new S r → CarriesOut has stands (SaysTo effects room S (medium old) asked) old new S r
+asked_carries has stands effects room old new S asked named r e is = subst (λ a. CarriesOut has stands (SaysTo effects room S (medium old) a) old new S r) (sym e) is
 
 -- ---- the same from and to other images of the same disks
 
@@ -97,20 +72,13 @@ module _ (effects : Pins → Effects) (room : Room) (S : Sitting) {old from new 
   meant_on (Err (StopChanged ib stored computed)) said Z is = is
   meant_on (Err Memory) said Z is = is
 
-  carries_on : (asked : Result SessionLine LineRefusal) (said : List ℕ) (Z : Sitting) → Carries effects room S old told asked said Z new → Carries effects room S from also asked said Z to
-  carries_on (Ok (StoreCommand c)) said Z is = (is.0, command_on (effects (pins_of S)) room S.now tells starts ends c said is.0 is.1, is.2)
-  carries_on (Ok Pin) said Z (inl is) = inl (is.0, is.1, disk_on is.2)
-  carries_on (Ok Pin) said Z (inr is) = inr (is.0, is.1, stays_on Z is.2)
-  carries_on (Ok (At pin c)) said Z is = (is.0, stays_on Z is.1)
-  carries_on (Ok (Unpin pin)) said Z is = (is.0, is.1, disk_on is.2)
-  carries_on (Ok (OpenView folder tag direction)) said Z is = (is.0, is.1, is.2, disk_on is.3)
-  carries_on (Ok (ShowView view grouped)) said Z is = (is.0, is.1, is.2, disk_on is.3)
-  carries_on (Ok (CloseView view)) said Z is = (is.0, is.1, is.2, disk_on is.3)
-  carries_on (Ok (Embedded asked)) said Z is = (is.0, is.1, meant_on is.0 said Z is.2)
-  carries_on (Err refusal) said Z is = (is.0, stays_on Z is.1)
-
-  pub answers_on : (piece : Piece) (said : List ℕ) (Z : Sitting) → Answers effects room S old told piece said Z new → Answers effects room S from also piece said Z to
-  answers_on (line bytes) said Z (inl is) = inl (carries_on (session_line bytes) said Z is)
-  answers_on (line bytes) said Z (inr is) = inr (is.0, stays_on Z is.1)
-  answers_on too_long said Z is = (is.0, stays_on Z is.1)
-  answers_on further said Z is = (is.0, stays_on Z is.1)
+  pub carries_on : (asked : SessionLine) (said : List ℕ) (Z : Sitting) → Carries effects room S old told asked said Z new → Carries effects room S from also asked said Z to
+  carries_on (StoreCommand c) said Z is = (is.0, command_on (effects (pins_of S)) room S.now tells starts ends c said is.0 is.1, is.2)
+  carries_on Pin said Z (inl is) = inl (is.0, is.1, disk_on is.2)
+  carries_on Pin said Z (inr is) = inr (is.0, is.1, stays_on Z is.2)
+  carries_on (At pin c) said Z is = (is.0, stays_on Z is.1)
+  carries_on (Unpin pin) said Z is = (is.0, is.1, disk_on is.2)
+  carries_on (OpenView folder tag direction) said Z is = (is.0, is.1, is.2, disk_on is.3)
+  carries_on (ShowView view grouped) said Z is = (is.0, is.1, is.2, disk_on is.3)
+  carries_on (CloseView view) said Z is = (is.0, is.1, is.2, disk_on is.3)
+  carries_on (Embedded asked) said Z is = (is.0, is.1, meant_on is.0 said Z is.2)

@@ -20,17 +20,12 @@ use Rattle.session_lines.specs.Texts.{pin_text}
 use Rattle.session_lines.specs.declared.line.PinReply.TheVariants.{NoPin}
 use Rattle.session_lines.specs.declared.line.SessionLine.TheVariants.{Pin, At, Unpin}
 use Rattle.store_session.specs.Carrying.{CarriesOut, ComesTo, Leaves, SaysRefusal}
-use Rattle.command_text.specs.declared.command.LineRefusal.{LineRefusal}
-use Rattle.command_text.specs.Refused.{refusal_of}
-use Rattle.line_server.specs.Lines.{line}
-use Rattle.line_server.specs.declared.spoken.Spoken.TheVariants as spoken_as
-use Rattle.session_lines.specs.Lines.{session_line}
 use Rattle.store_session.specs.Disks.{Effects, SameMedium, medium}
 use Rattle.store_session.specs.declared.carrying.StoreStop.{StoreStop}
 use Rattle.store_session.specs.declared.carrying.StoreStop.TheVariants.{Disk, Changed}
 use Rattle.store_session.proofs.Carry.{its_medium, memory_text}
 use Rattle.pinned_session.specs.Pinning.{PinsAs, UnpinsAs}
-use Rattle.pinned_session.specs.Run.{Answers, AsksPin, Carries, SaysTo}
+use Rattle.pinned_session.specs.Run.{AsksPin, SaysTo}
 use Rattle.pinned_session.specs.Sitting.{Sitting, tree_at, without_pin}
 
 module _ (effects : Pins → Effects) (room : Room) (S : Sitting) (old new : World) (same : new.tells → SameMedium (medium old) (medium new)) (has : Sitting → Type 0) (stands : Image → Sitting → Type 0) where
@@ -75,13 +70,3 @@ module _ (effects : Pins → Effects) (room : Room) (S : Sitting) (old new : Wor
   pub unpin_carries : (pin : Option ℕ) → ((Z : Sitting) → Leaves stands old new S Z) → (spoken : Spoken) → UnpinsAs has S pin (spoken_text spoken) → CarriesOut has stands (SaysTo effects room S (medium old) (Unpin pin)) old new S (Ok spoken)
   unpin_carries pin leaves spoken (inl is) = (without_pin pin S, inl (is.0, refl, same), is.1, leaves (without_pin pin S))
   unpin_carries pin leaves spoken (inr is) = (S, inr (is.0 ∙ memory_text, (refl, same)), is.1, leaves S)
-
--- ---- lines that ask for nothing
-
-module _ (effects : Pins → Effects) (room : Room) (S : Sitting) (v : World) (has : Sitting → Type 0) (stands : Image → Sitting → Type 0) (h : has S) (leaves : Leaves stands v v S S) where
-  pub refused_line : (refusal : LineRefusal) (bytes : List ℕ) (spoken : Spoken) → session_line bytes ≡ Err refusal → SaysRefusal (refusal_of refusal) spoken → CarriesOut has stands (λ told. Answers effects room S (medium v) told (line bytes)) v v S (Ok spoken)
-  refused_line refusal bytes spoken is (inl says) = (S, inl (subst (λ asked. Carries effects room S (medium v) v.tells asked (spoken_text spoken) S (medium v)) (sym is) (says, (refl, λ told. its_medium v))), h, leaves)
-  refused_line refusal bytes spoken is (inr says) = (S, inr (says ∙ memory_text, (refl, λ told. its_medium v)), h, leaves)
-
-  pub silent_line : (bytes : List ℕ) → CarriesOut has stands (λ told. Answers effects room S (medium v) told (line bytes)) v v S (Ok spoken_as.NoMemory)
-  silent_line bytes = (S, inr (memory_text, (refl, λ told. its_medium v)), h, leaves)

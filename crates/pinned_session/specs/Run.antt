@@ -1,13 +1,8 @@
--- A run of a session: the replies to lines, one after another, and the states and the disks after them.
+-- What is said to a line of a session, and the state and the disk after it.
 use Rattle.std.specs.Prelude.{◌≡◌, ◌⊎◌, ◌<◌, ◌≤◌, ◌+◌, ◌-◌, ◌^◌, ℕ, Bool, List, [], ◌∷◌, ◌++◌, length, Option, None, Some, Result, Ok, Err}
 use Rattle.command_text.specs.declared.command.Command.{Command}
-use Rattle.command_text.specs.declared.command.LineRefusal.{LineRefusal}
-use Rattle.command_text.specs.declared.reply.CommandRefusal.TheVariants.{Limit}
-use Rattle.command_text.specs.declared.reply.Limit.TheVariants as limits
 use Rattle.command_text.specs.declared.reply.LastLine.TheVariants.{NoMemory}
-use Rattle.command_text.specs.Refused.{refusal_of}
 use Rattle.command_text.specs.Replies.{text}
-use Rattle.line_server.specs.Lines.{Piece, line, too_long, further}
 use Rattle.mail_embedding.specs.Meant.{Means}
 use Rattle.mail_embedding.specs.declared.meaning.Meaning.{Meaning}
 use Rattle.mail_embedding.specs.declared.meaning.Meaning.TheVariants.{Replies, Becomes}
@@ -15,14 +10,12 @@ use Rattle.mail_tree.specs.Folders.{replied}
 use Rattle.mail_searches.specs.Searching.{Searching}
 use Rattle.node_port.specs.Pins.{Pins}
 use Rattle.node_port.specs.Stops.{Room}
-use Rattle.session_lines.specs.Lines.{session_line}
 use Rattle.session_lines.specs.Texts.{pin_text}
 use Rattle.session_lines.specs.declared.line.PinReply.TheVariants.{Pinned, Unpinned, NoPin, PinsFull}
 use Rattle.session_lines.specs.declared.line.SessionLine.{SessionLine}
 use Rattle.session_lines.specs.declared.line.SessionLine.TheVariants.{Pin, At, Unpin, OpenView, ShowView, CloseView, Embedded, Command as StoreCommand}
 use Rattle.store_session.specs.Disks.{Effects, Medium, SameMedium}
 use Rattle.store_session.specs.Run.{CommandAnswers, Steps, refused}
-use Rattle.store_session.specs.Turns.{StoreTurn}
 use Rattle.store_session.specs.mail_draft.declared.stop.Stop.{Stop}
 use Rattle.store_session.specs.mail_draft.declared.stop.Stop.TheVariants.{Refused}
 use Rattle.pinned_session.specs.Sitting.{Sitting, pins_of, tree_at, with_tree, without_pin}
@@ -79,35 +72,20 @@ module _ (effects : Pins → Effects) (room : Room) (before : Sitting) (old : Me
   CarriesMeant (Err lost) said after new = ⊥
 
   -- what a line asks for
-  abbrev pub Carries : Result SessionLine LineRefusal → List ℕ → Sitting → Medium → Type 0
-  Carries (Ok (StoreCommand c)) said after new = CarriesCommand c said after new
-  Carries (Ok Pin) said after new = CarriesPin said after new
-  Carries (Ok (At pin c)) said after new = AsksPin (tree_at pin before) c said × Stays after new
-  Carries (Ok (Unpin pin)) said after new = (said ≡ unpinned_text (tree_at pin before)) × (after ≡ without_pin pin before) × (told → SameMedium old new)
-  Carries (Ok (OpenView folder tag direction)) said after new = CarriesView (OpenView folder tag direction) said after new
-  Carries (Ok (ShowView view grouped)) said after new = CarriesView (ShowView view grouped) said after new
-  Carries (Ok (CloseView view)) said after new = CarriesView (CloseView view) said after new
-  Carries (Ok (Embedded asked)) said after new = (meant : Result Meaning Stop) × Means before.now.tree asked meant × CarriesMeant meant said after new
-  Carries (Err refusal) said after new = (said ≡ refused (refusal_of refusal)) × Stays after new
+  abbrev pub Carries : SessionLine → List ℕ → Sitting → Medium → Type 0
+  Carries (StoreCommand c) said after new = CarriesCommand c said after new
+  Carries Pin said after new = CarriesPin said after new
+  Carries (At pin c) said after new = AsksPin (tree_at pin before) c said × Stays after new
+  Carries (Unpin pin) said after new = (said ≡ unpinned_text (tree_at pin before)) × (after ≡ without_pin pin before) × (told → SameMedium old new)
+  Carries (OpenView folder tag direction) said after new = CarriesView (OpenView folder tag direction) said after new
+  Carries (ShowView view grouped) said after new = CarriesView (ShowView view grouped) said after new
+  Carries (CloseView view) said after new = CarriesView (CloseView view) said after new
+  Carries (Embedded asked) said after new = (meant : Result Meaning Stop) × Means before.now.tree asked meant × CarriesMeant meant said after new
 
   -- want of memory: the line changes nothing
   abbrev pub LacksMemory : List ℕ → Sitting → Medium → Type 0
   LacksMemory said after new = (said ≡ text (replied NoMemory)) × Stays after new
 
-  -- the reply to a piece, and the state and the disk after it: a line that is too long is answered once
-  abbrev pub Answers : Piece → List ℕ → Sitting → Medium → Type 0
-  Answers (line bytes) said after new = Carries (session_line bytes) said after new ⊎ LacksMemory said after new
-  Answers too_long said after new = (said ≡ refused (Limit limits.Line)) × Stays after new
-  Answers further said after new = (said ≡ []) × Stays after new
-
 -- What is said to what a line asks for, or that there was no memory for it.
 abbrev pub SaysTo : (Pins → Effects) → Room → Sitting → Medium → SessionLine → Type 0 → List ℕ → Sitting → Medium → Type 0
-SaysTo effects room before old asked told said after new = Carries effects room before old told (Ok asked) said after new ⊎ LacksMemory effects room before old told said after new
-
--- These pieces were answered, one after another, from a state and a disk on: each with the room of the disk before it.
-abbrev pub Run : (Pins → Effects) → Type 0 → Sitting → Medium → List Piece → List (StoreTurn Sitting) → Type 0
-Run effects told before old [] [] = Unit {0}
-Run effects told before old (piece ∷ pieces) (turn ∷ turns) =
-    ((room : Room) × (effects (pins_of before)).measures old.image room × Answers effects room before old told piece turn.said turn.tree turn.disk) × Run effects told turn.tree turn.disk pieces turns
-Run effects told before old [] (turn ∷ turns) = ⊥
-Run effects told before old (piece ∷ pieces) [] = ⊥
+SaysTo effects room before old asked told said after new = Carries effects room before old told asked said after new ⊎ LacksMemory effects room before old told said after new

@@ -1,8 +1,8 @@
 -- That a store with its pins stands in a state of a session.
-use Rattle.std.specs.Prelude.{ℕ, Bool, List, Option, None, Some}
+use Rattle.std.specs.Prelude.{ℕ, Bool, List}
 use Rattle.pst_outside.specs.World.{Image, World}
 use Rattle.node_port.specs.Nodes.{Nodes}
-use Rattle.node_port.specs.Stops.{Room, ample}
+use Rattle.node_port.specs.Stops.{Room}
 use Rattle.store_session.specs.Carrying.{Has, StandsOrdered}
 use Rattle.pinned_session.specs.Holding.{HasSitting}
 use Rattle.pinned_session.specs.Sitting.{Sitting}
@@ -17,13 +17,3 @@ Sits view holds last pinned room rests p v found tidy S =
 -- an image stands for the present tree of a state, which is in order with its searches, and tidy if `tidy`
 abbrev pub StandsNow : (List ℕ → Image → Nodes → List ℕ → Type 0) → List ℕ → Bool → Image → Sitting → Type 0
 StandsNow stands found tidy c S = StandsOrdered tidy (stands found) c S.now
-
--- the same of one that may not be there
-abbrev pub SitsIn : {K W : Type 0} → (W → World) → (K → World → Nodes → Type 0) → (K → List ℕ) → (K → World → ℕ → Nodes → Type 0) → (K → Room) → (Image → Type 0) → Option (PinnedStore K) → W → List ℕ → Bool → Sitting → Type 0
-SitsIn view holds last pinned room rests None v found tidy S = ⊥
-SitsIn view holds last pinned room rests (Some p) v found tidy S = Sits view holds last pinned room rests p v found tidy S
-
--- its room
-abbrev pub room_of : {K : Type 0} → (K → Room) → Option (PinnedStore K) → Room
-room_of room None = ample
-room_of room (Some p) = room p.store.store.keeper

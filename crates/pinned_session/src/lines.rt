@@ -1,12 +1,12 @@
 //! Lines answered.
-ghost use Rattle.std.specs.Prelude.{◌≡◌, ℕ, Bool, List, true, IfErr};
-ghost use Rattle.line_server.specs.Lines.{line};
+ghost use Rattle.std.specs.Prelude.{◌≡◌, ℕ, Bool, List, Option, true, IfErr};
+ghost use Rattle.command_text.specs.declared.command.Command.{Command};
 ghost use Rattle.line_server.specs.Worlds.{Quiet};
 ghost use Rattle.command_text.specs.Asking.{asks};
 ghost use Rattle.session_lines.specs.declared.line.SessionLine.TheVariants.{At, Command as StoreCommand};
 ghost use Rattle.store_session.specs.Carrying.{CarriesOut, IsCaused};
 ghost use Rattle.store_session.specs.Disks.{effects_of, medium};
-ghost use Rattle.pinned_session.specs.Run.{Answers, SaysTo};
+ghost use Rattle.pinned_session.specs.Run.{SaysTo};
 ghost use Rattle.pinned_session.specs.Sits.{Sits, StandsNow};
 ghost use Rattle.pinned_session.specs.Sitting.{Sitting};
 
@@ -17,15 +17,14 @@ use crate::pinning::{give_up, make_pin, pin_spoken};
 use crate::pins::{PinnedStore, place_of};
 use crate::viewing::{close_view, open_view, show_view};
 use crate::views::close_views;
-use command_text::{Command, CommandRefusal};
+use command_text::Command;
 use line_server::Spoken;
 use node_port::{Pinner, Saver};
-use pst_base::MemOr;
 use pst_outside::Outside;
-use session_lines::{PinReply, SessionLine, read_session_line};
+use session_lines::{PinReply, SessionLine};
 use std::alloc::Global;
 use store_session::search_store::SearchStore;
-use store_session::{Store, StoreStop, refusal_spoken, reply_spoken, stopped};
+use store_session::{Store, StoreStop, reply_spoken, stopped};
 
 /// Carries out a command of the store. Its pins tell what they told, and the views of a folder that is gone are closed.
 pub(crate) fn carry_command<W: Outside, K: Pinner<W> + Saver<W>>(
@@ -100,53 +99,47 @@ fn ask_pin<W: Outside, K: Pinner<W> + Saver<W>>(
     }
 }
 
-/// Answers a line, and gives the store with its pins back: reads it, and does what it asks for. The reply is made before anything is changed, and says `no memory` where there was none; then nothing is changed.
+/// Answers what a line asks for, and gives the store with its pins back. The reply is made before anything is changed, and says `no memory` where there was none; then nothing is changed.
 ///
 /// An `Err` comes where the disk failed, or something isn't as it was found before; the latter never of a store that has a tree.
-pub(crate) fn answer_line<W: Outside, K: Pinner<W> + Saver<W>>(
+pub fn answer<W: Outside, K: Pinner<W> + Saver<W>>(
     alloc: Global,
     pinned: PinnedStore<K>,
     world: &mut W,
-    bytes: &[u8],
+    asked: &SessionLine,
 ) -> (PinnedStore<K>, Result<Spoken, StoreStop>)
+    requires read { (pin : Option ℕ) (c : Command) → asked.now ≡ At pin c → asks c ≡ true }
     ensures carries { (found : List ℕ) (tidy : Bool) (S : Sitting) → Sits W.view K.holds K.last K.pinned K.room K.rests pinned world.old found tidy S → (K.has_disk ≡ true → (W.view world.new).tells)
-        → CarriesOut (Sits W.view K.holds K.last K.pinned K.room K.rests result.0 world.new found tidy) (StandsNow K.stands found tidy) (λ told. Answers (λ pins. effects_of pins K.measures K.applied K.saved) (K.room pinned.store.store.keeper) S (medium (W.view world.old)) told (line bytes.now)) (W.view world.old) (W.view world.new) S result.1 }
+        → CarriesOut (Sits W.view K.holds K.last K.pinned K.room K.rests result.0 world.new found tidy) (StandsNow K.stands found tidy) (SaysTo (λ pins. effects_of pins K.measures K.applied K.saved) (K.room pinned.store.store.keeper) S (medium (W.view world.old)) asked.now) (W.view world.old) (W.view world.new) S result.1 }
     ensures cause { IfErr result.1 (IsCaused K.has_disk (W.view world.old) (W.view world.new)) }
     ensures quiet { Quiet (W.view world.old) (W.view world.new) }
 {
-    match read_session_line(alloc, bytes) {
-        Ok(SessionLine::Command(command)) => carry_command(alloc, pinned, world, &command),
-        Ok(SessionLine::Pin) => {
+    match asked {
+        SessionLine::Command(command) => carry_command(alloc, pinned, world, command),
+        SessionLine::Pin => {
             let mut pinned = pinned;
             let spoken = make_pin::<W, K>(alloc, &mut pinned);
             (pinned, Ok(spoken))
         }
-        Ok(SessionLine::At { pin, command }) => ask_pin(alloc, pinned, world, pin, &command),
-        Ok(SessionLine::Unpin { pin }) => {
+        SessionLine::At { pin, command } => ask_pin(alloc, pinned, world, *pin, command),
+        SessionLine::Unpin { pin } => {
             let mut pinned = pinned;
-            let spoken = give_up::<W, K>(alloc, &mut pinned, pin);
+            let spoken = give_up::<W, K>(alloc, &mut pinned, *pin);
             (pinned, Ok(spoken))
         }
-        Ok(
-            SessionLine::OpenView {
-                folder,
-                tag,
-                direction,
-            },
-        ) => open_view(alloc, pinned, world, folder, tag, direction),
-        Ok(SessionLine::ShowView { view, grouped }) => {
-            show_view(alloc, pinned, world, view, grouped)
+        SessionLine::OpenView {
+            folder,
+            tag,
+            direction,
+        } => open_view(alloc, pinned, world, *folder, *tag, *direction),
+        SessionLine::ShowView { view, grouped } => {
+            show_view(alloc, pinned, world, *view, *grouped)
         }
-        Ok(SessionLine::CloseView { view }) => {
+        SessionLine::CloseView { view } => {
             let mut pinned = pinned;
-            let spoken = close_view(alloc, &mut pinned.views, view);
+            let spoken = close_view(alloc, &mut pinned.views, *view);
             (pinned, Ok(spoken))
         }
-        Ok(SessionLine::Embedded(line)) => answer_embedded(alloc, pinned, world, &line),
-        Err(MemOr::Refused(refusal)) => {
-            let spoken = refusal_spoken(alloc, CommandRefusal::from(refusal));
-            (pinned, Ok(spoken))
-        }
-        Err(MemOr::Memory) => (pinned, Ok(Spoken::NoMemory)),
+        SessionLine::Embedded(line) => answer_embedded(alloc, pinned, world, line),
     }
 }

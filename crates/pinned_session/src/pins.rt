@@ -32,7 +32,7 @@ pub struct PinnedStore<K> {
 }
 
 /// What is known of a tree now, for a pin of this number. Which messages are unread and what folders are named isn't kept: no command that asks needs it.
-pub(crate) fn view_of(
+pub fn view_of(
     alloc: Global,
     number: u32,
     counts: Counts,

@@ -1,12 +1,12 @@
 //! The open views of a session.
-ghost use Rattle.std.specs.Prelude.{◌≡◌, ◌==◌, [], not, filter, find};
+ghost use Rattle.std.specs.Prelude.{◌≡◌, ◌==◌, [], not, filter, find, IfOk};
 ghost use Rattle.pinned_session.specs.Viewing.{stand, standing, view_at, viewing_of};
 
 use mail_tree::Places;
 use mapi_values::Tag;
 use pst_base::Nid;
 use sorted_views::Direction;
-use std::alloc::Global;
+use std::alloc::{AllocError, Global};
 
 /// An open view: its number, its folder, the column that its rows are sorted by, and which way.
 #[derive(Clone, Copy, Debug, PartialEq, Eq)]
@@ -33,6 +33,18 @@ impl OpenViews {
             given: 0,
             opened: Vec::new(alloc),
         }
+    }
+
+    /// The same again.
+    pub fn copy(&self, alloc: Global) -> Result<OpenViews, AllocError>
+        ensures { IfOk result (λ views. viewing_of views ≡ viewing_of self.now) }
+    {
+        let mut opened = Vec::with_capacity(alloc, self.opened.len())?;
+        opened.extend_from_slice(self.opened.as_slice())?;
+        Ok(OpenViews {
+            given: self.given,
+            opened,
+        })
     }
 }
 
