@@ -8,6 +8,7 @@
 mod fill;
 
 pub use file_session;
-pub use file_session::{FileRun, pinned_session};
+pub use file_session::mail_transactions::staged_store::staged_nodes;
+pub use file_session::{FileRun, mail_transactions, pinned_session};
 pub use fill::{FileFill, fill_file};
 pub use store_filling::{FillCounts, Stop, mail_reading, mail_store, search_store, store_session};

@@ -1,3 +1,4 @@
 pub mod Making
 pub mod Opened
-pub use Rattle.pinned_session.proofs as pinned_session_laws
+pub use Rattle.mail_transactions.proofs as mail_transactions_laws
+pub use Rattle.mail_transactions.proofs.pinned_session_laws as pinned_session_laws

@@ -18,17 +18,17 @@ use Rattle.file_open.specs.Opening.{IsFileRefused, IsOpened, LaysNodes, OpenedTr
 use Rattle.file_open.specs.declared.stops.FileRefusal.{FileRefusal}
 use Rattle.file_open.specs.declared.stops.FileStop.{FileStop}
 use Rattle.file_open.specs.declared.stops.FileStop.TheVariants as stops
-use Rattle.pinned_session.specs.store_session.Carrying.{Has, InOrder, StandsFor}
-use Rattle.pinned_session.specs.store_session.Disks.{Effects, Medium, medium}
-use Rattle.pinned_session.specs.Session.{SessionEnds}
-use Rattle.pinned_session.specs.Sits.{StandsNow}
-use Rattle.pinned_session.specs.Sitting.{Sitting, begins}
+use Rattle.mail_transactions.specs.pinned_session.store_session.Carrying.{Has, InOrder, StandsFor}
+use Rattle.mail_transactions.specs.pinned_session.store_session.Disks.{Effects, Medium, medium}
+use Rattle.mail_transactions.specs.Session.{SessionEnds}
+use Rattle.mail_transactions.specs.Stands.{IsOrdered, StandsCommitted}
+use Rattle.mail_transactions.specs.State.{State, begins}
 use Rattle.node_port.specs.Pins.{Pins}
-use Rattle.pinned_session.specs.store_session.Turns.{IsReached, SaysTurns, StoreTurn, texts}
-use Rattle.pinned_session.proofs.store_session_laws.Carry.{same_medium}
-use Rattle.pinned_session.proofs.store_session_laws.Reached.{reached_before}
-use Rattle.pinned_session.specs.store_session.declared.session.SessionEnd.{SessionEnd}
-use Rattle.pinned_session.specs.store_session.declared.session.SessionEnd.TheVariants.{Disk, Changed, Memory}
+use Rattle.mail_transactions.specs.pinned_session.store_session.Turns.{IsReached, SaysTurns, StoreTurn, texts}
+use Rattle.mail_transactions.proofs.pinned_session_laws.store_session_laws.Carry.{same_medium}
+use Rattle.mail_transactions.proofs.pinned_session_laws.store_session_laws.Reached.{reached_before}
+use Rattle.mail_transactions.specs.pinned_session.store_session.declared.session.SessionEnd.{SessionEnd}
+use Rattle.mail_transactions.specs.pinned_session.store_session.declared.session.SessionEnd.TheVariants.{Disk, Changed, Memory}
 use Rattle.file_session.specs.FileRun.{EndsOpened, EndsUnopened, ReadsAs, file_effects, front_of}
 use Rattle.file_session.specs.Stops.{unopened}
 use Rattle.file_session.specs.declared.run.FileRun.{FileRun}
@@ -36,16 +36,16 @@ use Rattle.file_session.specs.declared.run.FileRun.TheVariants.{Refused, Ended}
 
 -- ---- a session that began behind an opening
 
-module _ (effects : Pins → Effects) (stands : Image → Sitting → Type 0) (rests : Image → Type 0) (opened : Medium) (first mid now : World) (X : Sitting) (end : SessionEnd)
+module _ (effects : Pins → Effects) (stands : Image → State → Type 0) (ordered : State → Type 0) (rests : Image → Type 0) (opened : Medium) (first mid now : World) (X : State) (end : SessionEnd)
     (told : now.tells → mid.tells)
     (input : mid.tells → mid.input ≡ first.input)
     (said : mid.tells → mid.here.said ≡ first.here.said)
     (opening : LeavesOnly first mid (λ c. (c.said ≡ first.here.said) × stands c X)) where
   -- before the first line
-  at_start : (turns : List (StoreTurn Sitting)) (c : Image) → (c.said ≡ first.here.said) × stands c X → IsReached stands first.here.said X turns c
+  at_start : (turns : List (StoreTurn State)) (c : Image) → (c.said ≡ first.here.said) × stands c X → IsReached stands first.here.said X turns c
   at_start turns c is = reached_before stands first.here.said X turns c is.0 is.1
 
-  pub session_behind : SessionEnds effects stands rests opened mid now X end → SessionEnds effects stands rests opened first now X end
+  pub session_behind : SessionEnds effects stands ordered rests opened mid now X end → SessionEnds effects stands ordered rests opened first now X end
   session_behind s =
       let before : LeavesOnly first mid (IsReached stands first.here.said X (s.turns ++ s.last)) =
       weaker (IsReached stands first.here.said X (s.turns ++ s.last)) opening (λ c t is. at_start (s.turns ++ s.last) c is) in
@@ -64,6 +64,7 @@ module _ (effects : Pins → Effects) (stands : Image → Sitting → Type 0) (r
         last = s.last;
         run = s.run;
         in_hand = s.in_hand;
+        in_order = s.in_order;
         stand = s.stand;
         disk_is = s.disk_is;
         written = s.written;
@@ -167,7 +168,7 @@ pub ends_opened : (knows : Header → List ℕ → Type 0) (becomes : List (ℕ 
     → (mid.tells → mid.input ≡ first.input) → SameStore first.here mid.here
     → mid.written ≤ first.written + 580 → (IsShut first.here.side → Untouched first mid)
     → ((tidy : Bool) (X : Searching) → Has (Holds knows bytes header mid) header.indexes tree.known tree.searches (λ image. IsShut image.side) mid tidy X → (true ≡ true → now.tells)
-    → SessionEnds (file_effects becomes costs) (StandsNow Stands bytes tidy) (λ image. IsShut image.side) (medium mid) mid now (begins X) end)
+    → SessionEnds (file_effects becomes costs) (StandsCommitted Stands bytes tidy) (IsOrdered tidy) (λ image. IsShut image.side) (medium mid) mid now (begins true X) end)
     → EndsOpened becomes costs first now end
 ends_opened knows becomes costs bytes header tree first mid now end s tells told input store written idle session =
     let X : Searching = s.start in
@@ -181,8 +182,8 @@ ends_opened knows becomes costs bytes header tree first mid now end s tells told
       idle = λ shut. let same = idle shut in same_medium first mid (same.stays.here (told tells)) same.stays.written;
       session = λ still tidy read.
           let opening : LeavesOnly first mid (λ c. (c.said ≡ first.here.said) × ReadsAs tidy bytes c X) = s.opening still tidy read in
-          subst (λ f. SessionEnds (file_effects becomes costs) (StandsNow Stands f tidy) (λ image. IsShut image.side) (medium mid) first now (begins X) end) s.front
-          (session_behind (file_effects becomes costs) (StandsNow Stands bytes tidy) (λ image. IsShut image.side) (medium mid) first mid now (begins X) end told input (λ t. (opening.here t).0) opening (session tidy X (s.has still tidy read) (λ e. tells)));
+          subst (λ f. SessionEnds (file_effects becomes costs) (StandsCommitted Stands f tidy) (IsOrdered tidy) (λ image. IsShut image.side) (medium mid) first now (begins true X) end) s.front
+          (session_behind (file_effects becomes costs) (StandsCommitted Stands bytes tidy) (IsOrdered tidy) (λ image. IsShut image.side) (medium mid) first mid now (begins true X) end told input (λ t. (opening.here t).0) opening (session tidy X (s.has still tidy read) (λ e. tells)));
     }
 
 -- ---- one that gave none

@@ -1,5 +1,5 @@
 -- How a session over a file ends. What is said of a stop, and of the session behind the opening, is said where nothing was pending at the start.
-use Rattle.std.specs.Prelude.{◌≡◌, ◌⊎◌, ◌+◌, ◌≤◌, Bool, false, List, Option, ℕ, take}
+use Rattle.std.specs.Prelude.{◌≡◌, ◌⊎◌, ◌+◌, ◌≤◌, Bool, true, false, List, Option, ℕ, take}
 use Rattle.pst_base.specs.declared.ids.Nid.{Nid}
 use Rattle.pst_outside.specs.World.{Image, World}
 use Rattle.pst_outside.specs.Calls.{LeavesOnly, Settled, Untouched}
@@ -11,13 +11,13 @@ use Rattle.node_port.specs.declared.node.NodeRec.{NodeRec}
 use Rattle.pst_commit.specs.Keeping.{HasRoom, IsCommitted, IsSaved}
 use Rattle.mail_searches.specs.Searching.{Searching}
 use Rattle.file_open.specs.Opening.{ReadsFresh}
-use Rattle.pinned_session.specs.store_session.Carrying.{StandsOrdered}
-use Rattle.pinned_session.specs.store_session.Disks.{Effects, Medium, SameMedium, effects_of, medium}
-use Rattle.pinned_session.specs.Session.{SessionEnds}
-use Rattle.pinned_session.specs.Sits.{StandsNow}
-use Rattle.pinned_session.specs.Sitting.{begins}
-use Rattle.pinned_session.specs.store_session.declared.session.SessionEnd.{SessionEnd}
-use Rattle.pinned_session.specs.store_session.declared.session.SessionEnd.TheVariants.{Disk, Memory}
+use Rattle.mail_transactions.specs.pinned_session.store_session.Carrying.{StandsOrdered}
+use Rattle.mail_transactions.specs.pinned_session.store_session.Disks.{Effects, Medium, SameMedium, effects_of, medium}
+use Rattle.mail_transactions.specs.Session.{SessionEnds}
+use Rattle.mail_transactions.specs.Stands.{IsOrdered, StandsCommitted}
+use Rattle.mail_transactions.specs.State.{begins}
+use Rattle.mail_transactions.specs.pinned_session.store_session.declared.session.SessionEnd.{SessionEnd}
+use Rattle.mail_transactions.specs.pinned_session.store_session.declared.session.SessionEnd.TheVariants.{Disk, Memory}
 
 -- the header that counts, as bytes
 abbrev pub front_of : Image → List ℕ
@@ -43,7 +43,7 @@ pub record EndsUnopened (first now : World) (end : SessionEnd) : Type 0 where
 abbrev pub file_effects : (List (ℕ × List Bool) → List ℕ → List ℕ → Type 0) → (List ℕ → List ℕ → List (Nid × Option NodeRec) → ℕ → Type 0) → Pins → Effects
 file_effects becomes costs pins = effects_of pins HasRoom (λ held. IsCommitted becomes costs held.opened) IsSaved
 
--- The files were opened as a tree with its searches, with numbers left, and this is how the session over it ended: its replies are those of a run from the tree and no pins, each turn of which takes the files from what they were to what they are, and a stop at any moment leaves files that are read as the present tree after some of its turns, among them each whose reply had begun and at most one whose reply wasn't said whole, tidy where it was so at the start. `becomes` says what a commit makes of a file, and `costs` how many bytes its pieces have.
+-- The files were opened as a tree with its searches, with numbers left, and this is how the session over it ended: its replies are those of a run from the tree and no pins, each turn of which takes the files from what they were to what they are, and a stop at any moment leaves files that are read as the committed tree after some of its turns, which within a transaction is the one from before it, among them each whose reply had begun and at most one whose reply wasn't said whole, tidy where it was so at the start. `becomes` says what a commit makes of a file, and `costs` how many bytes its pieces have.
 pub record EndsOpened (becomes : List (ℕ × List Bool) → List ℕ → List ℕ → Type 0) (costs : List ℕ → List ℕ → List (Nid × Option NodeRec) → ℕ → Type 0) (first now : World) (end : SessionEnd) : Type 0 where
   pub start : Searching
   pub reads : ReadsAs false (front_of first.here) first.here start
@@ -55,7 +55,7 @@ pub record EndsOpened (becomes : List (ℕ × List Bool) → List ℕ → List �
   pub opening : opened.written ≤ first.written + 580
   pub idle : IsShut first.here.side → SameMedium (medium first) opened
   pub session : Settled first → (tidy : Bool) → ReadsAs tidy (front_of first.here) first.here start
-      → SessionEnds (file_effects becomes costs) (StandsNow Stands (front_of first.here) tidy) (λ image. IsShut image.side) opened first now (begins start) end
+      → SessionEnds (file_effects becomes costs) (StandsCommitted Stands (front_of first.here) tidy) (IsOrdered tidy) (λ image. IsShut image.side) opened first now (begins true start) end
 
 -- how a session over a file ends that wasn't refused
 abbrev pub FileRunEnds : (List (ℕ × List Bool) → List ℕ → List ℕ → Type 0) → (List ℕ → List ℕ → List (Nid × Option NodeRec) → ℕ → Type 0) → World → World → SessionEnd → Type 0

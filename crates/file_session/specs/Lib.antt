@@ -1,4 +1,5 @@
 pub mod FileRun
 pub mod Stops
 pub use Rattle.file_open.specs as file_open
-pub use Rattle.pinned_session.specs as pinned_session
+pub use Rattle.mail_transactions.specs as mail_transactions
+pub use Rattle.mail_transactions.specs.pinned_session as pinned_session

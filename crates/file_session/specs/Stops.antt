@@ -11,7 +11,7 @@ use Rattle.file_laying.specs.declared.lay.LayingStop.{LayingStop}
 use Rattle.file_laying.specs.declared.lay.LayingStop.TheVariants as laying
 use Rattle.file_open.specs.declared.stops.FileStop.{FileStop}
 use Rattle.file_open.specs.declared.stops.FileStop.TheVariants as stops
-use Rattle.pinned_session.specs.store_session.declared.session.SessionEnd.TheVariants.{Disk, Changed, Memory}
+use Rattle.mail_transactions.specs.pinned_session.store_session.declared.session.SessionEnd.TheVariants.{Disk, Changed, Memory}
 use Rattle.file_session.specs.declared.run.FileRun.{FileRun}
 use Rattle.file_session.specs.declared.run.FileRun.TheVariants.{Refused, Ended}
 

@@ -9,6 +9,7 @@ mod make;
 mod run;
 
 pub use file_open;
+pub use mail_transactions;
+pub use mail_transactions::pinned_session;
 pub use make::{FileMade, make_file};
-pub use pinned_session;
 pub use run::{FileRun, run_file, unopened};

@@ -4,15 +4,15 @@ ghost use Rattle.pst_outside.specs.Calls.{NeverFall, Untouched};
 ghost use Rattle.mail_searches.specs.Searching.{Searching};
 ghost use Rattle.file_open.specs.Opening.{IsFileRefused, ReadsFresh};
 ghost use Rattle.file_open.specs.declared.stops.FileRefusal.{FileRefusal as Refusals};
-ghost use Rattle.pinned_session.specs.store_session.Session.{HasCause};
-ghost use Rattle.pinned_session.specs.store_session.declared.session.SessionEnd.{SessionEnd as End};
+ghost use Rattle.mail_transactions.specs.pinned_session.store_session.Session.{HasCause};
+ghost use Rattle.mail_transactions.specs.pinned_session.store_session.declared.session.SessionEnd.{SessionEnd as End};
 ghost use Rattle.file_session.specs.Stops.{unopened};
 ghost use Rattle.file_session.specs.FileRun.{FileRunEnds};
 
 use file_laying::FoundStore;
 use file_open::{FileRefusal, FileStop, open_file};
-use pinned_session::run_session;
-use pinned_session::store_session::{SearchStore, SessionEnd, Store};
+use mail_transactions::pinned_session::store_session::{SearchStore, SessionEnd, Store};
+use mail_transactions::run_session;
 use pst_outside::Outside;
 use std::alloc::Global;
 
