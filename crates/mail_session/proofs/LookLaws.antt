@@ -27,11 +27,11 @@ use Rattle.file_mending.specs.file_open.declared.stops.FileRefusal.{FileRefusal}
 use Rattle.file_filling.specs.store_session.declared.carrying.StoreStop.{StoreStop}
 use Rattle.file_filling.specs.store_session.declared.carrying.StoreStop.TheVariants as stops
 use Rattle.file_filling.proofs.store_session_laws.Carry.{rose_later, same_as}
-use Rattle.file_filling.proofs.pinned_session_laws.Sessions.{turns_counts, turns_told}
+use Rattle.file_filling.proofs.mail_transactions_laws.Sessions.{turns_counts, turns_told}
 use Rattle.mail_session.specs.Look.{KeepsReading, LookEnds, LookEndsWell, LookRefused, LookRuns, LookServes, LookUnread, status_of_look}
 use Rattle.mail_session.specs.Info.{Says}
 use Rattle.mail_session.specs.Looking.{LookAnswers, LookRun, ReaderAnswers, ReaderStops, TellsTree}
-use Rattle.mail_session.specs.Run.{refused}
+use Rattle.file_filling.specs.store_session.Run.{refused}
 use Rattle.mail_session.specs.Statuses.{EndsAs}
 use Rattle.mail_session.specs.Texts.{file_line}
 use Rattle.mail_session.specs.Worlds.{KeepsDisk}

@@ -40,7 +40,7 @@ use Rattle.session_lines.specs.Lines.{session_line}
 use Rattle.session_lines.specs.declared.line.SessionLine.{SessionLine}
 use Rattle.session_lines.specs.declared.line.SessionLine.TheVariants.{Embedded, Command as StoreCommand}
 use Rattle.mail_session.specs.Looking.{Asks, AsksCommand, AsksInside, ReaderAnswers, ReaderSays, ReaderStops, SaysMeant, TellsTree, reads_inside}
-use Rattle.mail_session.specs.Run.{refused}
+use Rattle.file_filling.specs.store_session.Run.{refused}
 use Rattle.mail_session.specs.declared.looking.Reader.{Reader}
 
 -- a call that only looks leaves what is told

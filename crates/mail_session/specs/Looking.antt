@@ -20,7 +20,7 @@ use Rattle.file_filling.specs.pinned_session.mail_embedding.declared.meaning.Mea
 use Rattle.file_filling.specs.pinned_session.mail_embedding.declared.meaning.Meaning.TheVariants.{Replies, Becomes}
 use Rattle.file_filling.specs.store_session.declared.carrying.StoreStop.{StoreStop}
 use Rattle.file_filling.specs.store_session.declared.carrying.StoreStop.TheVariants.{Disk}
-use Rattle.mail_session.specs.Run.{Steps, refused}
+use Rattle.file_filling.specs.store_session.Run.{Steps, refused}
 use Rattle.session_lines.specs.Lines.{session_line}
 use Rattle.session_lines.specs.declared.line.SessionLine.{SessionLine}
 use Rattle.session_lines.specs.declared.line.SessionLine.TheVariants.{Pin, At, Unpin, OpenView, ShowView, CloseView, Embedded, Command as StoreCommand}
