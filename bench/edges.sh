@@ -99,6 +99,36 @@ exec 9>&-
 wait $first 2>/dev/null
 check "after a session that was killed" "$(echo 'ls 0x8022' | "$pstore" run a.pst | tail -n 1)" "ok 1"
 
+# A session that is killed within a transaction leaves the tree before it. Where the output is closed before the reply to `commit`, the transaction was carried out.
+"$pstore" run a.pst <pipe >within &
+first=$!
+exec 9>pipe
+printf 'begin\nmkdir 0x8022 Gone\n' >&9
+until [ -f within ] && [ "$(wc -l <within)" = 2 ]; do sleep 0.05; done
+kill -9 $first
+exec 9>&-
+wait $first 2>/dev/null
+check "the replies in a transaction" "$(cat within)" "ok
+ok 0x80a2"
+check "after a session that was killed in a transaction" "$(echo 'ls 0x8022' | "$pstore" run a.pst | tail -n 1)" "ok 1"
+mkfifo replies
+"$pstore" run a.pst <pipe >replies 2>told &
+first=$!
+exec 9>pipe 8<replies
+printf 'begin\nmkdir 0x8022 Kept\n' >&9
+read -r _ <&8
+read -r reply <&8
+check "the reply before the output is closed" "$reply" "ok 0x80a2"
+exec 8<&-
+echo commit >&9
+exec 9>&-
+wait $first
+check "a \`commit\` whose reply can't be said" "$?" 6
+check "what is told of it" "$(head -n 1 told)" output
+check "after a \`commit\` whose reply can't be said" "$(echo 'ls 0x8022' | "$pstore" run a.pst | tail -n 2)" '- 0x80a2 folder "Kept"
+ok 2'
+rm replies
+
 # What is there, and may be done with it.
 check "a file that isn't there" "$("$pstore" run none.pst </dev/null 2>told; echo $?)" "refused empty
 3"
@@ -154,6 +184,8 @@ cp plain.pst a.pst && cp plain.pst.gate a.pst.gate
 check "output to a full device" "$(echo 'mkdir 0x8022 Full' | "$pstore" run a.pst 2>told >/dev/full; echo $?)" 6
 check "what is told of it" "$(head -n 1 told)" output
 check "after output to a full device" "$(echo 'ls 0x8022' | "$pstore" run a.pst | head -n 1)" '- 0x8082 folder "Full"'
+check "output to a full device at \`begin\`" "$(printf 'begin\nmkdir 0x8022 Within\ncommit\n' | "$pstore" run a.pst 2>told >/dev/full; echo $?)" 6
+check "after output to a full device at \`begin\`" "$(echo 'ls 0x8022' | "$pstore" run a.pst | tail -n 1)" "ok 1"
 check "input from a folder" "$("$pstore" run a.pst 2>told <folder; echo $?)" 5
 check "what is told of it" "$(head -n 1 told)" input
 check "after input from a folder" "$(echo 'ls 0x8022' | "$pstore" run a.pst | tail -n 1)" "ok 1"
@@ -214,6 +246,14 @@ if [ "$(id -u)" = 0 ]; then
         check "a full disk" $? 4
         check "what is told of it" "$(tail -n 1 told | cut -d : -f 1)" small/a.pst
         check "look on a full disk" "$(echo 'ls 0x8022' | "$pstore" look small/a.pst | tail -n 1)" "ok 1"
+        # The message is the first or the second of the store, by how far the line before came: the attachment is given to both, and one of them may not be there.
+        printf 'begin\nmkdir 0x8022 B\nnew 0x80a2 IPM.Note 0\nattach 0x200024 a %s\nattach 0x200044 a %s\ncommit\n' "$hex" "$hex" | "$pstore" run small/a.pst >said 2>told
+        check "a full disk at \`commit\`" $? 4
+        check "the replies before it" "$(head -n 2 said)" "ok
+ok 0x80a2"
+        check "that \`commit\` has none" "$(wc -l <said)" 5
+        check "look after a full disk at \`commit\`" "$(printf 'ls 0x8022\nls 0x80a2\n' | "$pstore" look small/a.pst | grep -v '^- ')" "ok 1
+no object"
         check "new on a full disk" "$("$pstore" new small/b.pst Mail 2>/dev/null; echo $?)" 4
         for word in decode compact; do
             check "a copy by $word to a full disk" "$("$pstore" $word plain.pst small/c.pst 2>told; echo $?)" 4

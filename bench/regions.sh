@@ -1,6 +1,6 @@
 #!/bin/sh
 # Tries the built program on files of many regions: where the map pages of new regions stand, that `save` writes maps that are exact, what it writes,
-# and that a file of 8192 regions with one free cell is full. The files are laid by bench/lay_stores.py; of those of 8192 regions most is holes, but they take a gigabyte of disk.
+# that a file of 8192 regions with one free cell is full, and when one with some is for the lines of a transaction. The files are laid by bench/lay_stores.py; of those of 8192 regions most is holes, but they take a gigabyte of disk.
 # Says a line for each thing that wasn't as it must be, and at last how many were. The words are the program, if it isn't the one that was built here, and a folder for the files.
 cd "$(dirname "$0")/.." || exit 1
 exec python3 - "${1:-crates/pstore/out/pstore}" "${2:-}" <<'END'
@@ -164,6 +164,24 @@ with tempfile.TemporaryDirectory(dir=sys.argv[2] or None) as folder:
     check("what a full file lists", (said[:2], said[3:], status), (['- 0x200024 message 30 "Hello"', "ok 1"], ['- 0x200024 message 30 "Hello"', "ok 1"], 0))
     check("that it is full", bool(re.fullmatch(r"no full 1 \d+", said[2])), True)
     print(said[2])
+    need = int(said[2].split()[-1])
+    os.remove(path + ".gate")
+
+    # The same with some more free cells. In a transaction a `new` needs what it needs outside, which is what `set` needed above, and three for each block that the transaction would write so far:
+    # two each for the folder's values, its table of messages and its parent's table of folders, and two for each message. With fewer blocks the file has fewer pages, so that it needs a few cells less.
+    room, most = need + 40, 12
+    lay(path, 8192, {(8191 - i // CELLS, i % CELLS) for i in range(room)})
+    said, status, _ = run(path, "begin", *["new 0x8022 IPM.Note 0"] * most, "commit", "ls 0x8022")
+    made = sum(it.startswith("ok") for it in said[1 : 1 + most])
+    check("a transaction in a file that is almost full", (said[:1], said[1 + most : 2 + most], said[-1:], status), (["ok"], ["ok"], [f"ok {1 + made}"], 0))
+    check("which of its lines are carried out", said[1 : 1 + made], [f"ok {0x200044 + 32 * i:#x}" for i in range(made)])
+    check("that there are some", 0 < made < most, True)
+    refused = set(said[1 + made : 1 + most])
+    check("that the others find it full", bool(len(refused) == 1 and re.fullmatch(rf"no full {room} \d+", min(refused))), True)
+    print(*refused)
+    asked = int(min(refused, default="0").split()[-1])
+    check("that it is so at the first line that needs more", asked - 6 <= room < asked, True)
+    check("what a line alone needs of that", need - 5 <= asked - 3 * (6 + 2 * made) <= need, True)
     os.remove(path + ".gate")
 
     # 8192 regions without such blocks: `save` writes each map once.
