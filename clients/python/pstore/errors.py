@@ -13,6 +13,10 @@ class ProgramMissing(PstoreError):
     """No `pstore` program was found."""
 
 
+class TransactionsMissing(PstoreError):
+    """The session has no transactions: it is one of `look`, or of a program older than this package."""
+
+
 class ProtocolError(PstoreError):
     """The program said what is no reply."""
 
@@ -93,6 +97,12 @@ class ViewLimitRefusal(LimitRefusal):
     """16 views are open, or the session has given all numbers of views."""
 
     kind = "limit views"
+
+
+class TransactionLimitRefusal(LimitRefusal):
+    """The transaction would have more than 16,384 blocks. It stays open, without the line."""
+
+    kind = "limit transaction"
 
 
 class NameLimitRefusal(LimitRefusal):

@@ -3,10 +3,11 @@
 from __future__ import annotations
 
 import subprocess
+from contextlib import contextmanager
 from typing import Iterator, List, Optional, Sequence, Tuple, Union
 
 from .drafts import Draft
-from .errors import NotFound, PstoreError, Refusal, end_of, file_refusal_of, refusal_of
+from .errors import LineRefusal, NotFound, PstoreError, Refusal, TransactionsMissing, end_of, file_refusal_of, refusal_of
 from .folders import Folder
 from .messages import Message
 from .program import find_program
@@ -72,6 +73,8 @@ class Tree:
     session: Lines
     root: Folder
     top: Folder
+    rollbacks = 0
+    """How many transactions were rolled back. What was asked before the last of them may not be so any more."""
 
     def folder(self, path: Path = "") -> Folder:
         """The folder at a path."""
@@ -109,7 +112,10 @@ class Tree:
         return Message(self, ident)
 
     def write(self, draft: Draft, folder: Folder) -> Message:
-        """Sends the lines of a whole mail, each a commit of its own. Should one be refused, the message goes again."""
+        """Sends the lines of a whole mail. Should one be refused, the message goes again.
+
+        Each line is a commit of its own, but within `Store.transaction`, which makes all of them one.
+        """
         ident = self.session.ask(f"new 0x{folder.id:x} {draft.class_word} {draft.time}").id
         message = Message(self, ident)
         try:
@@ -148,6 +154,7 @@ class Store(Tree):
 
     def _open(self, word: str, path: str, program: Optional[str]) -> None:
         self.path = path
+        self._in_transaction = False
         self.session = Session([word, path], program)
         try:
             self.root = Folder(self, ListedFolder(ROOT, "folder", ""))
@@ -177,6 +184,41 @@ class Store(Tree):
         column = tag_of(tag)
         asked = f"view 0x{folder.id:x} {column} {'down' if descending else 'up'}"
         return View(self, int(self.session.ask(asked).rest), column)
+
+    @contextmanager
+    def transaction(self) -> Iterator[None]:
+        """Makes what is done within one commit of the file: all of it is there once the `with` ends, or nothing.
+
+        An exception that leaves it rolls back what was done, and so does a commit that finds no memory. Folders and
+        messages that were made within aren't there then. `save` and pins have to wait for the end. At most one
+        transaction is open at a time, and of a line that was sent ahead the reply is to be looked at within:
+
+            with store.transaction():
+                for draft in drafts:
+                    inbox.add(draft)
+        """
+        if self._in_transaction:
+            raise RuntimeError("a transaction is open already, and none can stand in another")
+        try:
+            self.session.ask("begin")
+        except LineRefusal as refusal:
+            raise TransactionsMissing("the session has no transactions: it only looks, or the program is older than this package") from refusal
+        self._in_transaction = True
+        try:
+            yield
+            self.session.ask("commit")
+        except BaseException:
+            self._roll_back()
+            raise
+        finally:
+            self._in_transaction = False
+
+    def _roll_back(self) -> None:
+        self.rollbacks += 1
+        try:
+            self.session.ask("rollback")
+        except PstoreError:
+            pass  # The session has ended, and the transaction with it. What led here says more.
 
     def save(self) -> None:
         """Writes the allocation maps, so that other readers need not rebuild them."""

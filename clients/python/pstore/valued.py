@@ -41,7 +41,7 @@ class Named:
 
 
 class Valued:
-    """What has the values of a message. What is listed of it is asked once, and anew after a change through this object."""
+    """What has the values of a message. What is listed of it is asked once, and anew after a change through this object or a transaction that was rolled back."""
 
     message_class, body, html = Named(), Named(), Named()
     sender, sender_address, sent, received, created = Named(), Named(), Named(), Named(), Named()
@@ -50,6 +50,7 @@ class Valued:
     def __init__(self, store: "Tree") -> None:
         self.store = store
         self._details: Optional[Details] = None
+        self._rollbacks = store.rollbacks
 
     def _words(self, word: str) -> str:
         """How the line begins that does of this message what `word` does of a message in a folder."""
@@ -62,7 +63,8 @@ class Valued:
     @property
     def details(self) -> Details:
         """The ids and kinds of all values, the recipients and the attachments."""
-        if self._details is None:
+        if self._details is None or self._rollbacks != self.store.rollbacks:
+            self._rollbacks = self.store.rollbacks
             self._details = details(self.store.session.ask(self._words("props")))
         return self._details
 

@@ -85,8 +85,8 @@ class ThereAndBack(InFolder):
             inbox = store.make_folder("Inbox")
             with Importer(store, inbox) as importer:
                 *_, done = importer.run(mails)
-                self.assertEqual(store.root.child(STAGING).messages(), [])
-            self.assertEqual([it.subject for it in inbox.messages()], ["one", "three"])
+            first, last = inbox.messages()
+            self.assertEqual((first.subject, last.subject, last.id - first.id), ("one", "three", 0x20))
         self.assertEqual((done.new, done.there, len(done.failed)), (2, 0, 1))
         self.assertTrue(done.failed[0].startswith("two: no protected"), done.failed)
 
@@ -219,7 +219,8 @@ class Words(InFolder):
 
 KILLER = """
 import os, signal, sys
-from pstore import cli, drafts, mime_in
+from contextlib import contextmanager
+from pstore import cli, drafts, errors, store
 lines, left = drafts.Draft.lines, [int(sys.argv[1])]
 def some(self, message):
     left[0] -= 1
@@ -227,23 +228,45 @@ def some(self, message):
         if left[0] == 0 and place == 7:
             os.killpg(0, signal.SIGKILL)
         yield it
+@contextmanager
+def none(self):
+    raise errors.TransactionLimitRefusal("begin", "limit transaction")
+    yield
 drafts.Draft.lines = some
-cli.main(sys.argv[2:])
+if sys.argv[2] == "lines":
+    store.Store.transaction = none
+cli.main(sys.argv[3:])
 """
 
 
 @needs_program
 class Stopped(InFolder):
     def test_a_kill_in_the_middle_and_a_second_start(self):
-        Store.create(self.file).close()
-        mails = generated(12, 5)
-        write_mails(self.folder / "in", mails)
-        words = [sys.executable, "-c", KILLER, "6", self.file, "import", "Inbox", str(self.folder / "in")]
-        killed = subprocess.run(words, start_new_session=True, env={**os.environ, "PYTHONPATH": str(TOP)}, capture_output=True)
-        self.assertEqual(killed.returncode, -9)
+        """The mail in hand is not there at all, neither in the folder nor anywhere else."""
+        mails = self.check_killed("transactions")
+        with opened(self.file) as store:
+            self.assertEqual(len(store.folder("Inbox").messages()), 5)
+            self.assertEqual(sum(len(messages) for _, _, messages in store.walk(store.root)), 5)
+            self.assertNotIn(STAGING, [it.name for it in store.root.folders()])
+        self.check_second_start(mails)
+
+    def test_a_kill_where_mails_are_too_large_for_a_transaction(self):
+        mails = self.check_killed("lines")
         with opened(self.file) as store:
             self.assertEqual(len(store.folder("Inbox").messages()), 5)
             self.assertEqual(len(store.folder(f"/{STAGING}").messages()), 1)
+        self.check_second_start(mails)
+
+    def check_killed(self, how: str) -> List[bytes]:
+        Store.create(self.file).close()
+        mails = generated(12, 5)
+        write_mails(self.folder / "in", mails)
+        words = [sys.executable, "-c", KILLER, "6", how, self.file, "import", "Inbox", str(self.folder / "in")]
+        killed = subprocess.run(words, start_new_session=True, env={**os.environ, "PYTHONPATH": str(TOP)}, capture_output=True)
+        self.assertEqual(killed.returncode, -9)
+        return mails
+
+    def check_second_start(self, mails: List[bytes]) -> None:
         self.assertEqual(self.mail("import", "Inbox", str(self.folder / "in")), "7 new, 5 there before, 0 failed\n")
         self.mail("export", "Inbox", str(self.folder / "out"))
         self.assertEqual(sorted(it.read_bytes() for it in (self.folder / "out").iterdir()), sorted(mails))

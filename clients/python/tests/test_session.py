@@ -5,12 +5,14 @@ import unittest
 from datetime import datetime, timezone
 from email import message_from_bytes, policy
 
-from pstore import Draft, errors
+from pstore import Draft, Recipient, errors
+from pstore.importing import STAGING, Importer
+from pstore.mail_files import MailFile
 from pstore.mime_out import mail_of
 from pstore.program import find_program
 from pstore.session import Session
 from pstore.store import Store
-from pstore.tags import Tag
+from pstore.tags import TAGS, Tag
 from tests.support import InFolder, OverScript, needs_program
 
 
@@ -360,3 +362,154 @@ class Embedded(OverScript):
         self.assertEqual(self.asked(), ["embed 0x200024 0x200044 the mail.msg", "embed 0x200024 0x200044 message", f"embed 0x200024 0x200064 {'x' * 255}"])
         with self.assertRaises(errors.LineRefusal):
             attachment.embedded
+
+
+TRANSACTED = """
+while read -r line; do
+  echo "$line" >>"$(dirname "$0")/asked"
+  case "$line" in
+    'ls 0x122') echo '- 0x8022 folder "Top of Personal Folders"'; echo 'ok 1' ;;
+    'ls 0x8022') echo '- 0x8082 folder "Inbox"'; echo 'ok 1' ;;
+    'ls 0x8082') echo 'ok 0' ;;
+    'mkdir 0x122 '*) echo 'ok 0x80a2' ;;
+    'new 0x8082 '* | 'new 0x80a2 '*) id=$((id + 1)); echo "ok 0x2000$((id))4" ;;
+    'props '*) echo 'ok 0' ;;
+    'set '*' large') if [ $open = yes ]; then echo 'no limit transaction'; else echo ok; fi ;;
+    'set '*' wrong') echo 'no value' ;;
+    'set '*' full') echo 'no full 3 7' ;;
+    'set '*' fatal') echo disk >&2; exit 4 ;;
+    'rcpt '*) echo 'ok 0' ;;
+    begin) open=yes; echo ok ;;
+    commit) if [ -e "$(dirname "$0")/no memory" ]; then echo 'no memory'; else open=no; echo ok; fi ;;
+    rollback) open=no; echo ok ;;
+    'set '* | 'mv '* | 'rm '* | 'rmdir '* | quit) echo ok ;;
+    *) echo 'no line' ;;
+  esac
+done
+"""
+
+
+class Transactions(OverScript):
+    """Which lines are sent for a transaction, by a program that remembers nothing but whether one is open."""
+
+    def setUp(self):
+        super().setUp()
+        self.store = Store("FILE", self.program(TRANSACTED))
+        self.addCleanup(self.store.close)
+        self.inbox = self.store.folder("Inbox")
+
+    def asked(self):
+        return (self.folder / "asked").read_text().splitlines()[2:]
+
+    def words(self):
+        """The first words of the lines that were sent."""
+        return " ".join(it.split()[0] for it in self.asked())
+
+    def test_what_is_done_within_is_committed(self):
+        with self.store.transaction():
+            message = self.inbox.add(Draft(values={TAGS["subject"]: "Hello"}, recipients=[Recipient(1, "a@b", "Ann")]))
+            message.set(body="x")
+        self.assertEqual(self.words(), "begin new set rcpt set commit")
+        with self.store.transaction():
+            pass
+        self.assertEqual(self.words(), "begin new set rcpt set commit begin commit")
+
+    def test_an_error_within_rolls_back(self):
+        for error in (ValueError, KeyboardInterrupt):
+            with self.assertRaises(error), self.store.transaction():
+                self.inbox.add(Draft())
+                raise error
+        self.assertEqual(self.words(), "begin new rollback begin new rollback")
+        with self.assertRaises(errors.ValueRefusal), self.store.transaction():
+            self.store.message(0x200014).set(subject="wrong")
+        with self.store.transaction():
+            pass
+        self.assertEqual(self.words(), "begin new rollback begin new rollback begin set rollback begin commit")
+
+    def test_what_was_listed_within_is_asked_anew_after_a_rollback(self):
+        message = self.store.message(0x200014)
+        with self.store.transaction():
+            message.details
+        message.details
+        self.assertEqual(self.asked().count("props 0x200014"), 1)
+        with self.assertRaises(ValueError), self.store.transaction():
+            message.details
+            raise ValueError
+        message.details
+        message.details
+        self.assertEqual(self.asked().count("props 0x200014"), 2)
+
+    def test_none_stands_in_another(self):
+        with self.store.transaction():
+            with self.assertRaises(RuntimeError), self.store.transaction():
+                self.fail("a transaction began within another")
+            self.inbox.add(Draft())
+        self.assertEqual(self.words(), "begin new commit")
+
+    def test_a_commit_without_memory_is_rolled_back(self):
+        (self.folder / "no memory").touch()
+        with self.assertRaises(errors.MemoryRefusal), self.store.transaction():
+            self.inbox.add(Draft())
+        (self.folder / "no memory").unlink()
+        with self.store.transaction():
+            pass
+        self.assertEqual(self.words(), "begin new commit rollback begin commit")
+
+    def test_the_end_of_the_program_within(self):
+        with self.assertRaises(errors.DiskFailed), self.store.transaction():
+            self.store.message(0x200014).set(subject="fatal")
+        with self.assertRaises(errors.DiskFailed), self.store.transaction():
+            self.fail("a transaction began after the end")
+
+    def test_a_program_without_transactions(self):
+        with Store("FILE", self.program(TRANSACTED.replace("    begin)", "    begins)"))) as store:
+            with self.assertRaises(errors.TransactionsMissing) as caught, store.transaction():
+                self.fail("a transaction began without one")
+            self.assertIn("older than this package", str(caught.exception))
+            with self.assertRaises(errors.TransactionsMissing), Importer(store, store.folder("Inbox")) as importer:
+                list(importer.run([mail_about("one")]))
+
+    def imported(self, *subjects):
+        """What an import of mails with these subjects came to, and the lines for them."""
+        before = len(self.asked())
+        with Importer(self.store, self.inbox) as importer:
+            *_, done = importer.run(mail_about(it) for it in subjects)
+        return done, [it for it in self.asked()[before:] if it.split()[0] not in ("set", "rcpt") or it.endswith((" large", " wrong", " full"))]
+
+    def test_each_mail_of_an_import_is_one(self):
+        done, asked = self.imported("one", "two", "one")
+        self.assertEqual((done.new, done.there, done.failed), (2, 1, []))
+        self.assertEqual([it.split()[0] for it in asked], ["ls", "ls"] + ["begin", "new", "commit"] * 2)
+        self.assertTrue(all(it.startswith("new 0x8082 ") for it in asked if it.startswith("new")))
+
+    def test_a_mail_that_fails_is_rolled_back(self):
+        done, asked = self.imported("one", "wrong", "two")
+        self.assertEqual((done.new, done.there, len(done.failed)), (2, 0, 1))
+        self.assertIn("no value", done.failed[0])
+        words = " ".join(it.split()[0] for it in asked)
+        self.assertTrue(words.startswith("ls ls begin new commit begin new set "), words)
+        self.assertTrue(words.endswith(" rollback begin new commit"), words)
+
+    def test_a_commit_that_is_refused_counts_as_failed(self):
+        (self.folder / "no memory").touch()
+        done, asked = self.imported("one", "one")
+        self.assertEqual((done.new, done.there, len(done.failed)), (0, 0, 2))
+        self.assertEqual([it.split()[0] for it in asked], ["ls", "ls"] + ["begin", "new", "commit", "rollback"] * 2)
+
+    def test_a_mail_that_is_too_large_for_one_goes_line_by_line(self):
+        done, asked = self.imported("one", "large", "two")
+        self.assertEqual((done.new, done.there, done.failed), (3, 0, []))
+        begun = asked.index("rollback")
+        self.assertEqual(asked[begun + 1], f"mkdir 0x122 {STAGING}")
+        self.assertTrue(asked[begun + 2].startswith("new 0x80a2 "))
+        self.assertEqual([it.split()[0] for it in asked[begun + 2 :] if not it.startswith("set")], ["new", "mv", "begin", "new", "commit", "rmdir"])
+
+    def test_a_file_that_is_full_ends_an_import(self):
+        with self.assertRaises(errors.FullRefusal):
+            self.imported("one", "full", "two")
+        self.assertEqual(sum(it == "commit" for it in self.asked()), 1)
+        self.assertNotIn("two", " ".join(self.asked()))
+
+
+def mail_about(subject: str) -> MailFile:
+    return MailFile(subject, f"Subject: {subject}\nMessage-ID: <{subject}@x>\n\nbody\n".encode("ascii"))

@@ -7,8 +7,9 @@ from pathlib import Path
 from pstore import Attachment, Draft, Folder, Message, Pin, Recipient, Store, compact, decode, errors, fill, mend
 from pstore.drafts import DraftAttachment
 from pstore.program import find_program, knows_look
+from pstore.searches import restriction_of
 from pstore.tags import TAGS, Tag
-from tests.support import TOP, InFolder, needs_program, program
+from tests.support import TOP, InFolder, needs_program, opened, program
 
 
 @needs_program
@@ -258,6 +259,137 @@ class Stores(InFolder):
         self.assertEqual(len(folder.messages()), 2)
         message.move(store.folder("Inbox"))
         self.assertEqual(list(store.folder("Inbox").values(store.folder("Inbox").messages(), "subject", "body")), [["Whole", None]])
+
+
+@needs_program
+class Transactions(InFolder):
+    def setUp(self):
+        super().setUp()
+        self.store = Store.create(self.file)
+        self.addCleanup(self.store.close)
+        self.inbox = self.store.make_folder("Inbox")
+
+    def bytes(self):
+        return Path(self.file).read_bytes()
+
+    def test_a_mail_is_one_commit(self):
+        before = self.bytes()
+        with self.store.transaction():
+            draft = Draft(values={TAGS["subject"]: "Whole"}, recipients=[Recipient(1, "a@b.c", "Ann")], attachments=[DraftAttachment("a.txt", b"hello")])
+            message = self.inbox.add(draft)
+            message.attachment("a.txt").append(b" world")
+            self.assertEqual((message.subject, message.attachment("a.txt").read(), len(self.inbox.messages())), ("Whole", b"hello world", 1))
+            self.assertEqual(self.bytes(), before)
+        self.assertNotEqual(self.bytes(), before)
+        self.store.close()
+        with Store(self.file) as store:
+            (message,) = store.folder("Inbox").messages()
+            self.assertEqual((message.subject, [it.name for it in message.recipients], message.attachment("a.txt").read()), ("Whole", ["Ann"], b"hello world"))
+
+    def test_a_rollback_leaves_nothing(self):
+        message = self.inbox.add(Draft(values={TAGS["subject"]: "Hello"}, attachments=[DraftAttachment("a.txt", b"hello")]))
+        before, listed = self.bytes(), message.details
+        with self.assertRaises(ValueError), self.store.transaction():
+            message.subject = "Other"
+            message.attachment("a.txt").remove()
+            made = self.inbox.add(Draft(values={TAGS["subject"]: "Made"}))
+            message.move(self.store.make_folder("Other/Deep"))
+            self.assertEqual(([it.id for it in self.inbox.messages()], message.attachments), ([made.id], []))
+            raise ValueError
+        self.assertEqual(self.bytes(), before)
+        self.assertEqual((message.details, message.subject, message.attachment("a.txt").read()), (listed, "Hello", b"hello"))
+        self.assertEqual([it.id for it in self.inbox.messages()], [message.id])
+        with self.assertRaises(errors.NotFound):
+            self.store.folder("Other")
+        with self.assertRaises(errors.ObjectRefusal):
+            made.get("subject")
+        self.assertEqual(self.inbox.add(Draft()).id, made.id)
+
+    def test_a_refusal_that_is_caught_leaves_it_open(self):
+        with self.store.transaction():
+            message = self.inbox.add(Draft())
+            with self.assertRaises(errors.ObjectRefusal):
+                self.store.message(0x999).set(subject="x")
+            with self.assertRaises(errors.ProtectedRefusal):
+                self.inbox.add(Draft(values={TAGS["size"]: 7}))
+            message.subject = "Kept"
+        self.assertEqual([it.subject for it in self.inbox.messages()], ["Kept"])
+
+    def test_searches_follow_within(self):
+        search = self.store.folder("/Search Root").make_search("Found")
+        search.search(6, [self.inbox], restriction_of("subject:inv"))
+        with self.assertRaises(ValueError), self.store.transaction():
+            message = self.inbox.add(Draft(values={TAGS["subject"]: "Invoice"}))
+            self.assertEqual([it.id for it in search.messages()], [message.id])
+            raise ValueError
+        self.assertEqual(search.messages(), [])
+        with self.store.transaction():
+            message = self.inbox.add(Draft(values={TAGS["subject"]: "Invoice"}))
+        self.assertEqual([it.id for it in search.messages()], [message.id])
+
+    def test_lines_that_wait_for_its_end(self):
+        with self.store.pin() as then:
+            with self.store.transaction():
+                for line in ("begin", "save", "pin", "unpin 1", "at 1 ls 0x122", "at 2 ls 0x122"):
+                    with self.subTest(line=line), self.assertRaises(errors.LineRefusal):
+                        self.store.session.ask(line)
+                self.inbox.add(Draft())
+            self.assertEqual((len(then.folder("Inbox").messages()), len(self.inbox.messages())), (0, 1))
+        for line in ("commit", "rollback"):
+            with self.subTest(line=line), self.assertRaises(errors.LineRefusal):
+                self.store.session.ask(line)
+        self.store.save()
+
+    def test_views_are_those_of_its_beginning_after_a_rollback(self):
+        message = self.inbox.add(Draft(values={TAGS["subject"]: "Hello"}))
+        view, closed = self.store.view(self.inbox, "subject"), self.store.view(self.inbox, "size")
+        with self.assertRaises(ValueError), self.store.transaction():
+            message.subject = "Bye"
+            self.assertEqual([value for _, value in view.rows()], ["Bye"])
+            closed.close()
+            made = self.store.view(self.inbox, "flags")
+            raise ValueError
+        self.assertEqual(([value for _, value in view.rows()], len(closed.rows())), (["Hello"], 1))
+        with self.assertRaises(errors.NoView):
+            made.rows()
+        self.assertEqual((made.number, self.store.view(self.inbox, "flags").number), (3, 4))
+
+    def test_a_kill_within_leaves_nothing(self):
+        before = self.bytes()
+        with self.assertRaises(errors.SessionEnded), self.store.transaction():
+            message = self.inbox.add(Draft(values={TAGS["subject"]: "Hello"}))
+            self.store.session._process.kill()
+            for _ in range(1000):
+                message.set(body="x")
+        self.assertEqual(self.bytes(), before)
+        with opened(self.file) as store:
+            inbox = store.folder("Inbox")
+            self.assertEqual(inbox.messages(), [])
+            with store.transaction():
+                self.assertEqual(inbox.add(Draft()).id, message.id)
+            self.assertEqual(len(inbox.messages()), 1)
+
+    def test_the_end_of_the_session_within_leaves_nothing(self):
+        with self.assertRaises(errors.PstoreError), self.store.transaction():
+            self.inbox.add(Draft())
+            self.store.close()
+        with Store(self.file) as store:
+            self.assertEqual(store.folder("Inbox").messages(), [])
+        with Store.look(self.file) as store, self.assertRaises(errors.TransactionsMissing), store.transaction():
+            self.fail("a store of look has a transaction")
+
+    def test_one_that_is_too_large(self):
+        """A copy of the message has some 986 blocks of the 16,384 that there may be."""
+        message = self.inbox.add(Draft(attachments=[DraftAttachment("large.bin", bytes(8_000_000))]))
+        with self.store.transaction():
+            copies = [message.copy(self.inbox) for _ in range(16)]
+            with self.assertRaises(errors.TransactionLimitRefusal):
+                message.copy(self.inbox)
+            for it in copies[1:]:
+                it.remove()
+            last = message.copy(self.inbox)
+        self.assertEqual([it.id for it in self.inbox.messages()], [message.id, copies[0].id, last.id])
+        self.assertEqual(last.attachment("large.bin").length, 8_000_000)
 
 
 @needs_program

@@ -52,7 +52,7 @@ class Refusals(unittest.TestCase):
             ("object", errors.ObjectRefusal), ("limit rows", errors.RowLimitRefusal), ("full 3 7", errors.FullRefusal), ("restriction 12", errors.RestrictionRefusal),
             ("pin", errors.NoPin), ("limit pins", errors.PinLimitRefusal),
             ("view", errors.NoView), ("column", errors.ColumnRefusal), ("limit views", errors.ViewLimitRefusal),
-            ("limit nesting", errors.NestingLimitRefusal), ("embedded", errors.NoEmbedded), ("limit of tomorrow", errors.LimitRefusal), ("tomorrow", errors.Refusal),
+            ("limit nesting", errors.NestingLimitRefusal), ("limit transaction", errors.TransactionLimitRefusal), ("embedded", errors.NoEmbedded), ("limit of tomorrow", errors.LimitRefusal), ("tomorrow", errors.Refusal),
         ):  # fmt: skip
             with self.subTest(said=said):
                 self.assertIs(type(errors.refusal_of("line", said)), kind)
