@@ -8,8 +8,8 @@ use Rattle.byteorder.specs.Endian.{little_bytes}
 use Rattle.byteorder.specs.Numbers.{length-bytes_low_first}
 use Rattle.pst_base.specs.Fields.{number_at}
 use Rattle.pst_base.proofs.Numbers.{number_at-behind, number_at-first, number_at-next}
-use Rattle.heap_on_node.specs.Heap.{HasMap, count_of, item_of, map_of, offset_of}
-use Rattle.heap_on_node.specs.Layout.{block, head_rest, offsets, page_map, total}
+use Rattle.heap_on_node.specs.Heap.{HasMap, count_of, free_of, item_of, map_of, offset_of}
+use Rattle.heap_on_node.specs.Layout.{block, free_among, head_rest, offsets, page_map, total}
 use Rattle.heap_on_node.specs.Packing.{IsPlain, fit_block, head_size, levels_at, map_place}
 use Rattle.heap_on_node.proofs.PackingLaws.{head-bounds, room-parts}
 
@@ -59,25 +59,35 @@ unfolding page_map
 length-page_map from ns =
     omega (
       arith,
-      length-append (little_bytes 2 (length ns)) (little_bytes 2 0 ++ flat_map (little_bytes 2) (offsets from ns)),
-      length-append (little_bytes 2 0) (flat_map (little_bytes 2) (offsets from ns)),
+      length-append (little_bytes 2 (length ns)) (little_bytes 2 (free_among ns) ++ flat_map (little_bytes 2) (offsets from ns)),
+      length-append (little_bytes 2 (free_among ns)) (flat_map (little_bytes 2) (offsets from ns)),
       length-bytes_low_first 0 2 (length ns),
-      length-bytes_low_first 0 2 0,
+      length-bytes_low_first 0 2 (free_among ns),
       length-flat (offsets from ns),
       length-offsets from ns,
     )
 
 map-count : (from : ℕ) (ns : List ℕ) → length ns < 65536 → number_at 2 0 (page_map from ns) ≡ length ns
 unfolding page_map
-map-count from ns fit = number_at-first 2 (length ns) (little_bytes 2 0 ++ flat_map (little_bytes 2) (offsets from ns)) fit
+map-count from ns fit = number_at-first 2 (length ns) (little_bytes 2 (free_among ns) ++ flat_map (little_bytes 2) (offsets from ns)) fit
+
+free-low : (ns : List ℕ) → free_among ns ≤ length ns
+free-low [] = omega arith
+free-low (n ∷ ns) = elim (cases_Bool (n == 0)) [ inl t ↦ rw t (omega (arith, free-low ns)) | inr f ↦ rw f (omega (arith, free-low ns)) ]
+
+map-free : (from : ℕ) (ns : List ℕ) → length ns < 65536 → number_at 2 2 (page_map from ns) ≡ free_among ns
+unfolding page_map
+map-free from ns fit =
+    number_at-next 2 0 2 (length ns) (little_bytes 2 (free_among ns) ++ flat_map (little_bytes 2) (offsets from ns))
+    ∙ number_at-first 2 (free_among ns) (flat_map (little_bytes 2) (offsets from ns)) (omega (arith, free-low ns))
 
 map-offset : (from : ℕ) (ns : List ℕ) (i : ℕ) → i ≤ length ns → from + total ns < 65536 → number_at 2 (4 + 2 * i) (page_map from ns) ≡ get_or (offsets from ns) i 0
 unfolding page_map
 map-offset from ns i h fit =
     let e : 4 + 2 * i ≡ 2 + (2 + 2 * i) = omega arith in
-    ap (λ (k : ℕ). number_at 2 k (little_bytes 2 (length ns) ++ (little_bytes 2 0 ++ flat_map (little_bytes 2) (offsets from ns)))) e
-    ∙ number_at-next 2 (2 + 2 * i) 2 (length ns) (little_bytes 2 0 ++ flat_map (little_bytes 2) (offsets from ns))
-    ∙ number_at-next 2 (2 * i) 2 0 (flat_map (little_bytes 2) (offsets from ns))
+    ap (λ (k : ℕ). number_at 2 k (little_bytes 2 (length ns) ++ (little_bytes 2 (free_among ns) ++ flat_map (little_bytes 2) (offsets from ns)))) e
+    ∙ number_at-next 2 (2 + 2 * i) 2 (length ns) (little_bytes 2 (free_among ns) ++ flat_map (little_bytes 2) (offsets from ns))
+    ∙ number_at-next 2 (2 * i) 2 (free_among ns) (flat_map (little_bytes 2) (offsets from ns))
     ∙ number_at-flat (offsets from ns) i (omega (arith, length-offsets from ns)) (omega (arith, offsets-high from ns i h))
 
 -- item j stands between its offsets
@@ -167,6 +177,14 @@ count_of-block k client root xs fit =
     let len = length-map xs (length {A = ℕ}) in
     ap (λ (m : ℕ). number_at 2 m (block k client root xs)) e
     ∙ in_map k client root 0 xs fit ∙ map-count (head_size k) (map length xs) (omega (arith, room.0, len)) ∙ len
+
+-- a block counts its free items
+pub free_of-block : (k client root : ℕ) (xs : List (List ℕ)) → fit_block k xs ≡ true → free_of (block k client root xs) ≡ free_among (map length xs)
+unfolding free_of
+free_of-block k client root xs fit =
+    let room = room-parts k (length xs) (length (concat xs)) fit in
+    let len = length-map xs (length {A = ℕ}) in
+    in_map k client root 2 xs fit ∙ map-free (head_size k) (map length xs) (omega (arith, room.0, len))
 
 pub offset_of-block : (k client root i : ℕ) (xs : List (List ℕ)) → fit_block k xs ≡ true → i ≤ length xs
     → offset_of (block k client root xs) i ≡ get_or (offsets (head_size k) (map length xs)) i 0

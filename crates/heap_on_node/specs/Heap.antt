@@ -10,6 +10,10 @@ map_of b = number_at 2 0 b
 unfoldable pub count_of : List ℕ → ℕ
 count_of b = number_at 2 (map_of b) b
 
+-- how many of its items a block says are free
+unfoldable pub free_of : List ℕ → ℕ
+free_of b = number_at 2 (map_of b + 2) b
+
 -- where item i + 1 of a block begins, and item i ends
 unfoldable pub offset_of : List ℕ → ℕ → ℕ
 offset_of b i = number_at 2 (map_of b + 4 + 2 * i) b

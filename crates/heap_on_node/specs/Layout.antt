@@ -14,9 +14,14 @@ abbrev pub offsets : ℕ → List ℕ → List ℕ
 offsets from [] = from ∷ []
 offsets from (n ∷ ns) = from ∷ offsets (from + n) ns
 
--- the page map of items of these sizes: their number, that of free ones, and the offsets
+-- how many of some sizes are 0
+abbrev pub free_among : List ℕ → ℕ
+free_among [] = 0
+free_among (n ∷ ns) = (if n == 0 then 1 else 0) + free_among ns
+
+-- the page map of items of these sizes: their number, that of free ones, which have no bytes, and the offsets
 unfoldable pub page_map : ℕ → List ℕ → List ℕ
-page_map from sizes = little_bytes 2 (length sizes) ++ (little_bytes 2 0 ++ flat_map (little_bytes 2) (offsets from sizes))
+page_map from sizes = little_bytes 2 (length sizes) ++ (little_bytes 2 (free_among sizes) ++ flat_map (little_bytes 2) (offsets from sizes))
 
 -- what stands in block k between the place of its page map and its items: signature, client and root in the first, and fill levels of 0
 unfoldable pub head_rest : ℕ → ℕ → ℕ → List ℕ

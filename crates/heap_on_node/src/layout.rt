@@ -2,7 +2,7 @@
 ghost use Rattle.std.specs.Prelude.{◌≡◌, ◌<◌, ◌^◌, ◌+◌, ◌%◌, true, ◌++◌, length, map, replicate, OnOk, IfOk};
 ghost use Rattle.std.specs.List.{concat, flat_map};
 ghost use Rattle.byteorder.specs.Endian.{little_bytes};
-ghost use Rattle.heap_on_node.specs.Layout.{block, head_rest, offsets, page_map, total};
+ghost use Rattle.heap_on_node.specs.Layout.{block, free_among, head_rest, offsets, page_map, total};
 ghost use Rattle.heap_on_node.specs.Packing.{fit_block, has_room, head_size};
 
 use crate::draft::Draft;
@@ -62,6 +62,20 @@ fn push_offsets(out: &mut Vec<u8>, from: u16, sizes: &[u16]) -> Result<(), Alloc
     out.extend_from_slice(&at.to_le_bytes())
 }
 
+/// How many of some sizes are 0.
+fn free_count(sizes: &[u16]) -> u16
+    requires { length sizes.now < 2 ^ 16 }
+    ensures { result ≡ free_among sizes.now }
+{
+    let mut free = 0;
+    for size in sizes {
+        if *size == 0 {
+            free += 1;
+        }
+    }
+    free
+}
+
 /// Writes the page map of items of these sizes at the end; the first begins at `from`.
 #[tactic(auto, unfolding(crate::specs::Layout::page_map))]
 fn push_map(out: &mut Vec<u8>, from: u16, sizes: &[u16]) -> Result<(), AllocError>
@@ -70,7 +84,7 @@ fn push_map(out: &mut Vec<u8>, from: u16, sizes: &[u16]) -> Result<(), AllocErro
     ensures { OnOk result (out.new.items ≡ out.old.items ++ page_map from sizes.now) }
 {
     out.extend_from_slice(&(sizes.len() as u16).to_le_bytes())?;
-    out.extend_from_slice(&ZEROS[..2])?;
+    out.extend_from_slice(&free_count(sizes).to_le_bytes())?;
     push_offsets(out, from, sizes)
 }
 

@@ -10,5 +10,7 @@ mod layout;
 mod maker;
 mod view;
 
+pub use draft::Draft;
+pub use layout::{block_of, is_room};
 pub use maker::HeapMaker;
-pub use view::{HeapFault, HeapView};
+pub use view::{HeapFault, HeapView, bounds, count};

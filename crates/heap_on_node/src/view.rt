@@ -38,7 +38,7 @@ fn map_at(b: &[u8]) -> u16
 
 /// How many items a block has.
 #[tactic(auto, unfolding(crate::specs::Heap::count_of))]
-fn count(b: &[u8]) -> u16
+pub fn count(b: &[u8]) -> u16
     requires { map_of b.now + 4 ≤ length b.now }
     ensures { result ≡ count_of b.now }
 {
@@ -80,7 +80,7 @@ fn has_map(b: &[u8]) -> bool
 }
 
 /// Where item `i` of a block begins and ends.
-fn bounds(b: &[u8], i: u16) -> (u16, u16)
+pub fn bounds(b: &[u8], i: u16) -> (u16, u16)
     requires map { HasMap b.now }
     requires low { 0 < i }
     requires high { i ≤ count_of b.now }
