@@ -9,9 +9,9 @@ use Rattle.property_context.proofs.UniqueLaws.{same-rest}
 use Rattle.property_context.specs.Context as pc
 use Rattle.property_context.specs.declared.read.PcFault.{PcFault}
 use Rattle.property_context.specs.declared.read.PcFault.TheVariants as pcs
-use Rattle.table_context.specs.Context as tc
-use Rattle.table_context.specs.declared.fault.TcFault.{TcFault}
-use Rattle.table_context.specs.declared.fault.TcFault.TheVariants as tcs
+use Rattle.table_writer.specs.table_context.Context as tc
+use Rattle.table_writer.specs.table_context.declared.fault.TcFault.{TcFault}
+use Rattle.table_writer.specs.table_context.declared.fault.TcFault.TheVariants as tcs
 use Rattle.mail_objects.specs.Answers.{context_fault, table_fault}
 use Rattle.mail_objects.specs.Reading.{FirstLacks, LacksAttachments, LacksBelow, LacksContext, LacksMessage, LacksPart, LacksTable}
 use Rattle.mail_objects.specs.Subnodes.{is_table}

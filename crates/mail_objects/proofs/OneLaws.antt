@@ -6,7 +6,7 @@ use Rattle.mapi_values.specs.Tables.{Tab}
 use Rattle.mapi_values.specs.Values.{Val}
 use Rattle.node_port.specs.declared.node.NodeRec.{NodeRec}
 use Rattle.property_context.proofs.UniqueLaws.{same-rest, same-values}
-use Rattle.table_context.proofs.ContextLaws as tables
+use Rattle.table_writer.proofs.table_context_laws.ContextLaws as tables
 use Rattle.mail_objects.proofs.OneMessage.{same-message}
 use Rattle.mail_objects.specs.Forms.{Ctx, Tbl}
 use Rattle.mail_objects.specs.Objects.{ShowsContext, ShowsMail, ShowsTable}

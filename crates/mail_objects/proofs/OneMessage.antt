@@ -12,8 +12,8 @@ use Rattle.property_context.proofs.UniqueLaws.{no-fault, same-rest, same-values}
 use Rattle.property_context.specs.Context.{IsPropertyContext}
 use Rattle.node_values.specs.Subnodes.{subnode, without}
 use Rattle.property_context.specs.declared.read.PcFault.TheVariants as pcs
-use Rattle.table_context.proofs.ContextLaws.{no-table, one-table}
-use Rattle.table_context.specs.declared.fault.TcFault.TheVariants as tcs
+use Rattle.table_writer.proofs.table_context_laws.ContextLaws.{no-table, one-table}
+use Rattle.table_writer.specs.table_context.declared.fault.TcFault.TheVariants as tcs
 use Rattle.mail_objects.specs.Answers.{Refuses}
 use Rattle.mail_objects.specs.Message.{ShowsMessage, ShowsPart, ShowsParts, ShowsTable}
 use Rattle.mail_objects.specs.Reading.{FirstLacks, LacksAttachments, LacksBelow, LacksContext, LacksMessage, LacksPart, LacksTable, ReadsMessage}

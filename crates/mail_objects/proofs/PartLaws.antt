@@ -5,9 +5,9 @@ use Rattle.pst_base.specs.Flat.{Flat}
 use Rattle.mapi_values.specs.declared.part.Part.{Part}
 use Rattle.mapi_values.specs.Messages.{part_id}
 use Rattle.mapi_values.specs.Values.{Val}
-use Rattle.table_context.specs.Context as tc
-use Rattle.table_context.specs.declared.fault.TcFault.{TcFault}
-use Rattle.table_context.specs.declared.fault.TcFault.TheVariants.{Heap, Bth, Tc}
+use Rattle.table_writer.specs.table_context.Context as tc
+use Rattle.table_writer.specs.table_context.declared.fault.TcFault.{TcFault}
+use Rattle.table_writer.specs.table_context.declared.fault.TcFault.TheVariants.{Heap, Bth, Tc}
 use Rattle.pst_base.specs.declared.stops.MemOr.{MemOr}
 use Rattle.pst_base.specs.declared.stops.MemOr.TheVariants.{Memory, Refused}
 use Rattle.mail_objects.specs.Answers.{Refuses, table_fault}

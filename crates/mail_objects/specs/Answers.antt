@@ -9,8 +9,8 @@ use Rattle.mapi_values.specs.Tables.{Tab}
 use Rattle.node_values.specs.Subnodes.{subnode, without}
 use Rattle.property_context.specs.declared.read.PcFault.{PcFault}
 use Rattle.property_context.specs.declared.read.PcFault.TheVariants as pcs
-use Rattle.table_context.specs.declared.fault.TcFault.{TcFault}
-use Rattle.table_context.specs.declared.fault.TcFault.TheVariants as tcs
+use Rattle.table_writer.specs.table_context.declared.fault.TcFault.{TcFault}
+use Rattle.table_writer.specs.table_context.declared.fault.TcFault.TheVariants as tcs
 use Rattle.mail_objects.specs.Message.{ShowsParts, ShowsTable}
 use Rattle.mail_objects.specs.Subnodes.{is_table}
 use Rattle.mail_objects.specs.declared.message.fault.MessageFault.{MessageFault}

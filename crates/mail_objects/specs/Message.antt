@@ -9,7 +9,7 @@ use Rattle.mapi_values.specs.Tables.{Tab}
 use Rattle.node_port.specs.declared.node.NodeRec.{NodeRec}
 use Rattle.property_context.specs.Context.{IsPropertyContext}
 use Rattle.node_values.specs.Subnodes.{ids_ascend, subnode, without}
-use Rattle.table_context.specs.Context.{IsTableContext}
+use Rattle.table_writer.specs.table_context.Context.{IsTableContext}
 use Rattle.mail_objects.specs.Subnodes.{is_table}
 
 -- the table in a subnode, or none where there is no subnode

@@ -6,7 +6,7 @@ use Rattle.node_port.specs.Stops.{subs_size}
 use Rattle.node_port.specs.declared.node.NodeRec.{NodeRec}
 use Rattle.property_context.specs.Context.{IsPropertyContext}
 use Rattle.node_values.specs.Subnodes.{ids_ascend}
-use Rattle.table_context.specs.Context.{IsTableContext}
+use Rattle.table_writer.specs.table_context.Context.{IsTableContext}
 use Rattle.mail_objects.specs.Message.{ShowsMessage, is_formed}
 use Rattle.write_limits.specs.Limits.{props_fit, table_fits, message_fits}
 use Rattle.write_limits.specs.Space.{kept_space, message_space, props_space, table_space}

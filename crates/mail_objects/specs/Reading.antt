@@ -11,8 +11,8 @@ use Rattle.node_port.specs.declared.node.NodeRec.{NodeRec}
 use Rattle.property_context.specs.Context as pc
 use Rattle.node_values.specs.Subnodes.{subnode, without}
 use Rattle.property_context.specs.declared.read.PcFault.TheVariants as pcs
-use Rattle.table_context.specs.Context as tc
-use Rattle.table_context.specs.declared.fault.TcFault.TheVariants as tcs
+use Rattle.table_writer.specs.table_context.Context as tc
+use Rattle.table_writer.specs.table_context.declared.fault.TcFault.TheVariants as tcs
 use Rattle.mail_objects.specs.Message.{ShowsMessage, ShowsPart, ShowsTable}
 use Rattle.mail_objects.specs.Subnodes.{is_table}
 use Rattle.mail_objects.specs.declared.message.fault.MessageFault.{MessageFault}

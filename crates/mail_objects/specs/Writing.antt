@@ -11,7 +11,7 @@ use Rattle.write_limits.specs.Space.{kept_space, option_space, parts_space, prop
 use Rattle.node_port.specs.Stops.{subs_size}
 use Rattle.property_context.specs.Context.{IsPropertyContext}
 use Rattle.node_values.specs.Subnodes.{ids_ascend, without}
-use Rattle.table_context.specs.Context.{IsTableContext}
+use Rattle.table_writer.specs.table_context.Context.{IsTableContext}
 use Rattle.mail_objects.specs.Answers.{ShowsBelow}
 
 -- the subnode is that of an attachment, and takes no more than the room for it

@@ -14,7 +14,7 @@ use node_values::ids_ascend;
 use property_context::read_pc;
 use pst_base::{MemOr, Nid};
 use std::alloc::{AllocError, Global};
-use table_context::read_tc;
+use table_writer::table_context::read_tc;
 
 /// The properties that a node holds, or `None` exactly where it is no property context whose other subnodes ascend by id. The error: memory ran out.
 pub fn read_context(alloc: Global, node: &NodeRec) -> Result<Option<Context>, AllocError>

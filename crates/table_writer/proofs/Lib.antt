@@ -13,3 +13,4 @@ pub mod MatrixLaws
 pub mod HeaderLaws
 pub mod TableLaws
 pub mod SpaceLaws
+pub use Rattle.table_context.proofs as table_context_laws

@@ -10,4 +10,5 @@ mod value;
 mod woven;
 mod write;
 
+pub use table_context;
 pub use write::write_tc;

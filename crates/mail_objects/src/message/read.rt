@@ -18,7 +18,7 @@ use node_values::Finder;
 use property_context::{PcFault, read_pc};
 use pst_base::{Bytes, MemOr, Nid, Sub, Subs};
 use std::alloc::Global;
-use table_context::{TcFault, read_tc};
+use table_writer::table_context::{TcFault, read_tc};
 
 /// The fault of a message, for one of a property context.
 fn context_fault(fault: PcFault) -> MessageFault

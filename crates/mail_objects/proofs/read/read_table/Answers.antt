@@ -2,9 +2,9 @@ use Rattle.std.proofs.Common.{◌≡◌, ℕ, List, Err, sym, subst}
 use Rattle.pst_base.specs.declared.stops.MemOr.{MemOr}
 use Rattle.pst_base.specs.declared.stops.MemOr.TheVariants.{Refused}
 use Rattle.node_port.specs.declared.node.NodeRec.{NodeRec}
-use Rattle.table_context.specs.Context.{IsTableContext, ReadsTc}
-use Rattle.table_context.specs.declared.fault.TcFault.{TcFault}
-use Rattle.table_context.proofs.ContextLaws.{no-table}
+use Rattle.table_writer.specs.table_context.Context.{IsTableContext, ReadsTc}
+use Rattle.table_writer.specs.table_context.declared.fault.TcFault.{TcFault}
+use Rattle.table_writer.proofs.table_context_laws.ContextLaws.{no-table}
 use Rattle.mail_objects.specs.Forms.{Tbl}
 use Rattle.mail_objects.specs.Objects.{ShowsTable}
 use Rattle.mail_objects.proofs.read.read_table.Goals as goal

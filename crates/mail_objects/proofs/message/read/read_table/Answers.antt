@@ -1,6 +1,6 @@
 use Rattle.std.proofs.Common.{Option, List, ℕ, subst}
 use Rattle.pst_base.specs.Flat.{Flat}
-use Rattle.table_context.specs.Context.{Lacks}
+use Rattle.table_writer.specs.table_context.Context.{Lacks}
 use Rattle.mail_objects.specs.Reading.{LacksTable}
 use Rattle.mail_objects.proofs.PartLaws.{lacks-table}
 use Rattle.mail_objects.proofs.message.read.read_table.Goals as goal
