@@ -21,8 +21,8 @@ use Rattle.node_values.specs.Subnodes.{contents, ids_ascend, sub_id, subnode, wi
 use Rattle.mail_objects.specs.Answers.{ShowsBelow}
 use Rattle.mail_objects.specs.Writing.{AddsParts, AddsTable, AreParts, AreTable, LaysBelow, rows_ascend}
 use Rattle.mail_objects.specs.Message.{ShowsParts, ShowsTable, is_formed, part_is_formed, table_ascends}
-use Rattle.write_limits.proofs.DirectLaws.{direct-flattened}
-use Rattle.write_limits.specs.Limits.{direct, few_subnodes, long_values, message_fits, one_if_some, option_fits, own_subnodes, part_fits, props_fit}
+use Rattle.property_context.proofs.write_limits_laws.DirectLaws.{direct-flattened}
+use Rattle.property_context.specs.write_limits.Limits.{direct, few_subnodes, long_values, message_fits, one_if_some, option_fits, own_subnodes, part_fits, props_fit}
 use Rattle.mail_objects.specs.Subnodes.{is_table}
 use Rattle.mail_objects.proofs.FindLaws.{subnode-found, subnode-kept}
 use Rattle.mail_objects.proofs.OrderLaws.{same-found}

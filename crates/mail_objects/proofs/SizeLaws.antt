@@ -8,7 +8,7 @@ use Rattle.mapi_values.specs.declared.part.Part.{Part}
 use Rattle.mapi_values.specs.Tables.{Tab}
 use Rattle.mail_objects.specs.Writing.{AreParts, AreTable}
 use Rattle.mapi_values.specs.Messages.{Mes}
-use Rattle.write_limits.specs.Space.{kept_space, message_space, option_space, parts_space, props_space}
+use Rattle.property_context.specs.write_limits.Space.{kept_space, message_space, option_space, parts_space, props_space}
 use Rattle.mapi_values.specs.Keyed.{drop_key, find_key, keys_ascend}
 use Rattle.node_port.specs.Stops.{subs_size}
 use Rattle.node_values.specs.Subnodes.{sub_id}

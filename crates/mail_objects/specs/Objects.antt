@@ -8,8 +8,8 @@ use Rattle.property_context.specs.Context.{IsPropertyContext}
 use Rattle.node_values.specs.Subnodes.{ids_ascend}
 use Rattle.table_writer.specs.table_context.Context.{IsTableContext}
 use Rattle.mail_objects.specs.Message.{ShowsMessage, is_formed}
-use Rattle.write_limits.specs.Limits.{props_fit, table_fits, message_fits}
-use Rattle.write_limits.specs.Space.{kept_space, message_space, props_space, table_space}
+use Rattle.property_context.specs.write_limits.Limits.{props_fit, table_fits, message_fits}
+use Rattle.property_context.specs.write_limits.Space.{kept_space, message_space, props_space, table_space}
 use Rattle.mail_objects.specs.Forms.{Ctx, Tbl}
 use Rattle.mail_objects.specs.declared.object.Object.{Object}
 use Rattle.mail_objects.specs.declared.object.Object.TheVariants.{Context, Table, Message, Bare}

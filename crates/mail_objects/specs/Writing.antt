@@ -6,8 +6,8 @@ use Rattle.mapi_values.specs.declared.part.Part.{Part}
 use Rattle.mapi_values.specs.Keyed.{keys_ascend}
 use Rattle.mapi_values.specs.Messages.{Mes, is_own, part_id}
 use Rattle.mapi_values.specs.Tables.{Tab}
-use Rattle.write_limits.specs.Limits.{props_fit}
-use Rattle.write_limits.specs.Space.{kept_space, option_space, parts_space, props_space, table_space}
+use Rattle.property_context.specs.write_limits.Limits.{props_fit}
+use Rattle.property_context.specs.write_limits.Space.{kept_space, option_space, parts_space, props_space, table_space}
 use Rattle.node_port.specs.Stops.{subs_size}
 use Rattle.property_context.specs.Context.{IsPropertyContext}
 use Rattle.node_values.specs.Subnodes.{ids_ascend, without}

@@ -1,7 +1,7 @@
 //! Writing objects as nodes.
 ghost use Rattle.std.specs.Prelude.{◌≡◌, ◌+◌, ◌≤◌, ℕ, true, IfOk};
-ghost use Rattle.write_limits.specs.Space.{kept_space, props_space, table_space};
-ghost use Rattle.write_limits.specs.Limits.{props_fit, table_fits};
+ghost use Rattle.property_context.specs.write_limits.Space.{kept_space, props_space, table_space};
+ghost use Rattle.property_context.specs.write_limits.Limits.{props_fit, table_fits};
 ghost use Rattle.mail_objects.specs.Objects.{ShowsBare, ShowsContext, ShowsObject, ShowsTable, node_size, object_fits, object_space, stands_at};
 
 use crate::context::Context;
@@ -9,11 +9,11 @@ use crate::message::write_message;
 use crate::object::Object;
 use crate::table::TableNode;
 use node_port::NodeRec;
+use property_context::write_limits::{message_fits, props_fit, table_fits};
 use property_context::write_pc;
 use pst_base::{Blocks, Nid, Subs};
 use std::alloc::{AllocError, Global};
 use table_writer::write_tc;
-use write_limits::{message_fits, props_fit, table_fits};
 
 /// Whether an object is small enough to be written: its tables and values keep to the limits on what a command writes.
 pub fn object_fits(object: &Object) -> bool

@@ -14,3 +14,4 @@ mod write;
 pub use law::one_context;
 pub use read::{PcFault, read_pc};
 pub use write::write_pc;
+pub use write_limits;

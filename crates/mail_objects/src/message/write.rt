@@ -2,8 +2,8 @@
 ghost use Rattle.std.specs.Prelude.{◌≡◌, ◌+◌, ◌≤◌, true, length, IfOk, OnOk};
 ghost use Rattle.std.specs.List.{list_all};
 ghost use Rattle.node_port.specs.Stops.{subs_size};
-ghost use Rattle.write_limits.specs.Space.{message_space};
-ghost use Rattle.write_limits.specs.Limits.{message_fits, option_fits, part_fits};
+ghost use Rattle.property_context.specs.write_limits.Space.{message_space};
+ghost use Rattle.property_context.specs.write_limits.Limits.{message_fits, option_fits, part_fits};
 ghost use Rattle.mail_objects.specs.Writing.{AddsParts, AddsTable, IsPart, LaysBelow, rows_ascend};
 ghost use Rattle.mail_objects.specs.Message.{ShowsMessage, is_formed, part_is_formed, table_ascends};
 

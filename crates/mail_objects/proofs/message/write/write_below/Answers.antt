@@ -1,7 +1,7 @@
 use Rattle.std.proofs.Common.{◌≡◌, ◌∙◌, true, sym, subst}
 use Rattle.pst_base.specs.Subs.{flattened}
 use Rattle.mapi_values.specs.Messages.{Mes}
-use Rattle.write_limits.specs.Limits.{message_fits}
+use Rattle.property_context.specs.write_limits.Limits.{message_fits}
 use Rattle.mail_objects.specs.Writing.{LaysBelow}
 use Rattle.mail_objects.specs.Message.{is_formed}
 use Rattle.mail_objects.proofs.BelowLaws.{fitting, forming, lays}

@@ -1,7 +1,7 @@
 use Rattle.std.proofs.Common.{◌+◌, ap, arith, length}
 use Rattle.mapi_values.specs.Messages.{Mes}
 use Rattle.node_port.specs.Stops.{subs_size}
-use Rattle.write_limits.specs.Space.{props_space}
+use Rattle.property_context.specs.write_limits.Space.{props_space}
 use Rattle.mail_objects.proofs.SizeLaws.{message-small}
 use Rattle.mail_objects.proofs.message.write.write_message.Goals as goal
 
