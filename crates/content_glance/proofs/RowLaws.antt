@@ -14,9 +14,9 @@ use Rattle.bth_tree.specs.Records.{entry_of}
 use Rattle.bth_tree.specs.Tree.{any_bth}
 use Rattle.bth_tree.proofs.OptionLaws.{bind-some, none-some, some-injective}
 use Rattle.node_values.specs.Subnodes.{data_of}
-use Rattle.table_context.specs.Context.{IsTableContext, table_in, table_of}
-use Rattle.table_context.specs.Header.{columns_of, ends_in, index_in, matrix_in, names_index, size_in}
-use Rattle.table_context.specs.Rows.{cells_of, others, raw_rows, row_in, row_of, rows_of, shows_id, used}
+use Rattle.mail_objects.specs.table_context.Context.{IsTableContext, table_in, table_of}
+use Rattle.mail_objects.specs.table_context.Header.{columns_of, ends_in, index_in, matrix_in, names_index, size_in}
+use Rattle.mail_objects.specs.table_context.Rows.{cells_of, others, raw_rows, row_in, row_of, rows_of, shows_id, used}
 use Rattle.content_glance.specs.Rows.{TellsRow}
 use Rattle.content_glance.proofs.EntryLaws.{any-bth}
 

@@ -3,7 +3,7 @@ use Rattle.std.specs.Prelude.{◌≡◌, ℕ, Bool, List, Option, Some}
 use Rattle.std.specs.Option.{is_some}
 use Rattle.pst_base.specs.Flat.{Flat}
 use Rattle.mapi_values.specs.Tables.{Tab, find_row}
-use Rattle.table_context.specs.Context.{IsTableContext}
+use Rattle.mail_objects.specs.table_context.Context.{IsTableContext}
 
 -- whatever the subnodes are with which the blocks are a table, it is told whether that has a row with the id; nothing is told only where there are none
 abbrev pub TellsRow : List (List ℕ) → ℕ → Option Bool → Type 0

@@ -3,8 +3,8 @@ ghost use Rattle.content_glance.specs.Rows.{TellsRow};
 
 use bth_tree::bth_find;
 use heap_on_node::HeapView;
+use mail_objects::table_context::{TABLE_CONTEXT, names_index};
 use pst_base::{Bytes, u32_at};
-use table_context::{TABLE_CONTEXT, names_index};
 
 /// Whether the table that the data blocks of a node are has a row with this id, whatever its subnodes are: the ids of rows stand in the blocks, whose other values aren't looked at ([MS-PST] 2.3.4.3). `None` comes only where the node is no table; that it is one isn't told by the rest. Takes no memory.
 pub fn has_row_at(blocks: &[Bytes], id: u32) -> Option<bool>

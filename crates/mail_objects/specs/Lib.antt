@@ -5,3 +5,4 @@ pub mod Objects
 pub mod Reading
 pub mod Subnodes
 pub mod Writing
+pub use Rattle.table_writer.specs.table_context as table_context

@@ -21,4 +21,5 @@ pub use message::{MessageFault, is_formed, one_fault, one_message, read_message,
 pub use object::Object;
 pub use read::{read_context, read_mail, read_table};
 pub use table::TableNode;
+pub use table_writer::table_context;
 pub use write::{object_fits, write_object};

@@ -4,7 +4,7 @@ use denote.Bor.{Bor}
 use Rattle.bth_tree.specs.Records.{entry_of}
 use Rattle.bth_tree.specs.Tree.{any_bth}
 use Rattle.heap_on_node.specs.Heap.{item}
-use Rattle.table_context.specs.Header.{index_in}
+use Rattle.mail_objects.specs.table_context.Header.{index_in}
 use Rattle.content_glance.specs.Rows.{TellsRow}
 use Rattle.content_glance.proofs.RowLaws.{index-fits, tells-none, tells-row}
 use Rattle.content_glance.proofs.rows.has_row_at.Goals as goal
