@@ -1,2 +1,3 @@
 pub mod Block
 pub mod Size
+pub use Rattle.pst_checksum.specs as pst_checksum

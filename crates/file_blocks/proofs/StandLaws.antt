@@ -8,10 +8,10 @@ use Rattle.block_frame.specs.declared.block.BlockFault.{BlockFault}
 use Rattle.block_frame.specs.declared.block.BlockFault.TheVariants.{Length, Crc, Sig}
 use Rattle.block_frame.specs.declared.block.BlockFault.TheVariants as faults
 use Rattle.block_frame.specs.Block.{reading, trailer_at}
-use Rattle.pst_checksum.specs.Crc.{crc_of}
+use Rattle.block_frame.specs.pst_checksum.Crc.{crc_of}
 use Rattle.pst_base.specs.Fields.{number_at}
 use Rattle.pst_base.specs.Ids.{key_of}
-use Rattle.pst_checksum.specs.Sig.{sig_of}
+use Rattle.block_frame.specs.pst_checksum.Sig.{sig_of}
 use Rattle.block_frame.specs.Size.{disk_size_of}
 use Rattle.btree_pages.specs.declared.entry.BlockEntry.{BlockEntry}
 use Rattle.file_blocks.specs.declared.check.BlockRefusal.{BlockRefusal}
