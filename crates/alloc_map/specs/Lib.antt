@@ -9,3 +9,4 @@ pub mod Slots
 pub mod Standing
 pub mod Taken
 pub mod Tally
+pub use Rattle.page_frame.specs as page_frame

@@ -22,4 +22,5 @@ mod slots;
 pub use ends::end_for;
 pub use law::{places_taken, room_taken};
 pub use overlap::Overlap;
+pub use page_frame;
 pub use slots::Slots;

@@ -6,7 +6,7 @@ use Rattle.pst_base.specs.declared.ids.Bref.{Bref}
 use Rattle.pst_base.specs.declared.stops.PageFault.{PageFault}
 use Rattle.pst_outside.specs.World.{World}
 use Rattle.pst_outside.specs.Calls.{Untouched}
-use Rattle.page_frame.specs.Page.{reading}
+use Rattle.alloc_map.specs.page_frame.Page.{reading}
 use Rattle.btree_pages.specs.Pages.{Page}
 use Rattle.file_layout.specs.declared.stops.PageRefusal.{PageRefusal}
 use Rattle.file_layout.specs.declared.stops.PageRefusal.TheVariants.{Outside}

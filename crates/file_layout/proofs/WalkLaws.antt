@@ -4,7 +4,7 @@ use Rattle.std.proofs.lemmas.Bool.{and_parts, leb-true, le-leb, eqb-true, eq-eqb
 use Rattle.std.proofs.lemmas.List.{length-take-le}
 use Rattle.pst_base.specs.declared.ids.Bref.{Bref}
 use Rattle.pst_base.specs.declared.stops.PageFault.{PageFault}
-use Rattle.page_frame.specs.Page.{reading}
+use Rattle.alloc_map.specs.page_frame.Page.{reading}
 use Rattle.btree_pages.specs.Pages.{Page}
 use Rattle.file_layout.specs.declared.stops.PageRefusal.{PageRefusal}
 use Rattle.file_layout.specs.declared.stops.PageRefusal.TheVariants.{Outside}

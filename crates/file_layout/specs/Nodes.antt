@@ -5,12 +5,12 @@ use Rattle.pst_base.specs.Flat.{Flat}
 use Rattle.pst_base.specs.Ids.{key_of}
 use Rattle.pst_header.specs.declared.header.Header.{Header}
 use Rattle.alloc_map.specs.Standing.{standing, IsMeeting}
-use Rattle.block_frame.specs.Size.{disk_size_of}
+use Rattle.file_blocks.specs.block_frame.Size.{disk_size_of}
 use Rattle.btree_pages.specs.declared.entry.BlockEntry.{BlockEntry}
 use Rattle.btree_pages.specs.declared.entry.NodeEntry.{NodeEntry}
 use Rattle.btree_pages.specs.Entries.{block_of, node_of, node_key}
-use Rattle.data_tree.specs.declared.source.TreeStop.{TreeStop}
-use Rattle.data_tree.specs.Tree.{and_then, blocks_of}
+use Rattle.file_blocks.specs.data_tree.declared.source.TreeStop.{TreeStop}
+use Rattle.file_blocks.specs.data_tree.Tree.{and_then, blocks_of}
 use Rattle.subnode_tree.specs.Subnodes.{subs_of}
 use Rattle.file_blocks.specs.Blocks.{AllStand, found_in}
 use Rattle.file_layout.specs.Trees.{FileTree, Found, IsWhole, page_place}

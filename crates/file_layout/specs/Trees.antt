@@ -6,7 +6,7 @@ use Rattle.pst_base.specs.declared.stops.PageFault.{PageFault}
 use Rattle.pst_base.specs.declared.stops.PageFault.TheVariants.{Count, Level, Key}
 use Rattle.pst_base.specs.Fields.{number_at}
 use Rattle.pst_outside.specs.World.{Image}
-use Rattle.page_frame.specs.Page.{reading, IsPage}
+use Rattle.alloc_map.specs.page_frame.Page.{reading, IsPage}
 use Rattle.btree_pages.specs.Entries.{inner_of}
 use Rattle.btree_pages.specs.Pages.{Page, pieces, size_at, key_in, keys, ascend, is_counted}
 use Rattle.file_layout.specs.declared.stops.PageRefusal.{PageRefusal}

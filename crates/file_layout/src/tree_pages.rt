@@ -4,8 +4,8 @@ ghost use Rattle.pst_outside.specs.Calls.{Rose, Untouched};
 ghost use Rattle.btree_pages.specs.Pages.{keys, key_in};
 ghost use Rattle.file_layout.specs.Trees.{in_span, owed, sooner, page_in, framed, child_of, file_of};
 
+use alloc_map::page_frame::PageView;
 use btree_pages::{Entry, TreePage};
-use page_frame::PageView;
 use pst_base::{Bref, PageFault, u8_at, u64_at};
 use pst_outside::{Failed, Outside, Part, read_part};
 
