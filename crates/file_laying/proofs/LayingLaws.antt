@@ -16,8 +16,8 @@ use Rattle.node_port.specs.Nodes.{Nodes, no_nodes}
 use Rattle.node_port.specs.Stops.{PrepareStops, Room, RoomDecides}
 use Rattle.node_port.specs.declared.keeper.PrepareStop.{PrepareStop}
 use Rattle.node_port.specs.declared.keeper.PrepareStop.TheVariants as prepare
-use Rattle.lays_kept.specs.Stands.{Stands, node_with}
-use Rattle.lays_kept.proofs.Opened.{opens_parts}
+use Rattle.pst_commit.specs.lays_kept.Stands.{Stands, node_with}
+use Rattle.pst_commit.proofs.lays_kept_laws.Opened.{opens_parts}
 use Rattle.pst_commit.specs.Keeping.{HasRoom, Holds}
 use Rattle.empty_file.specs.Empty.{HasBytes, IsFirst, IsVacant}
 use Rattle.empty_file.specs.Known.{IsFoundEmpty}

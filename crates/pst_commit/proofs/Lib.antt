@@ -6,3 +6,4 @@ pub mod PinLaws
 pub mod MapWrites
 pub mod Saves
 pub mod Resaved
+pub use Rattle.lays_kept.proofs as lays_kept_laws
