@@ -3,7 +3,7 @@ use Rattle.std.specs.Prelude.{◌≡◌, ◌≤◌, ◌+◌, ℕ, List, [], ◌�
 use Rattle.btree_pages.specs.declared.entry.BlockEntry.{BlockEntry}
 use Rattle.lays_kept.specs.declared.Piece.{Piece}
 use Rattle.lays_kept.specs.Kept.{HoldsEach}
-use Rattle.node_layout.specs.Sealed.{IsSealed}
+use Rattle.plan_pieces.specs.node_layout.Sealed.{IsSealed}
 
 -- no piece ends past n
 abbrev pub EndBy : ℕ → List Piece → Type 0
