@@ -14,4 +14,5 @@ mod trees;
 
 pub use draw::{Numbers, Sketch, finish_plan};
 pub use effects::PlanEffects;
+pub use plan_pieces;
 pub use trees::{Trees, block_tree, change_trees, changed_at};

@@ -13,7 +13,7 @@ use Rattle.btree_pages.specs.declared.entry.BlockEntry.{BlockEntry}
 use Rattle.btree_pages.specs.declared.entry.NodeEntry.{NodeEntry}
 use Rattle.btree_pages.specs.Entries.{block_of, node_of}
 use Rattle.btree_pages.specs.EntryLaws.{key-block_of, key-node_of}
-use Rattle.content_plan.specs.Plan.{puts_in}
+use Rattle.plan_drawing.specs.content_plan.Plan.{puts_in}
 use Rattle.file_blocks.specs.Blocks.{entry_key, file_of}
 use Rattle.file_layout.specs.Nodes.{Lays, NodeMap, block_tree, blocks_in, node_tree, nodes_in}
 use Rattle.file_pages.proofs.Bridge.{shaped-root}

@@ -11,7 +11,7 @@ use Rattle.node_layout.specs.Sealed.{AreSealed}
 use Rattle.node_port.specs.declared.node.NodeRec.{NodeRec}
 use Rattle.node_store.specs.declared.node.PageCaches.{PageCaches}
 use Rattle.node_store.specs.Told.{TellsNodes}
-use Rattle.content_plan.specs.Plan.{puts_in}
+use Rattle.plan_drawing.specs.content_plan.Plan.{puts_in}
 use Rattle.plan_drawing.specs.declared.draw.Numbers.{Numbers}
 use Rattle.plan_drawing.specs.declared.draw.Sketch.{Sketch}
 use Rattle.plan_drawing.specs.declared.trees.Trees.{Trees}
