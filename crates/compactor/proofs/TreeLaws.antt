@@ -15,9 +15,9 @@ use Rattle.tree_edit.specs.Pages.{shown}
 use Rattle.tree_edit.specs.Plans.{tally}
 use Rattle.tree_edit.specs.Shapes.{IsRootOf, IsTree, RiseIn, Shape}
 use Rattle.tree_edit.proofs.ShapeLaws.{below-rise, tree-rise}
-use Rattle.packed_tree.specs.Packed.{ArePages}
-use Rattle.packed_tree.specs.Shown.{ShowsPage}
-use Rattle.packed_tree.proofs.PackedLaws.{packed-whole}
+use Rattle.copy_trees.specs.packed_tree.Packed.{ArePages}
+use Rattle.copy_trees.specs.packed_tree.Shown.{ShowsPage}
+use Rattle.copy_trees.proofs.packed_tree_laws.PackedLaws.{packed-whole}
 use Rattle.copy_trees.specs.Levels.{AreLevels}
 use Rattle.copy_trees.specs.Writes.{ArePagesOf, Form, shapes_in as shapes_of}
 use Rattle.copy_trees.proofs.TreeLaws.{written-packed}

@@ -1,2 +1,3 @@
 pub mod Levels
 pub mod Writes
+pub use Rattle.packed_tree.specs as packed_tree
