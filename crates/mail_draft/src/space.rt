@@ -5,7 +5,7 @@ ghost use Rattle.mail_draft.specs.Drafts.{changed_of};
 
 use crate::draft::Draft;
 use mail_objects::Object;
-use write_limits::{add, kept_space, message_space, props_space, table_space};
+use mail_objects::write_limits::{add, kept_space, message_space, props_space, table_space};
 
 /// The blocks of an object that is put; 3 for one that is to go.
 #[tactic(auto, unfolding(crate::specs::Space::space_of))]

@@ -19,6 +19,7 @@ pub use law::one_object;
 pub use mail::Mail;
 pub use message::{MessageFault, is_formed, one_fault, one_message, read_message, write_message};
 pub use object::Object;
+pub use property_context::write_limits;
 pub use read::{read_context, read_mail, read_table};
 pub use table::TableNode;
 pub use table_writer::table_context;
