@@ -6,3 +6,4 @@ pub mod Limits
 pub mod Refusals
 pub mod Replies
 pub mod Refused
+pub use Rattle.value_text.specs as value_text

@@ -6,7 +6,7 @@ use Rattle.pst_base.specs.Fields.{number_at}
 use Rattle.mapi_values.specs.Messages.{Mes, size}
 use Rattle.mapi_values.specs.Properties.{find, put}
 use Rattle.mapi_values.specs.Values.{Val}
-use Rattle.value_text.specs.UnitBytes.{units_bytes, units_in}
+use Rattle.command_text.specs.value_text.UnitBytes.{units_bytes, units_in}
 
 abbrev pub value : ℕ → ℕ → List ℕ → Val
 value id kind bytes = record { id = id; kind = kind; bytes = bytes }
