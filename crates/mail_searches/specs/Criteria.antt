@@ -16,17 +16,17 @@ use Rattle.search_obj.specs.Crits.{Crit, CritSet}
 use Rattle.search_obj.specs.Flags.{are_allowed, flags_of, number_of_flags, state_of}
 use Rattle.search_obj.specs.Scope.{is_among}
 use Rattle.search_obj.specs.Writing.{is_id, written}
-use Rattle.command_text.specs.declared.reply.CommandRefusal.{CommandRefusal}
-use Rattle.command_text.specs.declared.reply.CommandRefusal.TheVariants as refusals
-use Rattle.command_text.specs.declared.reply.DataLine.{DataLine}
-use Rattle.command_text.specs.declared.reply.DataLine.TheVariants as lines
-use Rattle.command_text.specs.declared.reply.LastLine.{LastLine}
-use Rattle.command_text.specs.declared.reply.LastLine.TheVariants.{Criteria, Done, NoCriteria}
-use Rattle.command_text.specs.declared.reply.Limit.TheVariants.{Depth, Searches}
-use Rattle.command_text.specs.declared.reply.Reply.{Reply}
-use Rattle.mail_objects.specs.Forms.{Ctx, Tbl}
-use Rattle.mail_objects.specs.declared.object.Object.{Object}
-use Rattle.mail_objects.specs.declared.object.Object.TheVariants as objects
+use Rattle.mail_tree.specs.command_text.declared.reply.CommandRefusal.{CommandRefusal}
+use Rattle.mail_tree.specs.command_text.declared.reply.CommandRefusal.TheVariants as refusals
+use Rattle.mail_tree.specs.command_text.declared.reply.DataLine.{DataLine}
+use Rattle.mail_tree.specs.command_text.declared.reply.DataLine.TheVariants as lines
+use Rattle.mail_tree.specs.command_text.declared.reply.LastLine.{LastLine}
+use Rattle.mail_tree.specs.command_text.declared.reply.LastLine.TheVariants.{Criteria, Done, NoCriteria}
+use Rattle.mail_tree.specs.command_text.declared.reply.Limit.TheVariants.{Depth, Searches}
+use Rattle.mail_tree.specs.command_text.declared.reply.Reply.{Reply}
+use Rattle.mail_tree.specs.mail_objects.Forms.{Ctx, Tbl}
+use Rattle.mail_tree.specs.mail_objects.declared.object.Object.{Object}
+use Rattle.mail_tree.specs.mail_objects.declared.object.Object.TheVariants as objects
 use Rattle.mail_tree.specs.declared.places.FolderPlace.{FolderPlace}
 use Rattle.mail_tree.specs.declared.places.Sort.TheVariants.{Foreign}
 use Rattle.mail_tree.specs.Places.{children, is_deep, is_plain, place_id}

@@ -3,9 +3,9 @@ use Rattle.std.specs.Prelude.{ℕ, ◌==◌, false, List, None, Ok, if◌then◌
 use Rattle.mapi_values.specs.Characters.{folded}
 use Rattle.mapi_values.specs.Keyed.{drop_key, put_key}
 use Rattle.mapi_values.specs.Properties.{put}
-use Rattle.command_text.specs.declared.reply.CommandRefusal.TheVariants.{Cycle, Limit}
-use Rattle.command_text.specs.declared.reply.LastLine.TheVariants.{Done}
-use Rattle.command_text.specs.declared.reply.Limit.TheVariants.{Depth}
+use Rattle.mail_tree.specs.command_text.declared.reply.CommandRefusal.TheVariants.{Cycle, Limit}
+use Rattle.mail_tree.specs.command_text.declared.reply.LastLine.TheVariants.{Done}
+use Rattle.mail_tree.specs.command_text.declared.reply.Limit.TheVariants.{Depth}
 use Rattle.mail_tree.specs.Changing.{Answer, Changed, ◌>>=◌, context_at, drop_shown, hierarchy, nothing, refused_if, with_object}
 use Rattle.mail_tree.specs.Folders.{Outcome, changing, folder_in, moved_between, moving, replied, siblings, unchanged, unless_named, unless_plain, unless_protected, without_node}
 use Rattle.mail_tree.specs.Ids.{is_taken}

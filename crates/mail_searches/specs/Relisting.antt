@@ -10,7 +10,7 @@ use Rattle.mapi_values.specs.declared.column.Column.{Column}
 use Rattle.live_search.specs.Touching.{delta}
 use Rattle.live_search.specs.declared.touching.Delta.{Delta}
 use Rattle.live_search.specs.declared.touching.Delta.TheVariants.{Same, Enter, Leave, Stay}
-use Rattle.mail_objects.specs.Forms.{Tbl}
+use Rattle.mail_tree.specs.mail_objects.Forms.{Tbl}
 use Rattle.mail_tree.specs.declared.places.FolderPlace.{FolderPlace}
 use Rattle.mail_tree.specs.Changing.{Answer, Changed, ◌>>=◌, as_message, context_at, known, now_at, table_at, with_object, with_rows}
 use Rattle.mail_tree.specs.Settling.{mirrored, with_context}

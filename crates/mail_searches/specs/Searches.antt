@@ -15,8 +15,8 @@ use Rattle.search_obj.specs.Crits.{Crit, CritSet}
 use Rattle.search_obj.specs.Found.{crit_found, version_found}
 use Rattle.search_obj.specs.Flags.{state_of}
 use Rattle.search_obj.specs.Scope.{is_among}
-use Rattle.mail_objects.specs.Forms.{Tbl}
-use Rattle.mail_objects.specs.declared.object.Object.TheVariants.{Table}
+use Rattle.mail_tree.specs.mail_objects.Forms.{Tbl}
+use Rattle.mail_tree.specs.mail_objects.declared.object.Object.TheVariants.{Table}
 use Rattle.mail_tree.specs.declared.places.FolderPlace.{FolderPlace}
 use Rattle.mail_tree.specs.Changing.{as_message, beside}
 use Rattle.mail_tree.specs.Flags.{FlagList, known_flag}

@@ -1,8 +1,8 @@
 -- A tree with its searches, and what keeps them in order.
 use Rattle.std.specs.Prelude.{◌≡◌, ◌⊎◌, ℕ, ◌%◌, Bool, true, IsSome, List, [], ◌∷◌, None, Some}
 use Rattle.mapi_values.specs.Keyed.{keys_ascend}
-use Rattle.mail_objects.specs.Forms.{Ctx, Tbl}
-use Rattle.mail_objects.specs.declared.object.Object.TheVariants.{Context, Table}
+use Rattle.mail_tree.specs.mail_objects.Forms.{Ctx, Tbl}
+use Rattle.mail_tree.specs.mail_objects.declared.object.Object.TheVariants.{Context, Table}
 use Rattle.mapi_values.specs.Tables.{find_row}
 use Rattle.mail_tree.specs.Changing.{as_message}
 use Rattle.mail_tree.specs.Places.{find_place}

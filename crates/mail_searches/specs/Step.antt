@@ -1,9 +1,9 @@
 -- What a command does to a tree with searches, and what is replied.
 use Rattle.std.specs.Prelude.{ℕ, List, Option, None, Some, Ok, Err, if◌then◌else◌}
-use Rattle.command_text.specs.declared.command.Command.{Command}
-use Rattle.command_text.specs.declared.command.Command.TheVariants.{RenameFolder, MoveFolder, RemoveFolder, ListFolder, MakeSearch, SetCriteria, GetCriteria}
-use Rattle.command_text.specs.declared.reply.LastLine.TheVariants.{Refused}
-use Rattle.command_text.specs.declared.reply.Reply.{Reply}
+use Rattle.mail_tree.specs.command_text.declared.command.Command.{Command}
+use Rattle.mail_tree.specs.command_text.declared.command.Command.TheVariants.{RenameFolder, MoveFolder, RemoveFolder, ListFolder, MakeSearch, SetCriteria, GetCriteria}
+use Rattle.mail_tree.specs.command_text.declared.reply.LastLine.TheVariants.{Refused}
+use Rattle.mail_tree.specs.command_text.declared.reply.Reply.{Reply}
 use Rattle.mail_tree.specs.Changing.{Answer, ◌>>=◌, within_limits}
 use Rattle.mail_tree.specs.Folders.{Outcome, listing, made_id, replied}
 use Rattle.mail_tree.specs.Step as tree

@@ -2,10 +2,10 @@
 use Rattle.std.specs.Prelude.{ℕ, ◌&&◌, ◌==◌, ◌++◌, Bool, false, List, [], ◌∷◌, Some, Ok, if◌then◌else◌}
 use Rattle.std.specs.Option.{is_some}
 use Rattle.std.specs.FinMap as map
-use Rattle.command_text.specs.declared.command.Command.{Command}
-use Rattle.command_text.specs.declared.command.Command.TheVariants.{MoveFolder, NewMessage, SetProperty, UnsetProperty, MoveMessage, CopyMessage, RemoveMessage, AddRecipient, RemoveRecipient, AddAttachment, AppendData, RemoveAttachment, SetEmbedded}
-use Rattle.command_text.specs.declared.reply.LastLine.{LastLine}
-use Rattle.command_text.specs.declared.reply.LastLine.TheVariants.{Made}
+use Rattle.mail_tree.specs.command_text.declared.command.Command.{Command}
+use Rattle.mail_tree.specs.command_text.declared.command.Command.TheVariants.{MoveFolder, NewMessage, SetProperty, UnsetProperty, MoveMessage, CopyMessage, RemoveMessage, AddRecipient, RemoveRecipient, AddAttachment, AppendData, RemoveAttachment, SetEmbedded}
+use Rattle.mail_tree.specs.command_text.declared.reply.LastLine.{LastLine}
+use Rattle.mail_tree.specs.command_text.declared.reply.LastLine.TheVariants.{Made}
 use Rattle.restr_eval.specs.Eval.{holds_of}
 use Rattle.mail_tree.specs.declared.places.FolderPlace.{FolderPlace}
 use Rattle.mail_tree.specs.Changing.{Answer, ◌>>=◌, as_message, contents, message_at, nothing, now_at, table_at}

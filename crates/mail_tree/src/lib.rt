@@ -12,5 +12,6 @@ mod places;
 
 pub use columns::{attachments_table, contents_table, hierarchy_table, recipients_table};
 pub use known::{Flags, Known};
+pub use mail_objects;
 pub use note::Note;
 pub use places::{FolderPlace, Places, ROOT_FOLDER, Sort};
