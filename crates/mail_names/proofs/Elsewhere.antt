@@ -8,9 +8,9 @@ use Rattle.command_text.specs.declared.reply.CommandRefusal.TheVariants.{Limit a
 use Rattle.command_text.specs.declared.reply.LastLine.TheVariants.{Named}
 use Rattle.command_text.specs.declared.reply.Limit.TheVariants.{Rows}
 use Rattle.command_text.specs.declared.reply.Reply.{Reply}
-use Rattle.mail_objects.specs.Forms.{Ctx}
-use Rattle.mail_objects.specs.declared.object.Object.{Object}
-use Rattle.mail_objects.specs.declared.object.Object.TheVariants.{Bare, Context, Message, Table}
+use Rattle.mail_tree.specs.mail_objects.Forms.{Ctx}
+use Rattle.mail_tree.specs.mail_objects.declared.object.Object.{Object}
+use Rattle.mail_tree.specs.mail_objects.declared.object.Object.TheVariants.{Bare, Context, Message, Table}
 use Rattle.mail_tree.specs.declared.places.FolderPlace.{FolderPlace}
 use Rattle.mail_tree.specs.Changing.{Answer, Changed, ◌>>=◌, context_at, entry_fits, known, nothing, refused_if, unless_crowding, unless_past, within_limits}
 use Rattle.mail_tree.specs.Folders.{replied, replying, unless}

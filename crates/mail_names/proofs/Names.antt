@@ -6,7 +6,7 @@ use Rattle.command_text.specs.declared.reply.CommandRefusal.TheVariants.{Limit, 
 use Rattle.command_text.specs.declared.reply.Limit.TheVariants as limits
 use Rattle.mail_tree.specs.Changing.{◌>>=◌, context_at, known, nothing, refused_if, within_limits}
 use Rattle.command_text.specs.declared.reply.LastLine.TheVariants.{Named}
-use Rattle.mail_objects.specs.Forms.{Ctx}
+use Rattle.mail_tree.specs.mail_objects.Forms.{Ctx}
 use Rattle.command_text.specs.declared.reply.LastLine.{LastLine}
 use Rattle.command_text.specs.declared.reply.Reply.{Reply}
 use Rattle.mail_tree.specs.Folders.{Outcome, replied, replying, unchanged}

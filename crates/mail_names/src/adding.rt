@@ -12,7 +12,7 @@ use crate::reading::{NAMES, names_of};
 use command_text::{CommandRefusal, LastLine, Limit, Reply};
 use mail_draft::on_desk::{put_context, replying};
 use mail_draft::{Coming, Desk, Stop};
-use mail_objects::Context;
+use mail_tree::mail_objects::Context;
 use named_props::{Names, write_names};
 use pst_base::MemOr;
 use std::alloc::{AllocError, Global};

@@ -8,7 +8,7 @@ ghost use Rattle.named_props.specs.Holding.{IsWritable, names_of};
 
 use command_text::CommandRefusal;
 use mail_draft::{Desk, Stop};
-use mail_objects::Context;
+use mail_tree::mail_objects::Context;
 use mapi_values::tags::FIRST_NAMED_ID;
 use named_props::{Names, read_names};
 use pst_base::{MemOr, Nid};

@@ -1,5 +1,5 @@
 use Rattle.std.proofs.Common.{rules}
-use Rattle.mail_objects.specs.Forms.{Ctx}
+use Rattle.mail_tree.specs.mail_objects.Forms.{Ctx}
 use Rattle.mail_draft.proofs.Passes.{then_says}
 use Rattle.mail_tree.specs.Changing.{◌>>=◌, context_at, known, nothing}
 use Rattle.mail_tree.specs.Names.{NAMES, found_or_added}
