@@ -15,3 +15,4 @@ pub mod Desks
 pub mod Seen
 pub mod Showing
 pub mod Counting
+pub use Rattle.content_glance.specs as content_glance

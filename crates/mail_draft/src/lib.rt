@@ -33,6 +33,7 @@ mod values;
 
 pub use beside::{associated, contents, hierarchy};
 pub use coming::Coming;
+pub use content_glance;
 pub use desk::{CountingDesk, Desk};
 pub use draft::Draft;
 pub use ending::finish;

@@ -12,8 +12,8 @@ use Rattle.mail_tree.specs.declared.places.Sort.TheVariants.{Plain}
 use Rattle.command_text.specs.declared.reply.CommandRefusal.TheVariants.{NameTaken}
 use Rattle.command_text.specs.declared.reply.Reply.{Reply}
 use Rattle.command_text.specs.declared.reply.LastLine.{LastLine}
-use Rattle.mail_objects.specs.Forms.{Ctx, Tbl}
-use Rattle.mail_objects.specs.declared.object.Object.{Object}
+use Rattle.mail_tree.specs.mail_objects.Forms.{Ctx, Tbl}
+use Rattle.mail_tree.specs.mail_objects.declared.object.Object.{Object}
 use Rattle.std.specs.Ordering.{nat_cmp}
 use Rattle.std.specs.FinMap as map
 use Rattle.mapi_values.specs.Characters.{folded}

@@ -1,7 +1,7 @@
 //! `ls`
 ghost use Rattle.std.specs.Prelude.{◌≡◌, ℕ, Bool, filter, IfErr, IfOk, Ok, Some};
 ghost use Rattle.mapi_values.specs.Messages.{Mes};
-ghost use Rattle.content_glance.specs.Glances.{IsTold};
+ghost use Rattle.mail_draft.specs.content_glance.Glances.{IsTold};
 ghost use Rattle.mail_tree.specs.Tree.{Shown, Tree};
 ghost use Rattle.mail_tree.specs.Folders.{listed, listing};
 ghost use Rattle.mail_folders.specs.Pieces.{each, ids_in, line_of_folder, line_of_message, line_named, lines_in, lines_of_messages, message_line, plain_listing, read_subject, with_messages};
@@ -17,7 +17,7 @@ use crate::finding::folder_in;
 use crate::names::{is_child, name_in};
 use crate::reading::{message_in, table_in};
 use command_text::{DataLine, DataLines, LastLine, Reply};
-use content_glance::Glance;
+use mail_draft::content_glance::Glance;
 use mail_draft::{
     Outcome, Stop, contents, glance_of, message_content, message_ids, number_told, text_of,
     text_told,

@@ -8,7 +8,7 @@ ghost use Rattle.mail_tree.specs.Folders.{made_folder, making_folder, unless_ful
 ghost use Rattle.mail_tree.specs.Changing.{add_shown, associated, contents, hierarchy, nothing, with_object};
 ghost use Rattle.mail_tree.specs.Columns.{contents_table, hierarchy_table};
 ghost use Rattle.mail_tree.specs.Values.{folder_props};
-ghost use Rattle.mail_objects.specs.declared.object.Object.TheVariants.{Table};
+ghost use Rattle.mail_tree.specs.mail_objects.declared.object.Object.TheVariants.{Table};
 ghost use Rattle.mail_draft.specs.Drafts.{changed_of};
 ghost use Rattle.mail_draft.specs.Answers.{IsCaused, Looks, Says};
 ghost use Rattle.mail_draft.specs.Outcomes.{outcome_of};
@@ -22,7 +22,7 @@ use mail_draft::{
     Draft, Outcome, Stop, add_shown, associated, contents, hierarchy, making, new_id, next_index,
     put_text, settled, with_counts,
 };
-use mail_objects::{Context, Object};
+use mail_tree::mail_objects::{Context, Object};
 use mail_tree::{Flags, Known, Places, contents_table, hierarchy_table};
 use mapi_values::tags::PID_TAG_DISPLAY_NAME;
 use mapi_values::{Props, Units};

@@ -6,7 +6,7 @@ ghost use Rattle.mail_tree.specs.Ids.{is_taken};
 ghost use Rattle.mail_draft.specs.Answers.{IsCaused, Looks, Says};
 
 use mail_draft::{Draft, Stop};
-use mail_objects::{Context, Mail, TableNode};
+use mail_tree::mail_objects::{Context, Mail, TableNode};
 use node_port::NodeReader;
 use pst_base::Nid;
 use pst_outside::Outside;

@@ -18,8 +18,8 @@ use command_text::CommandRefusal;
 use mail_draft::{
     Draft, Outcome, Stop, associated, contents, drop_shown, hierarchy, moving, settled,
 };
-use mail_objects::TableNode;
 use mail_tree::Known;
+use mail_tree::mail_objects::TableNode;
 use node_port::NodeReader;
 use pst_base::Nid;
 use pst_outside::Outside;
