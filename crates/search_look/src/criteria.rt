@@ -8,7 +8,6 @@ ghost use Rattle.search_look.specs.declared.stops.SearchRefusal.TheVariants.{Cri
 ghost use Rattle.search_look.specs.declared.stops.SearchStop.TheVariants.{Refused};
 
 use crate::stops::{SearchRefusal, SearchStop};
-use mail_draft::bytes_of;
 use mail_objects::read_context;
 use mapi_values::Props;
 use mapi_values::tags::PTYP_BINARY;
@@ -16,6 +15,7 @@ use node_port::{KeepStop, NodeRec};
 use pst_base::{MemOr, Nid};
 use search_obj::{Criteria, SEARCH_RESTRICTION, SEARCH_SCOPE, read_search};
 use std::alloc::Global;
+use tree_look::mail_draft::bytes_of;
 
 /// How many bytes these are.
 fn byte_count(bytes: &[u8]) -> usize
