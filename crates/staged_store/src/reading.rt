@@ -2,7 +2,7 @@
 ghost use Rattle.std.specs.Prelude.{◌≡◌, Bool, IfErr};
 ghost use Rattle.pst_outside.specs.Calls.{Untouched};
 ghost use Rattle.node_port.specs.Nodes.{Nodes};
-ghost use Rattle.mail_reading.specs.Viewed.{listing_of, listing_view};
+ghost use Rattle.pinned_session.specs.mail_reading.Viewed.{listing_of, listing_view};
 ghost use Rattle.mail_searches.specs.Searching.{Searching};
 ghost use Rattle.mail_searches.specs.Step.{outcome};
 ghost use Rattle.pinned_session.specs.mail_embedding.Meant.{Means};
@@ -18,11 +18,11 @@ ghost use Rattle.staged_store.specs.Standing.{HasOver};
 ghost use Rattle.staged_store.specs.Telling.{Keeps};
 
 use command_text::{Command, EmbeddedCommand};
-use mail_reading::{Listing, list_rows};
 use mail_searches::KnownSearches;
 use mail_tree::Known;
 use node_port::NodeReader;
 use pinned_session::mail_embedding::{Meaning, mean};
+use pinned_session::mail_reading::{Listing, list_rows};
 use pinned_session::store_session::mail_draft::Stop;
 use pinned_session::store_session::search_store::{PlannedSearch, SearchStore};
 use pinned_session::store_session::{Store, plan_counted};

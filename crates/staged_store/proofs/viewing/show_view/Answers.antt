@@ -1,7 +1,7 @@
 use Rattle.std.proofs.Common.{◌∙◌, ap, refl, subst, sym}
 use Rattle.line_server.specs.Spoken.{spoken_text}
-use Rattle.mail_reading.specs.Viewed.{listing_of, listing_view}
-use Rattle.mail_reading.proofs.ViewLaws.{fine_listing}
+use Rattle.pinned_session.specs.mail_reading.Viewed.{listing_of, listing_view}
+use Rattle.pinned_session.proofs.mail_reading_laws.ViewLaws.{fine_listing}
 use Rattle.session_lines.specs.declared.line.SessionLine.TheVariants.{ShowView}
 use Rattle.pinned_session.specs.Showing.{ShowsListing}
 use Rattle.pinned_session.specs.Viewing.{view_at}
