@@ -1,1 +1,2 @@
 pub mod Laying
+pub use Rattle.empty_file.specs as empty_file

@@ -2,7 +2,7 @@
 ghost use Rattle.std.specs.Prelude.{◌≡◌, ◌⊎◌, ℕ, true};
 ghost use Rattle.pst_outside.specs.Calls.{NeverFall, Rose, Settled, Untouched};
 ghost use Rattle.gate_file.specs.Gate.{IsShut};
-ghost use Rattle.empty_file.specs.Empty.{HasBytes};
+ghost use Rattle.file_laying.specs.empty_file.Empty.{HasBytes};
 ghost use Rattle.mail_searches.specs.Searching.{Searching, StartsSearching};
 ghost use Rattle.file_session.specs.FileRun.{ReadsAs, front_of};
 ghost use Rattle.file_session.specs.Stops.{LacksRoom, of_laying, of_plan};
