@@ -21,7 +21,7 @@ use Rattle.pst_commit.specs.Keeping.{Holds}
 use Rattle.pst_commit.proofs.Holding.{same_header}
 use Rattle.pst_commit.proofs.Outcomes.{stands_over}
 use Rattle.mail_searches.specs.Searching.{Searching}
-use Rattle.tree_look.specs.Walk.{Looks}
+use Rattle.store_open.specs.tree_look.Walk.{Looks}
 use Rattle.store_open.specs.Opening.{KnowsTree, LooksTree, StopsLook, StopsTree}
 use Rattle.store_open.specs.declared.open.OpenedTree.{OpenedTree}
 use Rattle.store_open.specs.declared.stops.TreeStop.{TreeStop}
