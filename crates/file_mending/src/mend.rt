@@ -11,7 +11,7 @@ ghost use Rattle.file_open.specs.Opening.{IsFileRefused, ReadsTree};
 ghost use Rattle.file_open.specs.declared.stops.FileRefusal.{FileRefusal as Refusals};
 ghost use Rattle.file_mending.specs.FileMends.{FileMendEnds, StandsMendable, unopened};
 
-use file_laying::FoundStore;
+use file_open::file_laying::FoundStore;
 use file_open::{FileRefusal, FileStop, open_mendable};
 use node_port::Keeper;
 use pst_base::{Ledger, Steps};

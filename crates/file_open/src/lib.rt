@@ -10,6 +10,7 @@ mod keep;
 mod open;
 mod stops;
 
+pub use file_laying;
 pub use open::{CheckedFile, OpenedFile, check_file, look_file, open_file, open_mendable};
 pub use stops::{FileRefusal, FileStop};
 pub use store_open;

@@ -8,6 +8,7 @@
 mod make;
 mod run;
 
+pub use file_laying;
 pub use file_open;
 pub use mail_transactions;
 pub use mail_transactions::pinned_session;
