@@ -12,7 +12,7 @@ ghost use Rattle.store_filling.specs.declared.counting.FillCounts.{FillCounts as
 ghost use Rattle.file_session.specs.FileRun.{EndsUnopened};
 ghost use Rattle.file_filling.specs.FileFills.{FillOpened};
 
-use file_laying::FoundStore;
+use file_session::file_laying::FoundStore;
 use file_session::file_open::open_file;
 use file_session::{FileRun, unopened};
 use pst_outside::Outside;
