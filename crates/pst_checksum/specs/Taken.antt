@@ -3,9 +3,9 @@ use Rattle.std.specs.Prelude.{ℕ, ◌*◌, ◌/◌, ◌%◌, ◌-◌, ◌^◌, 
 use Rattle.pst_checksum.specs.Crc.{after_bits, crc_from}
 use Rattle.pst_base.specs.Fields.{number_at}
 
--- the 64 bits that begin 64 - k bits into a word and go on into the one after it
+-- what stands in the place of a word when it and the word before it are moved k bits on
 unfoldable pub shifted : ℕ → ℕ → ℕ → ℕ
-shifted k after word = bit_xor (after * 2 ^ k % 2 ^ 64) (word / 2 ^ (64 - k))
+shifted k word before = bit_xor (word * 2 ^ k % 2 ^ 64) (before / 2 ^ (64 - k))
 
 -- what words that were taken out 2, 3, 4 and 5 words before a word add to it: the bits 145, 183, 211 and 300 before its own
 unfoldable pub carried : ℕ → ℕ → ℕ → ℕ → ℕ
@@ -17,7 +17,7 @@ unfoldable pub crc_added : ℕ → List ℕ → List ℕ → ℕ
 crc_added c [] bs = crc_from c bs
 crc_added c (w ∷ ws) bs = crc_added (after_bits 64 (bit_xor (bit_xor c w) (number_at 8 0 bs))) ws (drop 8 bs)
 
--- the checksum, of which the bytes are the rest, when the last five words before them that were taken out are these, the oldest first
+-- the checksum when the bytes are the rest and the five words before them were taken out, the oldest first
 unfoldable pub crc_taken : ℕ → ℕ → ℕ → ℕ → ℕ → List ℕ → ℕ
 crc_taken a b c d e bs =
     crc_added 0 (carried d c b a ∷ carried e d c b ∷ carried 0 e d c ∷ carried 0 0 e d ∷ carried 0 0 0 e ∷ []) bs

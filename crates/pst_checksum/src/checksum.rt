@@ -65,7 +65,7 @@ fn after_words(c: u32, bytes: &[u8]) -> u32
     after_rest(register, rest)
 }
 
-/// What a word and the word before it are within the 64 bits that begin `k` bits before the end of the former.
+/// What stands in the place of a word when it and the word before it are moved `k` bits on.
 #[inline]
 fn shift(k: u32, word: u64, before: u64) -> u64
     requires low { 1 ≤ k }
@@ -75,7 +75,7 @@ fn shift(k: u32, word: u64, before: u64) -> u64
     word << k ^ before >> (64 - k)
 }
 
-/// What is added to a word for the words taken out 2, 3, 4 and 5 words before it.
+/// What the words that were taken out 2, 3, 4 and 5 words before a word add to it.
 #[inline]
 fn carry(second: u64, third: u64, fourth: u64, fifth: u64) -> u64
     ensures { result ≡ carried second third fourth fifth }
@@ -86,7 +86,7 @@ fn carry(second: u64, third: u64, fourth: u64, fifth: u64) -> u64
         ^ shift(44, fourth, fifth)
 }
 
-/// The register 0 after the bytes, to whose first five words others are added.
+/// The checksum of the bytes, to whose first five words others are added.
 fn after_added(words: [u64; 5], bytes: &[u8]) -> u32
     requires { 40 ≤ length bytes.now }
     ensures { result ≡ crc_added 0 words bytes.now }
@@ -100,7 +100,7 @@ fn after_added(words: [u64; 5], bytes: &[u8]) -> u32
     after_words(register, rest)
 }
 
-/// The last five words that were taken out of the bytes, the oldest first. As the polynomial divides x^300 + x^155 + x^117 + x^89 + 1, a word can be taken out if it is added 145, 183, 211 and 300 bits further on.
+/// The last five words that were taken out of the bytes, the oldest first. The polynomial divides x^300 + x^155 + x^117 + x^89 + 1, so a word can be taken out if it is added 145, 183, 211 and 300 bits further on, which takes shifts alone.
 #[derive(Clone, Copy)]
 struct Taken {
     a: u64,
@@ -111,7 +111,7 @@ struct Taken {
 }
 
 impl Taken {
-    /// The words after one more was taken out: the first of the bytes.
+    /// The words after one more was taken out, the first of the bytes.
     #[inline]
     fn take_word(self, bytes: &[u8]) -> Taken
         requires { 48 ≤ length bytes.now }
@@ -127,7 +127,7 @@ impl Taken {
         }
     }
 
-    /// The words after five more were taken out, in whose place they are, so that none is moved.
+    /// The words after five more were taken out: together, so that none moves from field to field.
     #[inline]
     fn take_words(self, bytes: &[u8]) -> Taken
         requires { 80 ≤ length bytes.now }
@@ -141,7 +141,7 @@ impl Taken {
             .take_word(&bytes[32..])
     }
 
-    /// The checksum, of which the bytes are the rest.
+    /// The checksum when these bytes are the rest.
     fn finish(self, bytes: &[u8]) -> u32
         requires { 40 ≤ length bytes.now }
         ensures { result ≡ crc_taken self.a self.b self.c self.d self.e bytes.now }

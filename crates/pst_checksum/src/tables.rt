@@ -1,4 +1,4 @@
-//! What each byte makes of the checksum's register, for as many bits on as a block of bytes needs. `specs::Crc` defines the rule; the checker computes each entry by it.
+//! What each byte makes of the checksum's register, for as many bits on as a word of bytes needs. `specs::Crc` defines the rule; the checker computes each entry by it.
 
 /// At `256 * k + i`, what the byte `i` makes of the register `8 * (k + 1)` bits on.
 pub(crate) const NEAR: [u32; 2048] = [
