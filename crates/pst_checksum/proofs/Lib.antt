@@ -1,3 +1,3 @@
-pub mod LaneLaws
 pub mod RegisterLaws
 pub mod TableRules
+pub mod TakenLaws

@@ -4,7 +4,7 @@ use Rattle.std.specs.List.{range_with_len}
 use Rattle.std.proofs.lemmas.List.{get_or-drop, get_or-take, get_or-map}
 use Rattle.std.proofs.lemmas.List.FromFn.{get_or-map-range_with_len}
 use Rattle.pst_checksum.specs.Crc.{after_bit, after_bits}
-use Rattle.pst_checksum.specs.declared.tables.TheConstants.{FAR, NEAR}
+use Rattle.pst_checksum.specs.declared.tables.TheConstants.{NEAR}
 use Rattle.pst_checksum.proofs.RegisterLaws.{after_bits-add}
 
 near_first : take 256 NEAR ≡ map (after_bits 8) (range_with_len 0 256)
@@ -45,24 +45,3 @@ pub near_at : (n i : ℕ) → 1 ≤ n → n ≤ 8 → i < 256 → get_or NEAR (2
 near_at n i low high h =
     let e : 8 + 8 * (n - 1) ≡ 8 * n = omega arith in
     row_at NEAR 8 7 refl near_first_at near_next (n - 1) i (omega arith) h ∙ ap (λ (m : ℕ). after_bits m i) e
-
-far_first : take 256 FAR ≡ map (after_bits 136) (drop 1792 NEAR)
-unfolding after_bit after_bits
-far_first = refl
-
-far_next : drop 256 FAR ≡ map (after_bits 8) (take 1792 FAR)
-unfolding after_bit after_bits
-far_next = refl
-
-far_first_at : (i : ℕ) → i < 256 → get_or FAR i 0 ≡ after_bits 200 i
-far_first_at i h =
-    sym (get_or-take 256 FAR i 0 h)
-    ∙ ap (λ (t : List ℕ). get_or t i 0) far_first
-    ∙ get_or-map (after_bits 136) (drop 1792 NEAR) i 0 0 h
-    ∙ ap (after_bits 136) (get_or-drop 1792 NEAR i 0 ∙ near_at 8 i (omega arith) (omega arith) h)
-    ∙ sym (after_bits-add 64 136 i)
-
-pub far_at : (n i : ℕ) → 1 ≤ n → n ≤ 8 → i < 256 → get_or FAR (256 * (n - 1) + i) 0 ≡ after_bits (192 + 8 * n) i
-far_at n i low high h =
-    let e : 200 + 8 * (n - 1) ≡ 192 + 8 * n = omega arith in
-    row_at FAR 200 7 refl far_first_at far_next (n - 1) i (omega arith) h ∙ ap (λ (m : ℕ). after_bits m i) e

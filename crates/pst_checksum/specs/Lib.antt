@@ -1,3 +1,3 @@
 pub mod Crc
-pub mod Lanes
 pub mod Sig
+pub mod Taken
