@@ -6,8 +6,8 @@ use Rattle.mapi_values.specs.Values.{Val, in_field}
 use Rattle.mapi_values.specs.Properties.{find}
 use Rattle.bth_tree.specs.Records.{entry_of}
 use Rattle.bth_tree.proofs.OptionLaws.{bind-some, none-some, some-injective}
-use Rattle.mail_objects.specs.property_context.Context.{fitting, of_field, value_of, values_of}
-use Rattle.mail_objects.proofs.property_context_laws.ValueLaws.{fitting-some, value-parts, values-parts}
+use Rattle.property_context.specs.Context.{fitting, of_field, value_of, values_of}
+use Rattle.property_context.proofs.ValueLaws.{fitting-some, value-parts, values-parts}
 
 pub find-none : (get : ℕ → Option (List ℕ)) (sub : ℕ → Option (List (List ℕ))) (id : ℕ) (rs : List (ℕ × List ℕ)) (vs : List Val) → values_of get sub rs ≡ Some vs → entry_of id rs ≡ None → find id vs ≡ None
 find-none get sub id [] vs h none = ap (find id) (sym (some-injective [] vs h))

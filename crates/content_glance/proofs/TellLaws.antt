@@ -11,7 +11,7 @@ use Rattle.bth_tree.specs.Records.{entry_of}
 use Rattle.bth_tree.specs.Tree.{any_bth}
 use Rattle.bth_tree.proofs.OptionLaws.{none-some, some-injective}
 use Rattle.node_values.specs.Subnodes.{data_of}
-use Rattle.mail_objects.specs.property_context.Context.{IsPropertyContext, names, value_of}
+use Rattle.property_context.specs.Context.{IsPropertyContext, names, value_of}
 use Rattle.content_glance.specs.declared.content.Glance.{Glance}
 use Rattle.content_glance.specs.declared.content.Glance.TheVariants.{Held, Absent, Below}
 use Rattle.content_glance.specs.Glances.{IsTold, NamesSubnode, RecordTells, Tells, names_below}

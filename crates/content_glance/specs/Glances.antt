@@ -6,7 +6,7 @@ use Rattle.pst_base.specs.Fields.{number_at}
 use Rattle.mapi_values.specs.Values.{Val, in_field}
 use Rattle.mapi_values.specs.Properties.{find}
 use Rattle.bth_tree.specs.Records.{entry_of}
-use Rattle.mail_objects.specs.property_context.Context.{IsPropertyContext, names, value_of}
+use Rattle.property_context.specs.Context.{IsPropertyContext, names, value_of}
 use Rattle.content_glance.specs.declared.content.Glance.{Glance}
 use Rattle.content_glance.specs.declared.content.Glance.TheVariants.{Held, Absent, Below}
 use Rattle.content_glance.specs.declared.held.Away.{Away}

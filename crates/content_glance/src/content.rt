@@ -28,7 +28,7 @@ pub enum Glance {
 }
 
 /// What a record tells of its value, or `None` where it has none whatever the subnodes are.
-#[tactic(auto, unfolding(mail_objects::specs::property_context::Context::value_of, mail_objects::specs::property_context::Context::fitting, mail_objects::specs::property_context::Context::names))]
+#[tactic(auto, unfolding(property_context::specs::Context::value_of, property_context::specs::Context::fitting, property_context::specs::Context::names))]
 fn told_by(alloc: Global, h: &HeapView, id: u16, entry: &[u8]) -> Result<Option<Glance>, AllocError>
     requires { length entry.now ≡ 6 }
     ensures { IfOk result (RecordTells (item h.now) (id, entry.now)) }

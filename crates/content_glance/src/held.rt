@@ -2,7 +2,7 @@
 ghost use Rattle.std.specs.Prelude.{◌≡◌, ◌==◌, ◌%◌, length, not};
 ghost use Rattle.heap_on_node.specs.Heap.{item};
 ghost use Rattle.node_values.specs.Named.{named};
-ghost use Rattle.mail_objects.specs.property_context.Context.{of_field};
+ghost use Rattle.property_context.specs.Context.{of_field};
 ghost use Rattle.content_glance.specs.Glances.{Holds, names_below};
 
 use heap_on_node::HeapView;

@@ -8,4 +8,3 @@ pub mod OneMessage
 pub mod OrderLaws
 pub mod PartLaws
 pub mod SizeLaws
-pub use Rattle.property_context.proofs as property_context_laws

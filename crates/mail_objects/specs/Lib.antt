@@ -6,4 +6,3 @@ pub mod Reading
 pub mod Subnodes
 pub mod Writing
 pub use Rattle.table_writer.specs.table_context as table_context
-pub use Rattle.property_context.specs as property_context
