@@ -32,7 +32,7 @@ use Rattle.mail_searches.specs.Searching.{Searching}
 use Rattle.mail_searches.specs.Step.{after, outcome, stepped}
 use Rattle.mail_searches.specs.declared.known.KnownSearches.{KnownSearches}
 use Rattle.search_store.specs.search_folders.Comings.{KnowsSearches}
-use Rattle.search_lists.specs.Order.{InOrder}
+use Rattle.search_laws.specs.search_lists.Order.{InOrder}
 use Rattle.search_laws.proofs.Joining.{stays_in_order}
 use Rattle.search_store.specs.Planning.{PlansComing}
 use Rattle.store_session.specs.Carrying.{CarriesOut, ComesTo, Has, Leaves, StandsOrdered}

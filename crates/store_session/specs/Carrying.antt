@@ -12,7 +12,7 @@ use Rattle.mail_searches.specs.Searching.{Searching}
 use Rattle.mail_searches.specs.declared.known.KnownSearches.{KnownSearches}
 pub use Rattle.search_store.specs.mail_store.Planning.{StandsFor}
 use Rattle.mail_tree.specs.declared.known.Known.{Known}
-pub use Rattle.search_lists.specs.Order.{InOrder}
+pub use Rattle.search_laws.specs.search_lists.Order.{InOrder}
 use Rattle.search_store.specs.Planning.{StoresSearches}
 use Rattle.store_session.specs.Disks.{Medium, medium}
 use Rattle.store_session.specs.Run.{refused}
