@@ -20,7 +20,7 @@ use Rattle.mail_searches.specs.Searching.{Searching}
 use Rattle.mail_searches.specs.Step.{after, outcome}
 use Rattle.mail_searches.specs.declared.known.KnownSearches.{KnownSearches}
 use Rattle.search_lists.specs.Order.{InOrder}
-use Rattle.search_laws.proofs.Joining.{stays_in_order}
+use Rattle.store_session.proofs.search_laws.Joining.{stays_in_order}
 use Rattle.store_session.specs.search_store.Planning.{PlansComing}
 use Rattle.store_session.specs.Carrying.{Has, Leaves, StandsOrdered}
 use Rattle.store_session.proofs.Carry.{stands_here}
