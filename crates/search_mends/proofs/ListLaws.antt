@@ -17,7 +17,7 @@ use Rattle.store_session.specs.mail_draft.declared.stop.Stop.{Stop}
 use Rattle.store_session.proofs.mail_draft_laws.Passes.{stop_says, then_says}
 use Rattle.mail_searches.specs.Building.{built_rows, found_below}
 use Rattle.mail_searches.specs.Searches.{Search, lists, results, row_ids, runs}
-use Rattle.search_laws.proofs.SettingLists.{AreBuilt, rows_built}
+use Rattle.store_session.proofs.search_laws.SettingLists.{AreBuilt, rows_built}
 use Rattle.search_mending.specs.Mending.{list_anew, list_if_wrong, lists_right, with_other_rows, with_stood}
 use Rattle.search_mends.proofs.Steps.{grouped, then_given}
 

@@ -19,7 +19,7 @@ use Rattle.mail_tree.specs.declared.places.FolderPlace.{FolderPlace}
 use Rattle.search_obj.specs.Scope.{is_among}
 use Rattle.mail_searches.specs.Searching.{Searching, is_own}
 use Rattle.mail_searches.specs.Step.{after}
-use Rattle.search_lists.specs.Order.{InOrder}
+use Rattle.store_session.specs.Carrying.{InOrder}
 use Rattle.search_mending.specs.Laws.{IsMendable, MendsThese}
 use Rattle.search_mending.specs.Mended.{mended, mended_all}
 use Rattle.search_mending.specs.Mending.{Mending, is_of_first, is_stale, mended_search}
