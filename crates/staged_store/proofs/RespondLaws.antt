@@ -39,7 +39,7 @@ use Rattle.pinned_session.specs.store_session.mail_store.Space.{HasRoom}
 use Rattle.pinned_session.specs.store_session.search_store.Planning.{PlansComing}
 use Rattle.pinned_session.proofs.mail_embedding_laws.Calm as calm
 use Rattle.pinned_session.proofs.store_session_laws.Carry.{memory_text, plan_made}
-use Rattle.search_lists.specs.Order.{InOrder}
+use Rattle.pinned_session.specs.store_session.Carrying.{InOrder}
 use Rattle.staged_nodes.specs.Sizes.{MOST_STAGED}
 use Rattle.staged_nodes.specs.Staged.{Staged, staged_size}
 use Rattle.staged_store.specs.Saying.{Adds, IsTooMuch, RefusesOn, SaysOn, StagesCommand, Underway, left}

@@ -10,7 +10,7 @@ use Rattle.pinned_session.specs.Viewing.{Viewing, standing, viewing_of}
 use Rattle.pinned_session.specs.store_session.mail_store.Planning.{SameKnown}
 use Rattle.pinned_session.specs.store_session.search_folders.Comings.{KnowsSearches}
 use Rattle.pinned_session.proofs.store_session_laws.Carry.{made_order}
-use Rattle.search_lists.specs.Order.{InOrder}
+use Rattle.pinned_session.specs.store_session.Carrying.{InOrder}
 use Rattle.staged_nodes.specs.Staged.{Staged}
 use Rattle.staged_nodes.specs.Staging.{SameChanges}
 use Rattle.staged_nodes.specs.Room.{IsLeft}

@@ -8,7 +8,7 @@ use Rattle.node_port.specs.Stops.{Room}
 use Rattle.mail_searches.specs.Searching.{Searching}
 use Rattle.mail_searches.specs.declared.known.KnownSearches.{KnownSearches}
 use Rattle.mail_tree.specs.declared.known.Known.{Known}
-use Rattle.search_lists.specs.Order.{InOrder}
+use Rattle.pinned_session.specs.store_session.Carrying.{InOrder}
 use Rattle.session_lines.specs.declared.line.SessionLine.{SessionLine}
 use Rattle.pinned_session.specs.Viewing.{viewing_of}
 use Rattle.pinned_session.specs.store_session.declared.carrying.StoreStop.{StoreStop}
