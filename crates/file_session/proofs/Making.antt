@@ -11,7 +11,7 @@ use Rattle.file_laying.specs.declared.lay.LayingStop.{LayingStop}
 use Rattle.file_laying.specs.declared.lay.LayingStop.TheVariants as laying
 use Rattle.lays_kept.specs.Stands.{Stands}
 use Rattle.mail_searches.specs.Searching.{Searching, StartsSearching}
-use Rattle.search_laws.proofs.Setting.{starts_in_order}
+use Rattle.mail_transactions.proofs.pinned_session_laws.store_session_laws.search_laws.Setting.{starts_in_order}
 use Rattle.mail_tree.specs.Start.{IsStart, start_last}
 use Rattle.mail_tree.specs.Tree.{StandsAt, Tree, object_at}
 use Rattle.file_session.specs.FileRun.{ReadsAs, front_of}
