@@ -17,7 +17,7 @@ use Rattle.mail_searches.specs.Searching.{Searching}
 use Rattle.mail_searches.specs.Step.{after, outcome, stepped}
 use Rattle.session_lines.specs.declared.line.SessionLine.{SessionLine}
 use Rattle.session_lines.specs.declared.line.SessionLine.TheVariants.{Pin, At, Unpin, OpenView, ShowView, CloseView, Embedded, Command as StoreCommand}
-use Rattle.search_store.proofs.QuietLaws.{stays_unwritten}
+use Rattle.staged_store.proofs.store_session_laws.search_store_laws.QuietLaws.{stays_unwritten}
 use Rattle.staged_store.specs.Saying.{Adds, LacksOn, MeansOn, SaysOn, ShowsOn, StagesCommand, Underway}
 use Rattle.staged_store.specs.staged_nodes.Staged.{Staged, change_of, listed, with_changes}
 use Rattle.staged_store.specs.pinned_session.mail_embedding.declared.meaning.Meaning.{Meaning}
