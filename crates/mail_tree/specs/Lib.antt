@@ -16,5 +16,5 @@ pub mod Found
 pub mod Standing
 pub mod Flags
 pub mod Knowing
-pub use Rattle.mail_objects.specs as mail_objects
 pub use Rattle.command_text.specs as command_text
+pub use Rattle.mail_objects.specs as mail_objects
