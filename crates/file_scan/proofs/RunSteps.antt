@@ -6,7 +6,7 @@ use Rattle.gate_file.specs.Effective.{effective}
 use Rattle.btree_pages.specs.declared.entry.BlockEntry.{BlockEntry}
 use Rattle.file_blocks.specs.declared.check.BlockRefusal.{BlockRefusal}
 use Rattle.file_blocks.specs.declared.runs.Run.{Run}
-use Rattle.file_blocks.specs.Blocks.{Stands, AllStand, data_at}
+use Rattle.file_blocks.specs.Blocks.{AllStand, data_at}
 use Rattle.file_blocks.specs.Runs.{IsIn, IsOf, IsRun}
 use Rattle.file_blocks.specs.Stops.{IsPlaced}
 use Rattle.file_layout.specs.declared.stops.OpenRefusal.TheVariants as refusals

@@ -1,4 +1,4 @@
-use Rattle.std.proofs.Common.{◌≡◌, ◌-◌, ◌≤◌, List, arith, drop, length, length-drop, subst, sym, take}
+use Rattle.std.proofs.Common.{◌-◌, ◌≤◌, List, arith, drop, length, length-drop, subst, sym, take}
 use Rattle.std.proofs.lemmas.List.{take_rest}
 use Rattle.std.proofs.lemmas.Result.{err_from_is_err_and}
 use Rattle.pst_outside.specs.World.{Image}
@@ -18,7 +18,7 @@ returns-in_err-done-clause-refused g c =
     let p = err_from_is_err_and c.from_residual.result c.from_residual.ensures.1 in
     let blocks = c.args.blocks.now in
     let i = c.loop-done.done in
-    let stop = c.in_err-done.field-0 in
+    let stop = c.in_err-done.field-0.0 in
     rw (p.1, p.2) (λ told.
     let now = (g.W.Outside.view c.check_run.new.w).here in
     let so_far = c.loop-done.invariant in
@@ -37,7 +37,6 @@ loop-done-preserved g c =
     let i = c.loop-done.done in
     let n = c.in_ok-done.field-0 in
     let run = c.in_ok-done.ensures in
-    let within = run.within in
     let test = c.loop-done-test.true in
     let same = untouched_then so_far.same run.same in
     let rest = take_rest blocks i in
