@@ -1,4 +1,5 @@
+pub mod EntryLaws
 pub mod FileLaws
 pub mod RoomLaws
-pub mod EntryLaws
+pub mod RunLaws
 pub mod StandLaws

@@ -3,8 +3,8 @@ ghost use Rattle.std.specs.Prelude.{◌≡◌, ◌≤◌, ◌+◌, ◌%◌, take
 ghost use Rattle.block_frame.specs.Block.{reading};
 ghost use Rattle.pst_outside.specs.Calls.{Rose, Untouched};
 ghost use Rattle.block_frame.specs.Size.{disk_size_of};
-ghost use Rattle.file_blocks.specs.Blocks.{file_of, has_room, misplaced, data_at, Stands, faulty};
-ghost use Rattle.file_blocks.specs.Stops.{IsPlaced, StopsBlock, StopsRead, Tells};
+ghost use Rattle.file_blocks.specs.Blocks.{file_of, has_room, misplaced, data_at, faulty};
+ghost use Rattle.file_blocks.specs.Stops.{StopsRead, Tells};
 
 use block_frame::{BlockFault, BlockView, disk_size};
 use btree_pages::BlockEntry;
@@ -42,17 +42,6 @@ pub enum BlockStop {
     Failed,
 }
 
-impl From<Failed> for BlockStop {
-    ghost use Rattle.std.specs.Prelude.{◌≡◌};
-    ghost use Rattle.file_blocks.specs.declared.check.BlockStop.TheVariants.{Failed as Stopped};
-
-    ghost from_gives = { λ _ e. e ≡ Stopped };
-
-    fn from(_: Failed) -> BlockStop {
-        BlockStop::Failed
-    }
-}
-
 /// Whether `len` bytes of a block or a page may stand at a place of a file of `eof` bytes: at a multiple of 64, at or above 4400h, and ending at or before `eof`.
 pub fn has_room(eof: u64, len: usize, ib: u64) -> bool
     requires { len ≤ 8192 }
@@ -69,7 +58,7 @@ pub fn has_room(eof: u64, len: usize, ib: u64) -> bool
 
 /// What is wrong with an entry, before its block's bytes are looked at.
 #[tactic(auto, unfolding(crate::specs::Blocks::misplaced))]
-fn misplaced(eof: u64, entry: BlockEntry) -> Option<BlockRefusal>
+pub(crate) fn misplaced(eof: u64, entry: BlockEntry) -> Option<BlockRefusal>
     ensures value { result ≡ misplaced eof entry }
     ensures fits { IfNone result (entry.cb ≤ 8176) }
     ensures low { IfNone result (0x4400 ≤ entry.at.ib) }
@@ -102,44 +91,21 @@ fn read_bytes<W: Outside>(
     read_part(w, Part::Main, entry.at.ib, front)
 }
 
-/// The block that the bytes begin with, or what is wrong with its frame.
-fn framed<'a>(bytes: &'a [u8; 8192], entry: BlockEntry) -> Result<BlockView<'a>, BlockRefusal>
+/// The block that these bytes are, or what is wrong with its frame.
+pub(crate) fn framed<'a>(bytes: &'a [u8], entry: BlockEntry) -> Result<BlockView<'a>, BlockRefusal>
     requires fits { entry.cb ≤ 8176 }
-    ensures { result ≡ faulty (reading entry.cb entry.at (take (disk_size_of entry.cb) bytes.now)) }
+    requires size { length bytes.now ≡ disk_size_of entry.cb }
+    ensures { result ≡ faulty (reading entry.cb entry.at bytes.now) }
 {
-    match BlockView::read(&bytes[..disk_size(entry.cb)], entry.cb, entry.at) {
+    match BlockView::read(bytes, entry.cb, entry.at) {
         Ok(view) => Ok(view),
         Err(fault) => Err(BlockRefusal::Faulty(fault)),
     }
 }
 
-/// Checks that an entry of the block tree names a whole block of a file of `eof` bytes. It reads the block into the buffer, whose bytes don't matter, and writes nothing.
+/// The data of the block that an entry of the block tree names in a file of `eof` bytes. It writes nothing.
 ///
-/// `Refused` says the first thing that is wrong with it; `Failed` comes only where the disk failed.
-#[tactic(auto, unfolding(crate::specs::Blocks::data_at))]
-pub fn check_block<W: Outside>(
-    w: &mut W,
-    eof: u64,
-    entry: BlockEntry,
-    buffer: &mut [u8; 8192],
-) -> Result<(), BlockStop>
-    ensures placed { OnOk result (IsPlaced eof entry) }
-    ensures stands { OnOk result (Tells (W.view w.new) eof → Stands (file_of (W.view w.new).here) eof entry) }
-    ensures refused { IfErr result (λ stop. Tells (W.view w.new) eof → StopsBlock stop (data_at (file_of (W.view w.new).here) eof entry)) }
-    ensures fault { result ≡ Err BlockStop.Failed → Rose (W.view w.old).disk_faults (W.view w.new).disk_faults }
-    ensures same { Untouched (W.view w.old) (W.view w.new) }
-{
-    if let Some(refusal) = misplaced(eof, entry) {
-        return Err(BlockStop::Refused(refusal));
-    }
-    read_bytes(w, entry, buffer)?;
-    match framed(buffer, entry) {
-        Ok(_) => Ok(()),
-        Err(refusal) => Err(BlockStop::Refused(refusal)),
-    }
-}
-
-/// The data of the block that an entry names, checked as `check_block` does.
+/// `Refused` says the first thing that is wrong with the block; `Failed` comes only where the disk failed, `Memory` where there was none.
 #[tactic(auto, unfolding(crate::specs::Blocks::data_at))]
 pub fn read_block<W: Outside>(
     alloc: Global,
@@ -159,7 +125,7 @@ pub fn read_block<W: Outside>(
     if let Err(Failed) = read_bytes(w, entry, &mut buffer) {
         return Err(MemOr::Refused(BlockStop::Failed));
     }
-    match framed(&buffer, entry) {
+    match framed(&buffer[..disk_size(entry.cb)], entry) {
         Ok(view) => Ok(Bytes::from_slice(alloc, view.body())?),
         Err(refusal) => Err(MemOr::Refused(BlockStop::Refused(refusal))),
     }

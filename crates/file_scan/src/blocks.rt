@@ -6,8 +6,8 @@ ghost use Rattle.file_layout.specs.Trees.{AllPages};
 ghost use Rattle.file_scan.specs.Parts.{StopsEof, StopsAtBlock, AllPlaced, HasBlocks, StopsBlocks};
 ghost use Rattle.file_layout.specs.Nodes.{LARGEST};
 
+use crate::runs::check_run;
 use btree_pages::BlockEntry;
-use file_blocks::{BlockStop, check_block};
 use file_layout::{OpenRefusal, OpenStop, read_tree};
 use pst_base::Bref;
 use pst_outside::{Outside, Part};
@@ -19,8 +19,8 @@ const BLOCK_TREE: u8 = 0x80;
 /// The most bytes that a file may have: those before the first region, and 8192 regions.
 const LARGEST: u64 = 0x4400 + 253_952 * 8192;
 
-/// The most bytes that a block takes in the file.
-const BUFFER: usize = 8192;
+/// The most bytes that a run has.
+const BUFFER: usize = 65_536;
 
 /// Refuses a file that is shorter than its header says, or whose header names an end past the last region that may be.
 pub(crate) fn check_eof<W: Outside>(w: &mut W, eof: u64) -> Result<(), OpenStop>
@@ -40,7 +40,7 @@ pub(crate) fn check_eof<W: Outside>(w: &mut W, eof: u64) -> Result<(), OpenStop>
     Ok(())
 }
 
-/// Checks that each entry of the block tree names a whole block.
+/// Checks that each entry of the block tree names a whole block. Blocks that stand near one another are read at once.
 pub(crate) fn check_blocks<W: Outside>(
     w: &mut W,
     eof: u64,
@@ -54,17 +54,9 @@ pub(crate) fn check_blocks<W: Outside>(
     ensures same { Untouched (W.view w.old) (W.view w.new) }
 {
     let mut buffer = [0; BUFFER];
-    for entry in blocks {
-        match check_block(w, eof, *entry, &mut buffer) {
-            Ok(()) => {}
-            Err(BlockStop::Failed) => return Err(OpenStop::Fault),
-            Err(BlockStop::Refused(fault)) => {
-                return Err(OpenStop::Refused(OpenRefusal::Block {
-                    ib: entry.at.ib,
-                    fault,
-                }));
-            }
-        }
+    let mut done = 0;
+    while done < blocks.len() {
+        done += check_run(w, eof, &blocks[done..], &mut buffer)?;
     }
     Ok(())
 }

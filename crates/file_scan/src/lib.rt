@@ -10,6 +10,7 @@ mod next;
 mod nodes;
 mod places;
 mod refs;
+mod runs;
 mod scan;
 
 pub use nodes::NodeLine;
