@@ -11,13 +11,13 @@ use Rattle.mapi_values.specs.Properties.{ascend_from}
 use Rattle.mapi_values.specs.Values.{Val}
 use Rattle.heap_on_node.specs.Heap.{IsHeap, item}
 use Rattle.bth_tree.specs.Records.{entry_of}
-use Rattle.bth_tree.specs.Tree.{any_bth}
+use Rattle.bth_tree.specs.Tree.{any_bth, bth}
 use Rattle.bth_tree.proofs.OptionLaws.{bind-some, none-some, some-injective}
 use Rattle.node_values.specs.Subnodes.{data_of}
 use Rattle.mail_objects.specs.table_context.Context.{IsTableContext, table_in, table_of}
 use Rattle.mail_objects.specs.table_context.Header.{columns_of, ends_in, index_in, matrix_in, names_index, size_in}
 use Rattle.mail_objects.specs.table_context.Rows.{cells_of, others, raw_rows, row_in, row_of, rows_of, shows_id, used}
-use Rattle.content_glance.specs.Rows.{TellsRow}
+use Rattle.content_glance.specs.Rows.{TellsCount, TellsRow}
 use Rattle.content_glance.proofs.EntryLaws.{any-bth}
 
 -- a row's bytes have its record's id
@@ -96,3 +96,40 @@ tells-none blocks root id head heap at none = λ subs t c.
 pub index-fits : (x : List ℕ) → names_index x ≡ true → 14 ≤ length x
 unfolding names_index
 index-fits x h = omega (arith, leb-true 22 (length x) (and_parts (nat_le 22 (length x)) (number_at 1 0 x == 0x7C) h).0)
+
+raws-count : (row : ℕ → Option (List ℕ)) (recs raws : List (ℕ × List ℕ)) → raw_rows row recs ≡ Some raws → length raws ≡ length recs
+raws-count row [] raws h = ap (length {A = ℕ × List ℕ}) (sym (some-injective [] raws h))
+raws-count row (r ∷ rs) raws h =
+    let a = bind-some (λ (x : List ℕ). option_and_then (λ (xs : List (ℕ × List ℕ)). Some ((r.0, x) ∷ xs)) (raw_rows row rs)) (row (little_number 4 r.1)) raws h in
+    let b = bind-some (λ (xs : List (ℕ × List ℕ)). Some ((r.0, a.0) ∷ xs)) (raw_rows row rs) raws a.2 in
+    let is : length raws ≡ length ((r.0, a.0) ∷ b.0) = ap (length {A = ℕ × List ℕ}) (sym (some-injective ((r.0, a.0) ∷ b.0) raws b.2)) in
+    omega (arith, is, raws-count row rs b.0 b.1)
+
+rows-count : (get : ℕ → Option (List ℕ)) (sub : ℕ → Option (List (List ℕ))) (from : ℕ) (columns : List Column) (raws : List (ℕ × List ℕ)) (rows : List (ℕ × List Val)) → rows_of get sub from columns raws ≡ Some rows → length rows ≡ length raws
+rows-count get sub from columns [] rows h = ap (length {A = ℕ × List Val}) (sym (some-injective [] rows h))
+rows-count get sub from columns (r ∷ rs) rows h =
+    let a = bind-some (λ (row : ℕ × List Val). option_and_then (λ (more : List (ℕ × List Val)). Some (row ∷ more)) (rows_of get sub from columns rs)) (row_of get sub from columns r.0 r.1) rows h in
+    let b = bind-some (λ (more : List (ℕ × List Val)). Some (a.0 ∷ more)) (rows_of get sub from columns rs) rows a.2 in
+    let is : length rows ≡ length (a.0 ∷ b.0) = ap (length {A = ℕ × List Val}) (sym (some-injective (a.0 ∷ b.0) rows b.2)) in
+    omega (arith, is, rows-count get sub from columns rs b.0 b.1)
+
+-- a table has as many rows as its row index has records
+table-count : (get : ℕ → Option (List ℕ)) (subs : List Flat) (x : List ℕ) (recs : List (ℕ × List ℕ)) (t : Tab) → table_in get subs x recs ≡ Some t → length t.rows ≡ length recs
+unfolding table_in table_of
+table-count get subs x recs t h =
+    let made : List Column → List (ℕ × List ℕ) → List (ℕ × List Val) → Tab = λ columns raws rows. record { columns = columns; ends = ends_in x; rows = rows; kept = others (used (number_at 2 6 x) columns raws (matrix_in x)) subs } in
+    let rows_in : List Column → List (ℕ × List ℕ) → Option (List (ℕ × List Val)) = λ columns raws. rows_of get (data_of subs) (number_at 2 6 x) columns raws in
+    let raws_in : Option (List (ℕ × List ℕ)) = raw_rows (row_in get (data_of subs) (size_in x) (matrix_in x)) recs in
+    let c = bind-some (λ (columns : List Column). table_of get subs x columns recs) (columns_of x) t h in
+    let r = bind-some (λ (raws : List (ℕ × List ℕ)). option_and_then (λ (rows : List (ℕ × List Val)). Some (made c.0 raws rows)) (rows_in c.0 raws)) raws_in t c.2 in
+    let v = bind-some (λ (rows : List (ℕ × List Val)). Some (made c.0 r.0 rows)) (rows_in c.0 r.0) t r.2 in
+    ap (λ (u : Tab). length u.rows) (sym (some-injective (made c.0 r.0 v.0) t v.2))
+    ∙ rows-count get (data_of subs) (number_at 2 6 x) c.0 r.0 v.0 v.1
+    ∙ raws-count (row_in get (data_of subs) (size_in x) (matrix_in x)) recs r.0 r.1
+
+pub tells-count : (blocks : List (List ℕ)) (root : ℕ) (head : List ℕ) (rs : List (ℕ × List ℕ)) → IsHeap blocks 0x7C root → item blocks root ≡ Some head → bth (item blocks) (index_in head) 4 4 ≡ Some rs
+    → TellsCount blocks (Some (length rs))
+tells-count blocks root head rs heap at looked = λ subs t c.
+    let same : head ≡ c.head = some-injective head c.head (sym at ∙ same-head blocks root subs t heap c) in
+    let recs : rs ≡ c.recs = some-injective rs c.recs (sym looked ∙ ap (λ (x : List ℕ). bth (item blocks) (index_in x) 4 4) same ∙ c.index) in
+    ap Some (ap (length {A = ℕ × List ℕ}) recs ∙ sym (table-count (item blocks) subs c.head c.recs t c.table))

@@ -1,5 +1,5 @@
 -- What the data of a node tells of the rows of its table, without its subnodes.
-use Rattle.std.specs.Prelude.{◌≡◌, ℕ, Bool, List, Option, Some}
+use Rattle.std.specs.Prelude.{◌≡◌, ℕ, Bool, List, Option, Some, length}
 use Rattle.std.specs.Option.{is_some}
 use Rattle.pst_base.specs.Flat.{Flat}
 use Rattle.mapi_values.specs.Tables.{Tab, find_row}
@@ -8,3 +8,7 @@ use Rattle.mail_objects.specs.table_context.Context.{IsTableContext}
 -- whatever the subnodes are with which the blocks are a table, it is told whether that has a row with the id; nothing is told only where there are none
 abbrev pub TellsRow : List (List ℕ) → ℕ → Option Bool → Type 0
 TellsRow blocks id told = (subs : List Flat) (t : Tab) → IsTableContext blocks subs t → told ≡ Some (is_some (find_row id t.rows))
+
+-- the same of how many rows it has
+abbrev pub TellsCount : List (List ℕ) → Option ℕ → Type 0
+TellsCount blocks told = (subs : List Flat) (t : Tab) → IsTableContext blocks subs t → told ≡ Some (length t.rows)

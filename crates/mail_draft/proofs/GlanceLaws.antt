@@ -1,5 +1,5 @@
 -- What a message's node tells, and what the tree has.
-use Rattle.std.proofs.Common.{◌≡◌, ℕ, Bool, is_some, List, [], ◌∷◌, Option, None, Some, Result, Ok, Err, refl, sym, ap, ◌∙◌, subst}
+use Rattle.std.proofs.Common.{◌≡◌, ℕ, Bool, is_some, length, List, [], ◌∷◌, Option, None, Some, Result, Ok, Err, refl, sym, ap, ◌∙◌, subst}
 use Rattle.std.proofs.lemmas.Option.{same_Some}
 use Rattle.std.proofs.lemmas.Bool.{ne_eqb}
 use Rattle.std.specs.Option.{option_and_then, unwrap_or}
@@ -12,7 +12,7 @@ use Rattle.node_port.specs.declared.node.NodeRec.{NodeRec}
 use Rattle.content_glance.specs.declared.content.Glance.{Glance}
 use Rattle.content_glance.specs.declared.content.Glance.TheVariants.{Held, Absent, Below}
 use Rattle.content_glance.specs.Glances.{IsTold, Tells}
-use Rattle.content_glance.specs.Rows.{TellsRow}
+use Rattle.content_glance.specs.Rows.{TellsCount, TellsRow}
 use Rattle.mail_objects.specs.Forms.{Tbl}
 use Rattle.mail_objects.specs.Objects.{ShowsMail, ShowsTable}
 use Rattle.mail_objects.specs.declared.object.Object.{Object}
@@ -23,7 +23,7 @@ use Rattle.mail_tree.specs.Tree.{StandsAt, Tree, object_at}
 use Rattle.mail_tree.specs.Values.{bytes_of, number_of, of_kind}
 use Rattle.mail_draft.specs.declared.stop.Stop.{Stop}
 use Rattle.mail_draft.specs.Answers.{Says}
-use Rattle.mail_draft.specs.Glancing.{AreOfTable, IsContent, TellsHas, told_bytes}
+use Rattle.mail_draft.specs.Glancing.{AreOfTable, IsContent, TellsHas, TellsRows, told_bytes}
 
 -- the content of a node that stands where the tree has a message
 pub content-message : (q : ℕ) (node : NodeRec) (whole : Option NodeRec) (object : Option Object) (other : Option NodeRec) (m : Mes) → Some node ≡ content_of whole → StandsAt q whole object other
@@ -118,3 +118,14 @@ table-there T q t here = ap as_table (sym (ap (λ at. at q) (now_nothing T))) �
 pub has-said : (row : ℕ) (t : Tbl) (result : Result Bool Stop) → TellsHas row t result → Says (λ (b : Bool). b) (Ok (is_some (find_row row t.table.rows))) result
 has-said row t (Ok has) told = told
 has-said row t (Err stop) told = told
+
+-- what is told of how many rows there are by a table's blocks is so of the table
+pub told-rows : (node : NodeRec) (t : Tbl) (told : Option ℕ) → TellsCount node.blocks told → AreOfTable node t → told ≡ Some (length t.table.rows)
+told-rows node t told tells are =
+    let there : TellsCount are.whole.blocks told = subst (λ (blocks : List (List ℕ)). TellsCount blocks told) are.blocks tells in
+    there are.whole.subs t.table are.shows.table
+
+-- and it is the answer
+pub rows-said : (t : Tbl) (result : Result ℕ Stop) → TellsRows t result → Says (λ (n : ℕ). n) (Ok (length t.table.rows)) result
+rows-said t (Ok count) told = told
+rows-said t (Err stop) told = told

@@ -1,5 +1,5 @@
 -- What is read of a message's node without its subnodes.
-use Rattle.std.specs.Prelude.{◌≡◌, ℕ, Bool, List, Option, None, Some, Result, Ok, Err}
+use Rattle.std.specs.Prelude.{◌≡◌, ℕ, Bool, List, Option, None, Some, Result, Ok, Err, length}
 use Rattle.std.specs.Option.{is_some}
 use Rattle.mapi_values.specs.Tables.{find_row}
 use Rattle.mapi_values.specs.Messages.{Mes}
@@ -60,3 +60,8 @@ pub record AreOfTable (node : NodeRec) (t : Tbl) : Type 0 where
 abbrev pub TellsHas : ℕ → Tbl → Result Bool Stop → Type 0
 TellsHas row t (Ok has) = has ≡ is_some (find_row row t.table.rows)
 TellsHas row t (Err stop) = IsNoMatter stop
+
+-- and how many it has
+abbrev pub TellsRows : Tbl → Result ℕ Stop → Type 0
+TellsRows t (Ok count) = count ≡ length t.table.rows
+TellsRows t (Err stop) = IsNoMatter stop

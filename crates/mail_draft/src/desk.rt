@@ -6,7 +6,7 @@ ghost use Rattle.mail_tree.specs.Ids.{next_index};
 ghost use Rattle.mail_tree.specs.Messages.{parent_at};
 ghost use Rattle.mail_tree.specs.Tree.{Tree};
 ghost use Rattle.mail_draft.specs.Drafts.{all_fit};
-ghost use Rattle.mail_draft.specs.Listed.{has_row, listed_in};
+ghost use Rattle.mail_draft.specs.Listed.{has_row, listed_in, row_count};
 ghost use Rattle.mail_draft.specs.Placed.{is_placed};
 ghost use Rattle.mail_draft.specs.Sight.{Answers, AreOwn, Changes, Drafts, IsAbout, Reads, SameBeside, Sight};
 ghost use Rattle.mail_draft.specs.Unread.{unread_of};
@@ -84,6 +84,11 @@ pub trait Desk {
     fn has_row(&mut self, table: Nid, row: Nid) -> Result<bool, Stop>
         ensures reads { Reads (view self.old) (view self.new) result }
         ensures answer { Answers (view self.old) (λ b. b) (λ T D. has_row T table.bits row.bits) result };
+
+    /// How many rows the table at an id has, before the line.
+    fn row_count(&mut self, table: Nid) -> Result<usize, Stop>
+        ensures reads { Reads (view self.old) (view self.new) result }
+        ensures answer { Answers (view self.old) (λ n. n) (λ T D. row_count T table.bits) result };
 
     /// Puts an object at an id, or removes what stands there. A message is put at its own id.
     fn put(&mut self, nid: Nid, object: Option<Object>) -> Result<(), Stop>

@@ -9,12 +9,12 @@ ghost use Rattle.mail_objects.specs.Forms.{Tbl};
 ghost use Rattle.mail_tree.specs.Tree.{Shown, Tree, object_at};
 ghost use Rattle.mail_tree.specs.Values.{number_of, text_of};
 ghost use Rattle.mail_draft.specs.Answers.{IsCalm, IsCaused, Looks, Says};
-ghost use Rattle.mail_draft.specs.Glancing.{AreOfTable, HasContent, HoldsMessage, IsContent, TellsHas, TellsText, TellsValue, told_bytes};
-ghost use Rattle.mail_draft.specs.Listed.{has_row};
+ghost use Rattle.mail_draft.specs.Glancing.{AreOfTable, HasContent, HoldsMessage, IsContent, TellsHas, TellsRows, TellsText, TellsValue, told_bytes};
+ghost use Rattle.mail_draft.specs.Listed.{has_row, row_count};
 ghost use Rattle.mail_draft.specs.Unread.{unread_of};
 
 use crate::stop::Stop;
-use content_glance::{Glance, glance_at, has_row_at};
+use content_glance::{Glance, glance_at, has_row_at, row_count_at};
 use mapi_values::Units;
 use mapi_values::tags::{PID_TAG_MESSAGE_FLAGS, PTYP_INTEGER_32, PTYP_STRING};
 use node_port::{NodeReader, NodeRec};
@@ -151,6 +151,34 @@ pub fn has_row<W: Outside, K: NodeReader<W>>(
 {
     match content_at(alloc, keeper, w, table)? {
         Some(node) => row_told(&node, row),
+        None => Err(Stop::formless()),
+    }
+}
+
+/// How many rows the table whose data a node has has.
+fn rows_told(alloc: Global, node: &NodeRec) -> Result<usize, Stop>
+    ensures told { (t : Tbl) → AreOfTable node.now t → TellsRows t result }
+    ensures calm { IfErr result IsCalm }
+{
+    match row_count_at(alloc, node.blocks.as_slice())? {
+        Some(count) => Ok(count),
+        None => Err(Stop::formless()),
+    }
+}
+
+/// How many rows the table at an id of the nodes has. Neither the rows nor the table's subnodes are read.
+pub fn row_count<W: Outside, K: NodeReader<W>>(
+    alloc: Global,
+    keeper: &mut K,
+    w: &mut W,
+    table: Nid,
+) -> Result<usize, Stop>
+    ensures answer { (T : Tree) → Shown (K.holds keeper.old (W.view w.old)) (K.last keeper.old) T → Says (λ n. n) (row_count T table.bits) result }
+    ensures looks { Looks (K.holds keeper.old (W.view w.old)) (K.holds keeper.new (W.view w.new)) (K.last keeper.old) (K.last keeper.new) (K.room keeper.old) (K.room keeper.new) (W.view w.old) (W.view w.new) }
+    ensures cause { IfErr result (IsCaused K.has_disk (W.view w.old).disk_faults (W.view w.new).disk_faults) }
+{
+    match content_at(alloc, keeper, w, table)? {
+        Some(node) => rows_told(alloc, &node),
         None => Err(Stop::formless()),
     }
 }

@@ -1,7 +1,7 @@
 //! A desk over a keeper and its world.
 use crate::desk::{CountingDesk, Desk};
 use crate::draft::Draft;
-use crate::glance::has_row;
+use crate::glance::{has_row, row_count};
 use crate::ids::next_index;
 use crate::kept::{kept_message, kept_table};
 use crate::limits::within_limits;
@@ -108,6 +108,10 @@ impl<'k, 'w, 'p, 'f, 's, 'd, W: Outside, K: NodeReader<W>> Desk
 
     fn has_row(&mut self, table: Nid, row: Nid) -> Result<bool, Stop> {
         has_row(self.alloc, self.keeper, self.world, table, row)
+    }
+
+    fn row_count(&mut self, table: Nid) -> Result<usize, Stop> {
+        row_count(self.alloc, self.keeper, self.world, table)
     }
 
     fn put(&mut self, nid: Nid, object: Option<Object>) -> Result<(), Stop> {

@@ -1,5 +1,5 @@
 -- Commands on messages, part by part.
-use Rattle.std.specs.Prelude.{ℕ, ◌==◌, ◌++◌, List, length, map, nat_le, not, is_some, Ok, if◌then◌else◌, ◌||◌}
+use Rattle.std.specs.Prelude.{ℕ, ◌==◌, ◌++◌, List, map, nat_le, not, is_some, Ok, if◌then◌else◌, ◌||◌}
 use Rattle.std.specs.List.{list_any}
 use Rattle.command_text.specs.declared.reply.CommandRefusal.TheVariants.{Limit, Property, Protected, Reserved}
 use Rattle.command_text.specs.declared.reply.Limit.TheVariants.{Rows}
@@ -9,7 +9,6 @@ use Rattle.command_text.specs.declared.reply.Reply.{Reply}
 use Rattle.mapi_values.specs.Messages.{Mes}
 use Rattle.mapi_values.specs.Properties.{put, remove_id}
 use Rattle.mapi_values.specs.Values.{Val}
-use Rattle.mail_objects.specs.Forms.{Tbl}
 use Rattle.mail_tree.specs.declared.places.FolderPlace.{FolderPlace}
 use Rattle.mapi_values.specs.declared.value.Tag.{Tag}
 use Rattle.mail_tree.specs.Tree.{Tree}
@@ -60,9 +59,9 @@ value_reply tag props = found Property (value_of tag props) >>= λ v. Ok (replie
 abbrev pub telling_value : Tree → Tag → List Val → Answer Outcome
 telling_value T tag props = found Property (value_of tag props) >>= λ v. Ok (unchanged T (replied (Value v)))
 
--- a table has few enough rows to get another
-abbrev pub may_grow : Tbl → Answer (Unit {0})
-may_grow t = refused_if (nat_le 100000 (length t.table.rows)) (Limit Rows)
+-- a table of so many rows may get another
+abbrev pub may_grow : ℕ → Answer (Unit {0})
+may_grow count = refused_if (nat_le 100000 count) (Limit Rows)
 
 -- a folder lists a message with these values in a row, and is counted anew
 abbrev pub adding_row : Tree → ℕ → ℕ → List Val → Changed → Answer Changed

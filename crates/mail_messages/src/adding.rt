@@ -14,19 +14,19 @@ use crate::mails::put_message;
 use command_text::{CommandRefusal, Limit};
 use mail_draft::on_desk::{add_shown, making, settled};
 use mail_draft::{Coming, CountingDesk, Desk, Stop};
-use mail_objects::{Mail, TableNode};
+use mail_objects::Mail;
 use mapi_values::Props;
 use pst_base::Nid;
 
 /// How many rows a command may bring a table to.
 const MOST_ROWS: usize = 100_000;
 
-/// Checks that a table may get another row.
-fn check_growth(table: &TableNode) -> Result<(), Stop>
-    ensures answer { Says (λ u. u) (may_grow table.now) result }
+/// Checks that a table of so many rows may get another.
+fn check_growth(count: usize) -> Result<(), Stop>
+    ensures answer { Says (λ u. u) (may_grow count) result }
     ensures cause { IfErr result IsCalm }
 {
-    if table.table().rows().len() >= MOST_ROWS {
+    if count >= MOST_ROWS {
         return Err(Stop::Refused(CommandRefusal::Limit(Limit::Rows)));
     }
     Ok(())
@@ -37,8 +37,8 @@ fn unless_full<D: Desk>(desk: &mut D, folder: Nid) -> Result<(), Stop>
     ensures reads { Reads (D.view desk.old) (D.view desk.new) result }
     ensures answer { Answers (D.view desk.old) (λ u. u) (λ T c. unless_full T (contents folder.bits)) result }
 {
-    let table = desk.table_before(contents(folder))?;
-    check_growth(&table)
+    let count = desk.row_count(contents(folder))?;
+    check_growth(count)
 }
 
 /// The index of the next message, which may be past the last one.
