@@ -1,5 +1,9 @@
 -- What stays of data.
-use Rattle.std.proofs.Common.{Bool, true, false, not, ◌&&◌, ◌≡◌, ◌⊎◌, inl, inr, ◌∙◌, ℕ, zero, suc, ◌+◌, ◌/◌, ◌%◌, ◌<◌, ◌≤◌, eqb, leb, ltb, List, [], ◌∷◌, ◌++◌, length, drop, min, append-nil, Option, Some, None, IsSome, refl, sym, ap, subst, arith, if◌then◌else◌, ◌||◌}
+use Rattle.std.proofs.Common.{Bool, true, false, cond, not, ◌&&◌, ◌≡◌, ◌⊎◌, inl, inr, ◌∙◌, ℕ, zero, suc, ◌+◌, ◌/◌, ◌%◌, ◌<◌, ◌≤◌, eqb, leb, ltb, List, [], ◌∷◌, ◌++◌, length, drop, get_or, min, append_assoc, append-nil, Option, Some, None, IsSome, refl, sym, ap, subst, arith, if◌then◌else◌, ◌||◌, Ordering, Less, Equal, Greater}
+use Rattle.std.specs.BTreeSet.{BTreeSet, contains}
+use Rattle.std.specs.Cmp.{nat_cmp_total, eq_by_cmp_equiv, ranked}
+use Rattle.std.specs.Ordering.{nat_cmp, eq_by_cmp, is_eq}
+use Rattle.std.proofs.lemmas.List.{drop_more}
 use Rattle.std.proofs.lemmas.Bool.{and_parts, cases_eq, cases_lt, eq-eqb, ne_eqb, eqb-true, eqb-false, leb-true, ltb-true}
 use Rattle.pst_base.specs.declared.ids.Bid.{Bid}
 use Rattle.pst_base.specs.Ids.{key_of}
@@ -9,7 +13,7 @@ use Rattle.data_tree.specs.Tree.{is_internal}
 use Rattle.data_tree.proofs.KeyLaws.{count-append}
 use Rattle.node_layout.specs.Joined.{kept_keys}
 use Rattle.subnode_tree.proofs.PairLaws.{Pair}
-use Rattle.content_plan.specs.Keep.{same_bytes, has_key, may_stay, kept_one, keys_with, kept_from, kept_list, Keeps}
+use Rattle.content_plan.specs.Keep.{HasKeys, same_bytes, has_key, may_stay, kept_one, keys_with, kept_from, kept_list, Keeps}
 
 -- ---- bytes and keys
 
@@ -184,6 +188,16 @@ kept-done next keys keep whole ids was now i n is h so_far =
     let none = kept-end next keys ids was now i ends in
     sym (append-nil keep) ∙ ap (λ (l : List (Option Bid)). keep ++ l) (sym none) ∙ so_far
 
+pub kept-step : (next : ℕ) (keys : List ℕ) (keep whole : List (Option Bid)) (ids : List (Option Bid)) (was now : List (List ℕ)) (i : ℕ) (one : Option Bid) (w b : List ℕ) → i < length ids → i < length was → i < length now
+    → w ≡ get_or was i w → b ≡ get_or now i b → one ≡ kept_one next keys (get_or ids i None) w b → keep ++ kept_from next keys (drop i ids) (drop i was) (drop i now) ≡ whole
+    → (keep ++ one ∷ []) ++ kept_from next (keys_with keys one) (drop (i + 1) ids) (drop (i + 1) was) (drop (i + 1) now) ≡ whole
+kept-step next keys keep whole ids was now i one w b low lower lowest was-is now-is is so_far =
+    let had : drop i was ≡ w ∷ drop (i + 1) was = drop_more was i w lower ∙ ap (λ (x : List ℕ). x ∷ drop (i + 1) was) (sym was-is) in
+    let has : drop i now ≡ b ∷ drop (i + 1) now = drop_more now i b lowest ∙ ap (λ (x : List ℕ). x ∷ drop (i + 1) now) (sym now-is) in
+    let rest = kept_from next (keys_with keys one) (drop (i + 1) ids) (drop (i + 1) was) (drop (i + 1) now) in
+    let first : kept_from next keys (drop i ids) (drop i was) (drop i now) ≡ one ∷ rest = rw (drop_more ids i None low, had, has, is) refl in
+    append_assoc keep (one ∷ []) rest ∙ ap (λ (l : List (Option Bid)). keep ++ l) (sym first) ∙ so_far
+
 -- what is kept of some data may be
 abbrev pub PairKeeps : ℕ → Pair → Type 0
 PairKeeps next pair = Keeps next pair.0 pair.1
@@ -211,3 +225,41 @@ kept-still find after (Some bid ∷ keep) (b ∷ bs) still found =
       still (key_of bid.bits) b (omega (arith, one)) found.0,
       kept-still find after keep bs (λ key c some is. still key c (omega (arith, some)) is) found.1,
     )
+
+-- ---- the set of keys
+
+there : (q k : ℕ) (ks : List ℕ) → q ≡ k → has_key q (ks ++ k ∷ []) ≡ true
+there q k [] same = rw (eq-eqb k q (sym same)) refl
+there q k (x ∷ xs) same = by (eqb x q) (there q k xs same)
+  where
+    by : (b : Bool) → has_key q (xs ++ k ∷ []) ≡ true → (b || has_key q (xs ++ k ∷ [])) ≡ true
+    by true rest = refl
+    by false rest = rest
+
+beside : (q k : ℕ) (ks : List ℕ) → (q ≡ k → ⊥) → has_key q (ks ++ k ∷ []) ≡ has_key q ks
+beside q k [] other = rw (ne_eqb k q (λ e. other (sym e))) refl
+beside q k (x ∷ xs) other = ap (λ (b : Bool). eqb x q || b) (beside q k xs other)
+
+equal-is : (r : Ordering) → is_eq r ≡ true → r ≡ Equal
+equal-is Less h = cc
+equal-is Equal h = refl
+equal-is Greater h = cc
+
+compared : (k q : ℕ) → eq_by_cmp nat_cmp k q ≡ eqb k q
+compared k q = elim (cases_eq k q) [
+  | inl same ↦ subst (λ (n : ℕ). eq_by_cmp nat_cmp k n ≡ eqb k n) same ((eq_by_cmp_equiv nat_cmp_total).refl k ∙ sym (eq-eqb k k refl))
+  | inr other ↦ by (eq_by_cmp nat_cmp k q) refl other ∙ sym (ne_eqb k q other)
+]
+  where
+    by : (b : Bool) → eq_by_cmp nat_cmp k q ≡ b → (k ≡ q → ⊥) → b ≡ false
+    by false e other = refl
+    by true e other = absurd (other (ranked k q Equal (sym (equal-is (nat_cmp k q) e))))
+
+-- a set with one key more has it behind the others
+pub put-key : (k : ℕ) (old new : BTreeSet ℕ) → ((q : ℕ) → contains nat_cmp new q ≡ cond (eq_by_cmp nat_cmp k q) true (contains nat_cmp old q)) → (ks : List ℕ) → HasKeys old ks → HasKeys new (ks ++ k ∷ [])
+put-key k old new updates ks has = λ q.
+    let set : contains nat_cmp new q ≡ cond (eqb k q) true (has_key q ks) = updates q ∙ ap (λ (b : Bool). cond b true (contains nat_cmp old q)) (compared k q) ∙ ap (cond (eqb k q) true) (has q) in
+    elim (cases_eq k q) [
+      | inl same ↦ rw (eq-eqb k q same) at set ∙ sym (there q k ks (sym same))
+      | inr other ↦ rw (ne_eqb k q other) at set ∙ sym (beside q k ks (λ e. other (sym e)))
+    ]

@@ -1,6 +1,8 @@
 -- Which data blocks stay where they are when data is written anew.
-use Rattle.std.specs.Prelude.{◌==◌, ◌&&◌, ◌≤◌, not, nat_le, nat_lt, ℕ, Bool, true, false, if◌then◌else◌, List, [], ◌∷◌, ◌++◌, drop, length, take, Option, None, Some, ◌||◌}
+use Rattle.std.specs.Prelude.{◌≡◌, ◌==◌, ◌&&◌, ◌≤◌, not, nat_le, nat_lt, ℕ, Bool, true, false, if◌then◌else◌, List, [], ◌∷◌, ◌++◌, drop, length, take, Option, None, Some, ◌||◌}
+use Rattle.std.specs.BTreeSet.{BTreeSet, contains}
 use Rattle.std.specs.List.{flat_map}
+use Rattle.std.specs.Ordering.{nat_cmp}
 use Rattle.pst_base.specs.declared.ids.Bid.{Bid}
 use Rattle.pst_base.specs.Flat.{Flat}
 use Rattle.pst_base.specs.Ids.{key_of}
@@ -21,6 +23,10 @@ same_bytes (a ∷ rest) (b ∷ bs) = (a == b) && same_bytes rest bs
 abbrev pub has_key : ℕ → List ℕ → Bool
 has_key key [] = false
 has_key key (k ∷ ks) = (k == key) || has_key key ks
+
+-- the set has just these keys
+abbrev pub HasKeys : BTreeSet ℕ → List ℕ → Type 0
+HasKeys set keys = (key : ℕ) → contains nat_cmp set key ≡ has_key key keys
 
 -- an id of a data block, with a key above 0 and below a number
 unfoldable pub may_stay : ℕ → Bid → Bool
