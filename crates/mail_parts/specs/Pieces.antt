@@ -37,9 +37,13 @@ attaching_to T M name held = refused_if (is_wide attachment_tags M.attachments) 
 abbrev pub attaching : Tree → Mes → List ℕ → Held → Answer Outcome
 attaching T M name held = refused_if (is_full M.attachments) (Limit Rows) >>= λ u. attaching_to T M name held
 
--- an attachment of a message gets another message
+-- this attachment of a message gets another message
+abbrev pub holding : Tree → Sub → Part → Mes → Answer Outcome
+holding T node part M = remaking T (with_part (part_holding node part) M) None Done
+
+-- the attachment of a message with this id gets another message
 abbrev pub holding_in : Tree → ℕ → Sub → Mes → Answer Outcome
-holding_in T n node M = found Object (part_in n M) >>= λ part. remaking T (with_part (part_holding node part) M) None Done
+holding_in T n node M = found Object (part_in n M) >>= λ part. holding T node part M
 
 -- a message loses the attachment with this id
 abbrev pub detaching : Tree → ℕ → Mes → Answer Outcome

@@ -3,29 +3,29 @@ ghost use Rattle.std.specs.Prelude.{◌≡◌, IfErr, IfOk, if◌then◌else◌,
 ghost use Rattle.command_text.specs.declared.reply.CommandRefusal.TheVariants as refusal;
 ghost use Rattle.command_text.specs.declared.reply.Limit.TheVariants as limit;
 ghost use Rattle.command_text.specs.declared.reply.LastLine.TheVariants as last;
-ghost use Rattle.mail_tree.specs.Knowing.{Knows};
-ghost use Rattle.mail_tree.specs.Tree.{Shown, Tree};
-ghost use Rattle.mail_tree.specs.Changing.{refused_if};
+ghost use Rattle.mail_tree.specs.Changing.{nothing, refused_if};
+ghost use Rattle.mail_tree.specs.Folders.{unchanged};
 ghost use Rattle.mail_tree.specs.Messages.{added_attachment, fetched_data, removed_attachment, spent_index};
-ghost use Rattle.mail_tree.specs.Parts.{attachment_tags, is_full, is_wide, next_part, part_nid, new_part, room_for, with_attachment};
-ghost use Rattle.mail_draft.specs.Outcomes.{outcome_of};
-ghost use Rattle.mail_draft.specs.Answers.{IsCalm, IsCaused, Looks, Says};
+ghost use Rattle.mail_tree.specs.Parts.{attachment_tags, data_tag, is_full, is_wide, next_part, part_nid, new_part, room_for, with_attachment};
+ghost use Rattle.mail_tree.specs.Tree.{Tree};
+ghost use Rattle.mail_draft.specs.Answers.{IsCalm, Says};
+ghost use Rattle.mail_draft.specs.Desks.{Comes};
+ghost use Rattle.mail_draft.specs.Sight.{Drafts, Reads};
+ghost use Rattle.mail_messages.specs.Parts.{telling_value};
 ghost use Rattle.mail_parts.specs.Pieces.{attaching, attaching_to, detaching, telling_data};
 
 use crate::part_ids::next_part;
 use crate::part_places::part_in;
 use crate::part_values::{attachment_props, held_subnodes};
 use crate::with_attachments::{LAST_INDEX, room_for, take_attachment, with_part, with_table};
-use command_text::{CommandRefusal, Held, LastLine, Limit};
-use mail_draft::{Outcome, Stop, new_id};
-use mail_messages::{Ending, message_in, remake_message, rows_of, tell_value};
+use command_text::{CommandRefusal, Held, LastLine, Limit, Reply};
+use mail_draft::{Coming, Desk, Stop, new_id};
+use mail_messages::on_desk::{message_in, remake_message};
+use mail_messages::{Ending, rows_of, tell_value};
 use mail_objects::Mail;
-use mail_tree::{Known, Places};
 use mapi_values::tags::PID_TAG_ATTACH_DATA_BINARY;
-use mapi_values::{Part, Units};
-use node_port::NodeReader;
+use mapi_values::{Part, Props, Units};
 use pst_base::Nid;
-use pst_outside::Outside;
 use std::alloc::{AllocError, Global};
 
 /// How many rows a command may bring a table of attachments to.
@@ -79,23 +79,15 @@ pub fn with_attachment(
 }
 
 /// Gives a message an attachment of this name that holds this. Refused where its table would have too many columns.
-fn attach_to<W: Outside, K: NodeReader<W>>(
-    alloc: Global,
-    keeper: &mut K,
-    w: &mut W,
-    known: &Known,
-    mail: Mail,
-    name: &Units,
-    held: &Held,
-) -> Result<Outcome, Stop>
-    ensures answer { (T : Tree) → Shown (K.holds keeper.old (W.view w.old)) (K.last keeper.old) T → Knows T known.now → Says (outcome_of T) (attaching_to T mail name.now held.now) result }
-    ensures looks { Looks (K.holds keeper.old (W.view w.old)) (K.holds keeper.new (W.view w.new)) (K.last keeper.old) (K.last keeper.new) (K.room keeper.old) (K.room keeper.new) (W.view w.old) (W.view w.new) }
-    ensures cause { IfErr result (IsCaused K.has_disk (W.view w.old).disk_faults (W.view w.new).disk_faults) }
+fn attach_to<D: Desk>(desk: &mut D, mail: Mail, name: &Units, held: &Held) -> Result<Coming, Stop>
+    requires fresh { (D.view desk.old).changed ≡ nothing }
+    ensures drafts { Drafts (D.view desk.old) (D.view desk.new) result }
+    ensures answer { Comes (D.view desk.old) (D.view desk.new) (λ T c. attaching_to T mail name.now held.now) result }
 {
     let index = next_part(&mail);
-    let added = with_attachment(alloc, mail, index, name, held)?;
+    let added = with_attachment(desk.alloc(), mail, index, name, held)?;
     match added {
-        Some(mail) => { remake_message(alloc, keeper, w, known, mail, attachment_ending(index)) }
+        Some(mail) => remake_message(desk, mail, attachment_ending(index)),
         None => Err(Stop::Refused(CommandRefusal::Limit(Limit::Rows))),
     }
 }
@@ -112,101 +104,79 @@ fn check_room(mail: &Mail) -> Result<(), Stop>
 }
 
 /// Gives a message an attachment of this name that holds this.
-fn attach_one<W: Outside, K: NodeReader<W>>(
-    alloc: Global,
-    keeper: &mut K,
-    w: &mut W,
-    known: &Known,
-    mail: Mail,
-    name: &Units,
-    held: &Held,
-) -> Result<Outcome, Stop>
-    ensures answer { (T : Tree) → Shown (K.holds keeper.old (W.view w.old)) (K.last keeper.old) T → Knows T known.now → Says (outcome_of T) (attaching T mail name.now held.now) result }
-    ensures looks { Looks (K.holds keeper.old (W.view w.old)) (K.holds keeper.new (W.view w.new)) (K.last keeper.old) (K.last keeper.new) (K.room keeper.old) (K.room keeper.new) (W.view w.old) (W.view w.new) }
-    ensures cause { IfErr result (IsCaused K.has_disk (W.view w.old).disk_faults (W.view w.new).disk_faults) }
+fn attach_one<D: Desk>(desk: &mut D, mail: Mail, name: &Units, held: &Held) -> Result<Coming, Stop>
+    requires fresh { (D.view desk.old).changed ≡ nothing }
+    ensures drafts { Drafts (D.view desk.old) (D.view desk.new) result }
+    ensures answer { Comes (D.view desk.old) (D.view desk.new) (λ T c. attaching T mail name.now held.now) result }
 {
     check_room(&mail)?;
-    attach_to(alloc, keeper, w, known, mail, name, held)
+    attach_to(desk, mail, name, held)
 }
 
 /// Gives a message an attachment with a file name that holds data or a message, under the id whose index follows the greatest of its subnodes of that kind. Refused, in this order: the message isn't there (`Object`), its table of attachments would have too many rows or columns (`Limit(Rows)`), an object would have too many values (`Limit(Properties)`), no index is left (`Ids`).
-pub fn attach<W: Outside, K: NodeReader<W>>(
-    alloc: Global,
-    keeper: &mut K,
-    w: &mut W,
-    known: &Known,
+pub fn attach<D: Desk>(
+    desk: &mut D,
     message: Nid,
     name: &Units,
     held: &Held,
-) -> Result<Outcome, Stop>
-    ensures answer { (T : Tree) → Shown (K.holds keeper.old (W.view w.old)) (K.last keeper.old) T → Knows T known.now → Says (outcome_of T) (added_attachment T message.bits name.now held.now) result }
-    ensures looks { Looks (K.holds keeper.old (W.view w.old)) (K.holds keeper.new (W.view w.new)) (K.last keeper.old) (K.last keeper.new) (K.room keeper.old) (K.room keeper.new) (W.view w.old) (W.view w.new) }
-    ensures cause { IfErr result (IsCaused K.has_disk (W.view w.old).disk_faults (W.view w.new).disk_faults) }
+) -> Result<Coming, Stop>
+    requires fresh { (D.view desk.old).changed ≡ nothing }
+    ensures drafts { Drafts (D.view desk.old) (D.view desk.new) result }
+    ensures answer { Comes (D.view desk.old) (D.view desk.new) (λ T c. added_attachment T message.bits name.now held.now) result }
 {
-    let mail = message_in(alloc, keeper, w, &known.places, message)?;
-    attach_one(alloc, keeper, w, known, mail, name, held)
+    let mail = message_in(desk, message)?;
+    attach_one(desk, mail, name, held)
 }
 
 /// Removes the attachment with this id from a message.
-fn detach_one<W: Outside, K: NodeReader<W>>(
-    alloc: Global,
-    keeper: &mut K,
-    w: &mut W,
-    known: &Known,
-    mail: Mail,
-    attachment: Nid,
-) -> Result<Outcome, Stop>
-    ensures answer { (T : Tree) → Shown (K.holds keeper.old (W.view w.old)) (K.last keeper.old) T → Knows T known.now → Says (outcome_of T) (detaching T attachment.bits mail) result }
-    ensures looks { Looks (K.holds keeper.old (W.view w.old)) (K.holds keeper.new (W.view w.new)) (K.last keeper.old) (K.last keeper.new) (K.room keeper.old) (K.room keeper.new) (W.view w.old) (W.view w.new) }
-    ensures cause { IfErr result (IsCaused K.has_disk (W.view w.old).disk_faults (W.view w.new).disk_faults) }
+fn detach_one<D: Desk>(desk: &mut D, mail: Mail, attachment: Nid) -> Result<Coming, Stop>
+    requires fresh { (D.view desk.old).changed ≡ nothing }
+    ensures drafts { Drafts (D.view desk.old) (D.view desk.new) result }
+    ensures answer { Comes (D.view desk.old) (D.view desk.new) (λ T c. detaching T attachment.bits mail) result }
 {
     match take_attachment(mail, attachment) {
-        Some(taken) => remake_message(alloc, keeper, w, known, taken.0, Ending::done()),
+        Some(taken) => remake_message(desk, taken.0, Ending::done()),
         None => Err(Stop::Refused(CommandRefusal::Object)),
     }
 }
 
 /// Removes the attachment with this id from a message. Refused where the message isn't there, or has none with it.
-pub fn detach<W: Outside, K: NodeReader<W>>(
-    alloc: Global,
-    keeper: &mut K,
-    w: &mut W,
-    known: &Known,
-    message: Nid,
-    attachment: Nid,
-) -> Result<Outcome, Stop>
-    ensures answer { (T : Tree) → Shown (K.holds keeper.old (W.view w.old)) (K.last keeper.old) T → Knows T known.now → Says (outcome_of T) (removed_attachment T message.bits attachment.bits) result }
-    ensures looks { Looks (K.holds keeper.old (W.view w.old)) (K.holds keeper.new (W.view w.new)) (K.last keeper.old) (K.last keeper.new) (K.room keeper.old) (K.room keeper.new) (W.view w.old) (W.view w.new) }
-    ensures cause { IfErr result (IsCaused K.has_disk (W.view w.old).disk_faults (W.view w.new).disk_faults) }
+pub fn detach<D: Desk>(desk: &mut D, message: Nid, attachment: Nid) -> Result<Coming, Stop>
+    requires fresh { (D.view desk.old).changed ≡ nothing }
+    ensures drafts { Drafts (D.view desk.old) (D.view desk.new) result }
+    ensures answer { Comes (D.view desk.old) (D.view desk.new) (λ T c. removed_attachment T message.bits attachment.bits) result }
 {
-    let mail = message_in(alloc, keeper, w, &known.places, message)?;
-    detach_one(alloc, keeper, w, known, mail, attachment)
+    let mail = message_in(desk, message)?;
+    detach_one(desk, mail, attachment)
 }
 
-/// The data of the attachment with this id as the reply. Refused where there is no such attachment, or it has none.
-fn tell_data(alloc: Global, mail: &Mail, attachment: Nid) -> Result<Outcome, Stop>
-    ensures answer { (T : Tree) → Says (outcome_of T) (telling_data T attachment.bits mail.now) result }
+/// The data of an attachment of these values as a reply. Refused where there is none.
+fn value_reply(alloc: Global, props: &Props) -> Result<Reply, Stop>
+    ensures answer { (T : Tree) → Says (unchanged T) (telling_value T data_tag props.now) result }
+    ensures cause { IfErr result IsCalm }
+{
+    let told = tell_value(alloc, props, PID_TAG_ATTACH_DATA_BINARY)?;
+    Ok(told.reply)
+}
+
+/// The data of the attachment with this id as a reply. Refused where there is no such attachment, or it has none.
+fn data_reply(alloc: Global, mail: &Mail, attachment: Nid) -> Result<Reply, Stop>
+    ensures answer { (T : Tree) → Says (unchanged T) (telling_data T attachment.bits mail.now) result }
     ensures cause { IfErr result IsCalm }
 {
     match part_in(mail, attachment) {
-        Some(part) => tell_value(alloc, &part.props, PID_TAG_ATTACH_DATA_BINARY),
+        Some(part) => value_reply(alloc, &part.props),
         None => Err(Stop::Refused(CommandRefusal::Object)),
     }
 }
 
 /// The data of the attachment with this id. Refused where the message isn't there or has no such attachment (`Object`), or it has no data (`Property`).
-pub fn fetch<W: Outside, K: NodeReader<W>>(
-    alloc: Global,
-    keeper: &mut K,
-    w: &mut W,
-    places: &Places,
-    message: Nid,
-    attachment: Nid,
-) -> Result<Outcome, Stop>
-    ensures answer { (T : Tree) → Shown (K.holds keeper.old (W.view w.old)) (K.last keeper.old) T → T.places ≡ places.now → Says (outcome_of T) (fetched_data T message.bits attachment.bits) result }
-    ensures looks { Looks (K.holds keeper.old (W.view w.old)) (K.holds keeper.new (W.view w.new)) (K.last keeper.old) (K.last keeper.new) (K.room keeper.old) (K.room keeper.new) (W.view w.old) (W.view w.new) }
-    ensures cause { IfErr result (IsCaused K.has_disk (W.view w.old).disk_faults (W.view w.new).disk_faults) }
+pub fn fetch<D: Desk>(desk: &mut D, message: Nid, attachment: Nid) -> Result<Coming, Stop>
+    requires fresh { (D.view desk.old).changed ≡ nothing }
+    ensures reads { Reads (D.view desk.old) (D.view desk.new) result }
+    ensures answer { Comes (D.view desk.old) (D.view desk.new) (λ T c. fetched_data T message.bits attachment.bits) result }
 {
-    let mail = message_in(alloc, keeper, w, places, message)?;
-    tell_data(alloc, &mail, attachment)
+    let mail = message_in(desk, message)?;
+    let reply = data_reply(desk.alloc(), &mail, attachment)?;
+    Ok(Coming::replied(reply))
 }

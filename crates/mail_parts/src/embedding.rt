@@ -1,29 +1,25 @@
 //! What `eset` and `eunset` come to: another message in an attachment.
-ghost use Rattle.std.specs.Prelude.{◌≡◌, ◌<◌, ◌==◌, IfErr, IfOk, IsSome, None, length, position, set, true};
-ghost use Rattle.command_text.specs.declared.reply.LastLine.TheVariants.{Done};
+ghost use Rattle.std.specs.Prelude.{◌≡◌, ◌<◌, ◌==◌, IfOk, IsSome, length, position, set, true};
 ghost use Rattle.mapi_values.specs.Keyed.{put_key};
-ghost use Rattle.mapi_values.specs.Messages.{Mes, are_others, part_id};
+ghost use Rattle.mapi_values.specs.Messages.{are_others, part_id};
 ghost use Rattle.mapi_values.specs.declared.part.Part.{Part};
 ghost use Rattle.mail_objects.specs.Message.{part_is_formed};
-ghost use Rattle.mail_tree.specs.Knowing.{Knows};
-ghost use Rattle.mail_tree.specs.Tree.{Shown, Tree};
-ghost use Rattle.mail_tree.specs.Messages.{remaking, set_embedded};
-ghost use Rattle.mail_tree.specs.Parts.{part_holding, with_part, with_subnode};
-ghost use Rattle.mail_draft.specs.Outcomes.{outcome_of};
-ghost use Rattle.mail_draft.specs.Answers.{IsCaused, Looks, Says};
-ghost use Rattle.mail_parts.specs.Pieces.{holding_in};
+ghost use Rattle.mail_tree.specs.Changing.{nothing};
+ghost use Rattle.mail_tree.specs.Messages.{set_embedded};
+ghost use Rattle.mail_tree.specs.Parts.{part_holding, with_subnode};
+ghost use Rattle.mail_draft.specs.Desks.{Comes};
+ghost use Rattle.mail_draft.specs.Sight.{Drafts};
+ghost use Rattle.mail_parts.specs.Pieces.{holding, holding_in};
 
 use crate::with_attachments::{take_attachment, with_part};
 use command_text::CommandRefusal;
-use mail_draft::{Outcome, Stop};
-use mail_messages::{Ending, message_in, remake_message};
+use mail_draft::{Coming, Desk, Stop};
+use mail_messages::Ending;
+use mail_messages::on_desk::{message_in, remake_message};
 use mail_objects::Mail;
-use mail_tree::Known;
 use mapi_values::Part;
-use node_port::NodeReader;
 use node_values::copy_sub;
 use pst_base::{Nid, Sub, Subs};
-use pst_outside::Outside;
 use std::alloc::{AllocError, Global};
 
 /// The place of the first subnode with this id.
@@ -69,61 +65,42 @@ fn part_holding(alloc: Global, part: Part, node: &Sub) -> Result<Part, AllocErro
 }
 
 /// Puts another message into an attachment that was taken from a message.
-fn hold<W: Outside, K: NodeReader<W>>(
-    alloc: Global,
-    keeper: &mut K,
-    w: &mut W,
-    known: &Known,
-    mail: Mail,
-    part: Part,
-    node: &Sub,
-) -> Result<Outcome, Stop>
+fn hold<D: Desk>(desk: &mut D, mail: Mail, part: Part, node: &Sub) -> Result<Coming, Stop>
+    requires fresh { (D.view desk.old).changed ≡ nothing }
     requires table { IsSome mail.attachments }
     requires free { (p : Part) → part_id p ≡ part_id part → are_others (put_key part_id p mail.parts) mail.kept ≡ true }
     requires formed { part_is_formed part ≡ true }
-    ensures answer { (T : Tree) → Shown (K.holds keeper.old (W.view w.old)) (K.last keeper.old) T → Knows T known.now → (M : Mes) → ((p : Part) → part_id p ≡ part_id part → with_part p mail ≡ with_part p M) → Says (outcome_of T) (remaking T (with_part (part_holding node.now part) M) None Done) result }
-    ensures looks { Looks (K.holds keeper.old (W.view w.old)) (K.holds keeper.new (W.view w.new)) (K.last keeper.old) (K.last keeper.new) (K.room keeper.old) (K.room keeper.new) (W.view w.old) (W.view w.new) }
-    ensures cause { IfErr result (IsCaused K.has_disk (W.view w.old).disk_faults (W.view w.new).disk_faults) }
+    ensures drafts { Drafts (D.view desk.old) (D.view desk.new) result }
+    ensures answer { Comes (D.view desk.old) (D.view desk.new) (λ T c. holding T node.now part mail) result }
 {
-    let part = part_holding(alloc, part, node)?;
-    let mail = with_part(alloc, mail, part)?;
-    remake_message(alloc, keeper, w, known, mail, Ending::done())
+    let part = part_holding(desk.alloc(), part, node)?;
+    let mail = with_part(desk.alloc(), mail, part)?;
+    remake_message(desk, mail, Ending::done())
 }
 
 /// Puts another message into the attachment of a message with this id.
-fn hold_in<W: Outside, K: NodeReader<W>>(
-    alloc: Global,
-    keeper: &mut K,
-    w: &mut W,
-    known: &Known,
-    mail: Mail,
-    attachment: Nid,
-    node: &Sub,
-) -> Result<Outcome, Stop>
-    ensures answer { (T : Tree) → Shown (K.holds keeper.old (W.view w.old)) (K.last keeper.old) T → Knows T known.now → Says (outcome_of T) (holding_in T attachment.bits node.now mail) result }
-    ensures looks { Looks (K.holds keeper.old (W.view w.old)) (K.holds keeper.new (W.view w.new)) (K.last keeper.old) (K.last keeper.new) (K.room keeper.old) (K.room keeper.new) (W.view w.old) (W.view w.new) }
-    ensures cause { IfErr result (IsCaused K.has_disk (W.view w.old).disk_faults (W.view w.new).disk_faults) }
+fn hold_in<D: Desk>(desk: &mut D, mail: Mail, attachment: Nid, node: &Sub) -> Result<Coming, Stop>
+    requires fresh { (D.view desk.old).changed ≡ nothing }
+    ensures drafts { Drafts (D.view desk.old) (D.view desk.new) result }
+    ensures answer { Comes (D.view desk.old) (D.view desk.new) (λ T c. holding_in T attachment.bits node.now mail) result }
 {
     match take_attachment(mail, attachment) {
-        Some(taken) => hold(alloc, keeper, w, known, taken.0, taken.1, node),
+        Some(taken) => hold(desk, taken.0, taken.1, node),
         None => Err(Stop::Refused(CommandRefusal::Object)),
     }
 }
 
 /// Puts this subnode, which is another message, into the attachment of a message with this id in place of the one of the subnode's id. Refused, in this order: the message isn't there or has no such attachment (`Object`), a table couldn't be written (`Limit(Rows)`), an object would have too many values (`Limit(Properties)`).
-pub fn set_embedded<W: Outside, K: NodeReader<W>>(
-    alloc: Global,
-    keeper: &mut K,
-    w: &mut W,
-    known: &Known,
+pub fn set_embedded<D: Desk>(
+    desk: &mut D,
     message: Nid,
     attachment: Nid,
     node: &Sub,
-) -> Result<Outcome, Stop>
-    ensures answer { (T : Tree) → Shown (K.holds keeper.old (W.view w.old)) (K.last keeper.old) T → Knows T known.now → Says (outcome_of T) (set_embedded T message.bits attachment.bits node.now) result }
-    ensures looks { Looks (K.holds keeper.old (W.view w.old)) (K.holds keeper.new (W.view w.new)) (K.last keeper.old) (K.last keeper.new) (K.room keeper.old) (K.room keeper.new) (W.view w.old) (W.view w.new) }
-    ensures cause { IfErr result (IsCaused K.has_disk (W.view w.old).disk_faults (W.view w.new).disk_faults) }
+) -> Result<Coming, Stop>
+    requires fresh { (D.view desk.old).changed ≡ nothing }
+    ensures drafts { Drafts (D.view desk.old) (D.view desk.new) result }
+    ensures answer { Comes (D.view desk.old) (D.view desk.new) (λ T c. set_embedded T message.bits attachment.bits node.now) result }
 {
-    let mail = message_in(alloc, keeper, w, &known.places, message)?;
-    hold_in(alloc, keeper, w, known, mail, attachment, node)
+    let mail = message_in(desk, message)?;
+    hold_in(desk, mail, attachment, node)
 }

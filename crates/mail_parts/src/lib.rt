@@ -1,6 +1,6 @@
 //! The commands on the recipients and attachments of messages.
 //!
-//! Promises: each call answers what the definition of its command in mail_tree says of every tree that the nodes show, and only looks at the nodes; what changes stands in the draft.
+//! Promises: each call answers what the definition of its command in mail_tree says of every tree that the nodes show, and only looks at the nodes; what changes stands in the draft. `on_desk` has the commands over a desk.
 //!
 //! Leaves to others: how a changed message is shown and counted, and carrying the changes out.
 #![tactic(auto)]
@@ -8,6 +8,8 @@
 mod appending;
 mod attachments;
 mod embedding;
+mod entry;
+pub mod on_desk;
 mod part_ids;
 mod part_places;
 mod part_values;
@@ -15,13 +17,11 @@ mod recipients;
 mod with_attachments;
 mod with_recipients;
 
-pub use appending::append;
-pub use attachments::{attach, detach, fetch, with_attachment};
-pub use embedding::set_embedded;
+pub use attachments::with_attachment;
+pub use entry::{add_recipient, append, attach, detach, fetch, remove_recipient, set_embedded};
 pub use mail_draft;
 pub use mail_messages;
 pub use mail_messages::mail_names;
 pub use part_ids::next_part;
 pub use part_places::part_in;
-pub use recipients::{add_recipient, remove_recipient};
 pub use with_attachments::LAST_INDEX;

@@ -3,28 +3,24 @@ ghost use Rattle.std.specs.Prelude.{◌≡◌, IfErr, not};
 ghost use Rattle.command_text.specs.declared.reply.CommandRefusal.TheVariants as refusal;
 ghost use Rattle.command_text.specs.declared.reply.Limit.TheVariants as limit;
 ghost use Rattle.command_text.specs.declared.reply.LastLine.TheVariants as last;
-ghost use Rattle.mail_tree.specs.Knowing.{Knows};
-ghost use Rattle.mail_tree.specs.Tree.{Shown, Tree};
-ghost use Rattle.mail_tree.specs.Changing.{refused_if};
+ghost use Rattle.mail_tree.specs.Changing.{nothing, refused_if};
 ghost use Rattle.mail_tree.specs.Messages.{added_recipient, removed_recipient, spent_row};
 ghost use Rattle.mail_tree.specs.Parts.{has_recipient, is_full, new_row};
-ghost use Rattle.mail_draft.specs.Outcomes.{outcome_of};
-ghost use Rattle.mail_draft.specs.Answers.{IsCalm, IsCaused, Looks, Says};
+ghost use Rattle.mail_draft.specs.Answers.{IsCalm, Says};
+ghost use Rattle.mail_draft.specs.Desks.{Comes};
+ghost use Rattle.mail_draft.specs.Sight.{Drafts};
 ghost use Rattle.mail_parts.specs.Pieces.{adding_one, adding_to, removing_one};
 
 use crate::with_recipients::{
     has_recipient, new_row, next_row, recipient_props, with_recipient, without_recipient,
 };
 use command_text::{CommandRefusal, LastLine, Limit};
-use mail_draft::{Outcome, Stop};
-use mail_messages::{Ending, message_in, remake_message, rows_of};
+use mail_draft::{Coming, Desk, Stop};
+use mail_messages::on_desk::{message_in, remake_message};
+use mail_messages::{Ending, rows_of};
 use mail_objects::Mail;
-use mail_tree::Known;
 use mapi_values::{Props, Units};
-use node_port::NodeReader;
 use pst_base::Nid;
-use pst_outside::Outside;
-use std::alloc::Global;
 
 /// How many rows a command may bring a table of recipients to.
 const MOST_ROWS: usize = 100_000;
@@ -46,22 +42,15 @@ fn recipient_ending(row: u64) -> Ending
 }
 
 /// Gives a message a recipient of these values. Refused where its table would have too many columns.
-fn add_to<W: Outside, K: NodeReader<W>>(
-    alloc: Global,
-    keeper: &mut K,
-    w: &mut W,
-    known: &Known,
-    mail: Mail,
-    props: &Props,
-) -> Result<Outcome, Stop>
-    ensures answer { (T : Tree) → Shown (K.holds keeper.old (W.view w.old)) (K.last keeper.old) T → Knows T known.now → Says (outcome_of T) (adding_to T mail props.now) result }
-    ensures looks { Looks (K.holds keeper.old (W.view w.old)) (K.holds keeper.new (W.view w.new)) (K.last keeper.old) (K.last keeper.new) (K.room keeper.old) (K.room keeper.new) (W.view w.old) (W.view w.new) }
-    ensures cause { IfErr result (IsCaused K.has_disk (W.view w.old).disk_faults (W.view w.new).disk_faults) }
+fn add_to<D: Desk>(desk: &mut D, mail: Mail, props: &Props) -> Result<Coming, Stop>
+    requires fresh { (D.view desk.old).changed ≡ nothing }
+    ensures drafts { Drafts (D.view desk.old) (D.view desk.new) result }
+    ensures answer { Comes (D.view desk.old) (D.view desk.new) (λ T c. adding_to T mail props.now) result }
 {
     let row = next_row(rows_of(&mail.message().recipients));
-    let added = with_recipient(alloc, mail, new_row(row), props)?;
+    let added = with_recipient(desk.alloc(), mail, new_row(row), props)?;
     match added {
-        Some(mail) => { remake_message(alloc, keeper, w, known, mail, recipient_ending(row)) }
+        Some(mail) => remake_message(desk, mail, recipient_ending(row)),
         None => Err(Stop::Refused(CommandRefusal::Limit(Limit::Rows))),
     }
 }
@@ -78,40 +67,30 @@ fn check_room(mail: &Mail) -> Result<(), Stop>
 }
 
 /// Gives a message a recipient of these values.
-fn add_one<W: Outside, K: NodeReader<W>>(
-    alloc: Global,
-    keeper: &mut K,
-    w: &mut W,
-    known: &Known,
-    mail: Mail,
-    props: &Props,
-) -> Result<Outcome, Stop>
-    ensures answer { (T : Tree) → Shown (K.holds keeper.old (W.view w.old)) (K.last keeper.old) T → Knows T known.now → Says (outcome_of T) (adding_one T mail props.now) result }
-    ensures looks { Looks (K.holds keeper.old (W.view w.old)) (K.holds keeper.new (W.view w.new)) (K.last keeper.old) (K.last keeper.new) (K.room keeper.old) (K.room keeper.new) (W.view w.old) (W.view w.new) }
-    ensures cause { IfErr result (IsCaused K.has_disk (W.view w.old).disk_faults (W.view w.new).disk_faults) }
+fn add_one<D: Desk>(desk: &mut D, mail: Mail, props: &Props) -> Result<Coming, Stop>
+    requires fresh { (D.view desk.old).changed ≡ nothing }
+    ensures drafts { Drafts (D.view desk.old) (D.view desk.new) result }
+    ensures answer { Comes (D.view desk.old) (D.view desk.new) (λ T c. adding_one T mail props.now) result }
 {
     check_room(&mail)?;
-    add_to(alloc, keeper, w, known, mail, props)
+    add_to(desk, mail, props)
 }
 
 /// Gives a message a recipient of a type, an address and a name, in the row that follows its greatest. Refused, in this order: the message isn't there (`Object`), its table of recipients would have too many rows or columns (`Limit(Rows)`), an object would have too many values (`Limit(Properties)`), no row is left (`Ids`).
-pub fn add_recipient<W: Outside, K: NodeReader<W>>(
-    alloc: Global,
-    keeper: &mut K,
-    w: &mut W,
-    known: &Known,
+pub fn add_recipient<D: Desk>(
+    desk: &mut D,
     message: Nid,
     kind: u32,
     address: &Units,
     name: &Units,
-) -> Result<Outcome, Stop>
-    ensures answer { (T : Tree) → Shown (K.holds keeper.old (W.view w.old)) (K.last keeper.old) T → Knows T known.now → Says (outcome_of T) (added_recipient T message.bits kind address.now name.now) result }
-    ensures looks { Looks (K.holds keeper.old (W.view w.old)) (K.holds keeper.new (W.view w.new)) (K.last keeper.old) (K.last keeper.new) (K.room keeper.old) (K.room keeper.new) (W.view w.old) (W.view w.new) }
-    ensures cause { IfErr result (IsCaused K.has_disk (W.view w.old).disk_faults (W.view w.new).disk_faults) }
+) -> Result<Coming, Stop>
+    requires fresh { (D.view desk.old).changed ≡ nothing }
+    ensures drafts { Drafts (D.view desk.old) (D.view desk.new) result }
+    ensures answer { Comes (D.view desk.old) (D.view desk.new) (λ T c. added_recipient T message.bits kind address.now name.now) result }
 {
-    let mail = message_in(alloc, keeper, w, &known.places, message)?;
-    let props = recipient_props(alloc, kind, address, name)?;
-    add_one(alloc, keeper, w, known, mail, &props)
+    let mail = message_in(desk, message)?;
+    let props = recipient_props(desk.alloc(), kind, address, name)?;
+    add_one(desk, mail, &props)
 }
 
 /// Checks that a message has a recipient in this row.
@@ -126,36 +105,22 @@ fn check_recipient(mail: &Mail, row: u32) -> Result<(), Stop>
 }
 
 /// Removes the recipient in this row from a message.
-fn remove_one<W: Outside, K: NodeReader<W>>(
-    alloc: Global,
-    keeper: &mut K,
-    w: &mut W,
-    known: &Known,
-    mail: Mail,
-    row: u32,
-) -> Result<Outcome, Stop>
-    ensures answer { (T : Tree) → Shown (K.holds keeper.old (W.view w.old)) (K.last keeper.old) T → Knows T known.now → Says (outcome_of T) (removing_one T row mail) result }
-    ensures looks { Looks (K.holds keeper.old (W.view w.old)) (K.holds keeper.new (W.view w.new)) (K.last keeper.old) (K.last keeper.new) (K.room keeper.old) (K.room keeper.new) (W.view w.old) (W.view w.new) }
-    ensures cause { IfErr result (IsCaused K.has_disk (W.view w.old).disk_faults (W.view w.new).disk_faults) }
+fn remove_one<D: Desk>(desk: &mut D, mail: Mail, row: u32) -> Result<Coming, Stop>
+    requires fresh { (D.view desk.old).changed ≡ nothing }
+    ensures drafts { Drafts (D.view desk.old) (D.view desk.new) result }
+    ensures answer { Comes (D.view desk.old) (D.view desk.new) (λ T c. removing_one T row mail) result }
 {
     check_recipient(&mail, row)?;
     let mail = without_recipient(mail, row);
-    remake_message(alloc, keeper, w, known, mail, Ending::done())
+    remake_message(desk, mail, Ending::done())
 }
 
 /// Removes the recipient in this row from a message. Refused where the message isn't there, or has none in it.
-pub fn remove_recipient<W: Outside, K: NodeReader<W>>(
-    alloc: Global,
-    keeper: &mut K,
-    w: &mut W,
-    known: &Known,
-    message: Nid,
-    row: u32,
-) -> Result<Outcome, Stop>
-    ensures answer { (T : Tree) → Shown (K.holds keeper.old (W.view w.old)) (K.last keeper.old) T → Knows T known.now → Says (outcome_of T) (removed_recipient T message.bits row) result }
-    ensures looks { Looks (K.holds keeper.old (W.view w.old)) (K.holds keeper.new (W.view w.new)) (K.last keeper.old) (K.last keeper.new) (K.room keeper.old) (K.room keeper.new) (W.view w.old) (W.view w.new) }
-    ensures cause { IfErr result (IsCaused K.has_disk (W.view w.old).disk_faults (W.view w.new).disk_faults) }
+pub fn remove_recipient<D: Desk>(desk: &mut D, message: Nid, row: u32) -> Result<Coming, Stop>
+    requires fresh { (D.view desk.old).changed ≡ nothing }
+    ensures drafts { Drafts (D.view desk.old) (D.view desk.new) result }
+    ensures answer { Comes (D.view desk.old) (D.view desk.new) (λ T c. removed_recipient T message.bits row) result }
 {
-    let mail = message_in(alloc, keeper, w, &known.places, message)?;
-    remove_one(alloc, keeper, w, known, mail, row)
+    let mail = message_in(desk, message)?;
+    remove_one(desk, mail, row)
 }
