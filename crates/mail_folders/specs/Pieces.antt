@@ -1,23 +1,29 @@
 -- The commands on folders, part by part.
-use Rattle.std.specs.Prelude.{ℕ, ◌++◌, if◌then◌else◌, nat_eq, Bool, List, [], ◌∷◌, filter, Ok, false, ◌||◌}
+use Rattle.std.specs.Prelude.{◌≡◌, ℕ, ◌++◌, ◌==◌, if◌then◌else◌, nat_eq, nat_le, Bool, List, [], ◌∷◌, filter, length, None, Some, Result, Ok, false, ◌||◌}
 use Rattle.std.specs.Cmp.Lexicographic.{pointwise}
 use Rattle.mapi_values.specs.Characters.{folded}
 use Rattle.mapi_values.specs.Keyed.{drop_key, put_key}
 use Rattle.mapi_values.specs.Messages.{Mes}
 use Rattle.mapi_values.specs.Properties.{put}
 use Rattle.mapi_values.specs.Values.{Val}
-use Rattle.command_text.specs.declared.reply.CommandRefusal.TheVariants.{NameTaken, NotEmpty, Limit}
-use Rattle.command_text.specs.declared.reply.Limit.TheVariants.{Depth}
+use Rattle.command_text.specs.declared.reply.CommandRefusal.TheVariants.{NameTaken, NotEmpty, Limit, Protected}
+use Rattle.command_text.specs.declared.reply.Limit.TheVariants.{Depth, Rows}
 use Rattle.command_text.specs.declared.reply.DataLine.{DataLine}
 use Rattle.command_text.specs.declared.reply.DataLine.TheVariants as lines
 use Rattle.command_text.specs.declared.reply.LastLine.TheVariants.{Done}
 use Rattle.mail_tree.specs.declared.places.FolderPlace.{FolderPlace}
-use Rattle.mail_tree.specs.Places.{children, is_child, is_plain, moves_deep, place_id}
+use Rattle.mail_tree.specs.mail_objects.Forms.{Ctx, Tbl}
+use Rattle.mail_tree.specs.mail_objects.declared.object.Object.TheVariants.{Context, Table}
+use Rattle.mail_tree.specs.Columns.{contents_table, hierarchy_table}
+use Rattle.mail_tree.specs.Places.{ROOT, children, is_child, is_plain, moves_deep, place_id}
 use Rattle.mail_tree.specs.Tree.{Tree}
-use Rattle.mail_tree.specs.Values.{folder_props, name_of, number_of, text, text_of}
-use Rattle.mail_tree.specs.Changing.{Answer, Changed, ◌>>=◌, add_shown, contents, context_at, drop_shown, hierarchy, message_at, nothing, refused_if, table_at}
+use Rattle.mail_tree.specs.Values.{folder_props, is_special, name_of, number_of, text, text_of}
+use Rattle.mail_tree.specs.Changing.{Answer, Changed, ◌>>=◌, add_shown, associated, contents, context_at, drop_shown, hierarchy, message_at, nothing, refused_if, table_at, with_object}
 use Rattle.mail_tree.specs.Settling.{message_ids, mirrored, settled, with_context}
-use Rattle.mail_tree.specs.Folders.{Outcome, associated_in, folder_in, has_associated, has_rows, listed, moved_between, moving, nid, place, replied, unchanged, unless_named, unless_plain, with_folder, without_folder}
+use Rattle.mail_tree.specs.Folders.{Outcome, associated_in, folder_in, has_associated, has_rows, listed, moved_between, moving, nid, place, replied, siblings, unchanged, unless_named, unless_plain, with_folder, without_folder}
+use Rattle.mail_draft.specs.declared.stop.Stop.{Stop}
+use Rattle.mail_draft.specs.Answers.{Says}
+use Rattle.mail_draft.specs.Sight.{Sight}
 
 -- where a folder stands that holds folders and messages
 unfoldable pub plain_in : Tree → ℕ → Answer FolderPlace
@@ -35,17 +41,45 @@ name_in T f = context_at T nothing f >>= λ c. Ok (name_of c.props)
 unfoldable pub has_name : Tree → List ℕ → ℕ → Answer Bool
 has_name T name f = context_at T nothing f >>= λ c. Ok (pointwise nat_eq (folded false (name_of c.props)) name)
 
+-- the folder is the root, or one that the store with these values names
+abbrev pub unless_special : ℕ → List Val → Answer (Unit {0})
+unless_special f store = refused_if ((f == ROOT) || is_special f store) Protected
+
+-- the table has as many rows as a command may bring it to
+abbrev pub unless_long : Tbl → Answer (Unit {0})
+unless_long t = refused_if (nat_le 100000 (length t.table.rows)) (Limit Rows)
+
+-- the three tables of a new folder
+abbrev pub with_tables : ℕ → Changed → Changed
+with_tables f D = with_object (associated f) (Some (Table contents_table)) (with_object (contents f) (Some (Table contents_table)) (with_object (hierarchy f) (Some (Table hierarchy_table)) D))
+
+-- the nodes of a new folder, and its row
+abbrev pub adding_folder : Tree → ℕ → ℕ → List ℕ → Changed → Answer Changed
+adding_folder T f parent name D = add_shown T (hierarchy parent) f (folder_props name) (with_folder f parent name D)
+
 -- the nodes of a new folder and its row, with its parent counted anew, where the folders then stand at these places
 unfoldable pub counted_folder : Tree → ℕ → ℕ → List ℕ → List FolderPlace → Answer Changed
-counted_folder T f parent name places = add_shown T (hierarchy parent) f (folder_props name) (with_folder f parent name nothing) >>= settled T places parent
+counted_folder T f parent name places = adding_folder T f parent name nothing >>= settled T places parent
 
 -- the folder has this name, whose case is folded
 unfoldable pub unless_has_name : Tree → List ℕ → ℕ → Answer (Unit {0})
 unless_has_name T name f = context_at T nothing f >>= λ c. refused_if (pointwise nat_eq (folded false (name_of c.props)) name) NameTaken
 
+-- a folder in the parent has this name
+abbrev pub unless_child_named : Tree → ℕ → List ℕ → Answer (Unit {0})
+unless_child_named T parent name = unless_named T (folded false name) (children parent T.places)
+
+-- another folder in the folder's parent has this name
+abbrev pub unless_beside : Tree → ℕ → ℕ → List ℕ → Answer (Unit {0})
+unless_beside T parent f name = unless_named T (folded false name) (siblings T parent f)
+
 -- the folder gets the name, and its row shows it
 unfoldable pub named_anew : Tree → ℕ → List ℕ → Answer Changed
 named_anew T f name = context_at T nothing f >>= λ c. mirrored T f (with_context f c (put (text 0x3001 name) c.props) nothing)
+
+-- the folder's properties have another parent
+abbrev pub with_parent : ℕ → Ctx → ℕ → Changed → Changed
+with_parent f c parent D = with_object f (Some (Context (record c { parent = parent }))) D
 
 -- the folder's row is added to its new parent's table, and both parents are counted anew
 unfoldable pub added_between : Tree → ℕ → ℕ → ℕ → List FolderPlace → List Val → Changed → Answer Changed
@@ -74,6 +108,10 @@ has_associated_in T f = associated_in T f >>= λ t. Ok (has_associated t)
 -- one of the folder's tables has rows
 unfoldable pub unless_filled : Tree → ℕ → Answer (Unit {0})
 unless_filled T f = has_rows_in T (hierarchy f) >>= λ a. has_rows_in T (contents f) >>= λ b. has_associated_in T f >>= λ c. refused_if (a || (b || c)) NotEmpty
+
+-- the three nodes go that each folder has
+abbrev pub without_nodes : ℕ → Changed → Changed
+without_nodes f D = with_object (contents f) None (with_object (hierarchy f) None (with_object f None D))
 
 -- the folder in that parent goes, with its row, and the parent is counted anew
 unfoldable pub removing_folder : Tree → ℕ → ℕ → Answer Outcome
@@ -106,6 +144,10 @@ abbrev pub each : {A B : Type 0} → (A → Answer B) → List A → Answer (Lis
 each f [] = Ok []
 each f (x ∷ xs) = f x >>= λ y. each f xs >>= λ ys. Ok (y ∷ ys)
 
+-- The result, seen by view, is what is told of the message at an id, if what is known of it is so.
+abbrev pub TellsOf : {A X Y : Type 0} → Sight A → ℕ → (Mes → Type 0) → (Mes → X) → (Y → X) → Result Y Stop → Type 0
+TellsOf desk m IsSo tell view result = (T : Tree) → desk.shows T → (M : Mes) → message_at T nothing m ≡ Ok M → IsSo M → Says view (Ok (tell M)) result
+
 -- the ids of the messages in a folder
 unfoldable pub ids_in : Tree → ℕ → Answer (List ℕ)
 ids_in T f = table_at T nothing (contents f) >>= λ t. Ok (message_ids t.table)
@@ -118,9 +160,13 @@ lines_of_messages T f = ids_in T f >>= each (line_of_message T)
 unfoldable pub with_messages : Tree → ℕ → List DataLine → Answer (List DataLine)
 with_messages T f folders = lines_of_messages T f >>= λ messages. Ok (folders ++ messages)
 
+-- the lines of the folders in a folder
+abbrev pub lines_of_children : Tree → ℕ → Answer (List DataLine)
+lines_of_children T f = each (line_of_folder T) (filter (is_child f) T.places)
+
 -- the lines of the folders and of the messages in a folder
 unfoldable pub lines_in : Tree → ℕ → Answer (List DataLine)
-lines_in T f = each (line_of_folder T) (filter (is_child f) T.places) >>= with_messages T f
+lines_in T f = lines_of_children T f >>= with_messages T f
 
 -- what is listed of a plain folder
 unfoldable pub plain_listing : Tree → ℕ → Answer Outcome

@@ -1,28 +1,34 @@
 //! The commands on folders.
 //!
-//! Promises: each call answers what the definition of its command in mail_tree says of every tree that the nodes show, and only looks at the nodes; what changes stands in the draft.
+//! Promises: each call answers what the definition of its command in mail_tree says of every tree that the nodes show, and only looks at the nodes; what changes stands in the draft. `on_desk` has the commands over a desk.
 //!
 //! Leaves to others: carrying the changes out.
 #![tactic(auto)]
 
+mod desk;
+mod ending;
+mod entry;
 mod finding;
 mod list;
 mod making;
 mod moving;
 mod names;
+pub mod on_desk;
+mod on_keeper;
 mod protecting;
 mod reading;
 mod removing;
 mod renaming;
 mod standing;
 
+pub use desk::{FolderDesk, FolderMakingDesk};
+pub use entry::{
+    line_of_message, list_folder, make_folder, move_folder, moved_between, named_anew,
+    remove_folder, rename_folder, unless_beside, unless_child_named, unless_crowds_name,
+    unless_full, unless_protected,
+};
 pub use finding::{folder_in, plain_in};
-pub use list::{line_of_message, list_folder, listed};
-pub use making::{folder_props, make_folder, unless_full};
-pub use moving::{move_folder, moved_between, unless_crowds_name};
-pub use names::unless_child_named;
-pub use protecting::unless_protected;
+pub use list::listed;
+pub use making::folder_props;
 pub use reading::{context_in, is_taken, message_in, table_in};
-pub use removing::remove_folder;
-pub use renaming::{named_anew, rename_folder, unless_beside};
 pub use standing::{unless_deep, unless_moves_deep, unless_within, without_place};

@@ -2,51 +2,41 @@
 ghost use Rattle.std.specs.Prelude.{◌≡◌, ℕ, Bool, filter, IfErr, IfOk, Ok, Some};
 ghost use Rattle.mapi_values.specs.Messages.{Mes};
 ghost use Rattle.mail_draft.specs.content_glance.Glances.{IsTold};
-ghost use Rattle.mail_tree.specs.Tree.{Shown, Tree};
 ghost use Rattle.mail_tree.specs.Folders.{listed, listing};
-ghost use Rattle.mail_folders.specs.Pieces.{each, ids_in, line_of_folder, line_of_message, line_named, lines_in, lines_of_messages, message_line, plain_listing, read_subject, with_messages};
+ghost use Rattle.mail_folders.specs.Pieces.{TellsOf, each, ids_in, line_of_folder, line_of_message, line_named, lines_in, lines_of_children, lines_of_messages, message_line, plain_listing, read_subject, with_messages};
 ghost use Rattle.mail_tree.specs.Places.{is_child};
-ghost use Rattle.mail_tree.specs.Settling.{message_ids};
-ghost use Rattle.mail_tree.specs.Changing.{message_at, nothing};
+ghost use Rattle.mail_tree.specs.Changing.{nothing};
 ghost use Rattle.mail_tree.specs.Values.{number_of, text_of};
-ghost use Rattle.mail_draft.specs.Answers.{IsCalm, IsCaused, Looks, Says};
+ghost use Rattle.mail_draft.specs.Answers.{IsCalm, IsCaused, Says};
+ghost use Rattle.mail_draft.specs.Desks.{Comes};
 ghost use Rattle.mail_draft.specs.Glancing.{IsContent};
-ghost use Rattle.mail_draft.specs.Outcomes.{outcome_of};
+ghost use Rattle.mail_draft.specs.Sight.{Answers, Reads};
 
+use crate::desk::FolderDesk;
 use crate::finding::folder_in;
 use crate::names::{is_child, name_in};
-use crate::reading::{message_in, table_in};
 use command_text::{DataLine, DataLines, LastLine, Reply};
 use mail_draft::content_glance::Glance;
 use mail_draft::{
-    Outcome, Stop, contents, glance_of, message_content, message_ids, number_told, text_of,
-    text_told,
+    Coming, Desk, Stop, contents, glance_of, message_ids, number_told, text_of, text_told,
 };
 use mail_tree::{FolderPlace, Places, Sort};
 use mapi_values::tags::{PID_TAG_MESSAGE_SIZE, PID_TAG_SUBJECT};
 use mapi_values::{Props, Units};
-use node_port::{NodeReader, NodeRec};
+use node_port::NodeRec;
 use pst_base::Nid;
-use pst_outside::Outside;
 use std::alloc::{AllocError, Global};
 
 /// Lists the folders and then the messages in a folder. Refused where it isn't there.
-#[tactic(auto, unfolding(mail_tree::specs::Folders::listing))]
-pub fn list_folder<W: Outside, K: NodeReader<W>>(
-    alloc: Global,
-    keeper: &mut K,
-    w: &mut W,
-    places: &Places,
-    folder: Nid,
-) -> Result<Outcome, Stop>
-    ensures answer { (T : Tree) → Shown (K.holds keeper.old (W.view w.old)) (K.last keeper.old) T → T.places ≡ places.now → Says (outcome_of T) (listing T folder.bits) result }
-    ensures looks { Looks (K.holds keeper.old (W.view w.old)) (K.holds keeper.new (W.view w.new)) (K.last keeper.old) (K.last keeper.new) (K.room keeper.old) (K.room keeper.new) (W.view w.old) (W.view w.new) }
-    ensures cause { IfErr result (IsCaused K.has_disk (W.view w.old).disk_faults (W.view w.new).disk_faults) }
+pub fn list_folder<D: FolderDesk>(desk: &mut D, folder: Nid) -> Result<Coming, Stop>
+    requires fresh { (D.view desk.old).changed ≡ nothing }
+    ensures reads { Reads (D.view desk.old) (D.view desk.new) result }
+    ensures answer { Comes (D.view desk.old) (D.view desk.new) (λ T c. listing T folder.bits) result }
 {
-    let place = folder_in(places, folder)?;
+    let place = folder_in(desk.places(), folder)?;
     match place.sort {
-        Sort::Plain => plain_listing(alloc, keeper, w, places, folder),
-        Sort::Foreign => Ok(Outcome::unchanged(alloc, listed(Vec::new(alloc)))),
+        Sort::Plain => plain_listing(desk, folder),
+        Sort::Foreign => Ok(Coming::replied(listed(Vec::new(desk.alloc())))),
     }
 }
 
@@ -62,103 +52,63 @@ pub fn listed(lines: Vec<DataLine>) -> Reply
 }
 
 /// What is listed of a plain folder.
-#[tactic(auto, unfolding(crate::specs::Pieces::plain_listing))]
-fn plain_listing<W: Outside, K: NodeReader<W>>(
-    alloc: Global,
-    keeper: &mut K,
-    w: &mut W,
-    places: &Places,
-    folder: Nid,
-) -> Result<Outcome, Stop>
-    ensures answer { (T : Tree) → Shown (K.holds keeper.old (W.view w.old)) (K.last keeper.old) T → T.places ≡ places.now → Says (outcome_of T) (plain_listing T folder.bits) result }
-    ensures looks { Looks (K.holds keeper.old (W.view w.old)) (K.holds keeper.new (W.view w.new)) (K.last keeper.old) (K.last keeper.new) (K.room keeper.old) (K.room keeper.new) (W.view w.old) (W.view w.new) }
-    ensures cause { IfErr result (IsCaused K.has_disk (W.view w.old).disk_faults (W.view w.new).disk_faults) }
+fn plain_listing<D: FolderDesk>(desk: &mut D, folder: Nid) -> Result<Coming, Stop>
+    requires fresh { (D.view desk.old).changed ≡ nothing }
+    ensures reads { Reads (D.view desk.old) (D.view desk.new) result }
+    ensures answer { Comes (D.view desk.old) (D.view desk.new) (λ T c. plain_listing T folder.bits) result }
 {
-    let lines = lines_in(alloc, keeper, w, places, folder)?;
-    Ok(Outcome::unchanged(alloc, listed(lines)))
+    let lines = lines_in(desk, folder)?;
+    Ok(Coming::replied(listed(lines)))
 }
 
 /// The lines of the folders and of the messages in a folder.
-#[tactic(auto, unfolding(crate::specs::Pieces::lines_in))]
-fn lines_in<W: Outside, K: NodeReader<W>>(
-    alloc: Global,
-    keeper: &mut K,
-    w: &mut W,
-    places: &Places,
-    folder: Nid,
-) -> Result<Vec<DataLine>, Stop>
-    ensures answer { (T : Tree) → Shown (K.holds keeper.old (W.view w.old)) (K.last keeper.old) T → T.places ≡ places.now → Says (λ lines. lines.items) (lines_in T folder.bits) result }
-    ensures looks { Looks (K.holds keeper.old (W.view w.old)) (K.holds keeper.new (W.view w.new)) (K.last keeper.old) (K.last keeper.new) (K.room keeper.old) (K.room keeper.new) (W.view w.old) (W.view w.new) }
-    ensures cause { IfErr result (IsCaused K.has_disk (W.view w.old).disk_faults (W.view w.new).disk_faults) }
+fn lines_in<D: FolderDesk>(desk: &mut D, folder: Nid) -> Result<Vec<DataLine>, Stop>
+    ensures reads { Reads (D.view desk.old) (D.view desk.new) result }
+    ensures answer { Answers (D.view desk.old) (λ lines. lines.items) (λ T c. lines_in T folder.bits) result }
 {
-    let lines = child_lines(alloc, keeper, w, places, folder)?;
-    with_messages(alloc, keeper, w, folder, lines)
+    let lines = child_lines(desk, folder)?;
+    with_messages(desk, folder, lines)
 }
 
 /// The lines of the folders directly in a folder.
-fn child_lines<W: Outside, K: NodeReader<W>>(
-    alloc: Global,
-    keeper: &mut K,
-    w: &mut W,
-    places: &Places,
-    folder: Nid,
-) -> Result<Vec<DataLine>, Stop>
-    ensures answer { (T : Tree) → Shown (K.holds keeper.old (W.view w.old)) (K.last keeper.old) T → T.places ≡ places.now → Says (λ lines. lines.items) (each (line_of_folder T) (filter (is_child folder.bits) T.places)) result }
-    ensures looks { Looks (K.holds keeper.old (W.view w.old)) (K.holds keeper.new (W.view w.new)) (K.last keeper.old) (K.last keeper.new) (K.room keeper.old) (K.room keeper.new) (W.view w.old) (W.view w.new) }
-    ensures cause { IfErr result (IsCaused K.has_disk (W.view w.old).disk_faults (W.view w.new).disk_faults) }
+fn child_lines<D: Desk>(desk: &mut D, folder: Nid) -> Result<Vec<DataLine>, Stop>
+    ensures reads { Reads (D.view desk.old) (D.view desk.new) result }
+    ensures answer { Answers (D.view desk.old) (λ lines. lines.items) (λ T c. lines_of_children T folder.bits) result }
 {
-    let child_places = places_in(alloc, places, folder)?;
-    folder_lines(alloc, keeper, w, child_places.as_slice())
+    let child_places = places_in(desk.alloc(), desk.places(), folder)?;
+    folder_lines(desk, child_places.as_slice())
 }
 
 /// These lines, and behind them those of the messages in a folder.
-#[tactic(auto, unfolding(crate::specs::Pieces::with_messages))]
-fn with_messages<W: Outside, K: NodeReader<W>>(
-    alloc: Global,
-    keeper: &mut K,
-    w: &mut W,
+fn with_messages<D: FolderDesk>(
+    desk: &mut D,
     folder: Nid,
     mut lines: Vec<DataLine>,
 ) -> Result<Vec<DataLine>, Stop>
-    ensures answer { (T : Tree) → Shown (K.holds keeper.old (W.view w.old)) (K.last keeper.old) T → Says (λ lines. lines.items) (with_messages T folder.bits lines.items) result }
-    ensures looks { Looks (K.holds keeper.old (W.view w.old)) (K.holds keeper.new (W.view w.new)) (K.last keeper.old) (K.last keeper.new) (K.room keeper.old) (K.room keeper.new) (W.view w.old) (W.view w.new) }
-    ensures cause { IfErr result (IsCaused K.has_disk (W.view w.old).disk_faults (W.view w.new).disk_faults) }
+    ensures reads { Reads (D.view desk.old) (D.view desk.new) result }
+    ensures answer { Answers (D.view desk.old) (λ lines. lines.items) (λ T c. with_messages T folder.bits lines.items) result }
 {
-    let mut messages = lines_of_messages(alloc, keeper, w, folder)?;
+    let mut messages = lines_of_messages(desk, folder)?;
     lines.append(&mut messages)?;
     Ok(lines)
 }
 
 /// The lines of the messages in a folder.
-#[tactic(auto, unfolding(crate::specs::Pieces::lines_of_messages))]
-fn lines_of_messages<W: Outside, K: NodeReader<W>>(
-    alloc: Global,
-    keeper: &mut K,
-    w: &mut W,
-    folder: Nid,
-) -> Result<Vec<DataLine>, Stop>
-    ensures answer { (T : Tree) → Shown (K.holds keeper.old (W.view w.old)) (K.last keeper.old) T → Says (λ lines. lines.items) (lines_of_messages T folder.bits) result }
-    ensures looks { Looks (K.holds keeper.old (W.view w.old)) (K.holds keeper.new (W.view w.new)) (K.last keeper.old) (K.last keeper.new) (K.room keeper.old) (K.room keeper.new) (W.view w.old) (W.view w.new) }
-    ensures cause { IfErr result (IsCaused K.has_disk (W.view w.old).disk_faults (W.view w.new).disk_faults) }
+fn lines_of_messages<D: FolderDesk>(desk: &mut D, folder: Nid) -> Result<Vec<DataLine>, Stop>
+    ensures reads { Reads (D.view desk.old) (D.view desk.new) result }
+    ensures answer { Answers (D.view desk.old) (λ lines. lines.items) (λ T c. lines_of_messages T folder.bits) result }
 {
-    let ids = ids_in(alloc, keeper, w, folder)?;
-    message_lines(alloc, keeper, w, ids.as_slice())
+    let ids = ids_in(desk, folder)?;
+    message_lines(desk, ids.as_slice())
 }
 
 /// The ids of the messages in a folder.
-#[tactic(auto, unfolding(crate::specs::Pieces::ids_in))]
-fn ids_in<W: Outside, K: NodeReader<W>>(
-    alloc: Global,
-    keeper: &mut K,
-    w: &mut W,
-    folder: Nid,
-) -> Result<Vec<u32>, Stop>
-    ensures answer { (T : Tree) → Shown (K.holds keeper.old (W.view w.old)) (K.last keeper.old) T → Says (λ ids. ids.items) (ids_in T folder.bits) result }
-    ensures looks { Looks (K.holds keeper.old (W.view w.old)) (K.holds keeper.new (W.view w.new)) (K.last keeper.old) (K.last keeper.new) (K.room keeper.old) (K.room keeper.new) (W.view w.old) (W.view w.new) }
-    ensures cause { IfErr result (IsCaused K.has_disk (W.view w.old).disk_faults (W.view w.new).disk_faults) }
+fn ids_in<D: Desk>(desk: &mut D, folder: Nid) -> Result<Vec<u32>, Stop>
+    ensures reads { Reads (D.view desk.old) (D.view desk.new) result }
+    ensures answer { Answers (D.view desk.old) (λ ids. ids.items) (λ T c. ids_in T folder.bits) result }
 {
-    let table = table_in(alloc, keeper, w, contents(folder))?;
-    Ok(message_ids(alloc, table.table())?)
+    let table = desk.table_before(contents(folder))?;
+    Ok(message_ids(desk.alloc(), table.table())?)
 }
 
 /// The places of the folders directly in a folder.
@@ -185,18 +135,11 @@ fn line_named(place: FolderPlace, name: Units) -> DataLine
 }
 
 /// The line of a folder.
-#[tactic(auto, unfolding(crate::specs::Pieces::line_of_folder))]
-fn line_of_folder<W: Outside, K: NodeReader<W>>(
-    alloc: Global,
-    keeper: &mut K,
-    w: &mut W,
-    place: FolderPlace,
-) -> Result<DataLine, Stop>
-    ensures answer { (T : Tree) → Shown (K.holds keeper.old (W.view w.old)) (K.last keeper.old) T → Says (λ line. line) (line_of_folder T place) result }
-    ensures looks { Looks (K.holds keeper.old (W.view w.old)) (K.holds keeper.new (W.view w.new)) (K.last keeper.old) (K.last keeper.new) (K.room keeper.old) (K.room keeper.new) (W.view w.old) (W.view w.new) }
-    ensures cause { IfErr result (IsCaused K.has_disk (W.view w.old).disk_faults (W.view w.new).disk_faults) }
+fn line_of_folder<D: Desk>(desk: &mut D, place: FolderPlace) -> Result<DataLine, Stop>
+    ensures reads { Reads (D.view desk.old) (D.view desk.new) result }
+    ensures answer { Answers (D.view desk.old) (λ line. line) (λ T c. line_of_folder T place) result }
 {
-    let name = name_in(alloc, keeper, w, place.nid)?;
+    let name = name_in(desk, place.nid)?;
     Ok(line_named(place, name))
 }
 
@@ -209,53 +152,32 @@ fn subject_held(alloc: Global, props: &Props) -> Result<Units, Stop>
 }
 
 /// The subject of a message, of the whole message.
-#[tactic(auto, unfolding(crate::specs::Pieces::read_subject))]
-fn read_subject<W: Outside, K: NodeReader<W>>(
-    alloc: Global,
-    keeper: &mut K,
-    w: &mut W,
-    id: Nid,
-) -> Result<Units, Stop>
-    ensures answer { (T : Tree) → Shown (K.holds keeper.old (W.view w.old)) (K.last keeper.old) T → Says (λ units. units) (read_subject T id.bits) result }
-    ensures looks { Looks (K.holds keeper.old (W.view w.old)) (K.holds keeper.new (W.view w.new)) (K.last keeper.old) (K.last keeper.new) (K.room keeper.old) (K.room keeper.new) (W.view w.old) (W.view w.new) }
-    ensures cause { IfErr result (IsCaused K.has_disk (W.view w.old).disk_faults (W.view w.new).disk_faults) }
+fn read_subject<D: Desk>(desk: &mut D, id: Nid) -> Result<Units, Stop>
+    ensures reads { Reads (D.view desk.old) (D.view desk.new) result }
+    ensures answer { Answers (D.view desk.old) (λ units. units) (λ T c. read_subject T id.bits) result }
 {
-    let mail = message_in(alloc, keeper, w, id)?;
-    subject_held(alloc, &mail.message().props)
+    let mail = desk.message_before(id)?;
+    subject_held(desk.alloc(), &mail.message().props)
 }
 
 /// The subject of a message whose node tells this of it. The whole message is read only where its subject stands in a subnode.
-fn subject_of<W: Outside, K: NodeReader<W>>(
-    alloc: Global,
-    keeper: &mut K,
-    w: &mut W,
-    id: Nid,
-    subject: &Glance,
-) -> Result<Units, Stop>
-    ensures answer { (T : Tree) → Shown (K.holds keeper.old (W.view w.old)) (K.last keeper.old) T → (M : Mes) → message_at T nothing id.bits ≡ Ok M → IsTold 0x0037 M.props (Some subject.now) → Says (λ units. units) (Ok (text_of 0x0037 M.props)) result }
-    ensures looks { Looks (K.holds keeper.old (W.view w.old)) (K.holds keeper.new (W.view w.new)) (K.last keeper.old) (K.last keeper.new) (K.room keeper.old) (K.room keeper.new) (W.view w.old) (W.view w.new) }
-    ensures cause { IfErr result (IsCaused K.has_disk (W.view w.old).disk_faults (W.view w.new).disk_faults) }
+fn subject_of<D: Desk>(desk: &mut D, id: Nid, subject: &Glance) -> Result<Units, Stop>
+    ensures reads { Reads (D.view desk.old) (D.view desk.new) result }
+    ensures answer { TellsOf (D.view desk.old) id.bits (λ M. IsTold 0x0037 M.props (Some subject.now)) (λ M. text_of 0x0037 M.props) (λ units. units) result }
 {
-    match text_told(alloc, subject)? {
+    match text_told(desk.alloc(), subject)? {
         Some(told) => Ok(told),
-        None => read_subject(alloc, keeper, w, id),
+        None => read_subject(desk, id),
     }
 }
 
 /// The subject of a message whose node this is.
-fn subject_in<W: Outside, K: NodeReader<W>>(
-    alloc: Global,
-    keeper: &mut K,
-    w: &mut W,
-    id: Nid,
-    node: &NodeRec,
-) -> Result<Units, Stop>
-    ensures answer { (T : Tree) → Shown (K.holds keeper.old (W.view w.old)) (K.last keeper.old) T → (M : Mes) → message_at T nothing id.bits ≡ Ok M → IsContent node.now M → Says (λ units. units) (Ok (text_of 0x0037 M.props)) result }
-    ensures looks { Looks (K.holds keeper.old (W.view w.old)) (K.holds keeper.new (W.view w.new)) (K.last keeper.old) (K.last keeper.new) (K.room keeper.old) (K.room keeper.new) (W.view w.old) (W.view w.new) }
-    ensures cause { IfErr result (IsCaused K.has_disk (W.view w.old).disk_faults (W.view w.new).disk_faults) }
+fn subject_in<D: Desk>(desk: &mut D, id: Nid, node: &NodeRec) -> Result<Units, Stop>
+    ensures reads { Reads (D.view desk.old) (D.view desk.new) result }
+    ensures answer { TellsOf (D.view desk.old) id.bits (IsContent node.now) (λ M. text_of 0x0037 M.props) (λ units. units) result }
 {
-    let told = glance_of(alloc, node, PID_TAG_SUBJECT.id)?;
-    subject_of(alloc, keeper, w, id, &told)
+    let told = glance_of(desk.alloc(), node, PID_TAG_SUBJECT.id)?;
+    subject_of(desk, id, &told)
 }
 
 /// What a message whose node this is tells of its size.
@@ -268,72 +190,46 @@ fn size_in(alloc: Global, node: &NodeRec) -> Result<u32, Stop>
 }
 
 /// The line of a message whose node this is.
-fn line_in<W: Outside, K: NodeReader<W>>(
-    alloc: Global,
-    keeper: &mut K,
-    w: &mut W,
-    id: Nid,
-    node: &NodeRec,
-) -> Result<DataLine, Stop>
-    ensures answer { (T : Tree) → Shown (K.holds keeper.old (W.view w.old)) (K.last keeper.old) T → (M : Mes) → message_at T nothing id.bits ≡ Ok M → IsContent node.now M → Says (λ line. line) (Ok (message_line id.bits M)) result }
-    ensures looks { Looks (K.holds keeper.old (W.view w.old)) (K.holds keeper.new (W.view w.new)) (K.last keeper.old) (K.last keeper.new) (K.room keeper.old) (K.room keeper.new) (W.view w.old) (W.view w.new) }
-    ensures cause { IfErr result (IsCaused K.has_disk (W.view w.old).disk_faults (W.view w.new).disk_faults) }
+fn line_in<D: Desk>(desk: &mut D, id: Nid, node: &NodeRec) -> Result<DataLine, Stop>
+    ensures reads { Reads (D.view desk.old) (D.view desk.new) result }
+    ensures answer { TellsOf (D.view desk.old) id.bits (IsContent node.now) (message_line id.bits) (λ line. line) result }
 {
-    let size = size_in(alloc, node)?;
-    let subject = subject_in(alloc, keeper, w, id, node)?;
+    let size = size_in(desk.alloc(), node)?;
+    let subject = subject_in(desk, id, node)?;
     Ok(DataLine::Message { id, size, subject })
 }
 
 /// The line of a message: what it tells of its size, and its subject.
-#[tactic(auto, unfolding(crate::specs::Pieces::line_of_message))]
-pub fn line_of_message<W: Outside, K: NodeReader<W>>(
-    alloc: Global,
-    keeper: &mut K,
-    w: &mut W,
-    message: u32,
-) -> Result<DataLine, Stop>
-    ensures answer { (T : Tree) → Shown (K.holds keeper.old (W.view w.old)) (K.last keeper.old) T → Says (λ line. line) (line_of_message T message) result }
-    ensures looks { Looks (K.holds keeper.old (W.view w.old)) (K.holds keeper.new (W.view w.new)) (K.last keeper.old) (K.last keeper.new) (K.room keeper.old) (K.room keeper.new) (W.view w.old) (W.view w.new) }
-    ensures cause { IfErr result (IsCaused K.has_disk (W.view w.old).disk_faults (W.view w.new).disk_faults) }
+pub fn line_of_message<D: FolderDesk>(desk: &mut D, message: u32) -> Result<DataLine, Stop>
+    ensures reads { Reads (D.view desk.old) (D.view desk.new) result }
+    ensures answer { Answers (D.view desk.old) (λ line. line) (λ T c. line_of_message T message) result }
 {
     let id = Nid { bits: message };
-    let node = message_content(alloc, keeper, w, id)?;
-    line_in(alloc, keeper, w, id, &node)
+    let node = desk.content_before(id)?;
+    line_in(desk, id, &node)
 }
 
 /// The lines of folders.
-fn folder_lines<W: Outside, K: NodeReader<W>>(
-    alloc: Global,
-    keeper: &mut K,
-    w: &mut W,
-    places: &[FolderPlace],
-) -> Result<Vec<DataLine>, Stop>
-    ensures answer { (T : Tree) → Shown (K.holds keeper.old (W.view w.old)) (K.last keeper.old) T → Says (λ lines. lines.items) (each (line_of_folder T) places.now) result }
-    ensures looks { Looks (K.holds keeper.old (W.view w.old)) (K.holds keeper.new (W.view w.new)) (K.last keeper.old) (K.last keeper.new) (K.room keeper.old) (K.room keeper.new) (W.view w.old) (W.view w.new) }
-    ensures cause { IfErr result (IsCaused K.has_disk (W.view w.old).disk_faults (W.view w.new).disk_faults) }
+fn folder_lines<D: Desk>(desk: &mut D, places: &[FolderPlace]) -> Result<Vec<DataLine>, Stop>
+    ensures reads { Reads (D.view desk.old) (D.view desk.new) result }
+    ensures answer { Answers (D.view desk.old) (λ lines. lines.items) (λ T c. each (line_of_folder T) places.now) result }
 {
-    let mut lines = Vec::new(alloc);
+    let mut lines = Vec::new(desk.alloc());
     for place in places {
-        let line = line_of_folder(alloc, keeper, w, *place)?;
+        let line = line_of_folder(desk, *place)?;
         lines.push(line)?;
     }
     Ok(lines)
 }
 
 /// The lines of messages.
-fn message_lines<W: Outside, K: NodeReader<W>>(
-    alloc: Global,
-    keeper: &mut K,
-    w: &mut W,
-    messages: &[u32],
-) -> Result<Vec<DataLine>, Stop>
-    ensures answer { (T : Tree) → Shown (K.holds keeper.old (W.view w.old)) (K.last keeper.old) T → Says (λ lines. lines.items) (each (line_of_message T) messages.now) result }
-    ensures looks { Looks (K.holds keeper.old (W.view w.old)) (K.holds keeper.new (W.view w.new)) (K.last keeper.old) (K.last keeper.new) (K.room keeper.old) (K.room keeper.new) (W.view w.old) (W.view w.new) }
-    ensures cause { IfErr result (IsCaused K.has_disk (W.view w.old).disk_faults (W.view w.new).disk_faults) }
+fn message_lines<D: FolderDesk>(desk: &mut D, messages: &[u32]) -> Result<Vec<DataLine>, Stop>
+    ensures reads { Reads (D.view desk.old) (D.view desk.new) result }
+    ensures answer { Answers (D.view desk.old) (λ lines. lines.items) (λ T c. each (line_of_message T) messages.now) result }
 {
-    let mut lines = Vec::new(alloc);
+    let mut lines = Vec::new(desk.alloc());
     for message in messages {
-        let line = line_of_message(alloc, keeper, w, *message)?;
+        let line = line_of_message(desk, *message)?;
         lines.push(line)?;
     }
     Ok(lines)

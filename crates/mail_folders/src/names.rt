@@ -1,22 +1,19 @@
 //! Names of folders, compared with their case folded.
-ghost use Rattle.std.specs.Prelude.{false, ◌≡◌, map, filter, ◌==◌, IfErr, IfOk};
-ghost use Rattle.mapi_values.specs.Characters.{folded};
+ghost use Rattle.std.specs.Prelude.{◌≡◌, map, filter, ◌==◌, IfOk, IfSome, Ok};
 ghost use Rattle.mail_tree.specs.Places.{children, is_child};
 ghost use Rattle.mail_tree.specs.Flags.{AreFlags};
-ghost use Rattle.mail_tree.specs.Knowing.{Knows};
-ghost use Rattle.mail_tree.specs.Tree.{Shown, Tree, object_at};
+ghost use Rattle.mail_tree.specs.Tree.{Tree, object_at};
 ghost use Rattle.mail_tree.specs.Folders.{siblings, unless_named};
-ghost use Rattle.mail_folders.specs.Pieces.{has_name, name_in, unless_has_name};
-ghost use Rattle.mail_draft.specs.Answers.{IsCaused, Looks, Says};
+ghost use Rattle.mail_folders.specs.Pieces.{has_name, name_in, unless_child_named, unless_has_name};
+ghost use Rattle.mail_draft.specs.Answers.{Says};
+ghost use Rattle.mail_draft.specs.Sight.{Answers, Reads};
 
-use crate::reading::context_in;
+use crate::desk::FolderDesk;
 use command_text::CommandRefusal;
-use mail_draft::{Stop, folded_name, name_of};
-use mail_tree::{Flags, FolderPlace, Known, Places};
+use mail_draft::{Desk, Stop, folded_name, name_of};
+use mail_tree::{Flags, FolderPlace, Places};
 use mapi_values::Units;
-use node_port::NodeReader;
 use pst_base::Nid;
-use pst_outside::Outside;
 use std::alloc::{AllocError, Global};
 
 /// The id of the root of all folders.
@@ -58,57 +55,43 @@ pub(crate) fn siblings(
 }
 
 /// The name of a folder.
-#[tactic(auto, unfolding(crate::specs::Pieces::name_in))]
-pub(crate) fn name_in<W: Outside, K: NodeReader<W>>(
-    alloc: Global,
-    keeper: &mut K,
-    w: &mut W,
-    folder: Nid,
-) -> Result<Units, Stop>
-    ensures answer { (T : Tree) → Shown (K.holds keeper.old (W.view w.old)) (K.last keeper.old) T → Says (λ units. units) (name_in T folder.bits) result }
-    ensures looks { Looks (K.holds keeper.old (W.view w.old)) (K.holds keeper.new (W.view w.new)) (K.last keeper.old) (K.last keeper.new) (K.room keeper.old) (K.room keeper.new) (W.view w.old) (W.view w.new) }
-    ensures cause { IfErr result (IsCaused K.has_disk (W.view w.old).disk_faults (W.view w.new).disk_faults) }
+pub(crate) fn name_in<D: Desk>(desk: &mut D, folder: Nid) -> Result<Units, Stop>
+    ensures reads { Reads (D.view desk.old) (D.view desk.new) result }
+    ensures answer { Answers (D.view desk.old) (λ units. units) (λ T c. name_in T folder.bits) result }
 {
-    let context = context_in(alloc, keeper, w, folder)?;
-    Ok(name_of(alloc, context.props())?)
+    let context = desk.context_before(folder)?;
+    Ok(name_of(desk.alloc(), context.props())?)
+}
+
+/// Whether a folder has this name, which is folded already, if its name is known.
+fn known_name(flags: &Flags, name: &Units, folder: Nid) -> Option<bool>
+    ensures { IfSome result (λ has. (T : Tree) → AreFlags (object_at T) flags.now → Says (λ b. b) (has_name T name.now folder.bits) (Ok has)) }
+{
+    match flags.name(folder.bits) {
+        Some(own) => Some(own.as_slice() == name.as_slice()),
+        None => None,
+    }
 }
 
 /// Whether a folder has this name, which is folded already. Its node is read only where its name isn't known.
-#[tactic(auto, unfolding(crate::specs::Pieces::has_name))]
-fn has_name<W: Outside, K: NodeReader<W>>(
-    alloc: Global,
-    keeper: &mut K,
-    w: &mut W,
-    flags: &Flags,
-    name: &Units,
-    folder: Nid,
-) -> Result<bool, Stop>
-    ensures answer { (T : Tree) → Shown (K.holds keeper.old (W.view w.old)) (K.last keeper.old) T → AreFlags (object_at T) flags.now → Says (λ b. b) (has_name T name.now folder.bits) result }
-    ensures looks { Looks (K.holds keeper.old (W.view w.old)) (K.holds keeper.new (W.view w.new)) (K.last keeper.old) (K.last keeper.new) (K.room keeper.old) (K.room keeper.new) (W.view w.old) (W.view w.new) }
-    ensures cause { IfErr result (IsCaused K.has_disk (W.view w.old).disk_faults (W.view w.new).disk_faults) }
+fn has_name<D: FolderDesk>(desk: &mut D, name: &Units, folder: Nid) -> Result<bool, Stop>
+    ensures reads { Reads (D.view desk.old) (D.view desk.new) result }
+    ensures answer { Answers (D.view desk.old) (λ b. b) (λ T c. has_name T name.now folder.bits) result }
 {
-    if let Some(own) = flags.name(folder.bits) {
-        return Ok(own.as_slice() == name.as_slice());
+    if let Some(has) = known_name(desk.flags(), name, folder) {
+        return Ok(has);
     }
-    let context = context_in(alloc, keeper, w, folder)?;
-    let own = folded_name(alloc, context.props())?;
+    let context = desk.context_before(folder)?;
+    let own = folded_name(desk.alloc(), context.props())?;
     Ok(own.as_slice() == name.as_slice())
 }
 
 /// Refused where a folder has this name, which is folded already.
-fn unless_has_name<W: Outside, K: NodeReader<W>>(
-    alloc: Global,
-    keeper: &mut K,
-    w: &mut W,
-    flags: &Flags,
-    name: &Units,
-    folder: Nid,
-) -> Result<(), Stop>
-    ensures answer { (T : Tree) → Shown (K.holds keeper.old (W.view w.old)) (K.last keeper.old) T → AreFlags (object_at T) flags.now → Says (λ u. u) (unless_has_name T name.now folder.bits) result }
-    ensures looks { Looks (K.holds keeper.old (W.view w.old)) (K.holds keeper.new (W.view w.new)) (K.last keeper.old) (K.last keeper.new) (K.room keeper.old) (K.room keeper.new) (W.view w.old) (W.view w.new) }
-    ensures cause { IfErr result (IsCaused K.has_disk (W.view w.old).disk_faults (W.view w.new).disk_faults) }
+fn unless_has_name<D: FolderDesk>(desk: &mut D, name: &Units, folder: Nid) -> Result<(), Stop>
+    ensures reads { Reads (D.view desk.old) (D.view desk.new) result }
+    ensures answer { Answers (D.view desk.old) (λ u. u) (λ T c. unless_has_name T name.now folder.bits) result }
 {
-    let is_taken = has_name(alloc, keeper, w, flags, name, folder)?;
+    let is_taken = has_name(desk, name, folder)?;
     if is_taken {
         return Err(Stop::Refused(CommandRefusal::NameTaken));
     }
@@ -116,38 +99,30 @@ fn unless_has_name<W: Outside, K: NodeReader<W>>(
 }
 
 /// Refused where one of these folders has this name, which is folded already.
-pub(crate) fn unless_named<W: Outside, K: NodeReader<W>>(
-    alloc: Global,
-    keeper: &mut K,
-    w: &mut W,
-    flags: &Flags,
+pub(crate) fn unless_named<D: FolderDesk>(
+    desk: &mut D,
     name: &Units,
     folders: &[u32],
 ) -> Result<(), Stop>
-    ensures answer { (T : Tree) → Shown (K.holds keeper.old (W.view w.old)) (K.last keeper.old) T → AreFlags (object_at T) flags.now → Says (λ u. u) (unless_named T name.now folders.now) result }
-    ensures looks { Looks (K.holds keeper.old (W.view w.old)) (K.holds keeper.new (W.view w.new)) (K.last keeper.old) (K.last keeper.new) (K.room keeper.old) (K.room keeper.new) (W.view w.old) (W.view w.new) }
-    ensures cause { IfErr result (IsCaused K.has_disk (W.view w.old).disk_faults (W.view w.new).disk_faults) }
+    ensures reads { Reads (D.view desk.old) (D.view desk.new) result }
+    ensures answer { Answers (D.view desk.old) (λ u. u) (λ T c. unless_named T name.now folders.now) result }
 {
     for folder in folders {
-        unless_has_name(alloc, keeper, w, flags, name, Nid { bits: *folder })?;
+        unless_has_name(desk, name, Nid { bits: *folder })?;
     }
     Ok(())
 }
 
 /// Refused where a folder in a parent has this name.
-pub fn unless_child_named<W: Outside, K: NodeReader<W>>(
-    alloc: Global,
-    keeper: &mut K,
-    w: &mut W,
-    known: &Known,
+pub fn unless_child_named<D: FolderDesk>(
+    desk: &mut D,
     parent: Nid,
     name: &Units,
 ) -> Result<(), Stop>
-    ensures answer { (T : Tree) → Shown (K.holds keeper.old (W.view w.old)) (K.last keeper.old) T → Knows T known.now → Says (λ u. u) (unless_named T (folded false name.now) (children parent.bits T.places)) result }
-    ensures looks { Looks (K.holds keeper.old (W.view w.old)) (K.holds keeper.new (W.view w.new)) (K.last keeper.old) (K.last keeper.new) (K.room keeper.old) (K.room keeper.new) (W.view w.old) (W.view w.new) }
-    ensures cause { IfErr result (IsCaused K.has_disk (W.view w.old).disk_faults (W.view w.new).disk_faults) }
+    ensures reads { Reads (D.view desk.old) (D.view desk.new) result }
+    ensures answer { Answers (D.view desk.old) (λ u. u) (λ T c. unless_child_named T parent.bits name.now) result }
 {
-    let ids = children(alloc, &known.places, parent)?;
-    let folded = name.fold(alloc, false)?;
-    unless_named(alloc, keeper, w, &known.flags, &folded, ids.as_slice())
+    let ids = children(desk.alloc(), desk.places(), parent)?;
+    let folded = name.fold(desk.alloc(), false)?;
+    unless_named(desk, &folded, ids.as_slice())
 }

@@ -1,23 +1,20 @@
 //! Folders that the store names.
 ghost use Rattle.std.specs.Prelude.{◌≡◌, IfErr};
-ghost use Rattle.mail_tree.specs.Tree.{Shown, Tree};
 ghost use Rattle.mail_tree.specs.Values.{bytes_of, is_special, names_node};
 ghost use Rattle.mail_tree.specs.Folders.{unless_protected};
-ghost use Rattle.mail_draft.specs.Answers.{IsCaused, Looks, Says};
+ghost use Rattle.mail_draft.specs.Answers.{IsCalm, Says};
+ghost use Rattle.mail_draft.specs.Sight.{Answers, Reads};
+ghost use Rattle.mail_folders.specs.Pieces.{unless_special};
 
 use crate::names::ROOT;
-use crate::reading::context_in;
 use command_text::CommandRefusal;
-use mail_draft::{Stop, bytes_of};
+use mail_draft::{Desk, Stop, bytes_of};
 use mapi_values::Props;
 use mapi_values::tags::{
     PID_TAG_FINDER_ENTRY_ID, PID_TAG_IPM_SUBTREE_ENTRY_ID, PID_TAG_IPM_WASTEBASKET_ENTRY_ID,
     PTYP_BINARY,
 };
-use node_port::NodeReader;
 use pst_base::{Nid, u32_at};
-use pst_outside::Outside;
-use std::alloc::Global;
 
 /// The store's own values.
 const STORE: Nid = Nid { bits: 0x21 };
@@ -41,21 +38,22 @@ fn is_special(folder: Nid, store: &Props) -> bool
         || names_node(folder, store, PID_TAG_FINDER_ENTRY_ID.id)
 }
 
-/// Refused where a folder is the root, or one that the store names.
-#[tactic(auto, unfolding(mail_tree::specs::Folders::unless_protected))]
-pub fn unless_protected<W: Outside, K: NodeReader<W>>(
-    alloc: Global,
-    keeper: &mut K,
-    w: &mut W,
-    folder: Nid,
-) -> Result<(), Stop>
-    ensures answer { (T : Tree) → Shown (K.holds keeper.old (W.view w.old)) (K.last keeper.old) T → Says (λ u. u) (unless_protected T folder.bits) result }
-    ensures looks { Looks (K.holds keeper.old (W.view w.old)) (K.holds keeper.new (W.view w.new)) (K.last keeper.old) (K.last keeper.new) (K.room keeper.old) (K.room keeper.new) (W.view w.old) (W.view w.new) }
-    ensures cause { IfErr result (IsCaused K.has_disk (W.view w.old).disk_faults (W.view w.new).disk_faults) }
+/// Refused where a folder is the root, or one that the store with these values names.
+fn unless_special(folder: Nid, store: &Props) -> Result<(), Stop>
+    ensures answer { Says (λ u. u) (unless_special folder.bits store.now) result }
+    ensures calm { IfErr result IsCalm }
 {
-    let store = context_in(alloc, keeper, w, STORE)?;
-    if folder.bits == ROOT || is_special(folder, store.props()) {
+    if folder.bits == ROOT || is_special(folder, store) {
         return Err(Stop::Refused(CommandRefusal::Protected));
     }
     Ok(())
+}
+
+/// Refused where a folder is the root, or one that the store names.
+pub fn unless_protected<D: Desk>(desk: &mut D, folder: Nid) -> Result<(), Stop>
+    ensures reads { Reads (D.view desk.old) (D.view desk.new) result }
+    ensures answer { Answers (D.view desk.old) (λ u. u) (λ T c. unless_protected T folder.bits) result }
+{
+    let store = desk.context_before(STORE)?;
+    unless_special(folder, store.props())
 }

@@ -1,4 +1,4 @@
-//! What stands in the nodes, before anything is changed.
+//! What stands in the nodes, before anything is changed, for callers that have no desk.
 ghost use Rattle.std.specs.Prelude.{IfErr, Ok};
 ghost use Rattle.mail_tree.specs.Tree.{Shown, Tree};
 ghost use Rattle.mail_tree.specs.Changing.{context_at, message_at, nothing, table_at};

@@ -1,47 +1,34 @@
 //! `rmdir`
-ghost use Rattle.std.specs.Prelude.{◌≡◌, IfErr, IfOk, None, Ok, ◌||◌};
-ghost use Rattle.mail_tree.specs.Knowing.{Knows};
-ghost use Rattle.mail_tree.specs.Tree.{Shown, Tree};
+ghost use Rattle.std.specs.Prelude.{◌≡◌, IfErr, Ok, ◌||◌};
 ghost use Rattle.mail_tree.specs.Folders.{has_rows, removed_folder, without_folder};
-ghost use Rattle.mail_folders.specs.Pieces.{has_associated_in, has_rows_in, removing_folder, unless_filled};
-ghost use Rattle.mail_tree.specs.Changing.{contents, hierarchy, nothing, refused_if, with_object};
+ghost use Rattle.mail_folders.specs.Pieces.{has_associated_in, has_rows_in, removing_folder, unless_filled, without_nodes};
+ghost use Rattle.mail_tree.specs.Changing.{nothing, refused_if};
 ghost use Rattle.command_text.specs.declared.reply.CommandRefusal.TheVariants.{NotEmpty};
-ghost use Rattle.mail_draft.specs.Drafts.{changed_of};
-ghost use Rattle.mail_draft.specs.Answers.{IsCalm, IsCaused, Looks, Says};
-ghost use Rattle.mail_draft.specs.Outcomes.{outcome_of};
+ghost use Rattle.mail_draft.specs.Answers.{IsCalm, Says};
+ghost use Rattle.mail_draft.specs.Desks.{Comes};
+ghost use Rattle.mail_draft.specs.Sight.{Answers, Changes, Drafts, Reads};
 
+use crate::desk::FolderDesk;
+use crate::ending::moving;
 use crate::finding::plain_in;
 use crate::protecting::unless_protected;
-use crate::reading::{is_taken, table_in};
 use crate::standing::without_place;
 use command_text::CommandRefusal;
-use mail_draft::{
-    Draft, Outcome, Stop, associated, contents, drop_shown, hierarchy, moving, settled,
-};
-use mail_tree::Known;
+use mail_draft::on_desk::drop_shown;
+use mail_draft::{Coming, Desk, Stop, associated, contents, hierarchy};
 use mail_tree::mail_objects::TableNode;
-use node_port::NodeReader;
 use pst_base::Nid;
-use pst_outside::Outside;
-use std::alloc::{AllocError, Global};
 
 /// Removes a folder. Refused where it isn't there, isn't plain, is protected, or one of its tables has a row (`NotEmpty`).
-#[tactic(auto, unfolding(mail_tree::specs::Folders::removed_folder))]
-pub fn remove_folder<W: Outside, K: NodeReader<W>>(
-    alloc: Global,
-    keeper: &mut K,
-    w: &mut W,
-    known: &Known,
-    folder: Nid,
-) -> Result<Outcome, Stop>
-    ensures answer { (T : Tree) → Shown (K.holds keeper.old (W.view w.old)) (K.last keeper.old) T → Knows T known.now → Says (outcome_of T) (removed_folder T folder.bits) result }
-    ensures looks { Looks (K.holds keeper.old (W.view w.old)) (K.holds keeper.new (W.view w.new)) (K.last keeper.old) (K.last keeper.new) (K.room keeper.old) (K.room keeper.new) (W.view w.old) (W.view w.new) }
-    ensures cause { IfErr result (IsCaused K.has_disk (W.view w.old).disk_faults (W.view w.new).disk_faults) }
+pub fn remove_folder<D: FolderDesk>(desk: &mut D, folder: Nid) -> Result<Coming, Stop>
+    requires fresh { (D.view desk.old).changed ≡ nothing }
+    ensures drafts { Drafts (D.view desk.old) (D.view desk.new) result }
+    ensures answer { Comes (D.view desk.old) (D.view desk.new) (λ T c. removed_folder T folder.bits) result }
 {
-    let place = plain_in(&known.places, folder)?;
-    unless_protected(alloc, keeper, w, folder)?;
-    unless_filled(alloc, keeper, w, folder)?;
-    removing_folder(alloc, keeper, w, known, folder, place.parent)
+    let place = plain_in(desk.places(), folder)?;
+    unless_protected(desk, folder)?;
+    unless_filled(desk, folder)?;
+    removing_folder(desk, folder, place.parent)
 }
 
 /// Whether a table has rows.
@@ -52,36 +39,22 @@ fn has_rows(table: &TableNode) -> bool
 }
 
 /// Whether the table at an id has rows.
-#[tactic(auto, unfolding(crate::specs::Pieces::has_rows_in))]
-fn has_rows_in<W: Outside, K: NodeReader<W>>(
-    alloc: Global,
-    keeper: &mut K,
-    w: &mut W,
-    nid: Nid,
-) -> Result<bool, Stop>
-    ensures answer { (T : Tree) → Shown (K.holds keeper.old (W.view w.old)) (K.last keeper.old) T → Says (λ b. b) (has_rows_in T nid.bits) result }
-    ensures looks { Looks (K.holds keeper.old (W.view w.old)) (K.holds keeper.new (W.view w.new)) (K.last keeper.old) (K.last keeper.new) (K.room keeper.old) (K.room keeper.new) (W.view w.old) (W.view w.new) }
-    ensures cause { IfErr result (IsCaused K.has_disk (W.view w.old).disk_faults (W.view w.new).disk_faults) }
+fn has_rows_in<D: Desk>(desk: &mut D, nid: Nid) -> Result<bool, Stop>
+    ensures reads { Reads (D.view desk.old) (D.view desk.new) result }
+    ensures answer { Answers (D.view desk.old) (λ b. b) (λ T c. has_rows_in T nid.bits) result }
 {
-    let table = table_in(alloc, keeper, w, nid)?;
+    let table = desk.table_before(nid)?;
     Ok(has_rows(&table))
 }
 
 /// Whether a folder's table of associated messages, which may be missing, has rows.
-#[tactic(auto, unfolding(crate::specs::Pieces::has_associated_in))]
-fn has_associated_in<W: Outside, K: NodeReader<W>>(
-    alloc: Global,
-    keeper: &mut K,
-    w: &mut W,
-    folder: Nid,
-) -> Result<bool, Stop>
-    ensures answer { (T : Tree) → Shown (K.holds keeper.old (W.view w.old)) (K.last keeper.old) T → Says (λ b. b) (has_associated_in T folder.bits) result }
-    ensures looks { Looks (K.holds keeper.old (W.view w.old)) (K.holds keeper.new (W.view w.new)) (K.last keeper.old) (K.last keeper.new) (K.room keeper.old) (K.room keeper.new) (W.view w.old) (W.view w.new) }
-    ensures cause { IfErr result (IsCaused K.has_disk (W.view w.old).disk_faults (W.view w.new).disk_faults) }
+fn has_associated_in<D: FolderDesk>(desk: &mut D, folder: Nid) -> Result<bool, Stop>
+    ensures reads { Reads (D.view desk.old) (D.view desk.new) result }
+    ensures answer { Answers (D.view desk.old) (λ b. b) (λ T c. has_associated_in T folder.bits) result }
 {
     let nid = associated(folder);
-    if is_taken(alloc, keeper, w, nid)? {
-        return has_rows_in(alloc, keeper, w, nid);
+    if desk.is_taken(nid)? {
+        return has_rows_in(desk, nid);
     }
     Ok(false)
 }
@@ -98,68 +71,48 @@ fn unless_rows(has_folders: bool, has_messages: bool, has_associated: bool) -> R
 }
 
 /// Refused where one of a folder's tables has rows.
-#[tactic(auto, unfolding(crate::specs::Pieces::unless_filled))]
-fn unless_filled<W: Outside, K: NodeReader<W>>(
-    alloc: Global,
-    keeper: &mut K,
-    w: &mut W,
-    folder: Nid,
-) -> Result<(), Stop>
-    ensures answer { (T : Tree) → Shown (K.holds keeper.old (W.view w.old)) (K.last keeper.old) T → Says (λ u. u) (unless_filled T folder.bits) result }
-    ensures looks { Looks (K.holds keeper.old (W.view w.old)) (K.holds keeper.new (W.view w.new)) (K.last keeper.old) (K.last keeper.new) (K.room keeper.old) (K.room keeper.new) (W.view w.old) (W.view w.new) }
-    ensures cause { IfErr result (IsCaused K.has_disk (W.view w.old).disk_faults (W.view w.new).disk_faults) }
+fn unless_filled<D: FolderDesk>(desk: &mut D, folder: Nid) -> Result<(), Stop>
+    ensures reads { Reads (D.view desk.old) (D.view desk.new) result }
+    ensures answer { Answers (D.view desk.old) (λ u. u) (λ T c. unless_filled T folder.bits) result }
 {
-    let has_folders = has_rows_in(alloc, keeper, w, hierarchy(folder))?;
-    let has_messages = has_rows_in(alloc, keeper, w, contents(folder))?;
-    let has_associated = has_associated_in(alloc, keeper, w, folder)?;
+    let has_folders = has_rows_in(desk, hierarchy(folder))?;
+    let has_messages = has_rows_in(desk, contents(folder))?;
+    let has_associated = has_associated_in(desk, folder)?;
     unless_rows(has_folders, has_messages, has_associated)
 }
 
-/// A draft without the three nodes that each folder has.
-fn without_nodes(alloc: Global, folder: Nid) -> Result<Draft, AllocError>
-    ensures { IfOk result (λ d. changed_of d ≡ with_object (contents folder.bits) None (with_object (hierarchy folder.bits) None (with_object folder.bits None nothing))) }
+/// Takes away the three nodes that each folder has.
+fn drop_nodes<D: Desk>(desk: &mut D, folder: Nid) -> Result<(), Stop>
+    ensures drafts { Drafts (D.view desk.old) (D.view desk.new) result }
+    ensures answer { Changes (D.view desk.old) (D.view desk.new) (λ T c. Ok (without_nodes folder.bits c)) result }
 {
-    let first = Draft::new(alloc).with(folder, None)?;
-    let second = first.with(hierarchy(folder), None)?;
-    second.with(contents(folder), None)
+    desk.put(folder, None)?;
+    desk.put(hierarchy(folder), None)?;
+    desk.put(contents(folder), None)
 }
 
-/// A draft without a folder's nodes.
-fn without_folder<W: Outside, K: NodeReader<W>>(
-    alloc: Global,
-    keeper: &mut K,
-    w: &mut W,
-    folder: Nid,
-) -> Result<Draft, Stop>
-    ensures answer { (T : Tree) → Shown (K.holds keeper.old (W.view w.old)) (K.last keeper.old) T → Says changed_of (Ok (without_folder T folder.bits nothing)) result }
-    ensures looks { Looks (K.holds keeper.old (W.view w.old)) (K.holds keeper.new (W.view w.new)) (K.last keeper.old) (K.last keeper.new) (K.room keeper.old) (K.room keeper.new) (W.view w.old) (W.view w.new) }
-    ensures cause { IfErr result (IsCaused K.has_disk (W.view w.old).disk_faults (W.view w.new).disk_faults) }
+/// Takes away a folder's nodes.
+fn drop_folder<D: FolderDesk>(desk: &mut D, folder: Nid) -> Result<(), Stop>
+    ensures drafts { Drafts (D.view desk.old) (D.view desk.new) result }
+    ensures answer { Changes (D.view desk.old) (D.view desk.new) (λ T c. Ok (without_folder T folder.bits c)) result }
 {
-    let has_associated = is_taken(alloc, keeper, w, associated(folder))?;
-    let draft = without_nodes(alloc, folder)?;
+    let has_associated = desk.is_taken(associated(folder))?;
+    drop_nodes(desk, folder)?;
     if !has_associated {
-        return Ok(draft);
+        return Ok(());
     }
-    Ok(draft.with(associated(folder), None)?)
+    desk.put(associated(folder), None)
 }
 
 /// Removes a folder in a parent, with its row, and counts the parent anew.
-#[tactic(auto, unfolding(crate::specs::Pieces::removing_folder))]
-fn removing_folder<W: Outside, K: NodeReader<W>>(
-    alloc: Global,
-    keeper: &mut K,
-    w: &mut W,
-    known: &Known,
-    folder: Nid,
-    parent: Nid,
-) -> Result<Outcome, Stop>
-    ensures answer { (T : Tree) → Shown (K.holds keeper.old (W.view w.old)) (K.last keeper.old) T → Knows T known.now → Says (outcome_of T) (removing_folder T folder.bits parent.bits) result }
-    ensures looks { Looks (K.holds keeper.old (W.view w.old)) (K.holds keeper.new (W.view w.new)) (K.last keeper.old) (K.last keeper.new) (K.room keeper.old) (K.room keeper.new) (W.view w.old) (W.view w.new) }
-    ensures cause { IfErr result (IsCaused K.has_disk (W.view w.old).disk_faults (W.view w.new).disk_faults) }
+fn removing_folder<D: FolderDesk>(desk: &mut D, folder: Nid, parent: Nid) -> Result<Coming, Stop>
+    requires fresh { (D.view desk.old).changed ≡ nothing }
+    ensures drafts { Drafts (D.view desk.old) (D.view desk.new) result }
+    ensures answer { Comes (D.view desk.old) (D.view desk.new) (λ T c. removing_folder T folder.bits parent.bits) result }
 {
-    let after = without_place(alloc, &known.places, folder)?;
-    let without = without_folder(alloc, keeper, w, folder)?;
-    let unlisted = drop_shown(alloc, keeper, w, without, hierarchy(parent), folder)?;
-    let draft = settled(alloc, keeper, w, unlisted, &known.flags, &after, parent)?;
-    moving(alloc, keeper, w, draft, after)
+    let after = without_place(desk.alloc(), desk.places(), folder)?;
+    drop_folder(desk, folder)?;
+    drop_shown(desk, hierarchy(parent), folder)?;
+    desk.settle(&after, parent)?;
+    moving(desk, after)
 }

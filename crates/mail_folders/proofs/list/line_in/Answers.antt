@@ -1,18 +1,18 @@
-use Rattle.std.proofs.Common.{◌≡◌, ◌∙◌, ℕ, List, Ok, ap}
-use Rattle.std.proofs.lemmas.Result.{err_from_is_err_and}
+use Rattle.std.proofs.Common.{◌≡◌, ◌∙◌, ℕ, List, Ok, ap, arith, refl}
 use Rattle.command_text.specs.declared.reply.DataLine.TheVariants as lines
 use Rattle.mail_tree.specs.Values.{number_of, text_of}
 use Rattle.mail_folders.specs.Pieces.{message_line}
+use Rattle.std.proofs.lemmas.Result.{err_from_is_err_and}
 use Rattle.mail_folders.proofs.Steps.{stopped}
 use Rattle.mail_folders.proofs.list.line_in.Goals as goal
 
 pub returns-in_err-size-clause-answer : goal.returns-in_err-size-clause-answer
 returns-in_err-size-clause-answer g c = λ T s M here content. stopped _ (Ok (message_line c.args.id.bits M)) _ _ c.from_residual.ensures.1 (c.in_err-size.ensures.answer M content)
 
-pub returns-in_err-size-clause-cause : goal.returns-in_err-size-clause-cause
-returns-in_err-size-clause-cause g c =
+pub returns-in_err-size-clause-reads : goal.returns-in_err-size-clause-reads
+returns-in_err-size-clause-reads g c =
     let p = err_from_is_err_and c.from_residual.result c.from_residual.ensures.1 in
-    rw (p.1, p.2) (c.in_err-size.ensures.cause _ _ _)
+    record { shows = λ T s. s; changed = refl; disk = refl; faults = omega arith; since = λ f s. s; cause = rw (p.1, p.2) (c.in_err-size.ensures.cause _ _ _) }
 
 pub returns-in_err-subject-clause-answer : goal.returns-in_err-subject-clause-answer
 returns-in_err-subject-clause-answer g c = λ T s M here content.

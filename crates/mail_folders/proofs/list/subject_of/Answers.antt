@@ -8,4 +8,4 @@ returns-in-Some-clause-answer g c = λ T s m here told.
 
 pub returns-in-None-clause-answer : goal.returns-in-None-clause-answer
 unfolding read_subject
-returns-in-None-clause-answer g c = λ T s m here told. rw here at (c.read_subject.ensures.answer T s)
+returns-in-None-clause-answer g c = λ T s m here told. rw here at (c.read_subject.ensures.answer.says T s)

@@ -1,29 +1,28 @@
-use Rattle.std.proofs.Common.{◌∙◌, sym}
+use Rattle.std.proofs.Common.{◌∙◌, ℕ, List, ap, sym}
 use Rattle.mapi_values.specs.Keyed.{put_key}
-use Rattle.mail_tree.specs.Ids.{new_id}
+use Rattle.mail_tree.specs.declared.places.FolderPlace.{FolderPlace}
+use Rattle.mail_tree.specs.Changing.{◌>>=◌}
 use Rattle.mail_tree.specs.Places.{place_id}
 use Rattle.mail_tree.specs.Folders.{making, making_folder, place}
-use Rattle.mail_draft.proofs.Looking.{shown_still}
-use Rattle.mail_draft.proofs.Passes.{stop_says, then_says}
-use Rattle.mail_draft.specs.Drafts.{changed_of}
-use Rattle.mail_draft.specs.Outcomes.{outcome_of}
 use Rattle.mail_folders.specs.Pieces.{counted_folder}
-use Rattle.mail_folders.proofs.Steps.{stopped}
+use Rattle.mail_draft.proofs.DeskCalls.{changes_come, changes_come_exit}
+use Rattle.mail_folders.proofs.Calls.{comes_known}
 use Rattle.mail_folders.proofs.making.making_folder.Goals as goal
 
-pub returns-in_err-draft-clause-answer : goal.returns-in_err-draft-clause-answer
+pub returns-in_err-counted-clause-answer : goal.returns-in_err-counted-clause-answer
 unfolding making_folder counted_folder
-returns-in_err-draft-clause-answer g c = λ T s k.
-    let f = new_id 2 c.args.index in let parent = c.args.parent.bits in let places = put_key place_id (place f parent) T.places in
-    let after = rw (c.new_id-folder.ensures, ← k.places) at c.in_ok-after.ensures in
-    let draft = rw (after, c.new_id-folder.ensures) at (c.in_err-draft.ensures.answer T s k.flags) in
-    stopped _ _ _ _ c.from_residual-in_err-draft.ensures.1 (stop_says changed_of (outcome_of T) (counted_folder T f parent c.args.name.now places) (making T places 2 c.args.index) _ draft)
+returns-in_err-counted-clause-answer g c =
+    let made = c.new_id-folder.result.bits in let parent = c.args.parent.bits in let name = c.args.name.now in let after = c.in_ok-after.after in
+    comes_known c.places.ensures (λ T e D.
+    ap (λ (ps : List FolderPlace). counted_folder T made parent name ps >>= making T ps 2 c.args.index) (c.in_ok-after.ensures ∙ ap (put_key place_id (place made parent)) (sym e))
+    ∙ ap (λ (f : ℕ). counted_folder T f parent name (put_key place_id (place f parent) T.places) >>= making T (put_key place_id (place f parent) T.places) 2 c.args.index) c.new_id-folder.ensures)
+    (changes_come_exit (λ T. making T after 2 c.args.index) c.in_err-counted.ensures.answer c.from_residual-in_err-counted.ensures.1)
 
 pub returns-clause-answer : goal.returns-clause-answer
 unfolding making_folder counted_folder
-returns-clause-answer g c = λ T s k.
-    let f = new_id 2 c.args.index in let parent = c.args.parent.bits in let places = put_key place_id (place f parent) T.places in
-    let after = rw (c.new_id-folder.ensures, ← k.places) at c.in_ok-after.ensures in
-    let draft = rw (after, c.new_id-folder.ensures) at (c.in_ok-draft.ensures.answer T s k.flags) in
-    let still = shown_still T c.in_ok-draft.ensures.looks s in
-    then_says changed_of (outcome_of T) (counted_folder T f parent c.args.name.now places) (making T places 2 c.args.index) _ _ draft (rw after at (c.making.ensures.answer T still (still.counters ∙ sym c.counts-counts.ensures)))
+returns-clause-answer g c =
+    let made = c.new_id-folder.result.bits in let parent = c.args.parent.bits in let name = c.args.name.now in let after = c.in_ok-after.after in
+    comes_known c.places.ensures (λ T e D.
+    ap (λ (ps : List FolderPlace). counted_folder T made parent name ps >>= making T ps 2 c.args.index) (c.in_ok-after.ensures ∙ ap (put_key place_id (place made parent)) (sym e))
+    ∙ ap (λ (f : ℕ). counted_folder T f parent name (put_key place_id (place f parent) T.places) >>= making T (put_key place_id (place f parent) T.places) 2 c.args.index) c.new_id-folder.ensures)
+    (changes_come (λ T. making T after 2 c.args.index) c.in_ok-counted.ensures.answer c.in_ok-counted.ensures.drafts c.make.ensures.answer)

@@ -1,20 +1,18 @@
+use Rattle.std.proofs.Common.{refl}
+use Rattle.mail_tree.specs.Changing.{add_shown}
 use Rattle.mail_folders.specs.Pieces.{added_between}
-use Rattle.mail_tree.specs.Settling.{settled}
-use Rattle.mail_draft.proofs.Looking.{looks_then, shown_still}
-use Rattle.mail_folders.proofs.Steps.{in_turn, stopped, stops_second}
+use Rattle.mail_draft.proofs.DeskCalls.{both_change, changes_at, drafts_then, first_exits}
 use Rattle.mail_folders.proofs.moving.added_between.Goals as goal
 
-pub returns-in_err-half-clause-answer : goal.returns-in_err-half-clause-answer
+pub returns-in_err-add_shown-clause-answer : goal.returns-in_err-add_shown-clause-answer
 unfolding added_between
-returns-in_err-half-clause-answer g c = λ T s flags.
-    let listed = rw c.hierarchy.ensures at (c.in_ok-listed.ensures.answer T s) in
-    stopped _ _ _ _ c.from_residual-in_err-half.ensures.1
-    (stops_second _ _ (settled T c.args.places.now c.args.from.bits) (settled T c.args.places.now c.args.to.bits) _ _ listed (c.in_err-half.ensures.answer T (shown_still T c.in_ok-listed.ensures.looks s) flags))
+returns-in_err-add_shown-clause-answer g c = first_exits {Y = Unit {0}} {mid = g.D.Desk.view c.args.desk.now} _ (first_exits _ (changes_at (λ q T. add_shown T q c.args.folder.bits c.args.props.now) c.hierarchy.ensures c.in_err-add_shown.ensures.answer) refl) c.from_residual.ensures.1
+
+pub returns-in_err-settle-clause-answer : goal.returns-in_err-settle-clause-answer
+unfolding added_between
+returns-in_err-settle-clause-answer g c = first_exits _ (both_change _ (changes_at (λ q T. add_shown T q c.args.folder.bits c.args.props.now) c.hierarchy.ensures c.in_ok-add_shown.ensures.answer) c.in_ok-add_shown.ensures.drafts c.in_err-settle.ensures.answer) c.from_residual-in_err-settle.ensures.1
 
 pub returns-clause-answer : goal.returns-clause-answer
 unfolding added_between
-returns-clause-answer g c = λ T s flags.
-    let L = looks_then c.in_ok-listed.ensures.looks c.in_ok-half.ensures.looks in
-    let listed = rw c.hierarchy.ensures at (c.in_ok-listed.ensures.answer T s) in
-    in_turn _ _ (settled T c.args.places.now c.args.from.bits) (settled T c.args.places.now c.args.to.bits) _ _ _ listed
-    (c.in_ok-half.ensures.answer T (shown_still T c.in_ok-listed.ensures.looks s) flags) (c.settled-2.ensures.answer T (shown_still T L s) flags)
+returns-clause-answer g c = both_change _ (both_change _ (changes_at (λ q T. add_shown T q c.args.folder.bits c.args.props.now) c.hierarchy.ensures c.in_ok-add_shown.ensures.answer) c.in_ok-add_shown.ensures.drafts c.in_ok-settle.ensures.answer)
+    (drafts_then c.in_ok-add_shown.ensures.drafts c.in_ok-settle.ensures.drafts) c.settle-2.ensures.answer

@@ -1,54 +1,61 @@
-use Rattle.std.proofs.Common.{◌∙◌, ap, false}
+use Rattle.std.proofs.Common.{◌∙◌, ◌==◌, List, Ok, false}
+use Rattle.std.proofs.lemmas.Bool.{eq-eqb, ne_eqb}
 use Rattle.mapi_values.specs.Characters.{folded}
-use Rattle.command_text.specs.declared.reply.CommandRefusal.TheVariants.{Limit}
+use Rattle.command_text.specs.declared.reply.CommandRefusal.TheVariants.{Cycle, Limit}
 use Rattle.command_text.specs.declared.reply.LastLine.TheVariants.{Done}
 use Rattle.command_text.specs.declared.reply.Limit.TheVariants.{Depth}
-use Rattle.mail_tree.specs.Places.{children, moves_deep}
+use Rattle.mail_tree.specs.declared.places.FolderPlace.{FolderPlace}
+use Rattle.mail_tree.specs.Places.{children, is_within, moves_deep}
 use Rattle.mail_tree.specs.Values.{name_of}
 use Rattle.mail_tree.specs.Changing.{◌>>=◌, context_at, nothing, refused_if}
-use Rattle.mail_tree.specs.Folders.{moved_folder, unchanged, unless_named}
-use Rattle.mail_draft.specs.Outcomes.{outcome_of}
-use Rattle.mail_draft.proofs.Looking.{shown_still}
-use Rattle.mail_draft.proofs.Passes.{stop_says, then_says}
-use Rattle.mail_folders.specs.Pieces.{moving_folder, placing_folder, unless_crowds_name}
-use Rattle.mail_folders.proofs.Steps.{from_both, otherwise, regroup, reply_is, stopped, this_way}
+use Rattle.mail_tree.specs.Folders.{moved_folder, replied, unchanged, unless_named}
+use Rattle.mail_folders.specs.Pieces.{both_plain_in, moving_folder, placing_folder, unless_crowds_name}
+use Rattle.mail_draft.proofs.DeskCalls.{asked_places, comes_exit, comes_then, comes_unchanged}
+use Rattle.mail_draft.proofs.DeskLoops.{reads_none, reads_ok}
+use Rattle.mail_folders.proofs.Calls.{asked, comes_both, comes_else, comes_if, comes_regrouped}
+use Rattle.mail_folders.proofs.Steps.{reply_is}
 use Rattle.mail_folders.proofs.moving.move_folder.Goals as goal
 
 pub returns-in_err-place-clause-answer : goal.returns-in_err-place-clause-answer
-unfolding moved_folder
-returns-in_err-place-clause-answer g c = λ T s k.
-    stopped _ _ _ _ c.from_residual.ensures.1 (from_both _ T _ _ _ _ (stop_says _ _ _ _ _ (c.in_err-place.ensures.answer T k.places)))
+unfolding moved_folder moving_folder unless_crowds_name placing_folder
+returns-in_err-place-clause-answer g c = comes_both c.args.folder.bits c.args.parent.bits _ (comes_exit _ (asked (λ T. both_plain_in T c.args.folder.bits c.args.parent.bits) c.places.ensures c.in_err-place.ensures.answer) c.from_residual.ensures.1)
 
 pub returns-in_err-unless_protected-clause-answer : goal.returns-in_err-unless_protected-clause-answer
-unfolding moved_folder
-returns-in_err-unless_protected-clause-answer g c = λ T s k.
-    stopped _ _ _ _ c.from_residual-in_err-unless_protected.ensures.1
-    (from_both _ T _ _ _ _ (then_says _ _ _ _ _ _ (c.in_ok-place.ensures.answer T k.places) (stop_says _ _ _ _ _ (c.in_err-unless_protected.ensures.answer T s))))
+unfolding moved_folder moving_folder unless_crowds_name placing_folder
+returns-in_err-unless_protected-clause-answer g c =
+    let f = c.args.folder.bits in let to = c.args.parent.bits in
+    comes_both f to _
+    (comes_then _ (asked (λ T. both_plain_in T c.args.folder.bits c.args.parent.bits) c.places.ensures c.in_ok-place.ensures.answer) (reads_ok _ (reads_none _))
+    (comes_exit _ c.in_err-unless_protected.ensures.answer c.from_residual-in_err-unless_protected.ensures.1))
 
 pub returns-in_err-unless_within-clause-answer : goal.returns-in_err-unless_within-clause-answer
-unfolding moved_folder
-returns-in_err-unless_within-clause-answer g c = λ T s k.
-    stopped _ _ _ _ c.from_residual-in_err-unless_within.ensures.1
-    (from_both _ T _ _ _ _
-    (then_says _ _ _ _ _ _ (c.in_ok-place.ensures.answer T k.places)
-    (then_says _ _ _ _ _ _ (c.in_ok-unless_protected.ensures.answer T s) (stop_says _ _ _ _ _ (rw (← k.places) at c.in_err-unless_within.ensures.answer)))))
+unfolding moved_folder moving_folder unless_crowds_name placing_folder
+returns-in_err-unless_within-clause-answer g c =
+    let f = c.args.folder.bits in let to = c.args.parent.bits in
+    comes_both f to _
+    (comes_then _ (asked (λ T. both_plain_in T c.args.folder.bits c.args.parent.bits) c.places.ensures c.in_ok-place.ensures.answer) (reads_ok _ (reads_none _))
+    (comes_then _ c.in_ok-unless_protected.ensures.answer c.in_ok-unless_protected.ensures.reads
+    (comes_exit _ (asked_places (λ (u : Unit {0}). u) (λ (places : List FolderPlace). refused_if (is_within places f to) Cycle) _ c.places-2.ensures c.in_err-unless_within.ensures.answer) c.from_residual-in_err-unless_within.ensures.1)))
 
 pub returns-then-place-parent-clause-answer : goal.returns-then-place-parent-clause-answer
-unfolding moved_folder
-returns-then-place-parent-clause-answer g c = λ T s k.
-    from_both _ T _ _ _ _
-    (then_says _ _ _ _ _ _ (c.in_ok-place.ensures.answer T k.places)
-    (then_says _ _ _ _ _ _ (c.in_ok-unless_protected.ensures.answer T s)
-    (then_says _ _ _ _ _ _ (rw (← k.places) at c.in_ok-unless_within.ensures.answer) (this_way _ _ _ _ _ _ c.if-place-parent.true (c.unchanged.ensures T ∙ ap (unchanged T) (reply_is _ Done c.without_data-reply.ensures.lines c.without_data-reply.ensures.last))))))
+unfolding moved_folder moving_folder unless_crowds_name placing_folder
+returns-then-place-parent-clause-answer g c =
+    let f = c.args.folder.bits in let to = c.args.parent.bits in let coming = c.replied.ensures in let reply = c.without_data-reply in
+    comes_both f to _
+    (comes_then _ (asked (λ T. both_plain_in T c.args.folder.bits c.args.parent.bits) c.places.ensures c.in_ok-place.ensures.answer) (reads_ok _ (reads_none _))
+    (comes_then _ c.in_ok-unless_protected.ensures.answer c.in_ok-unless_protected.ensures.reads
+    (comes_then _ (asked_places (λ (u : Unit {0}). u) (λ (places : List FolderPlace). refused_if (is_within places f to) Cycle) _ c.places-2.ensures c.in_ok-unless_within.ensures.answer) (reads_ok _ (reads_none _))
+    (comes_if (c.in_ok-place.place.parent.bits == to) _ _ (eq-eqb _ _ c.if-place-parent.true)
+    (comes_unchanged c.replied.result (replied Done) (c.in_ok-unless_protected.ensures.reads.changed ∙ c.requires.fresh) coming.places coming.last (coming.reply ∙ reply_is reply.result Done reply.ensures.lines reply.ensures.last))))))
 
 pub returns-clause-answer : goal.returns-clause-answer
 unfolding moved_folder moving_folder unless_crowds_name placing_folder
-returns-clause-answer g c = λ T s k.
-    from_both _ T _ _ _ _
-    (then_says _ _ _ _ _ _ (c.in_ok-place.ensures.answer T k.places)
-    (then_says _ _ _ _ _ _ (c.in_ok-unless_protected.ensures.answer T s)
-    (then_says _ _ _ _ _ _ (rw (← k.places) at c.in_ok-unless_within.ensures.answer)
-    (otherwise _ _ _ _ _ _ c.if-place-parent.false
-    (regroup (outcome_of T) (context_at T nothing c.args.folder.bits) (λ x. unless_named T (folded false (name_of x.props)) (children c.args.parent.bits T.places))
-    (λ y. refused_if (moves_deep T.places c.args.folder.bits c.args.parent.bits) (Limit Depth) >>= λ z. placing_folder T c.args.folder.bits c.in_ok-place.place.parent.bits c.args.parent.bits)
-    c.moving_folder.result (c.moving_folder.ensures.answer T (shown_still T c.in_ok-unless_protected.ensures.looks s) k))))))
+returns-clause-answer g c =
+    let f = c.args.folder.bits in let to = c.args.parent.bits in
+    comes_both f to _
+    (comes_then _ (asked (λ T. both_plain_in T c.args.folder.bits c.args.parent.bits) c.places.ensures c.in_ok-place.ensures.answer) (reads_ok _ (reads_none _))
+    (comes_then _ c.in_ok-unless_protected.ensures.answer c.in_ok-unless_protected.ensures.reads
+    (comes_then _ (asked_places (λ (u : Unit {0}). u) (λ (places : List FolderPlace). refused_if (is_within places f to) Cycle) _ c.places-2.ensures c.in_ok-unless_within.ensures.answer) (reads_ok _ (reads_none _))
+    (comes_else (c.in_ok-place.place.parent.bits == to) _ _ (ne_eqb _ _ c.if-place-parent.false)
+    (comes_regrouped (λ T D. context_at T nothing f) (λ T D x. unless_named T (folded false (name_of x.props)) (children to T.places))
+    (λ T D y. refused_if (moves_deep T.places f to) (Limit Depth) >>= λ z. placing_folder T f c.in_ok-place.place.parent.bits to) c.moving_folder.ensures.answer)))))

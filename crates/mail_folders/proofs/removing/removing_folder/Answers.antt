@@ -1,46 +1,53 @@
+use Rattle.std.proofs.Common.{◌∙◌, List, ap, sym}
 use Rattle.mapi_values.specs.Keyed.{drop_key}
 use Rattle.command_text.specs.declared.reply.LastLine.TheVariants.{Done}
+use Rattle.mail_tree.specs.declared.places.FolderPlace.{FolderPlace}
+use Rattle.mail_tree.specs.Changing.{◌>>=◌, drop_shown, hierarchy, nothing}
 use Rattle.mail_tree.specs.Places.{place_id}
 use Rattle.mail_tree.specs.Settling.{settled}
-use Rattle.mail_tree.specs.Folders.{moving, replied}
+use Rattle.mail_tree.specs.Folders.{moving, replied, without_folder}
 use Rattle.mail_folders.specs.Pieces.{removing_folder}
-use Rattle.mail_draft.specs.Outcomes.{outcome_of}
-use Rattle.mail_draft.proofs.Looking.{looks_then, shown_still}
-use Rattle.mail_draft.proofs.Passes.{no_matter}
-use Rattle.mail_folders.proofs.Steps.{in_turn, stopped, stops_first, stops_second}
+use Rattle.mail_draft.proofs.DeskCalls.{changes_at, changes_come, changes_come_exit, comes_from}
+use Rattle.mail_folders.proofs.Calls.{comes_known, comes_ungrouped}
 use Rattle.mail_folders.proofs.removing.removing_folder.Goals as goal
 
-pub returns-in_err-without-clause-answer : goal.returns-in_err-without-clause-answer
-returns-in_err-without-clause-answer g c = λ T s k.
-    let all = removing_folder T c.args.folder.bits c.args.parent.bits in
-    stopped (outcome_of T) all _ _ c.from_residual-in_err-without.ensures.1 (no_matter (outcome_of T) all _ (c.in_err-without.ensures.answer T s))
-
-pub returns-in_err-unlisted-clause-answer : goal.returns-in_err-unlisted-clause-answer
+pub returns-in_err-drop_folder-clause-answer : goal.returns-in_err-drop_folder-clause-answer
 unfolding removing_folder
-returns-in_err-unlisted-clause-answer g c = λ T s k.
-    let places = drop_key place_id c.args.folder.bits T.places in
-    let without = c.in_ok-without.ensures.answer T s in
-    let unlisted = rw (c.hierarchy.ensures, without) at (c.in_err-unlisted.ensures.answer T (shown_still T c.in_ok-without.ensures.looks s)) in
-    stopped _ _ _ _ c.from_residual-in_err-unlisted.ensures.1 (stops_first _ _ (settled T places c.args.parent.bits) (moving T places (replied Done)) _ unlisted)
+returns-in_err-drop_folder-clause-answer g c =
+    let f = c.args.folder.bits in let parent = c.args.parent.bits in let after = c.in_ok-after.after in
+    comes_known c.places.ensures (λ T e D. ap (λ (ps : List FolderPlace). drop_shown T (hierarchy parent) f (without_folder T f nothing) >>= settled T ps parent >>= moving T ps (replied Done)) (c.in_ok-after.ensures ∙ ap (drop_key place_id f) (sym e)))
+    (comes_from (λ T D. drop_shown T (hierarchy parent) f (without_folder T f D) >>= settled T after parent >>= moving T after (replied Done)) c.requires.fresh
+    (comes_ungrouped (λ T D. drop_shown T (hierarchy parent) f (without_folder T f D)) (λ T D. settled T after parent) (λ T D. moving T after (replied Done))
+    (changes_come_exit (λ T D. drop_shown T (hierarchy parent) f D >>= λ E. settled T after parent E >>= moving T after (replied Done)) c.in_err-drop_folder.ensures.answer c.from_residual-in_err-drop_folder.ensures.1)))
 
-pub returns-in_err-draft-clause-answer : goal.returns-in_err-draft-clause-answer
+pub returns-in_err-drop_shown-clause-answer : goal.returns-in_err-drop_shown-clause-answer
 unfolding removing_folder
-returns-in_err-draft-clause-answer g c = λ T s k.
-    let places = drop_key place_id c.args.folder.bits T.places in
-    let after = rw (← k.places) at c.in_ok-after.ensures in
-    let L = looks_then c.in_ok-without.ensures.looks c.in_ok-unlisted.ensures.looks in
-    let without = c.in_ok-without.ensures.answer T s in
-    let unlisted = rw (c.hierarchy.ensures, without) at (c.in_ok-unlisted.ensures.answer T (shown_still T c.in_ok-without.ensures.looks s)) in
-    stopped _ _ _ _ c.from_residual-in_err-draft.ensures.1
-    (stops_second _ _ (settled T places c.args.parent.bits) (moving T places (replied Done)) _ _ unlisted (rw after at (c.in_err-draft.ensures.answer T (shown_still T L s) k.flags)))
+returns-in_err-drop_shown-clause-answer g c =
+    let f = c.args.folder.bits in let parent = c.args.parent.bits in let after = c.in_ok-after.after in
+    comes_known c.places.ensures (λ T e D. ap (λ (ps : List FolderPlace). drop_shown T (hierarchy parent) f (without_folder T f nothing) >>= settled T ps parent >>= moving T ps (replied Done)) (c.in_ok-after.ensures ∙ ap (drop_key place_id f) (sym e)))
+    (comes_from (λ T D. drop_shown T (hierarchy parent) f (without_folder T f D) >>= settled T after parent >>= moving T after (replied Done)) c.requires.fresh
+    (comes_ungrouped (λ T D. drop_shown T (hierarchy parent) f (without_folder T f D)) (λ T D. settled T after parent) (λ T D. moving T after (replied Done))
+    (changes_come (λ T D. drop_shown T (hierarchy parent) f D >>= λ E. settled T after parent E >>= moving T after (replied Done)) c.in_ok-drop_folder.ensures.answer c.in_ok-drop_folder.ensures.drafts
+    (changes_come_exit (λ T D. settled T after parent D >>= moving T after (replied Done)) (changes_at (λ q T. drop_shown T q f) c.hierarchy.ensures c.in_err-drop_shown.ensures.answer) c.from_residual-in_err-drop_shown.ensures.1))))
+
+pub returns-in_err-settle-clause-answer : goal.returns-in_err-settle-clause-answer
+unfolding removing_folder
+returns-in_err-settle-clause-answer g c =
+    let f = c.args.folder.bits in let parent = c.args.parent.bits in let after = c.in_ok-after.after in
+    comes_known c.places.ensures (λ T e D. ap (λ (ps : List FolderPlace). drop_shown T (hierarchy parent) f (without_folder T f nothing) >>= settled T ps parent >>= moving T ps (replied Done)) (c.in_ok-after.ensures ∙ ap (drop_key place_id f) (sym e)))
+    (comes_from (λ T D. drop_shown T (hierarchy parent) f (without_folder T f D) >>= settled T after parent >>= moving T after (replied Done)) c.requires.fresh
+    (comes_ungrouped (λ T D. drop_shown T (hierarchy parent) f (without_folder T f D)) (λ T D. settled T after parent) (λ T D. moving T after (replied Done))
+    (changes_come (λ T D. drop_shown T (hierarchy parent) f D >>= λ E. settled T after parent E >>= moving T after (replied Done)) c.in_ok-drop_folder.ensures.answer c.in_ok-drop_folder.ensures.drafts
+    (changes_come (λ T D. settled T after parent D >>= moving T after (replied Done)) (changes_at (λ q T. drop_shown T q f) c.hierarchy.ensures c.in_ok-drop_shown.ensures.answer) c.in_ok-drop_shown.ensures.drafts
+    (changes_come_exit (λ T. moving T after (replied Done)) c.in_err-settle.ensures.answer c.from_residual-in_err-settle.ensures.1)))))
 
 pub returns-clause-answer : goal.returns-clause-answer
 unfolding removing_folder
-returns-clause-answer g c = λ T s k.
-    let places = drop_key place_id c.args.folder.bits T.places in
-    let after = rw (← k.places) at c.in_ok-after.ensures in
-    let L = looks_then c.in_ok-without.ensures.looks c.in_ok-unlisted.ensures.looks in
-    let without = c.in_ok-without.ensures.answer T s in
-    let unlisted = rw (c.hierarchy.ensures, without) at (c.in_ok-unlisted.ensures.answer T (shown_still T c.in_ok-without.ensures.looks s)) in
-    in_turn _ _ (settled T places c.args.parent.bits) (moving T places (replied Done)) _ _ _ unlisted
-    (rw after at (c.in_ok-draft.ensures.answer T (shown_still T L s) k.flags)) (rw after at (c.moving.ensures.answer T (shown_still T (looks_then L c.in_ok-draft.ensures.looks) s)))
+returns-clause-answer g c =
+    let f = c.args.folder.bits in let parent = c.args.parent.bits in let after = c.in_ok-after.after in
+    comes_known c.places.ensures (λ T e D. ap (λ (ps : List FolderPlace). drop_shown T (hierarchy parent) f (without_folder T f nothing) >>= settled T ps parent >>= moving T ps (replied Done)) (c.in_ok-after.ensures ∙ ap (drop_key place_id f) (sym e)))
+    (comes_from (λ T D. drop_shown T (hierarchy parent) f (without_folder T f D) >>= settled T after parent >>= moving T after (replied Done)) c.requires.fresh
+    (comes_ungrouped (λ T D. drop_shown T (hierarchy parent) f (without_folder T f D)) (λ T D. settled T after parent) (λ T D. moving T after (replied Done))
+    (changes_come (λ T D. drop_shown T (hierarchy parent) f D >>= λ E. settled T after parent E >>= moving T after (replied Done)) c.in_ok-drop_folder.ensures.answer c.in_ok-drop_folder.ensures.drafts
+    (changes_come (λ T D. settled T after parent D >>= moving T after (replied Done)) (changes_at (λ q T. drop_shown T q f) c.hierarchy.ensures c.in_ok-drop_shown.ensures.answer) c.in_ok-drop_shown.ensures.drafts
+    (changes_come (λ T. moving T after (replied Done)) c.in_ok-settle.ensures.answer c.in_ok-settle.ensures.drafts c.moving.ensures.answer)))))

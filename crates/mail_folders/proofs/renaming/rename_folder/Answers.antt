@@ -4,53 +4,51 @@ use Rattle.mail_tree.specs.Changing.{context_at, nothing}
 use Rattle.mail_tree.specs.Settling.{mirrored, with_context}
 use Rattle.mail_tree.specs.Values.{text}
 use Rattle.mail_tree.specs.Folders.{changing, renamed_folder, replied}
-use Rattle.mail_draft.specs.Drafts.{changed_of}
-use Rattle.mail_draft.specs.Outcomes.{outcome_of}
-use Rattle.mail_draft.proofs.Looking.{looks_then, shown_still}
-use Rattle.mail_draft.proofs.Passes.{then_says, stop_says}
-use Rattle.mail_folders.specs.Pieces.{named_anew}
-use Rattle.mail_folders.proofs.Steps.{from_plain, regroup, stopped}
+use Rattle.mail_folders.specs.Pieces.{named_anew, plain_in}
+use Rattle.mail_draft.proofs.DeskCalls.{changes_come, changes_come_exit, comes_exit, comes_then}
+use Rattle.mail_draft.proofs.DeskLoops.{reads_none, reads_ok}
+use Rattle.mail_folders.proofs.Calls.{asked, comes_plain, comes_regrouped}
 use Rattle.mail_folders.proofs.renaming.rename_folder.Goals as goal
 
 pub returns-in_err-place-clause-answer : goal.returns-in_err-place-clause-answer
-unfolding renamed_folder
-returns-in_err-place-clause-answer g c = λ T s k.
-    stopped _ _ _ _ c.from_residual.ensures.1 (from_plain _ T _ _ _ (stop_says _ _ _ _ _ (c.in_err-place.ensures.answer T k.places)))
+unfolding renamed_folder named_anew
+returns-in_err-place-clause-answer g c = comes_plain c.args.folder.bits _ (comes_exit _ (asked (λ T. plain_in T c.args.folder.bits) c.places.ensures c.in_err-place.ensures.answer) c.from_residual.ensures.1)
 
 pub returns-in_err-unless_protected-clause-answer : goal.returns-in_err-unless_protected-clause-answer
-unfolding renamed_folder
-returns-in_err-unless_protected-clause-answer g c = λ T s k.
-    stopped _ _ _ _ c.from_residual-in_err-unless_protected.ensures.1
-    (from_plain _ T _ _ _ (then_says _ _ _ _ _ _ (c.in_ok-place.ensures.answer T k.places) (stop_says _ _ _ _ _ (c.in_err-unless_protected.ensures.answer T s))))
+unfolding renamed_folder named_anew
+returns-in_err-unless_protected-clause-answer g c =
+    let f = c.args.folder.bits in
+    comes_plain f _
+    (comes_then _ (asked (λ T. plain_in T c.args.folder.bits) c.places.ensures c.in_ok-place.ensures.answer) (reads_ok _ (reads_none _))
+    (comes_exit _ c.in_err-unless_protected.ensures.answer c.from_residual-in_err-unless_protected.ensures.1))
 
 pub returns-in_err-unless_beside-clause-answer : goal.returns-in_err-unless_beside-clause-answer
-unfolding renamed_folder
-returns-in_err-unless_beside-clause-answer g c = λ T s k.
-    stopped _ _ _ _ c.from_residual-in_err-unless_beside.ensures.1
-    (from_plain _ T _ _ _
-    (then_says _ _ _ _ _ _ (c.in_ok-place.ensures.answer T k.places)
-    (then_says _ _ _ _ _ _ (c.in_ok-unless_protected.ensures.answer T s)
-    (stop_says _ _ _ _ _ (c.in_err-unless_beside.ensures.answer T (shown_still T c.in_ok-unless_protected.ensures.looks s) k)))))
-
-pub returns-in_err-draft-clause-answer : goal.returns-in_err-draft-clause-answer
 unfolding renamed_folder named_anew
-returns-in_err-draft-clause-answer g c = λ T s k.
-    let L = looks_then c.in_ok-unless_protected.ensures.looks c.in_ok-unless_beside.ensures.looks in
-    stopped _ _ _ _ c.from_residual-in_err-draft.ensures.1
-    (from_plain _ T _ _ _
-    (then_says _ _ _ _ _ _ (c.in_ok-place.ensures.answer T k.places)
-    (then_says _ _ _ _ _ _ (c.in_ok-unless_protected.ensures.answer T s)
-    (then_says _ _ _ _ _ _ (c.in_ok-unless_beside.ensures.answer T (shown_still T c.in_ok-unless_protected.ensures.looks s) k)
-    (regroup (outcome_of T) (context_at T nothing c.args.folder.bits) (λ x. mirrored T c.args.folder.bits (with_context c.args.folder.bits x (put (text 0x3001 c.args.name.now) x.props) nothing)) (changing T (replied Done)) _
-    (stop_says changed_of (outcome_of T) (named_anew T c.args.folder.bits c.args.name.now) (changing T (replied Done)) _ (c.in_err-draft.ensures.answer T (shown_still T L s))))))))
+returns-in_err-unless_beside-clause-answer g c =
+    let f = c.args.folder.bits in
+    comes_plain f _
+    (comes_then _ (asked (λ T. plain_in T c.args.folder.bits) c.places.ensures c.in_ok-place.ensures.answer) (reads_ok _ (reads_none _))
+    (comes_then _ c.in_ok-unless_protected.ensures.answer c.in_ok-unless_protected.ensures.reads
+    (comes_exit _ c.in_err-unless_beside.ensures.answer c.from_residual-in_err-unless_beside.ensures.1)))
+
+pub returns-in_err-named_anew-clause-answer : goal.returns-in_err-named_anew-clause-answer
+unfolding renamed_folder named_anew
+returns-in_err-named_anew-clause-answer g c =
+    let f = c.args.folder.bits in let name = c.args.name.now in
+    comes_plain f _
+    (comes_then _ (asked (λ T. plain_in T c.args.folder.bits) c.places.ensures c.in_ok-place.ensures.answer) (reads_ok _ (reads_none _))
+    (comes_then _ c.in_ok-unless_protected.ensures.answer c.in_ok-unless_protected.ensures.reads
+    (comes_then _ c.in_ok-unless_beside.ensures.answer c.in_ok-unless_beside.ensures.reads
+    (comes_regrouped (λ T D. context_at T nothing f) (λ T D x. mirrored T f (with_context f x (put (text 0x3001 name) x.props) nothing)) (λ T D. changing T (replied Done))
+    (changes_come_exit (λ T. changing T (replied Done)) c.in_err-named_anew.ensures.answer c.from_residual-in_err-named_anew.ensures.1)))))
 
 pub returns-clause-answer : goal.returns-clause-answer
 unfolding renamed_folder named_anew
-returns-clause-answer g c = λ T s k.
-    let L = looks_then c.in_ok-unless_protected.ensures.looks c.in_ok-unless_beside.ensures.looks in
-    from_plain _ T _ _ _
-    (then_says _ _ _ _ _ _ (c.in_ok-place.ensures.answer T k.places)
-    (then_says _ _ _ _ _ _ (c.in_ok-unless_protected.ensures.answer T s)
-    (then_says _ _ _ _ _ _ (c.in_ok-unless_beside.ensures.answer T (shown_still T c.in_ok-unless_protected.ensures.looks s) k)
-    (regroup (outcome_of T) (context_at T nothing c.args.folder.bits) (λ x. mirrored T c.args.folder.bits (with_context c.args.folder.bits x (put (text 0x3001 c.args.name.now) x.props) nothing)) (changing T (replied Done)) c.changing.result
-    (then_says changed_of (outcome_of T) (named_anew T c.args.folder.bits c.args.name.now) (changing T (replied Done)) _ c.changing.result (c.in_ok-draft.ensures.answer T (shown_still T L s)) (c.changing.ensures.answer T (shown_still T (looks_then L c.in_ok-draft.ensures.looks) s)))))))
+returns-clause-answer g c =
+    let f = c.args.folder.bits in let name = c.args.name.now in
+    comes_plain f _
+    (comes_then _ (asked (λ T. plain_in T c.args.folder.bits) c.places.ensures c.in_ok-place.ensures.answer) (reads_ok _ (reads_none _))
+    (comes_then _ c.in_ok-unless_protected.ensures.answer c.in_ok-unless_protected.ensures.reads
+    (comes_then _ c.in_ok-unless_beside.ensures.answer c.in_ok-unless_beside.ensures.reads
+    (comes_regrouped (λ T D. context_at T nothing f) (λ T D x. mirrored T f (with_context f x (put (text 0x3001 name) x.props) nothing)) (λ T D. changing T (replied Done))
+    (changes_come (λ T. changing T (replied Done)) c.in_ok-named_anew.ensures.answer c.in_ok-named_anew.ensures.drafts c.changing.ensures.answer)))))
