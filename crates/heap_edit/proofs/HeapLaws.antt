@@ -116,8 +116,6 @@ this-block old k h new low a e same =
 pub adds-item : (old : List (List ℕ)) (k c r : ℕ) (x new : List ℕ) → k ≤ length old → IsLaid k c r (items_of (get_or old k []) ++ x ∷ []) new
     → (k ≡ 0 → (c ≡ number_at 1 3 (get_or old k [])) × (r ≡ number_at 4 4 (get_or old k []))) → Adds old (k * 65536 + (count_of (get_or old k []) + 1) * 32) x (with_at old k new)
 adds-item old k c r x new low laid head =
-    let b : List ℕ = get_or old k [] in
-    let hid : ℕ = k * 65536 + (count_of (get_or old k []) + 1) * 32 in
     let few = count-fits k (get_or old k []) x laid.fit in
     let parts = hid-parts k (count_of (get_or old k []) + 1) (omega arith) (omega arith) in
     let here : get_or (with_at old k new) k [] ≡ new = get_or-with_at old k new [] low in
@@ -144,7 +142,7 @@ adds-item old k c r x new low laid head =
             ]
       ];
       kind = parts.0;
-      some = λ e. let z : 0 < k * 65536 + (count_of (get_or old k []) + 1) * 32 = omega arith in absurd (omega arith);
+      some = λ e. absurd (omega arith);
       heap = λ client root h. laid-heap old k c r (items_of (get_or old k []) ++ x ∷ []) new client root root low laid
           (λ e. (
             (head e).0 ∙ ap (λ (n : ℕ). number_at 1 3 (get_or old n [])) e ∙ h.client_is,

@@ -131,16 +131,31 @@ whole-of e puts n same len w old k = rw (same, len, k.count) w
 
 -- ---- readings
 
--- what is added to each heap that agrees with what is known is added to each reading
-pub tells-adds : (e new : Known) (x : List ℕ) (hid : ℕ) → MakesHeap (λ old now. Adds old hid x now) e new → (get : ℕ → Option (List ℕ)) → Tells e get → AddsItem (Tells new) get x hid
-tells-adds e new x hid makes get told =
-    let made = makes told.0 told.1.known told.1.start in
+-- what is added to each heap that agrees with what is known is added to its reading
+pub reads-adds : (e new : Known) (x : List ℕ) (hid : ℕ) → MakesHeap (λ old now. Adds old hid x now) e new → (get : ℕ → Option (List ℕ)) (old : List (List ℕ)) → Reads e get old
+    → AddsItem (λ now. Reads new now old) get x hid
+reads-adds e new x hid makes get old reads =
+    let made = makes old reads.known reads.start in
     record {
-      get = item (blocks_now new told.0);
-      told = (told.0, record { known = made.0; start = adds-start (blocks_now e told.0) hid x (blocks_now new told.0) told.1.start made.1; items = λ h. refl });
+      get = item (blocks_now new old);
+      told = record { known = made.0; start = adds-start (blocks_now e old) hid x (blocks_now new old) reads.start made.1; items = λ h. refl };
       here = made.1.here;
-      free = told.1.items hid ∙ made.1.free;
-      others = λ h other. made.1.others h other ∙ sym (told.1.items h);
+      free = reads.items hid ∙ made.1.free;
+      others = λ h other. made.1.others h other ∙ sym (reads.items h);
       kind = made.1.kind;
       some = made.1.some;
+    }
+
+-- so it is whatever was there
+pub tells-adds : (e new : Known) (x : List ℕ) (hid : ℕ) → MakesHeap (λ old now. Adds old hid x now) e new → (get : ℕ → Option (List ℕ)) → Tells e get → AddsItem (Tells new) get x hid
+tells-adds e new x hid makes get told =
+    let adds = reads-adds e new x hid makes get told.0 told.1 in
+    record {
+      get = adds.get;
+      told = (told.0, adds.told);
+      here = adds.here;
+      free = adds.free;
+      others = adds.others;
+      kind = adds.kind;
+      some = adds.some;
     }

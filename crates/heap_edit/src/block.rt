@@ -20,25 +20,33 @@ pub(crate) struct Head {
     pub(crate) root: u32,
 }
 
+/// Where a block's page map stands.
+#[tactic(auto, unfolding(heap_on_node::specs::Heap::map_of))]
+fn map_at(b: &[u8]) -> u16
+    requires { 2 ≤ length b.now }
+    ensures { result ≡ map_of b.now }
+{
+    u16_at(b, 0)
+}
+
 /// Where item `i + 1` of a block begins, and item `i` ends.
-#[tactic(auto, unfolding(heap_on_node::specs::Heap::map_of, heap_on_node::specs::Heap::offset_of))]
+#[tactic(auto, unfolding(heap_on_node::specs::Heap::offset_of))]
 fn offset_at(b: &[u8], i: u16) -> u16
     requires { map_of b.now + 6 + 2 * i ≤ length b.now }
     ensures { result ≡ offset_of b.now i }
 {
-    let map = u16_at(b, 0);
+    let map = map_at(b);
     u16_at(b, usize::from(map) + 4 + 2 * usize::from(i))
 }
 
 /// Whether a block's page map lies in it, with offsets that don't fall and end before it.
-#[tactic(auto, unfolding(heap_on_node::specs::Heap::map_of))]
 pub(crate) fn has_map(b: &[u8]) -> bool
     ensures { IsTrue result ↔ HasMap b.now }
 {
     if b.len() < 2 {
         return false;
     }
-    let map = u16_at(b, 0);
+    let map = map_at(b);
     if b.len() < usize::from(map) + 4 {
         return false;
     }
