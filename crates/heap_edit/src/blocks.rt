@@ -37,11 +37,13 @@ impl KnownBlocks {
         ensures known { (old : List (List ℕ)) → length old ≡ count → AreKnown result old }
         ensures same { (old : List (List ℕ)) → AreKnown result old → (length old ≡ count) × (blocks_now result old ≡ old) }
     {
+        let known = Placed::new(alloc);
+        let puts = Placed::new(alloc);
         KnownBlocks {
             alloc,
             was: count,
-            known: Placed::new(alloc),
-            puts: Placed::new(alloc),
+            known,
+            puts,
             len: count,
         }
     }

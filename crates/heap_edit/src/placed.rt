@@ -55,7 +55,7 @@ impl Placed {
         ensures ok { OnOk result (PutsOne position block self.old self.new) }
         ensures err { OnErr result (self.new ≡ self.old) }
     {
-        let _replaced = self.blocks.insert(position, block)?;
+        self.blocks.insert(position, block)?;
         Ok(())
     }
 
