@@ -1,5 +1,5 @@
 -- What is said of all blocks that agree with the known ones.
-use Rattle.std.proofs.Common.{◌≡◌, ◌≢◌, ◌∙◌, ◌<◌, ◌≤◌, ◌==◌, ◌+◌, ◌-◌, ◌*◌, inl, inr, ℕ, true, false, List, [], ◌∷◌, ◌++◌, length, get_or, slice_get, None, Some, Option, IsSome, is_some, refl, sym, ap, subst, arith}
+use Rattle.std.proofs.Common.{◌≡◌, ◌≢◌, ◌∙◌, ◌<◌, ◌≤◌, ◌==◌, ◌+◌, ◌-◌, ◌*◌, inl, inr, ℕ, Bool, true, false, List, [], ◌∷◌, ◌++◌, length, get_or, slice_get, None, Some, Option, IsSome, is_some, refl, sym, ap, subst, arith}
 use Rattle.std.proofs.lemmas.Bool.{cases_eq, cases_lt, eq-eqb, ne_eqb, true≢false}
 use Rattle.std.proofs.lemmas.Option.{get_or_from_slice_get, same_Some}
 use Rattle.heap_items.specs.Items.{AddsItem}
@@ -128,6 +128,10 @@ unknown-here e p w low unput unknown = record {
 -- the edit is whole for whatever was there
 pub whole-of : (e : Known) (puts : Edits) (n : ℕ) → puts ≡ e.puts → n ≡ e.len → IsWhole e.was e.puts e.len → (old : List (List ℕ)) → AreKnown e old → IsWhole (length old) puts n
 whole-of e puts n same len w old k = rw (same, len, k.count) w
+
+-- a block without a page map is none of a heap's
+pub no-map : (blocks : List (List ℕ)) (k : ℕ) (b : List ℕ) (t : Bool) → t ≡ false → (HasMap b → t ≡ true) → b ≡ get_or blocks k [] → k < length blocks → IsStart blocks → ⊥
+no-map blocks k b t f is here low start = true≢false (sym (is (subst HasMap (sym here) (start.maps k low))) ∙ f)
 
 -- ---- readings
 

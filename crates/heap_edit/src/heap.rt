@@ -82,7 +82,10 @@ impl KnownHeap {
             Ok(block) => block,
             Err(lacks) => return Err(MemOr::Refused(HeapStop::Lacks(lacks.position))),
         };
-        if !has_map(block) || k == 0 && block.len() < 12 {
+        if !has_map(block) {
+            return Err(MemOr::Refused(HeapStop::NoHeap));
+        }
+        if k == 0 && block.len() < 12 {
             return Err(MemOr::Refused(HeapStop::NoHeap));
         }
         Ok(block)
