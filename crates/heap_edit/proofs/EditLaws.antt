@@ -1,5 +1,5 @@
 -- Reading blocks that were edited.
-use Rattle.std.proofs.Common.{◌≡◌, ◌≢◌, ◌∙◌, ◌<◌, ◌≤◌, ◌+◌, ◌==◌, inl, inr, if◌then◌else◌, zero, suc, ℕ, Bool, true, false, cond, eqb, Ordering, Less, Equal, Greater, List, [], ◌∷◌, drop, length, get_or, Option, None, Some, refl, sym, ap, subst, arith}
+use Rattle.std.proofs.Common.{◌≡◌, ◌≢◌, ◌∙◌, ◌<◌, ◌≤◌, ◌+◌, inl, inr, zero, suc, ℕ, Bool, true, false, cond, eqb, Ordering, Less, Equal, Greater, List, [], ◌∷◌, drop, length, get_or, Option, Some, refl, sym, ap, subst, arith}
 use Rattle.std.proofs.lemmas.Bool.{cases_eq, eq-eqb, ne_eqb}
 use Rattle.std.proofs.lemmas.List.{get_or_default, same_lists}
 use Rattle.std.specs.Cmp.{eq_by_cmp_equiv, nat_cmp_total, ranked}

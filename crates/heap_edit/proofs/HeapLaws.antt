@@ -1,11 +1,11 @@
 -- What a heap reads as when one of its blocks was laid anew, or one more was laid.
-use Rattle.std.proofs.Common.{◌≡◌, ◌≢◌, ◌≤◌, ◌<◌, ◌==◌, ◌&&◌, ◌+◌, ◌-◌, ◌*◌, ◌%◌, ◌^◌, inl, inr, nat_lt, ℕ, zero, suc, true, false, List, [], ◌∷◌, ◌++◌, length, get_or, Some, None, refl, sym, ap, ◌∙◌, subst, arith}
+use Rattle.std.proofs.Common.{◌≡◌, ◌≢◌, ◌≤◌, ◌<◌, ◌==◌, ◌&&◌, ◌+◌, ◌*◌, ◌%◌, inl, inr, nat_lt, ℕ, suc, true, false, List, [], ◌∷◌, ◌++◌, length, get_or, Some, None, refl, sym, ap, ◌∙◌, subst, arith}
 use Rattle.std.proofs.lemmas.Bool.{and_from, and_left, and_right, cases_Bool, cases_eq, cases_lt, eq-eqb, eqb-true, le-ltb, lt-ltb}
 use Rattle.std.proofs.lemmas.List.{get_or_past}
 use Rattle.std.proofs.lemmas.Option.{slice_get_past, slice_get-get_or}
 use Rattle.heap_on_node.specs.Heap.{HasMap, IsHeap, IsStart, block_of, count_of, index_of, item, item_of}
 use Rattle.heap_on_node.specs.Layout.{block}
-use Rattle.heap_on_node.specs.Packing.{IsPlain, fit_block}
+use Rattle.heap_on_node.specs.Packing.{fit_block}
 use Rattle.heap_on_node.proofs.LayoutLaws.{HasMap-block, IsPlain-block, item_of-zero}
 use Rattle.heap_on_node.proofs.FinishLaws.{IsHeap-laid}
 use Rattle.heap_on_node.proofs.PackingLaws.{hid-parts}

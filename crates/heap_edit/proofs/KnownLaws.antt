@@ -1,12 +1,12 @@
 -- What is said of all blocks that agree with the known ones.
-use Rattle.std.proofs.Common.{◌≡◌, ◌≢◌, ◌∙◌, ◌<◌, ◌≤◌, ◌==◌, ◌+◌, ◌-◌, ◌*◌, inl, inr, ℕ, Bool, true, false, List, [], ◌∷◌, ◌++◌, length, get_or, slice_get, None, Some, Option, IsSome, is_some, refl, sym, ap, subst, arith}
-use Rattle.std.proofs.lemmas.Bool.{cases_eq, cases_lt, eq-eqb, ne_eqb, true≢false}
+use Rattle.std.proofs.Common.{◌≡◌, ◌∙◌, ◌<◌, ◌+◌, inl, inr, ℕ, Bool, true, false, List, [], length, get_or, slice_get, None, Some, Option, IsSome, is_some, refl, sym, ap, subst, arith}
+use Rattle.std.proofs.lemmas.Bool.{cases_eq, cases_lt, true≢false}
 use Rattle.std.proofs.lemmas.Option.{get_or_from_slice_get, same_Some}
 use Rattle.heap_items.specs.Items.{AddsItem}
-use Rattle.heap_on_node.specs.Heap.{HasMap, IsStart, block_of, count_of, index_of, item}
+use Rattle.heap_on_node.specs.Heap.{HasMap, IsStart, item}
 use Rattle.heap_edit.specs.Edits.{Edits, IsWhole, PutsOne, edited, or_old, put_at, with_at}
 use Rattle.heap_edit.specs.Heaps.{Adds}
-use Rattle.heap_edit.specs.Known.{AreKnown, IsUnknown, Known, Makes, MakesHeap, Reads, Tells, blocks_now}
+use Rattle.heap_edit.specs.Known.{AreKnown, IsUnknown, Known, Makes, MakesHeap, Reads, blocks_now}
 use Rattle.heap_edit.proofs.EditLaws.{edited-end, edited-in, edited-none, get_or-edited, length-edited, put-here, put-other}
 use Rattle.heap_edit.proofs.HeapLaws.{adds-start}
 
@@ -136,9 +136,9 @@ no-map blocks k b t f is here low start = true≢false (sym (is (subst HasMap (s
 -- ---- readings
 
 -- what is added to each heap that agrees with what is known is added to its reading
-pub reads-adds : (e new : Known) (x : List ℕ) (hid : ℕ) → MakesHeap (λ old now. Adds old hid x now) e new → (get : ℕ → Option (List ℕ)) (old : List (List ℕ)) → Reads e get old
-    → AddsItem (λ now. Reads new now old) get x hid
-reads-adds e new x hid makes get old reads =
+pub reads-adds : (e new : Known) (x : List ℕ) (hid : ℕ) → MakesHeap (λ old now. Adds old hid x now) e new → (old : List (List ℕ)) (get : ℕ → Option (List ℕ)) → Reads e old get
+    → AddsItem (Reads new old) get x hid
+reads-adds e new x hid makes old get reads =
     let made = makes old reads.known reads.start in
     record {
       get = item (blocks_now new old);
@@ -148,18 +148,4 @@ reads-adds e new x hid makes get old reads =
       others = λ h other. made.1.others h other ∙ sym (reads.items h);
       kind = made.1.kind;
       some = made.1.some;
-    }
-
--- so it is whatever was there
-pub tells-adds : (e new : Known) (x : List ℕ) (hid : ℕ) → MakesHeap (λ old now. Adds old hid x now) e new → (get : ℕ → Option (List ℕ)) → Tells e get → AddsItem (Tells new) get x hid
-tells-adds e new x hid makes get told =
-    let adds = reads-adds e new x hid makes get told.0 told.1 in
-    record {
-      get = adds.get;
-      told = (told.0, adds.told);
-      here = adds.here;
-      free = adds.free;
-      others = adds.others;
-      kind = adds.kind;
-      some = adds.some;
     }

@@ -39,15 +39,11 @@ Makes P e new = (old : List (List ℕ)) → AreKnown e old → AreKnown new old 
 abbrev pub MakesHeap : (List (List ℕ) → List (List ℕ) → Type 0) → Known → Known → Type 0
 MakesHeap P e new = (old : List (List ℕ)) → AreKnown e old → IsStart (blocks_now e old) → AreKnown new old × P (blocks_now e old) (blocks_now new old)
 
--- this is a reading of the items of the blocks now, which are a heap
-pub record Reads (e : Known) (get : ℕ → Option (List ℕ)) (old : List (List ℕ)) : Type 0 where
+-- old are the blocks that there were, and get reads the items of those now, which are a heap
+pub record Reads (e : Known) (old : List (List ℕ)) (get : ℕ → Option (List ℕ)) : Type 0 where
   pub known : AreKnown e old
   pub start : IsStart (blocks_now e old)
   pub items : (h : ℕ) → get h ≡ item (blocks_now e old) h
-
--- this is a reading of some blocks that agree with what is known
-abbrev pub Tells : Known → (ℕ → Option (List ℕ)) → Type 0
-Tells e get = (old : List (List ℕ)) × Reads e get old
 
 -- the block at this position has no room for x behind its items
 abbrev pub HasNoRoom : Known → ℕ → List ℕ → Type 0

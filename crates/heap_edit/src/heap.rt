@@ -296,9 +296,9 @@ impl KnownHeap {
 impl HeapItems for KnownHeap {
     type Stop = MemOr<HeapStop>;
 
-    ghost use Rattle.heap_edit.specs.Known.{Tells};
+    ghost use Rattle.heap_edit.specs.Known.{Reads};
 
-    ghost tells = { λ h get. Tells h get };
+    ghost tells = { λ h old get. Reads h old get };
 
     fn item(&self, hid: u32) -> Result<Option<&[u8]>, MemOr<HeapStop>> {
         self.find(hid)

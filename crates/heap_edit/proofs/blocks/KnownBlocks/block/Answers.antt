@@ -1,4 +1,4 @@
-use Rattle.std.proofs.Common.{◌≡◌, ◌∙◌, ap, sym, None, Some}
+use Rattle.std.proofs.Common.{◌∙◌, ap, sym}
 use Rattle.heap_edit.specs.Edits.{put_at}
 use Rattle.heap_edit.specs.Known.{Known}
 use Rattle.heap_edit.proofs.KnownLaws.{known-found, put-found}
@@ -13,4 +13,4 @@ pub returns-in-Some-get-clause-found : goal.returns-in-Some-get-clause-found
 returns-in-Some-get-clause-found c = λ old k.
     let unput = ap (λ (e : Known). put_at e.puts c.args.position) (sym c.self.view_is) ∙ sym c.in_default.ensures in
     let known = ap (λ (e : Known). put_at e.known c.args.position) (sym c.self.view_is) ∙ sym c.in-Some-get.ensures in
-    c.as_slice-2.ensures.value ∙ known-found c.args.self.now c.args.position c.in-Some-get.block.now c.requires unput known old k
+    c.as_slice-in-Some-get.ensures.value ∙ known-found c.args.self.now c.args.position c.in-Some-get.block.now c.requires unput known old k

@@ -1,4 +1,4 @@
-use Rattle.std.proofs.Common.{◌≡◌, ◌+◌, ◌*◌, ap, ℕ, arith}
+use Rattle.std.proofs.Common.{◌+◌, ◌*◌, arith}
 use Rattle.heap_edit.specs.Known.{blocks_now}
 use Rattle.heap_edit.proofs.HeapLaws.{adds-to}
 use Rattle.heap_edit.proofs.ItemLaws.{count-fits}
@@ -12,6 +12,6 @@ overflow_add-result c =
 
 pub returns-in-Ok-grown-clause-adds : goal.returns-in-Ok-grown-clause-adds
 returns-in-Ok-grown-clause-adds c = λ old known start.
-    adds-to (blocks_now c.args.self.now old) c.args.position c.head_of.result.client c.head_of.result.root _ c.in-Ok.block.now c.args.x.now c.in-Ok-grown.block
+    adds-to (blocks_now c.args.self.now old) c.args.position c.head_of.result.client c.head_of.result.root (c.args.position * 65536 + (c.from-index.result + 1) * 32) c.in-Ok.block.now c.args.x.now c.in-Ok-grown.block
     (c.in-Ok.ensures.found old known) (omega (arith, c.requires.within, length-now c.args.self.now old)) c.in-Ok-grown.ensures c.head_of.ensures
-    (ap (λ (n : ℕ). c.args.position * 65536 + (n + 1) * 32) c.count.ensures)
+    (omega (arith, c.from-index.ensures, c.count.ensures))
