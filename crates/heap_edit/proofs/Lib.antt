@@ -1,0 +1,4 @@
+pub mod EditLaws
+pub mod ItemLaws
+pub mod HeapLaws
+pub mod KnownLaws

@@ -1,0 +1,14 @@
+use Rattle.std.proofs.Common.{ℕ, List, Option}
+use Rattle.std.proofs.lemmas.Result.{IfOk-weaker}
+use Rattle.heap_items.specs.Items.{AddsItem}
+use Rattle.heap_edit.specs.Heaps.{Adds}
+use Rattle.heap_edit.specs.Known.{MakesHeap, Reads}
+use Rattle.heap_edit.proofs.KnownLaws.{reads-adds}
+use Rattle.heap_edit.proofs.heap.KnownHeapHeapItems.add.Goals as goal
+
+pub returns : goal.returns
+returns c = record {
+  adds = IfOk-weaker c.add_item.result (λ (hid : ℕ). MakesHeap (λ old new. Adds old hid c.args.x.now new) c.args.self.now c.add_item.new.self)
+      (λ (hid : ℕ). (was : List (List ℕ)) (get : ℕ → Option (List ℕ)) → Reads c.args.self.now was get → AddsItem (Reads c.add_item.new.self was) get c.args.x.now hid)
+      (λ hid makes. reads-adds c.args.self.now c.add_item.new.self c.args.x.now hid makes) c.add_item.ensures.ok;
+}

@@ -1,0 +1,5 @@
+pub mod Edits
+pub mod Items
+pub mod Heaps
+pub mod Known
+pub mod NewItems
