@@ -133,6 +133,18 @@ pub two-leaves : (child : ℕ → Option (List (ℕ × List ℕ))) (p q : ℕ ×
 two-leaves child p q xs ys w a b first second here there =
     let left = from-first 0 (end_of ys) xs (below-rest 0 (2 ^ 32) xs ys w b) a in
     let right = from-first 0 (2 ^ 32) ys (within-right 0 (2 ^ 32) xs ys w) b in
+    let back : Covers child (2 ^ 32) (q ∷ []) ys = (ys, [], sym (append-nil ys), b, there, ap (λ (n : ℕ). within n (2 ^ 32) ys) second ∙ right, refl) in
     to-gather child (p ∷ q ∷ []) (xs ++ ys)
-    (xs, ys, refl, a, here, ap (λ (n : ℕ). within n q.0 xs) first ∙ ap (λ (n : ℕ). within (end_of xs) n xs) second ∙ left,
-      ys, [], sym (append-nil ys), b, there, ap (λ (n : ℕ). within n (2 ^ 32) ys) second ∙ right, refl)
+    (xs, ys, refl, a, here, ap (λ (n : ℕ). within n q.0 xs) first ∙ ap (λ (n : ℕ). within (end_of xs) n xs) second ∙ left, back)
+
+pub covers-none : (child : ℕ → Option (List (ℕ × List ℕ))) (high : ℕ) (ps rs : List (ℕ × List ℕ)) → ps ≡ [] → Covers child high ps rs → rs ≡ []
+covers-none child high [] rs e h = h
+covers-none child high (p ∷ ps) rs e h = absurd (omega (arith, ap length e))
+
+pub covers-some : (child : ℕ → Option (List (ℕ × List ℕ))) (high : ℕ) (ps rs : List (ℕ × List ℕ)) → Covers child high ps rs → 0 < length ps → 0 < length rs
+covers-some child high [] rs h n = absurd (omega (arith, n))
+covers-some child high (p ∷ ps) rs h n = omega (arith, ap length h.2, length-append h.0 h.1, h.3)
+
+pub end-left : (xs ys : List (ℕ × List ℕ)) → 0 < length xs → end_of (xs ++ ys) ≡ end_of xs
+end-left [] ys n = absurd (omega (arith, n))
+end-left (x ∷ xs) ys n = refl

@@ -10,7 +10,10 @@ use Rattle.bth_tree.specs.Tree.{end_of}
 use Rattle.bth_tree.proofs.FindLaws.{entry-append}
 use Rattle.bth_tree.proofs.OptionLaws.{bind-some, none-some, some-injective}
 use Rattle.bth_tree.proofs.RecordLaws.{whole-none}
+use Rattle.index_edit.specs.Edits.{CutsHalves, HoldLeaves}
 use Rattle.index_edit.specs.Rows.{AreBelow, IsHere, IsSpan, key_of, rows}
+use Rattle.index_edit.specs.declared.leaf.NewLeaves.{NewLeaves}
+use Rattle.index_edit.specs.declared.leaf.NewLeaves.TheVariants.{One, Behind, Halves}
 use Rattle.index_edit.proofs.CoverLaws.{within-right}
 use Rattle.index_edit.proofs.KeyLaws.{above-within, drop-behind, drop-here, entry-above, entry-below, put-behind, put-here}
 use Rattle.index_edit.proofs.RowLaws.{Spells, front-key, from-whole, rows-step, rows-whole, spells-length, spells-split, spliced-whole, to-whole}
@@ -105,9 +108,10 @@ pub leaf-same : (key : ℕ) (x : List ℕ) (rs : List (ℕ × List ℕ)) (from t
 leaf-same key x rs from to o span same =
     let h = ordered-parts x rs o in
     let s = spans key x rs from to h.0 span in
-    let none : s.here ≡ [] = nil_from_length s.here (omega (arith, s.ends, same)) in
-    (drop-span key rs from to s h.1 ∙ sym (s.parts ∙ ap (λ (ws : List (ℕ × List ℕ)). s.before ++ (ws ++ s.after)) none),
-      ap (entry_of key) s.parts ∙ entry-parts key s.before s.here s.after s.below ∙ here-none key s.here s.after (ap length none) s.is (after-within key rs from to s h.1))
+    let none : s.here ≡ [] = nil_from_length s.here (omega (arith, s.ends, same)) in (
+      drop-span key rs from to s h.1 ∙ sym (s.parts ∙ ap (λ (ws : List (ℕ × List ℕ)). s.before ++ (ws ++ s.after)) none),
+      ap (entry_of key) s.parts ∙ entry-parts key s.before s.here s.after s.below ∙ here-none key s.here s.after (ap length none) s.is (after-within key rs from to s h.1),
+    )
 
 pub leaf-had : (key : ℕ) (x : List ℕ) (rs : List (ℕ × List ℕ)) (from to : ℕ) → ordered 4 4 0 (2 ^ 32) x ≡ Some rs → IsSpan key (rows x) from to → (from ≡ to → ⊥) → entry_of key rs ≢ None
 leaf-had key x rs from to o span other =
@@ -125,3 +129,9 @@ put-length x b y from to eight order within is =
     let e : length y ≡ 8 * from + 8 + (length x - 8 * to) =
     ap length is ∙ omega (arith, length-append (take (8 * from) x) (b ++ drop (8 * to) x), length-append b (drop (8 * to) x), length-take (8 * from) x, length-drop (8 * to) x, eight, order, within) in
     (e, omega (arith, e))
+
+-- the halves hold what the bytes do
+pub cut-holds : (key : ℕ) (e y : List ℕ) (rs : List (ℕ × List ℕ)) (leaves : NewLeaves) → whole 4 4 y ≡ Some (put_key key_of (key, e) rs) → CutsHalves y leaves → HoldLeaves (key, e) rs leaves
+cut-holds key e y rs (One z) h cut = absurd cut
+cut-holds key e y rs (Behind first) h cut = absurd cut
+cut-holds key e y rs (Halves front back) h cut = leaf-halves y front.items back.items (put_key key_of (key, e) rs) h cut.0 cut.1

@@ -1,5 +1,7 @@
 pub mod CoverLaws
+pub mod EditSteps
 pub mod KeyLaws
 pub mod LeafLaws
 pub mod PlaceLaws
 pub mod RowLaws
+pub mod TreeSteps

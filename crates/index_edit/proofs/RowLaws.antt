@@ -100,9 +100,10 @@ spells-split x n (r ∷ rs) ss len h =
     let back : drop (8 * n) x ≡ drop (8 * (n - 1)) (drop 8 x) = ap (λ (m : ℕ). drop m x) e ∙ sym (drop-drop (8 * (n - 1)) 8 x) in
     let front : drop 8 (take (8 * n) x) ≡ take (8 * (n - 1)) (drop 8 x) = ap (λ (m : ℕ). drop 8 (take m x)) e ∙ drop-take 8 (8 * (n - 1)) x in
     let first : take 8 (take (8 * n) x) ≡ take 8 x =
-    ap (λ (m : ℕ). take 8 (take m x)) e ∙ ap (take 8) (take-add 8 (8 * (n - 1)) x) ∙ take_at (take 8 x) (take (8 * (n - 1)) (drop 8 x)) 8 (omega (arith, length-take 8 x, h.0)) in
-    ((omega (arith, length-take (8 * n) x, h.0, len), ap (record_of 4) first ∙ h.1, subst (λ (y : List ℕ). Spells y rs) (sym front) next.0),
-      subst (λ (y : List ℕ). Spells y ss) (sym back) next.1)
+    ap (λ (m : ℕ). take 8 (take m x)) e ∙ ap (take 8) (take-add 8 (8 * (n - 1)) x) ∙ take_at (take 8 x) (take (8 * (n - 1)) (drop 8 x)) 8 (omega (arith, length-take 8 x, h.0)) in (
+      (omega (arith, length-take (8 * n) x, h.0, len), ap (record_of 4) first ∙ h.1, subst (λ (y : List ℕ). Spells y rs) (sym front) next.0),
+      subst (λ (y : List ℕ). Spells y ss) (sym back) next.1,
+    )
 
 -- one record's bytes
 pub spells-row : (key e : ℕ) → key < 2 ^ 32 → Spells (little_bytes 4 key ++ little_bytes 4 e) ((key, little_bytes 4 e) ∷ [])

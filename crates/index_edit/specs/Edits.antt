@@ -1,23 +1,12 @@
 -- What the edits of a row index leave.
-use Rattle.std.specs.Prelude.{ℕ, ◌≡◌, ◌≢◌, ◌<◌, ◌≤◌, ◌⊎◌, ◌*◌, ◌/◌, ◌^◌, List, [], ◌∷◌, ◌++◌, length, take, drop, Option, Some, None, Vec}
+use Rattle.std.specs.Prelude.{ℕ, ◌≡◌, ◌≢◌, ◌<◌, ◌≤◌, ◌*◌, ◌/◌, List, [], ◌∷◌, ◌++◌, length, take, drop, Option, Some, None, Vec}
 use Rattle.std.specs.declared.alloc.Global.{Global}
-use Rattle.byteorder.specs.Endian.{little_bytes}
 use Rattle.mapi_values.specs.Keyed.{put_key, drop_key}
-use Rattle.bth_tree.specs.Making.{Keeps}
 use Rattle.bth_tree.specs.Records.{entry_of, whole}
-use Rattle.bth_tree.specs.Tree.{bth, end_of, gather, root as root_of, tree}
+use Rattle.bth_tree.specs.Tree.{end_of}
 use Rattle.index_edit.specs.Rows.{key_of}
 use Rattle.index_edit.specs.declared.leaf.NewLeaves.{NewLeaves}
 use Rattle.index_edit.specs.declared.leaf.NewLeaves.TheVariants.{One, Behind, Halves}
-use Rattle.index_edit.specs.declared.stop.IndexStop.{IndexStop}
-use Rattle.index_edit.specs.declared.stop.IndexStop.TheVariants.{Heap, Memory, Anew, NoIndex}
-
--- the stop isn't that there is no index
-abbrev pub NotFault : {S : Type 0} → IndexStop S → Type 0
-NotFault (Heap stop) = Unit {0}
-NotFault Memory = Unit {0}
-NotFault Anew = Unit {0}
-NotFault NoIndex = ⊥
 
 -- the bytes may be an item of the heap that has a record
 abbrev pub IsItem : List ℕ → Type 0

@@ -39,19 +39,11 @@ fn halves(alloc: Global, y: &[u8]) -> Result<NewLeaves, AllocError>
     ensures cut { IfOk result (CutsHalves y.now) }
 {
     let middle = ROW * (y.len() / 16);
-    Ok(NewLeaves::Halves(
-        copied(alloc, &y[..middle])?,
-        copied(alloc, &y[middle..])?,
-    ))
+    Ok(NewLeaves::Halves(copied(alloc, &y[..middle])?, copied(alloc, &y[middle..])?))
 }
 
 /// The leaves that stand in place of a leaf once a record is put. Where there is no room, a key above all others leaves the leaf full, and else it is cut in the middle.
-pub fn new_leaves(
-    alloc: Global,
-    x: &[u8],
-    key: u32,
-    entry: u32,
-) -> Result<NewLeaves, AllocError>
+pub fn new_leaves(alloc: Global, x: &[u8], key: u32, entry: u32) -> Result<NewLeaves, AllocError>
     requires { length x.now ≤ 3580 }
     ensures fit { IfOk result FitLeaves }
     ensures hold { IfOk result (λ leaves. (rs : List (ℕ × List ℕ)) → ordered 4 4 0 (2 ^ 32) x.now ≡ Some rs → HoldLeaves (key, little_bytes 4 entry) rs leaves) }
@@ -68,11 +60,7 @@ pub fn new_leaves(
 }
 
 /// A leaf without the record of a key; `None` where it has none.
-pub fn leaf_without(
-    alloc: Global,
-    x: &[u8],
-    key: u32,
-) -> Result<Option<Vec<u8>>, AllocError>
+pub fn leaf_without(alloc: Global, x: &[u8], key: u32) -> Result<Option<Vec<u8>>, AllocError>
     ensures size { IfOk result (λ out. IfSome out (λ y. length y.items ≤ length x.now)) }
     ensures out { IfOk result (λ out. (rs : List (ℕ × List ℕ)) → ordered 4 4 0 (2 ^ 32) x.now ≡ Some rs → LeavesOut key rs out) }
 {

@@ -13,7 +13,7 @@ returns-then-here-key-2-clause-span c =
 pub loop-rest-preserved : goal.loop-rest-preserved
 loop-rest-preserved c =
     rw c.behind_row-rest.ensures
-        (scanned-next c.args.key c.args.x.now c.loop-rest.rest.now c.loop-rest.from c.loop-rest.invariant (omega arith) (omega (arith, c.u32_at-here.ensures, c.if-here-key.false, c.if-here-key-2.false)))
+    (scanned-next c.args.key c.args.x.now c.loop-rest.rest.now c.loop-rest.from c.loop-rest.invariant (omega arith) (omega (arith, c.u32_at-here.ensures, c.if-here-key.false, c.if-here-key-2.false)))
 
 pub returns-clause-span : goal.returns-clause-span
 returns-clause-span c = scanned-end c.args.key c.args.x.now c.loop-rest.rest.now c.loop-rest.from c.loop-rest.invariant (omega arith)
