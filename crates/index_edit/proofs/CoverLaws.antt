@@ -148,3 +148,9 @@ covers-some child high (p ∷ ps) rs h n = omega (arith, ap length h.2, length-a
 pub end-left : (xs ys : List (ℕ × List ℕ)) → 0 < length xs → end_of (xs ++ ys) ≡ end_of xs
 end-left [] ys n = absurd (omega (arith, n))
 end-left (x ∷ xs) ys n = refl
+
+pub within-front : (low high : ℕ) (xs ys : List (ℕ × List ℕ)) → within low high (xs ++ ys) ≡ true → within low high xs ≡ true
+within-front low high [] ys h = refl
+within-front low high (x ∷ xs) ys h =
+    let f = first-within low high x (xs ++ ys) h in
+    within-first low high x xs f.0 f.1 (within-front (suc x.0) high xs ys f.2)

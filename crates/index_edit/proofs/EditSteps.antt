@@ -1,21 +1,21 @@
 -- A record put or left out below a pair of an inner item.
 use Rattle.std.proofs.Common.{◌≡◌, ◌≢◌, ◌≤◌, ◌<◌, ◌+◌, ◌*◌, ◌^◌, ℕ, true, List, [], ◌∷◌, ◌++◌, length, take, drop, Option, Some, refl, sym, ap, ◌∙◌, subst, arith}
 use Rattle.mapi_values.specs.Keyed.{put_key, drop_key}
-use Rattle.bth_tree.specs.Records.{whole, within}
-use Rattle.bth_tree.specs.Tree.{gather, leaf, tree}
+use Rattle.bth_tree.specs.Records.{entry_of, ordered, whole, within}
+use Rattle.bth_tree.specs.Tree.{bth, gather, leaf, tree}
 use Rattle.bth_tree.proofs.MakeLaws.{tree-kept}
 use Rattle.bth_tree.proofs.OptionLaws.{some-injective}
 use Rattle.bth_tree.proofs.RecordLaws.{whole-none}
 use Rattle.bth_tree.proofs.WholeLaws.{tree-some}
-use Rattle.index_edit.specs.Adding.{AddsInner, AddsLeaf, AddsPairs, Reaches}
+use Rattle.index_edit.specs.Adding.{AddsInner, AddsLeaf, AddsPairs, HasIndex, Reaches}
 use Rattle.index_edit.specs.Pairs.{pairs_of}
 use Rattle.index_edit.specs.Rows.{key_of}
 use Rattle.index_edit.specs.declared.pairs.Pair.{Pair}
 use Rattle.index_edit.specs.declared.pairs.Pairs.{Pairs}
 use Rattle.index_edit.specs.declared.pairs.Pairs.TheVariants.{Single}
 use Rattle.index_edit.proofs.KeyLaws.{drop-within}
-use Rattle.index_edit.proofs.LeafLaws.{ordered-parts}
-use Rattle.index_edit.proofs.PlaceLaws.{located-drop, located-empty, located-put}
+use Rattle.index_edit.proofs.LeafLaws.{ordered-from, ordered-parts}
+use Rattle.index_edit.proofs.PlaceLaws.{located-drop, located-empty, located-entry, located-put, located-same}
 use Rattle.index_edit.proofs.RowLaws.{from-whole, spells-length, spliced-whole}
 use Rattle.index_edit.proofs.TreeSteps.{leaf-item, leaves-one, located, tree-is_leaf}
 
@@ -77,3 +77,36 @@ empty-below mid tells old key fits inner index child hid recs rs y told r h w sh
     let laid = spliced-whole r.item [] index (index + 1) l.before (l.pair ∷ []) l.after [] (r.reads ∙ ap Some l.pairs) (whole-none 4 4 (omega arith)) l.place refl in
     let gathered = located-empty (tree old 4 4 0) (tree old 4 4 0) (λ h ws was. was) key r.pairs recs index child l none in
     add old told r.item r.found (l.before ++ l.after) (drop_key key_of key recs) laid gathered
+
+-- the records below the pair are those of its leaf
+pub entry-below : (old : ℕ → Option (List ℕ)) (key : ℕ) → key < 2 ^ 32 → (inner index child : ℕ) (recs rs : List (ℕ × List ℕ)) → Reaches old 0 key inner recs index child → leaf old 4 4 child ≡ Some rs
+    → entry_of key recs ≡ entry_of key rs
+entry-below old key fits inner index child recs rs r h =
+    let l = located old 0 key inner recs index child fits r in
+    located-entry (tree old 4 4 0) key r.pairs recs index child l ∙ ap (entry_of key) (sym (same-leaf old child rs l.part h (tree-is_leaf old child l.part l.here)))
+
+pub same-below : (old : ℕ → Option (List ℕ)) (key : ℕ) → key < 2 ^ 32 → (inner index child : ℕ) (recs rs : List (ℕ × List ℕ)) → Reaches old 0 key inner recs index child → leaf old 4 4 child ≡ Some rs
+    → drop_key key_of key rs ≡ rs → drop_key key_of key recs ≡ recs
+same-below old key fits inner index child recs rs r h same =
+    let l = located old 0 key inner recs index child fits r in
+    let e : rs ≡ l.part = same-leaf old child rs l.part h (tree-is_leaf old child l.part l.here) in
+    located-same (tree old 4 4 0) key r.pairs recs index child l (subst (λ (ws : List (ℕ × List ℕ)). drop_key key_of key ws ≡ ws) e same)
+
+-- a pair of an inner item that is reached names a leaf
+pub child-leaf : (old : ℕ → Option (List ℕ)) (key : ℕ) → key < 2 ^ 32 → (inner index child : ℕ) (recs : List (ℕ × List ℕ)) → Reaches old 0 key inner recs index child
+    → (rs : List (ℕ × List ℕ)) × (leaf old 4 4 child ≡ Some rs)
+child-leaf old key fits inner index child recs r =
+    let l = located old 0 key inner recs index child fits r in
+    (l.part, tree-is_leaf old child l.part l.here)
+
+-- a leaf's bytes with a record left out
+pub drop-ordered : (get : ℕ → Option (List ℕ)) (l key : ℕ) (rs : List (ℕ × List ℕ)) (y : List ℕ) → leaf get 4 4 l ≡ Some rs → whole 4 4 y ≡ Some (drop_key key_of key rs)
+    → ordered 4 4 0 (2 ^ 32) y ≡ Some (drop_key key_of key rs)
+drop-ordered get l key rs y h w =
+    let i = leaf-item get l rs h in
+    ordered-from y (drop_key key_of key rs) w (drop-within 0 (2 ^ 32) key rs (ordered-parts i.0 rs i.2).1)
+
+-- the index that stays
+pub index-same : (tells : (ℕ → Option (List ℕ)) → Type 0) (get : ℕ → Option (List ℕ)) (header key : ℕ) (recs : List (ℕ × List ℕ)) → tells get → bth get header 4 4 ≡ Some recs → drop_key key_of key recs ≡ recs
+    → HasIndex tells get header (drop_key key_of key recs)
+index-same tells get header key recs told h same = record { get = get; told = told; kept = λ at x was. was; reads = h ∙ ap Some (sym same) }

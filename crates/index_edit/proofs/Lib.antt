@@ -3,5 +3,6 @@ pub mod EditSteps
 pub mod KeyLaws
 pub mod LeafLaws
 pub mod PlaceLaws
+pub mod PutSteps
 pub mod RowLaws
 pub mod TreeSteps

@@ -249,3 +249,6 @@ spliced-whole x b from to before here after qs h g starts ends =
     let back = spells-split x to (before ++ here) after (omega (arith, length-append before here, starts, ends)) (subst (Spells x) joined all) in
     to-whole (take (8 * from) x ++ (b ++ drop (8 * to) x)) (before ++ (qs ++ after))
     (spells-append (take (8 * from) x) (b ++ drop (8 * to) x) before (qs ++ after) front.0 (spells-append b (drop (8 * to) x) qs after (from-whole b qs g) back.1))
+
+pub whole-append : (x y : List ℕ) (rs ss : List (ℕ × List ℕ)) → whole 4 4 x ≡ Some rs → whole 4 4 y ≡ Some ss → whole 4 4 (x ++ y) ≡ Some (rs ++ ss)
+whole-append x y rs ss h g = to-whole (x ++ y) (rs ++ ss) (spells-append x y rs ss (from-whole x rs h) (from-whole y ss g))

@@ -7,7 +7,7 @@ use Rattle.byteorder.specs.Numbers.{little_number-reads_back}
 use Rattle.pst_base.specs.Fields.{number_at}
 use Rattle.heap_items.specs.Items.{AddsItem}
 use Rattle.bth_tree.specs.Making.{Keeps, header_of}
-use Rattle.bth_tree.specs.Records.{ordered, whole, within}
+use Rattle.bth_tree.specs.Records.{entry_of, ordered, whole, within}
 use Rattle.bth_tree.specs.Tree.{bth, children, end_of, filled, gather, is_header, leaf, root, tree, under}
 use Rattle.bth_tree.proofs.MakeLaws.{header-over, level-kept, root-from, root-kept, tree-kept}
 use Rattle.bth_tree.proofs.OptionLaws.{bind-some, none-some, some-injective}
@@ -22,7 +22,7 @@ use Rattle.index_edit.specs.declared.pairs.Pairs.{Pairs}
 use Rattle.index_edit.specs.declared.pairs.Pairs.TheVariants.{Single, Double}
 use Rattle.index_edit.proofs.CoverLaws.{covers-none, covers-some, end-left, from-gather, one-leaf, two-leaves}
 use Rattle.index_edit.proofs.LeafLaws.{leaf-first, ordered-parts}
-use Rattle.index_edit.proofs.PlaceLaws.{Located, locate}
+use Rattle.index_edit.proofs.PlaceLaws.{Located, locate, located-entry}
 use Rattle.index_edit.proofs.RowLaws.{from-whole, rows-whole, spells-length}
 
 pub keeps-item : (tells : (ℕ → Option (List ℕ)) → Type 0) (old : ℕ → Option (List ℕ)) (x : List ℕ) (hid : ℕ) (a : AddsItem tells old x hid) → Keeps old a.get
@@ -110,7 +110,7 @@ leaves-one tells old p rs a w = record {
   kept = a.kept;
   reads = one-leaf (tree a.get 4 4 0) (pair_of p) rs w a.some a.first (named a.get p rs a.fits a.here);
   first = a.first;
-  top = a.id;
+  top = (a.id, a.fits);
 }
 
 pub leaves-behind : (tells : (ℕ → Option (List ℕ)) → Type 0) (old : ℕ → Option (List ℕ)) (p q : Pair) (xs ys : List (ℕ × List ℕ)) → tree old 4 4 0 p.child ≡ Some xs → p.child < 2 ^ 32 → p.key ≡ end_of xs → 0 < length xs
@@ -192,3 +192,18 @@ root-is_tree get level n hid recs z h = sym (ap (λ (m : ℕ). root get 4 4 m hi
 -- a level's first item, whose root it may be
 pub tree-root : (get : ℕ → Option (List ℕ)) (n hid : ℕ) (recs : List (ℕ × List ℕ)) → tree get 4 4 n hid ≡ Some recs → root get 4 4 n hid ≡ Some recs
 tree-root get n hid recs h = root-from get 4 4 n hid recs h
+
+pub top-none : (get : ℕ → Option (List ℕ)) (level hid : ℕ) (recs : List (ℕ × List ℕ)) → HasTop get level hid recs → hid ≡ 0 → recs ≡ []
+top-none get level hid recs (inl t) z = t.1
+top-none get level hid recs (inr t) z = absurd (t.0 z)
+
+pub top-some : (get : ℕ → Option (List ℕ)) (level hid : ℕ) (recs : List (ℕ × List ℕ)) → HasTop get level hid recs → (hid ≡ 0 → ⊥) → root get 4 4 level hid ≡ Some recs
+top-some get level hid recs (inl t) n = absurd (n t.0)
+top-some get level hid recs (inr t) n = t.1
+
+-- one level down on the way to a key
+pub find-step : (get : ℕ → Option (List ℕ)) (n key at : ℕ) (recs : List (ℕ × List ℕ)) (index child : ℕ) → key < 2 ^ 32 → Reaches get n key at recs index child
+    → (rs : List (ℕ × List ℕ)) × (root get 4 4 n child ≡ Some rs) × (entry_of key recs ≡ entry_of key rs)
+find-step get n key at recs index child fits r =
+    let l = located get n key at recs index child fits r in
+    (l.part, tree-root get n child l.part l.here, located-entry (tree get 4 4 n) key r.pairs recs index child l)

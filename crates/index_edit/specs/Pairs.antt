@@ -1,5 +1,5 @@
 -- Pairs of a key and a heap id, as records.
-use Rattle.std.specs.Prelude.{ℕ, ◌≢◌, List, [], ◌∷◌}
+use Rattle.std.specs.Prelude.{ℕ, ◌≢◌, ◌<◌, ◌^◌, List, [], ◌∷◌}
 use Rattle.byteorder.specs.Endian.{little_bytes}
 use Rattle.index_edit.specs.declared.pairs.Pair.{Pair}
 use Rattle.index_edit.specs.declared.pairs.Pairs.{Pairs}
@@ -14,5 +14,5 @@ pairs_of (Double p q) = pair_of p ∷ (pair_of q ∷ [])
 
 -- a leaf alone has an id that may be a root's
 abbrev pub MayBeRoot : Pairs → Type 0
-MayBeRoot (Single p) = p.child ≢ 0
+MayBeRoot (Single p) = (p.child ≢ 0) × (p.child < 2 ^ 32)
 MayBeRoot (Double p q) = Unit {0}

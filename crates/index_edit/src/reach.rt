@@ -1,6 +1,7 @@
 //! Items of an index, found and added.
 ghost use Rattle.std.specs.Prelude.{◌≡◌, ◌≢◌, ◌≤◌, ◌<◌, ◌^◌, ◌+◌, ◌∷◌, [], ℕ, List, Option, Some, length, IfOk, IfErr};
 ghost use Rattle.heap_items.specs.Items.{AddsItem};
+ghost use Rattle.bth_tree.specs.Making.{header_of};
 ghost use Rattle.bth_tree.specs.Records.{ordered, whole};
 ghost use Rattle.bth_tree.specs.Tree.{bth, gather, root as root_of, tree};
 ghost use Rattle.index_edit.specs.Adding.{AddsInner, AddsLeaf, HasIndex, HasTop, NotFault};
@@ -88,6 +89,15 @@ pub fn top_of<H: HeapItems>(heap: &H, header: u32) -> Result<Top, IndexStop<H::S
     })
 }
 
+/// The header of an index.
+fn header_bytes(level: u8, root: u32) -> [u8; 8]
+    ensures value { result ≡ header_of 4 4 level root }
+    ensures size { length result ≡ 8 }
+{
+    let r = root.to_le_bytes();
+    [0xB5, 4, 4, level, r[0], r[1], r[2], r[3]]
+}
+
 /// Adds the header of an index that has a root.
 pub fn add_header<H: HeapItems>(
     heap: &mut H,
@@ -98,6 +108,5 @@ pub fn add_header<H: HeapItems>(
         → root_of get 4 4 level root ≡ Some recs → HasIndex (H.tells heap.new) get hid recs) }
     ensures why { IfErr result NotFault }
 {
-    let r = root.to_le_bytes();
-    add(heap, &[0xB5, 4, 4, level, r[0], r[1], r[2], r[3]])
+    add(heap, &header_bytes(level, root))
 }
