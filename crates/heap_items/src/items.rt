@@ -9,16 +9,16 @@ pub trait HeapItems {
     /// Why a call gives nothing. Then nothing more is said of the heap.
     type Stop: Drop + From<AllocError>;
 
-    /// A reading of its items, by their heap ids. A heap of which not all is known tells each reading that agrees with what is.
-    ghost tells: { Self → (ℕ → Option (List ℕ)) → Type 0 };
+    /// The heap was these blocks at first, and has now these items by their heap ids. One of which not all is known tells each reading of all blocks that agree with what is.
+    ghost tells: { Self → List (List ℕ) → (ℕ → Option (List ℕ)) → Type 0 };
 
     /// The item under a heap id, if there is one.
     fn item(&self, hid: u32) -> Result<Option<&[u8]>, Self::Stop>
-        ensures found { IfOk result (λ x. (get : ℕ → Option (List ℕ)) → tells self.now get → option_copied x ≡ get hid) };
+        ensures found { IfOk result (λ x. (was : List (List ℕ)) (get : ℕ → Option (List ℕ)) → tells self.now was get → option_copied x ≡ get hid) };
 
     /// Adds an item of 1 to 3,580 bytes, and gives its heap id, under which there was none.
     fn add(&mut self, x: &[u8]) -> Result<u32, Self::Stop>
         requires some { 0 < length x.now }
         requires size { length x.now ≤ 3580 }
-        ensures adds { IfOk result (λ hid. (get : ℕ → Option (List ℕ)) → tells self.old get → AddsItem (tells self.new) get x.now hid) };
+        ensures adds { IfOk result (λ hid. (was : List (List ℕ)) (get : ℕ → Option (List ℕ)) → tells self.old was get → AddsItem (tells self.new was) get x.now hid) };
 }
