@@ -13,9 +13,9 @@ use heap_items::HeapItems;
 
 /// The leaf to which a key belongs.
 fn leaf_for<H: HeapItems>(heap: &H, top: Top, key: u32) -> Result<u32, IndexStop<H::Stop>>
-    ensures found { IfOk result (λ leaf. (get : ℕ → Option (List ℕ)) → H.tells heap.now get → (recs : List (ℕ × List ℕ)) → root_of get 4 4 top.level top.root ≡ Some recs
+    ensures found { IfOk result (λ leaf. (was : List (List ℕ)) (get : ℕ → Option (List ℕ)) → H.tells heap.now was get → (recs : List (ℕ × List ℕ)) → root_of get 4 4 top.level top.root ≡ Some recs
         → (rs : List (ℕ × List ℕ)) × (leaf_of get 4 4 leaf ≡ Some rs) × (entry_of key recs ≡ entry_of key rs)) }
-    ensures why { IfErr result (λ stop. (get : ℕ → Option (List ℕ)) → H.tells heap.now get → (recs : List (ℕ × List ℕ)) → root_of get 4 4 top.level top.root ≡ Some recs → NotFault stop) }
+    ensures why { IfErr result (λ stop. (was : List (List ℕ)) (get : ℕ → Option (List ℕ)) → H.tells heap.now was get → (recs : List (ℕ × List ℕ)) → root_of get 4 4 top.level top.root ≡ Some recs → NotFault stop) }
 {
     let mut at = top.root;
     for _level in 0..top.level {
@@ -35,9 +35,9 @@ pub fn find_entry<H: HeapItems>(
     header: u32,
     key: u32,
 ) -> Result<Option<u32>, IndexStop<H::Stop>>
-    ensures found { IfOk result (λ entry. (get : ℕ → Option (List ℕ)) → H.tells heap.now get → (recs : List (ℕ × List ℕ)) → bth get header 4 4 ≡ Some recs
+    ensures found { IfOk result (λ entry. (was : List (List ℕ)) (get : ℕ → Option (List ℕ)) → H.tells heap.now was get → (recs : List (ℕ × List ℕ)) → bth get header 4 4 ≡ Some recs
         → entry ≡ as_number (entry_of key recs)) }
-    ensures why { IfErr result (λ stop. (get : ℕ → Option (List ℕ)) → H.tells heap.now get → (recs : List (ℕ × List ℕ)) → bth get header 4 4 ≡ Some recs → NotFault stop) }
+    ensures why { IfErr result (λ stop. (was : List (List ℕ)) (get : ℕ → Option (List ℕ)) → H.tells heap.now was get → (recs : List (ℕ × List ℕ)) → bth get header 4 4 ≡ Some recs → NotFault stop) }
 {
     let top = match top_of(heap, header) {
         Ok(top) => top,

@@ -12,9 +12,9 @@ use std::alloc::Global;
 
 /// The place of the pair below which a key belongs.
 pub fn place_in<H: HeapItems>(heap: &H, inner: u32, key: u32) -> Result<Place, IndexStop<H::Stop>>
-    ensures found { IfOk result (λ place. (get : ℕ → Option (List ℕ)) → H.tells heap.now get → (n : ℕ) (recs : List (ℕ × List ℕ)) → tree get 4 4 (suc n) inner ≡ Some recs
+    ensures found { IfOk result (λ place. (was : List (List ℕ)) (get : ℕ → Option (List ℕ)) → H.tells heap.now was get → (n : ℕ) (recs : List (ℕ × List ℕ)) → tree get 4 4 (suc n) inner ≡ Some recs
         → Reaches get n key inner recs place.index place.child) }
-    ensures why { IfErr result (λ stop. (get : ℕ → Option (List ℕ)) → H.tells heap.now get → (n : ℕ) (recs : List (ℕ × List ℕ)) → tree get 4 4 (suc n) inner ≡ Some recs → NotFault stop) }
+    ensures why { IfErr result (λ stop. (was : List (List ℕ)) (get : ℕ → Option (List ℕ)) → H.tells heap.now was get → (n : ℕ) (recs : List (ℕ × List ℕ)) → tree get 4 4 (suc n) inner ≡ Some recs → NotFault stop) }
 {
     let x = item(heap, inner)?;
     match place_of(x, key) {
@@ -32,9 +32,9 @@ fn changed<H: HeapItems>(
     pairs: &[u8],
 ) -> Result<Vec<u8>, IndexStop<H::Stop>>
     ensures some { IfOk result (λ y. 8 ≤ length y.items) }
-    ensures changed { IfOk result (λ y. (get : ℕ → Option (List ℕ)) → H.tells heap.now get → (x : List ℕ) → get inner ≡ Some x
+    ensures changed { IfOk result (λ y. (was : List (List ℕ)) (get : ℕ → Option (List ℕ)) → H.tells heap.now was get → (x : List ℕ) → get inner ≡ Some x
         → y.items ≡ take (8 * index) x ++ (pairs.now ++ drop (8 * (index + 1)) x)) }
-    ensures why { IfErr result (λ stop. (get : ℕ → Option (List ℕ)) → H.tells heap.now get → (x : List ℕ) → get inner ≡ Some x → 8 * (index + 1) ≤ length x → NotFault stop) }
+    ensures why { IfErr result (λ stop. (was : List (List ℕ)) (get : ℕ → Option (List ℕ)) → H.tells heap.now was get → (x : List ℕ) → get inner ≡ Some x → 8 * (index + 1) ≤ length x → NotFault stop) }
 {
     let x = item(heap, inner)?;
     if x.len() / ROW <= index {
@@ -55,10 +55,10 @@ pub fn add_changed<H: HeapItems>(
     index: usize,
     pairs: &[u8],
 ) -> Result<u32, IndexStop<H::Stop>>
-    ensures adds { IfOk result (λ hid. (get : ℕ → Option (List ℕ)) → H.tells heap.old get → (x : List ℕ) → get inner ≡ Some x → (ps recs : List (ℕ × List ℕ))
-        → whole 4 4 (take (8 * index) x ++ (pairs.now ++ drop (8 * (index + 1)) x)) ≡ Some ps → gather (tree get 4 4 0) ps ≡ Some recs → AddsInner (H.tells heap.new) get hid recs) }
+    ensures adds { IfOk result (λ hid. (was : List (List ℕ)) (get : ℕ → Option (List ℕ)) → H.tells heap.old was get → (x : List ℕ) → get inner ≡ Some x → (ps recs : List (ℕ × List ℕ))
+        → whole 4 4 (take (8 * index) x ++ (pairs.now ++ drop (8 * (index + 1)) x)) ≡ Some ps → gather (tree get 4 4 0) ps ≡ Some recs → AddsInner (H.tells heap.new was) get hid recs) }
     ensures fits { IfOk result (λ hid. hid < 2 ^ 32) }
-    ensures why { IfErr result (λ stop. (get : ℕ → Option (List ℕ)) → H.tells heap.old get → (x : List ℕ) → get inner ≡ Some x → 8 * (index + 1) ≤ length x → NotFault stop) }
+    ensures why { IfErr result (λ stop. (was : List (List ℕ)) (get : ℕ → Option (List ℕ)) → H.tells heap.old was get → (x : List ℕ) → get inner ≡ Some x → 8 * (index + 1) ≤ length x → NotFault stop) }
 {
     let y = changed(alloc, heap, inner, index, pairs)?;
     match add_inner(heap, y.as_slice()) {

@@ -23,8 +23,8 @@ fn left_of<H: HeapItems>(
     key: u32,
 ) -> Result<Option<Vec<u8>>, IndexStop<H::Stop>>
     ensures size { IfOk result (λ out. IfSome out (λ y. length y.items ≤ 3580)) }
-    ensures out { IfOk result (λ out. (get : ℕ → Option (List ℕ)) → H.tells heap.now get → (rs : List (ℕ × List ℕ)) → leaf_of get 4 4 leaf ≡ Some rs → LeavesOut key rs out) }
-    ensures why { IfErr result (λ stop. (get : ℕ → Option (List ℕ)) → H.tells heap.now get → (rs : List (ℕ × List ℕ)) → leaf_of get 4 4 leaf ≡ Some rs → NotFault stop) }
+    ensures out { IfOk result (λ out. (was : List (List ℕ)) (get : ℕ → Option (List ℕ)) → H.tells heap.now was get → (rs : List (ℕ × List ℕ)) → leaf_of get 4 4 leaf ≡ Some rs → LeavesOut key rs out) }
+    ensures why { IfErr result (λ stop. (was : List (List ℕ)) (get : ℕ → Option (List ℕ)) → H.tells heap.now was get → (rs : List (ℕ × List ℕ)) → leaf_of get 4 4 leaf ≡ Some rs → NotFault stop) }
 {
     let x = item(heap, leaf)?;
     if x.len() > MOST {
@@ -39,8 +39,8 @@ fn left_of<H: HeapItems>(
 /// Adds the leaf of an index of one leaf, and its header.
 fn add_alone<H: HeapItems>(heap: &mut H, y: &[u8]) -> Result<u32, IndexStop<H::Stop>>
     requires { length y.now ≤ 3580 }
-    ensures adds { IfOk result (λ header. (get : ℕ → Option (List ℕ)) → H.tells heap.old get → (rs : List (ℕ × List ℕ)) → ordered 4 4 0 (2 ^ 32) y.now ≡ Some rs
-        → HasIndex (H.tells heap.new) get header rs) }
+    ensures adds { IfOk result (λ header. (was : List (List ℕ)) (get : ℕ → Option (List ℕ)) → H.tells heap.old was get → (rs : List (ℕ × List ℕ)) → ordered 4 4 0 (2 ^ 32) y.now ≡ Some rs
+        → HasIndex (H.tells heap.new was) get header rs) }
     ensures why { IfErr result NotFault }
 {
     if y.len() < ROW {
@@ -57,10 +57,10 @@ fn drop_root<H: HeapItems>(
     leaf: u32,
     key: u32,
 ) -> Result<Option<u32>, IndexStop<H::Stop>>
-    ensures drops { IfOk result (λ out. (get : ℕ → Option (List ℕ)) → H.tells heap.old get → (recs : List (ℕ × List ℕ)) → leaf_of get 4 4 leaf ≡ Some recs
-        → DropsInto (H.tells heap.new) get key recs out) }
+    ensures drops { IfOk result (λ out. (was : List (List ℕ)) (get : ℕ → Option (List ℕ)) → H.tells heap.old was get → (recs : List (ℕ × List ℕ)) → leaf_of get 4 4 leaf ≡ Some recs
+        → DropsInto (H.tells heap.new was) get key recs out) }
     ensures same { IfOk result (λ out. out ≡ None → heap.new ≡ heap.old) }
-    ensures why { IfErr result (λ stop. (get : ℕ → Option (List ℕ)) → H.tells heap.old get → (recs : List (ℕ × List ℕ)) → leaf_of get 4 4 leaf ≡ Some recs → NotFault stop) }
+    ensures why { IfErr result (λ stop. (was : List (List ℕ)) (get : ℕ → Option (List ℕ)) → H.tells heap.old was get → (recs : List (ℕ × List ℕ)) → leaf_of get 4 4 leaf ≡ Some recs → NotFault stop) }
 {
     match left_of(alloc, heap, leaf, key) {
         Ok(None) => Ok(None),
@@ -81,10 +81,10 @@ fn relay<H: HeapItems>(
     y: &[u8],
 ) -> Result<u32, IndexStop<H::Stop>>
     requires { length y.now ≤ 3580 }
-    ensures adds { IfOk result (λ hid. (get : ℕ → Option (List ℕ)) → H.tells heap.old get → (key child : ℕ) (recs rs : List (ℕ × List ℕ)) → key < 2 ^ 32 → Reaches get 0 key inner recs index child
-        → leaf_of get 4 4 child ≡ Some rs → whole 4 4 y.now ≡ Some (drop_key key_of key rs) → AddsInner (H.tells heap.new) get hid (drop_key key_of key recs)) }
+    ensures adds { IfOk result (λ hid. (was : List (List ℕ)) (get : ℕ → Option (List ℕ)) → H.tells heap.old was get → (key child : ℕ) (recs rs : List (ℕ × List ℕ)) → key < 2 ^ 32 → Reaches get 0 key inner recs index child
+        → leaf_of get 4 4 child ≡ Some rs → whole 4 4 y.now ≡ Some (drop_key key_of key rs) → AddsInner (H.tells heap.new was) get hid (drop_key key_of key recs)) }
     ensures fits { IfOk result (λ hid. hid < 2 ^ 32) }
-    ensures why { IfErr result (λ stop. (get : ℕ → Option (List ℕ)) → H.tells heap.old get → (x : List ℕ) → get inner ≡ Some x → 8 * (index + 1) ≤ length x → NotFault stop) }
+    ensures why { IfErr result (λ stop. (was : List (List ℕ)) (get : ℕ → Option (List ℕ)) → H.tells heap.old was get → (x : List ℕ) → get inner ≡ Some x → 8 * (index + 1) ≤ length x → NotFault stop) }
 {
     if y.len() < ROW {
         return add_changed(alloc, heap, inner, index, &[]);
@@ -103,10 +103,10 @@ fn drop_below<H: HeapItems>(
     inner: u32,
     key: u32,
 ) -> Result<Option<u32>, IndexStop<H::Stop>>
-    ensures drops { IfOk result (λ out. (get : ℕ → Option (List ℕ)) → H.tells heap.old get → (recs : List (ℕ × List ℕ)) → tree get 4 4 1 inner ≡ Some recs
-        → DropsInto (H.tells heap.new) get key recs out) }
+    ensures drops { IfOk result (λ out. (was : List (List ℕ)) (get : ℕ → Option (List ℕ)) → H.tells heap.old was get → (recs : List (ℕ × List ℕ)) → tree get 4 4 1 inner ≡ Some recs
+        → DropsInto (H.tells heap.new was) get key recs out) }
     ensures same { IfOk result (λ out. out ≡ None → heap.new ≡ heap.old) }
-    ensures why { IfErr result (λ stop. (get : ℕ → Option (List ℕ)) → H.tells heap.old get → (recs : List (ℕ × List ℕ)) → tree get 4 4 1 inner ≡ Some recs → NotFault stop) }
+    ensures why { IfErr result (λ stop. (was : List (List ℕ)) (get : ℕ → Option (List ℕ)) → H.tells heap.old was get → (recs : List (ℕ × List ℕ)) → tree get 4 4 1 inner ≡ Some recs → NotFault stop) }
 {
     let place = match place_in(heap, inner, key) {
         Ok(place) => place,
@@ -134,10 +134,10 @@ fn drop_top<H: HeapItems>(
     top: Top,
     key: u32,
 ) -> Result<Option<u32>, IndexStop<H::Stop>>
-    ensures drops { IfOk result (λ out. (get : ℕ → Option (List ℕ)) → H.tells heap.old get → (recs : List (ℕ × List ℕ)) → HasTop get top.level top.root recs
-        → DropsInto (H.tells heap.new) get key recs out) }
+    ensures drops { IfOk result (λ out. (was : List (List ℕ)) (get : ℕ → Option (List ℕ)) → H.tells heap.old was get → (recs : List (ℕ × List ℕ)) → HasTop get top.level top.root recs
+        → DropsInto (H.tells heap.new was) get key recs out) }
     ensures same { IfOk result (λ out. out ≡ None → heap.new ≡ heap.old) }
-    ensures why { IfErr result (λ stop. (get : ℕ → Option (List ℕ)) → H.tells heap.old get → (recs : List (ℕ × List ℕ)) → HasTop get top.level top.root recs → NotFault stop) }
+    ensures why { IfErr result (λ stop. (was : List (List ℕ)) (get : ℕ → Option (List ℕ)) → H.tells heap.old was get → (recs : List (ℕ × List ℕ)) → HasTop get top.level top.root recs → NotFault stop) }
 {
     if top.root == 0 {
         return Ok(None);
@@ -160,11 +160,11 @@ pub fn drop_record<H: HeapItems>(
     header: u32,
     key: u32,
 ) -> Result<u32, IndexStop<H::Stop>>
-    ensures dropped { IfOk result (λ new. (get : ℕ → Option (List ℕ)) → H.tells heap.old get → (recs : List (ℕ × List ℕ)) → bth get header 4 4 ≡ Some recs
-        → HasIndex (H.tells heap.new) get new (drop_key key_of key recs)) }
-    ensures same { IfOk result (λ new. (get : ℕ → Option (List ℕ)) → H.tells heap.old get → (recs : List (ℕ × List ℕ)) → bth get header 4 4 ≡ Some recs
+    ensures dropped { IfOk result (λ new. (was : List (List ℕ)) (get : ℕ → Option (List ℕ)) → H.tells heap.old was get → (recs : List (ℕ × List ℕ)) → bth get header 4 4 ≡ Some recs
+        → HasIndex (H.tells heap.new was) get new (drop_key key_of key recs)) }
+    ensures same { IfOk result (λ new. (was : List (List ℕ)) (get : ℕ → Option (List ℕ)) → H.tells heap.old was get → (recs : List (ℕ × List ℕ)) → bth get header 4 4 ≡ Some recs
         → entry_of key recs ≡ None → (new ≡ header) × (heap.new ≡ heap.old)) }
-    ensures why { IfErr result (λ stop. (get : ℕ → Option (List ℕ)) → H.tells heap.old get → (recs : List (ℕ × List ℕ)) → bth get header 4 4 ≡ Some recs → NotFault stop) }
+    ensures why { IfErr result (λ stop. (was : List (List ℕ)) (get : ℕ → Option (List ℕ)) → H.tells heap.old was get → (recs : List (ℕ × List ℕ)) → bth get header 4 4 ≡ Some recs → NotFault stop) }
 {
     let top = match top_of(heap, header) {
         Ok(top) => top,

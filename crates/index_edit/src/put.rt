@@ -26,8 +26,8 @@ fn add_leaves<H: HeapItems>(
     leaves: &NewLeaves,
 ) -> Result<Pairs, IndexStop<H::Stop>>
     requires { FitLeaves leaves.now }
-    ensures adds { IfOk result (λ ps. (get : ℕ → Option (List ℕ)) → H.tells heap.old get → (rs : List (ℕ × List ℕ)) → leaf_of get 4 4 leaf ≡ Some rs
-        → HoldLeaves (key, little_bytes 4 entry) rs leaves.now → AddsPairs (H.tells heap.new) get ps (put_key key_of (key, little_bytes 4 entry) rs)) }
+    ensures adds { IfOk result (λ ps. (was : List (List ℕ)) (get : ℕ → Option (List ℕ)) → H.tells heap.old was get → (rs : List (ℕ × List ℕ)) → leaf_of get 4 4 leaf ≡ Some rs
+        → HoldLeaves (key, little_bytes 4 entry) rs leaves.now → AddsPairs (H.tells heap.new was) get ps (put_key key_of (key, little_bytes 4 entry) rs)) }
     ensures why { IfErr result NotFault }
 {
     match leaves {
@@ -61,9 +61,9 @@ fn leaves_of<H: HeapItems>(
     entry: u32,
 ) -> Result<NewLeaves, IndexStop<H::Stop>>
     ensures fit { IfOk result FitLeaves }
-    ensures hold { IfOk result (λ leaves. (get : ℕ → Option (List ℕ)) → H.tells heap.now get → (rs : List (ℕ × List ℕ)) → leaf_of get 4 4 leaf ≡ Some rs
+    ensures hold { IfOk result (λ leaves. (was : List (List ℕ)) (get : ℕ → Option (List ℕ)) → H.tells heap.now was get → (rs : List (ℕ × List ℕ)) → leaf_of get 4 4 leaf ≡ Some rs
         → HoldLeaves (key, little_bytes 4 entry) rs leaves) }
-    ensures why { IfErr result (λ stop. (get : ℕ → Option (List ℕ)) → H.tells heap.now get → (rs : List (ℕ × List ℕ)) → leaf_of get 4 4 leaf ≡ Some rs → NotFault stop) }
+    ensures why { IfErr result (λ stop. (was : List (List ℕ)) (get : ℕ → Option (List ℕ)) → H.tells heap.now was get → (rs : List (ℕ × List ℕ)) → leaf_of get 4 4 leaf ≡ Some rs → NotFault stop) }
 {
     let x = item(heap, leaf)?;
     if x.len() > MOST {
@@ -83,9 +83,9 @@ fn put_leaf<H: HeapItems>(
     key: u32,
     entry: u32,
 ) -> Result<Pairs, IndexStop<H::Stop>>
-    ensures adds { IfOk result (λ ps. (get : ℕ → Option (List ℕ)) → H.tells heap.old get → (rs : List (ℕ × List ℕ)) → leaf_of get 4 4 leaf ≡ Some rs
-        → AddsPairs (H.tells heap.new) get ps (put_key key_of (key, little_bytes 4 entry) rs)) }
-    ensures why { IfErr result (λ stop. (get : ℕ → Option (List ℕ)) → H.tells heap.old get → (rs : List (ℕ × List ℕ)) → leaf_of get 4 4 leaf ≡ Some rs → NotFault stop) }
+    ensures adds { IfOk result (λ ps. (was : List (List ℕ)) (get : ℕ → Option (List ℕ)) → H.tells heap.old was get → (rs : List (ℕ × List ℕ)) → leaf_of get 4 4 leaf ≡ Some rs
+        → AddsPairs (H.tells heap.new was) get ps (put_key key_of (key, little_bytes 4 entry) rs)) }
+    ensures why { IfErr result (λ stop. (was : List (List ℕ)) (get : ℕ → Option (List ℕ)) → H.tells heap.old was get → (rs : List (ℕ × List ℕ)) → leaf_of get 4 4 leaf ≡ Some rs → NotFault stop) }
 {
     let leaves = match leaves_of(alloc, heap, leaf, key, entry) {
         Ok(leaves) => leaves,
@@ -99,7 +99,7 @@ fn put_leaf<H: HeapItems>(
 
 /// The first index: one leaf of one record.
 fn put_first<H: HeapItems>(heap: &mut H, key: u32, entry: u32) -> Result<u32, IndexStop<H::Stop>>
-    ensures adds { IfOk result (λ header. (get : ℕ → Option (List ℕ)) → H.tells heap.old get → HasIndex (H.tells heap.new) get header ((key, little_bytes 4 entry) ∷ [])) }
+    ensures adds { IfOk result (λ header. (was : List (List ℕ)) (get : ℕ → Option (List ℕ)) → H.tells heap.old was get → HasIndex (H.tells heap.new was) get header ((key, little_bytes 4 entry) ∷ [])) }
     ensures why { IfErr result NotFault }
 {
     let only = add_leaf(heap, &row(key, entry))?;
@@ -112,8 +112,8 @@ fn add_top<H: HeapItems>(
     heap: &mut H,
     pairs: Pairs,
 ) -> Result<u32, IndexStop<H::Stop>>
-    ensures adds { IfOk result (λ header. (get : ℕ → Option (List ℕ)) → H.tells heap.old get → (recs : List (ℕ × List ℕ)) → gather (tree get 4 4 0) (pairs_of pairs) ≡ Some recs
-        → 0 < length recs → MayBeRoot pairs → HasIndex (H.tells heap.new) get header recs) }
+    ensures adds { IfOk result (λ header. (was : List (List ℕ)) (get : ℕ → Option (List ℕ)) → H.tells heap.old was get → (recs : List (ℕ × List ℕ)) → gather (tree get 4 4 0) (pairs_of pairs) ≡ Some recs
+        → 0 < length recs → MayBeRoot pairs → HasIndex (H.tells heap.new was) get header recs) }
     ensures why { IfErr result NotFault }
 {
     if let Pairs::Single(only) = pairs {
@@ -132,9 +132,9 @@ fn put_root<H: HeapItems>(
     key: u32,
     entry: u32,
 ) -> Result<u32, IndexStop<H::Stop>>
-    ensures adds { IfOk result (λ header. (get : ℕ → Option (List ℕ)) → H.tells heap.old get → (recs : List (ℕ × List ℕ)) → leaf_of get 4 4 leaf ≡ Some recs
-        → HasIndex (H.tells heap.new) get header (put_key key_of (key, little_bytes 4 entry) recs)) }
-    ensures why { IfErr result (λ stop. (get : ℕ → Option (List ℕ)) → H.tells heap.old get → (recs : List (ℕ × List ℕ)) → leaf_of get 4 4 leaf ≡ Some recs → NotFault stop) }
+    ensures adds { IfOk result (λ header. (was : List (List ℕ)) (get : ℕ → Option (List ℕ)) → H.tells heap.old was get → (recs : List (ℕ × List ℕ)) → leaf_of get 4 4 leaf ≡ Some recs
+        → HasIndex (H.tells heap.new was) get header (put_key key_of (key, little_bytes 4 entry) recs)) }
+    ensures why { IfErr result (λ stop. (was : List (List ℕ)) (get : ℕ → Option (List ℕ)) → H.tells heap.old was get → (recs : List (ℕ × List ℕ)) → leaf_of get 4 4 leaf ≡ Some recs → NotFault stop) }
 {
     let pairs = match put_leaf(alloc, heap, leaf, key, entry) {
         Ok(pairs) => pairs,
@@ -154,9 +154,9 @@ fn put_below<H: HeapItems>(
     key: u32,
     entry: u32,
 ) -> Result<u32, IndexStop<H::Stop>>
-    ensures adds { IfOk result (λ hid. (get : ℕ → Option (List ℕ)) → H.tells heap.old get → (recs : List (ℕ × List ℕ)) → tree get 4 4 1 inner ≡ Some recs
-        → AddsInner (H.tells heap.new) get hid (put_key key_of (key, little_bytes 4 entry) recs)) }
-    ensures why { IfErr result (λ stop. (get : ℕ → Option (List ℕ)) → H.tells heap.old get → (recs : List (ℕ × List ℕ)) → tree get 4 4 1 inner ≡ Some recs → NotFault stop) }
+    ensures adds { IfOk result (λ hid. (was : List (List ℕ)) (get : ℕ → Option (List ℕ)) → H.tells heap.old was get → (recs : List (ℕ × List ℕ)) → tree get 4 4 1 inner ≡ Some recs
+        → AddsInner (H.tells heap.new was) get hid (put_key key_of (key, little_bytes 4 entry) recs)) }
+    ensures why { IfErr result (λ stop. (was : List (List ℕ)) (get : ℕ → Option (List ℕ)) → H.tells heap.old was get → (recs : List (ℕ × List ℕ)) → tree get 4 4 1 inner ≡ Some recs → NotFault stop) }
 {
     let place = match place_in(heap, inner, key) {
         Ok(place) => place,
@@ -181,9 +181,9 @@ fn put_two<H: HeapItems>(
     key: u32,
     entry: u32,
 ) -> Result<u32, IndexStop<H::Stop>>
-    ensures adds { IfOk result (λ header. (get : ℕ → Option (List ℕ)) → H.tells heap.old get → (recs : List (ℕ × List ℕ)) → tree get 4 4 1 inner ≡ Some recs
-        → HasIndex (H.tells heap.new) get header (put_key key_of (key, little_bytes 4 entry) recs)) }
-    ensures why { IfErr result (λ stop. (get : ℕ → Option (List ℕ)) → H.tells heap.old get → (recs : List (ℕ × List ℕ)) → tree get 4 4 1 inner ≡ Some recs → NotFault stop) }
+    ensures adds { IfOk result (λ header. (was : List (List ℕ)) (get : ℕ → Option (List ℕ)) → H.tells heap.old was get → (recs : List (ℕ × List ℕ)) → tree get 4 4 1 inner ≡ Some recs
+        → HasIndex (H.tells heap.new was) get header (put_key key_of (key, little_bytes 4 entry) recs)) }
+    ensures why { IfErr result (λ stop. (was : List (List ℕ)) (get : ℕ → Option (List ℕ)) → H.tells heap.old was get → (recs : List (ℕ × List ℕ)) → tree get 4 4 1 inner ≡ Some recs → NotFault stop) }
 {
     let root = match put_below(alloc, heap, inner, key, entry) {
         Ok(root) => root,
@@ -203,9 +203,9 @@ fn put_top<H: HeapItems>(
     key: u32,
     entry: u32,
 ) -> Result<u32, IndexStop<H::Stop>>
-    ensures adds { IfOk result (λ header. (get : ℕ → Option (List ℕ)) → H.tells heap.old get → (recs : List (ℕ × List ℕ)) → HasTop get top.level top.root recs
-        → HasIndex (H.tells heap.new) get header (put_key key_of (key, little_bytes 4 entry) recs)) }
-    ensures why { IfErr result (λ stop. (get : ℕ → Option (List ℕ)) → H.tells heap.old get → (recs : List (ℕ × List ℕ)) → HasTop get top.level top.root recs → NotFault stop) }
+    ensures adds { IfOk result (λ header. (was : List (List ℕ)) (get : ℕ → Option (List ℕ)) → H.tells heap.old was get → (recs : List (ℕ × List ℕ)) → HasTop get top.level top.root recs
+        → HasIndex (H.tells heap.new was) get header (put_key key_of (key, little_bytes 4 entry) recs)) }
+    ensures why { IfErr result (λ stop. (was : List (List ℕ)) (get : ℕ → Option (List ℕ)) → H.tells heap.old was get → (recs : List (ℕ × List ℕ)) → HasTop get top.level top.root recs → NotFault stop) }
 {
     if top.root == 0 {
         return put_first(heap, key, entry);
@@ -229,9 +229,9 @@ pub fn put_record<H: HeapItems>(
     key: u32,
     entry: u32,
 ) -> Result<u32, IndexStop<H::Stop>>
-    ensures put { IfOk result (λ new. (get : ℕ → Option (List ℕ)) → H.tells heap.old get → (recs : List (ℕ × List ℕ)) → bth get header 4 4 ≡ Some recs
-        → HasIndex (H.tells heap.new) get new (put_key key_of (key, little_bytes 4 entry) recs)) }
-    ensures why { IfErr result (λ stop. (get : ℕ → Option (List ℕ)) → H.tells heap.old get → (recs : List (ℕ × List ℕ)) → bth get header 4 4 ≡ Some recs → NotFault stop) }
+    ensures put { IfOk result (λ new. (was : List (List ℕ)) (get : ℕ → Option (List ℕ)) → H.tells heap.old was get → (recs : List (ℕ × List ℕ)) → bth get header 4 4 ≡ Some recs
+        → HasIndex (H.tells heap.new was) get new (put_key key_of (key, little_bytes 4 entry) recs)) }
+    ensures why { IfErr result (λ stop. (was : List (List ℕ)) (get : ℕ → Option (List ℕ)) → H.tells heap.old was get → (recs : List (ℕ × List ℕ)) → bth get header 4 4 ≡ Some recs → NotFault stop) }
 {
     match top_of(heap, header) {
         Ok(top) => put_top(alloc, heap, top, key, entry),

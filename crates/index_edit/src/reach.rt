@@ -15,8 +15,8 @@ use pst_base::{u8_at, u32_at};
 
 /// The item under a heap id.
 pub fn item<H: HeapItems>(heap: &H, hid: u32) -> Result<&[u8], IndexStop<H::Stop>>
-    ensures found { IfOk result (λ x. (get : ℕ → Option (List ℕ)) → H.tells heap.now get → get hid ≡ Some x.now) }
-    ensures why { IfErr result (λ stop. (get : ℕ → Option (List ℕ)) → H.tells heap.now get → (x : List ℕ) → get hid ≡ Some x → NotFault stop) }
+    ensures found { IfOk result (λ x. (was : List (List ℕ)) (get : ℕ → Option (List ℕ)) → H.tells heap.now was get → get hid ≡ Some x.now) }
+    ensures why { IfErr result (λ stop. (was : List (List ℕ)) (get : ℕ → Option (List ℕ)) → H.tells heap.now was get → (x : List ℕ) → get hid ≡ Some x → NotFault stop) }
 {
     match heap.item(hid) {
         Ok(Some(x)) => Ok(x),
@@ -28,7 +28,7 @@ pub fn item<H: HeapItems>(heap: &H, hid: u32) -> Result<&[u8], IndexStop<H::Stop
 /// Adds an item.
 pub fn add<H: HeapItems>(heap: &mut H, x: &[u8]) -> Result<u32, IndexStop<H::Stop>>
     requires { IsItem x.now }
-    ensures adds { IfOk result (λ hid. (get : ℕ → Option (List ℕ)) → H.tells heap.old get → AddsItem (H.tells heap.new) get x.now hid) }
+    ensures adds { IfOk result (λ hid. (was : List (List ℕ)) (get : ℕ → Option (List ℕ)) → H.tells heap.old was get → AddsItem (H.tells heap.new was) get x.now hid) }
     ensures fits { IfOk result (λ hid. hid < 2 ^ 32) }
     ensures why { IfErr result NotFault }
 {
@@ -41,8 +41,8 @@ pub fn add<H: HeapItems>(heap: &mut H, x: &[u8]) -> Result<u32, IndexStop<H::Sto
 /// Adds a leaf, and gives the pair that names it.
 pub fn add_leaf<H: HeapItems>(heap: &mut H, y: &[u8]) -> Result<Pair, IndexStop<H::Stop>>
     requires { IsItem y.now }
-    ensures adds { IfOk result (λ p. (get : ℕ → Option (List ℕ)) → H.tells heap.old get → (rs : List (ℕ × List ℕ)) → ordered 4 4 0 (2 ^ 32) y.now ≡ Some rs
-        → AddsLeaf (H.tells heap.new) get p rs) }
+    ensures adds { IfOk result (λ p. (was : List (List ℕ)) (get : ℕ → Option (List ℕ)) → H.tells heap.old was get → (rs : List (ℕ × List ℕ)) → ordered 4 4 0 (2 ^ 32) y.now ≡ Some rs
+        → AddsLeaf (H.tells heap.new was) get p rs) }
     ensures why { IfErr result NotFault }
 {
     let child = add(heap, y)?;
@@ -55,8 +55,8 @@ pub fn add_leaf<H: HeapItems>(heap: &mut H, y: &[u8]) -> Result<Pair, IndexStop<
 /// Adds an inner item above leaves, where it isn't too long.
 pub fn add_inner<H: HeapItems>(heap: &mut H, y: &[u8]) -> Result<u32, IndexStop<H::Stop>>
     requires { 8 ≤ length y.now }
-    ensures adds { IfOk result (λ hid. (get : ℕ → Option (List ℕ)) → H.tells heap.old get → (ps recs : List (ℕ × List ℕ)) → whole 4 4 y.now ≡ Some ps
-        → gather (tree get 4 4 0) ps ≡ Some recs → AddsInner (H.tells heap.new) get hid recs) }
+    ensures adds { IfOk result (λ hid. (was : List (List ℕ)) (get : ℕ → Option (List ℕ)) → H.tells heap.old was get → (ps recs : List (ℕ × List ℕ)) → whole 4 4 y.now ≡ Some ps
+        → gather (tree get 4 4 0) ps ≡ Some recs → AddsInner (H.tells heap.new was) get hid recs) }
     ensures fits { IfOk result (λ hid. hid < 2 ^ 32) }
     ensures why { IfErr result NotFault }
 {
@@ -75,9 +75,9 @@ pub struct Top {
 
 /// What an index's header gives ([MS-PST] 2.3.2.1).
 pub fn top_of<H: HeapItems>(heap: &H, header: u32) -> Result<Top, IndexStop<H::Stop>>
-    ensures found { IfOk result (λ top. (get : ℕ → Option (List ℕ)) → H.tells heap.now get → (recs : List (ℕ × List ℕ)) → bth get header 4 4 ≡ Some recs
+    ensures found { IfOk result (λ top. (was : List (List ℕ)) (get : ℕ → Option (List ℕ)) → H.tells heap.now was get → (recs : List (ℕ × List ℕ)) → bth get header 4 4 ≡ Some recs
         → HasTop get top.level top.root recs) }
-    ensures why { IfErr result (λ stop. (get : ℕ → Option (List ℕ)) → H.tells heap.now get → (recs : List (ℕ × List ℕ)) → bth get header 4 4 ≡ Some recs → NotFault stop) }
+    ensures why { IfErr result (λ stop. (was : List (List ℕ)) (get : ℕ → Option (List ℕ)) → H.tells heap.now was get → (recs : List (ℕ × List ℕ)) → bth get header 4 4 ≡ Some recs → NotFault stop) }
 {
     let x = item(heap, header)?;
     if x.len() < 8 {
@@ -104,8 +104,8 @@ pub fn add_header<H: HeapItems>(
     level: u8,
     root: u32,
 ) -> Result<u32, IndexStop<H::Stop>>
-    ensures adds { IfOk result (λ hid. (get : ℕ → Option (List ℕ)) → H.tells heap.old get → (recs : List (ℕ × List ℕ)) → root ≢ 0
-        → root_of get 4 4 level root ≡ Some recs → HasIndex (H.tells heap.new) get hid recs) }
+    ensures adds { IfOk result (λ hid. (was : List (List ℕ)) (get : ℕ → Option (List ℕ)) → H.tells heap.old was get → (recs : List (ℕ × List ℕ)) → root ≢ 0
+        → root_of get 4 4 level root ≡ Some recs → HasIndex (H.tells heap.new was) get hid recs) }
     ensures why { IfErr result NotFault }
 {
     add(heap, &header_bytes(level, root))

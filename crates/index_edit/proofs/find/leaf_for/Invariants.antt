@@ -5,5 +5,5 @@ use Rattle.index_edit.proofs.find.leaf_for.Given as goal
 
 abbrev pub invariant-loop-_level : goal.invariant-loop-_level
 invariant-loop-_level g l =
-    (get : ℕ → Option (List ℕ)) → g.H.HeapItems.tells l.heap get → (recs : List (ℕ × List ℕ)) → root get 4 4 l.top.level l.top.root ≡ Some recs
+    (was : List (List ℕ)) (get : ℕ → Option (List ℕ)) → g.H.HeapItems.tells l.heap was get → (recs : List (ℕ × List ℕ)) → root get 4 4 l.top.level l.top.root ≡ Some recs
     → (rs : List (ℕ × List ℕ)) × (root get 4 4 (l.top.level - l._level) l.at ≡ Some rs) × (entry_of l.key recs ≡ entry_of l.key rs)

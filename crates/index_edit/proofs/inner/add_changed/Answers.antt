@@ -9,8 +9,8 @@ returns-in_err-y-clause-why g c =
     rw (p.1, p.2) c.in_err-y.ensures.why
 
 pub returns-in-Ok-clause-adds : goal.returns-in-Ok-clause-adds
-returns-in-Ok-clause-adds g c = λ get told x here ps recs h below.
-    c.in-Ok.ensures.adds get told ps recs (ap (whole 4 4) (c.as_slice.ensures.value ∙ c.in_ok-y.ensures.changed get told x here) ∙ h) below
+returns-in-Ok-clause-adds g c = λ was get told x here ps recs h below.
+    c.in-Ok.ensures.adds was get told ps recs (ap (whole 4 4) (c.as_slice.ensures.value ∙ c.in_ok-y.ensures.changed was get told x here) ∙ h) below
 
 pub returns-in-Err-clause-why : goal.returns-in-Err-clause-why
-returns-in-Err-clause-why g c = λ get told x here long. c.in-Err.ensures.why
+returns-in-Err-clause-why g c = λ was get told x here long. c.in-Err.ensures.why

@@ -7,4 +7,4 @@ use Rattle.index_edit.proofs.TreeSteps.{reaches-long}
 use Rattle.index_edit.proofs.leave.drop_below.Goals as goal
 
 pub returns-in-Err-clause-why : goal.returns-in-Err-clause-why
-returns-in-Err-clause-why g c = λ get told recs h. c.in-Err.ensures.why get told 0 recs h
+returns-in-Err-clause-why g c = λ was get told recs h. c.in-Err.ensures.why was get told 0 recs h

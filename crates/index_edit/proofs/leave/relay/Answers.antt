@@ -15,14 +15,14 @@ returns-then-y-lt-ROW-clause-adds g c =
     let index = c.args.index in
     let y = c.args.y.now in
     let short : length y < 8 = omega (arith, c.if-y-lt-ROW.true) in
-    IfOk-weaker c.add_changed.result (λ hid. Changes (tells c.args.heap.now) (tells c.add_changed.new.heap) inner index [] hid)
-    (λ hid. (get : ℕ → Option (List ℕ)) → tells c.args.heap.now get → (key child : ℕ) (recs rs : List (ℕ × List ℕ)) → key < 2 ^ 32 → Reaches get 0 key inner recs index child → leaf get 4 4 child ≡ Some rs
-    → whole 4 4 y ≡ Some (drop_key key_of key rs) → AddsInner (tells c.add_changed.new.heap) get hid (drop_key key_of key recs))
-    (λ hid add get told key child recs rs fits r h w. empty-below (tells c.args.heap.now) (tells c.add_changed.new.heap) get key fits inner index child hid recs rs y told r h w short add) c.add_changed.ensures.adds
+    IfOk-weaker c.add_changed.result (λ hid. (was : List (List ℕ)) → Changes (tells c.args.heap.now was) (tells c.add_changed.new.heap was) inner index [] hid)
+    (λ hid. (was : List (List ℕ)) (get : ℕ → Option (List ℕ)) → tells c.args.heap.now was get → (key child : ℕ) (recs rs : List (ℕ × List ℕ)) → key < 2 ^ 32 → Reaches get 0 key inner recs index child → leaf get 4 4 child ≡ Some rs
+    → whole 4 4 y ≡ Some (drop_key key_of key rs) → AddsInner (tells c.add_changed.new.heap was) get hid (drop_key key_of key recs))
+    (λ hid add was get told key child recs rs fits r h w. empty-below (tells c.args.heap.now was) (tells c.add_changed.new.heap was) get key fits inner index child hid recs rs y told r h w short (add was)) c.add_changed.ensures.adds
 
 pub returns-in-Ok-clause-adds : goal.returns-in-Ok-clause-adds
-returns-in-Ok-clause-adds g c = λ get told key child recs rs fits r h w.
+returns-in-Ok-clause-adds g c = λ was get told key child recs rs fits r h w.
     let tells = g.H.HeapItems.tells in
     let y = c.args.y.now in
-    drop-below (tells c.add_leaf.new.heap) (tells c.add_changed-2.new.heap) get key fits c.args.inner c.args.index child c.in-Ok.hid recs rs c.in_ok-only.only c.row.result r h
-    (c.in_ok-only.ensures.adds get told (drop_key key_of key rs) (drop-ordered get child key rs y h w)) c.row.ensures.row c.in-Ok.ensures.adds
+    drop-below (tells c.add_leaf.new.heap was) (tells c.add_changed-2.new.heap was) get key fits c.args.inner c.args.index child c.in-Ok.hid recs rs c.in_ok-only.only c.row.result r h
+    (c.in_ok-only.ensures.adds was get told (drop_key key_of key rs) (drop-ordered get child key rs y h w)) c.row.ensures.row (c.in-Ok.ensures.adds was)

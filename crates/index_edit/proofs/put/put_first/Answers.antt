@@ -14,7 +14,7 @@ pub returns-clause-adds : goal.returns-clause-adds
 returns-clause-adds g c =
     let tells = g.H.HeapItems.tells in
     let e = little_bytes 4 c.args.entry in
-    IfOk-weaker c.add_header.result (λ at. Heads (tells c.add_leaf.new.heap) (tells c.add_header.new.heap) 0 c.in_ok-only.only.child at)
-    (λ at. (get : ℕ → Option (List ℕ)) → tells c.args.heap.now get → HasIndex (tells c.add_header.new.heap) get at ((c.args.key, e) ∷ []))
-    (λ at heads get told. alone (tells c.add_leaf.new.heap) (tells c.add_header.new.heap) get c.in_ok-only.only at ((c.args.key, e) ∷ [])
-    (c.in_ok-only.ensures.adds get told ((c.args.key, e) ∷ []) (single-ordered c.args.key c.ranges.key.fits e c.row.result c.row.ensures.row)) heads) c.add_header.ensures.adds
+    IfOk-weaker c.add_header.result (λ at. (was : List (List ℕ)) → Heads (tells c.add_leaf.new.heap was) (tells c.add_header.new.heap was) 0 c.in_ok-only.only.child at)
+    (λ at. (was : List (List ℕ)) (get : ℕ → Option (List ℕ)) → tells c.args.heap.now was get → HasIndex (tells c.add_header.new.heap was) get at ((c.args.key, e) ∷ []))
+    (λ at heads was get told. alone (tells c.add_leaf.new.heap was) (tells c.add_header.new.heap was) get c.in_ok-only.only at ((c.args.key, e) ∷ [])
+    (c.in_ok-only.ensures.adds was get told ((c.args.key, e) ∷ []) (single-ordered c.args.key c.ranges.key.fits e c.row.result c.row.ensures.row)) (heads was)) c.add_header.ensures.adds

@@ -6,7 +6,7 @@ use Rattle.index_edit.proofs.PutSteps.{index-after}
 use Rattle.index_edit.proofs.put.put_root.Goals as goal
 
 pub returns-in-Ok-2-clause-adds : goal.returns-in-Ok-2-clause-adds
-returns-in-Ok-2-clause-adds g c = λ get told recs h.
+returns-in-Ok-2-clause-adds g c = λ was get told recs h.
     let x = (c.args.key, little_bytes 4 c.args.entry) in
-    let a = c.in-Ok.ensures.adds get told recs h in
-    index-after (g.H.HeapItems.tells c.add_top.new.heap) get a.get c.in-Ok-2.header (put_key key_of x recs) a.kept (c.in-Ok-2.ensures.adds a.get a.told (put_key key_of x recs) a.reads (put-some x recs) a.top)
+    let a = c.in-Ok.ensures.adds was get told recs h in
+    index-after (g.H.HeapItems.tells c.add_top.new.heap was) get a.get c.in-Ok-2.header (put_key key_of x recs) a.kept (c.in-Ok-2.ensures.adds a.get a.told (put_key key_of x recs) a.reads (put-some x recs) a.top)

@@ -11,7 +11,7 @@ returns-clause-adds g c =
     let tells = g.H.HeapItems.tells in
     let level = c.args.level in
     let hid = c.args.root in
-    IfOk-weaker c.add.result (λ at. (get : ℕ → Option (List ℕ)) → tells c.args.heap.now get → AddsItem (tells c.add.new.heap) get c.header_bytes.result at)
-    (λ at. (get : ℕ → Option (List ℕ)) → tells c.args.heap.now get → (recs : List (ℕ × List ℕ)) → hid ≢ 0 → root get 4 4 level hid ≡ Some recs → HasIndex (tells c.add.new.heap) get at recs)
-    (λ at is get told recs some h. adds-header (tells c.add.new.heap) get level hid at recs (subst (λ (x : List ℕ). AddsItem (tells c.add.new.heap) get x at) c.header_bytes.ensures.value (is get told)) c.ranges.root.fits some h)
+    IfOk-weaker c.add.result (λ at. (was : List (List ℕ)) (get : ℕ → Option (List ℕ)) → tells c.args.heap.now was get → AddsItem (tells c.add.new.heap was) get c.header_bytes.result at)
+    (λ at. (was : List (List ℕ)) (get : ℕ → Option (List ℕ)) → tells c.args.heap.now was get → (recs : List (ℕ × List ℕ)) → hid ≢ 0 → root get 4 4 level hid ≡ Some recs → HasIndex (tells c.add.new.heap was) get at recs)
+    (λ at is was get told recs some h. adds-header (tells c.add.new.heap was) get level hid at recs (subst (λ (x : List ℕ). AddsItem (tells c.add.new.heap was) get x at) c.header_bytes.ensures.value (is was get told)) c.ranges.root.fits some h)
     c.add.ensures.adds

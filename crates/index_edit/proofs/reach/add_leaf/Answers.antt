@@ -8,5 +8,5 @@ returns-in_err-child-clause-why g c =
     rw (p.1, p.2) c.in_err-child.ensures.why
 
 pub returns-clause-adds : goal.returns-clause-adds
-returns-clause-adds g c = λ get told rs o.
-    adds-leaf (g.H.HeapItems.tells c.add.new.heap) get c.args.y.now (record { key = c.u32_at.result; child = c.in_ok-child.child }) rs (c.in_ok-child.ensures.adds get told) o c.requires.0 c.u32_at.ensures c.in_ok-child.ensures.fits
+returns-clause-adds g c = λ was get told rs o.
+    adds-leaf (g.H.HeapItems.tells c.add.new.heap was) get c.args.y.now (record { key = c.u32_at.result; child = c.in_ok-child.child }) rs (c.in_ok-child.ensures.adds was get told) o c.requires.0 c.u32_at.ensures c.in_ok-child.ensures.fits
