@@ -84,7 +84,8 @@ fn relay<H: HeapItems>(
     ensures adds { IfOk result (λ hid. (was : List (List ℕ)) (get : ℕ → Option (List ℕ)) → H.tells heap.old was get → (key child : ℕ) (recs rs : List (ℕ × List ℕ)) → key < 2 ^ 32 → Reaches get 0 key inner recs index child
         → leaf_of get 4 4 child ≡ Some rs → whole 4 4 y.now ≡ Some (drop_key key_of key rs) → AddsInner (H.tells heap.new was) get hid (drop_key key_of key recs)) }
     ensures fits { IfOk result (λ hid. hid < 2 ^ 32) }
-    ensures why { IfErr result (λ stop. (was : List (List ℕ)) (get : ℕ → Option (List ℕ)) → H.tells heap.old was get → (x : List ℕ) → get inner ≡ Some x → 8 * (index + 1) ≤ length x → NotFault stop) }
+    ensures why { IfErr result (λ stop. (was : List (List ℕ)) (get : ℕ → Option (List ℕ)) → H.tells heap.old was get → (key child : ℕ) (recs rs : List (ℕ × List ℕ)) → key < 2 ^ 32 → Reaches get 0 key inner recs index child
+        → leaf_of get 4 4 child ≡ Some rs → whole 4 4 y.now ≡ Some (drop_key key_of key rs) → NotFault stop) }
 {
     if y.len() < ROW {
         return add_changed(alloc, heap, inner, index, &[]);

@@ -12,5 +12,3 @@ pub returns-in-Ok-clause-adds : goal.returns-in-Ok-clause-adds
 returns-in-Ok-clause-adds g c = λ was get told x here ps recs h below.
     c.in-Ok.ensures.adds was get told ps recs (ap (whole 4 4) (c.as_slice.ensures.value ∙ c.in_ok-y.ensures.changed was get told x here) ∙ h) below
 
-pub returns-in-Err-clause-why : goal.returns-in-Err-clause-why
-returns-in-Err-clause-why g c = λ was get told x here long. c.in-Err.ensures.why
