@@ -1,7 +1,7 @@
 -- A record put or left out below a pair of an inner item.
-use Rattle.std.proofs.Common.{◌≡◌, ◌≢◌, ◌≤◌, ◌<◌, ◌+◌, ◌*◌, ◌^◌, ℕ, true, List, [], ◌∷◌, ◌++◌, length, take, drop, Option, Some, refl, sym, ap, ◌∙◌, subst, arith}
+use Rattle.std.proofs.Common.{◌≡◌, ◌<◌, ◌+◌, ◌*◌, ◌^◌, ℕ, List, [], ◌∷◌, ◌++◌, length, take, drop, Option, Some, refl, sym, ap, ◌∙◌, subst, arith}
 use Rattle.mapi_values.specs.Keyed.{put_key, drop_key}
-use Rattle.bth_tree.specs.Records.{entry_of, ordered, whole, within}
+use Rattle.bth_tree.specs.Records.{entry_of, ordered, whole}
 use Rattle.bth_tree.specs.Tree.{bth, gather, leaf, tree}
 use Rattle.bth_tree.proofs.MakeLaws.{tree-kept}
 use Rattle.bth_tree.proofs.OptionLaws.{some-injective}

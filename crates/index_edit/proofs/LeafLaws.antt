@@ -1,11 +1,11 @@
 -- A leaf's bytes with a record put or left out.
-use Rattle.std.proofs.Common.{◌≡◌, ◌≢◌, ◌≤◌, ◌<◌, ◌+◌, ◌-◌, ◌*◌, ◌/◌, ◌^◌, if◌then◌else◌, inl, inr, ℕ, suc, true, List, [], ◌∷◌, ◌++◌, length, take, drop, Option, Some, None, refl, sym, ap, ◌∙◌, subst, append_assoc, length-append, length-drop, length-take, arith}
+use Rattle.std.proofs.Common.{◌≡◌, ◌≢◌, ◌≤◌, ◌<◌, ◌+◌, ◌-◌, ◌*◌, ◌/◌, ◌^◌, if◌then◌else◌, inl, inr, ℕ, suc, true, List, [], ◌∷◌, ◌++◌, length, take, drop, Option, Some, None, refl, sym, ap, ◌∙◌, subst, length-append, length-drop, length-take, arith}
 use Rattle.std.proofs.lemmas.Bool.{cases_Bool, eq-eqb}
 use Rattle.std.proofs.lemmas.List.{append-nil, nil_from_length, take-append-drop}
 use Rattle.mapi_values.specs.Keyed.{put_key, drop_key}
 use Rattle.pst_base.specs.Fields.{number_at}
 use Rattle.bth_tree.specs.Find.{either}
-use Rattle.bth_tree.specs.Records.{entry_of, ordered, record_of, whole, within}
+use Rattle.bth_tree.specs.Records.{entry_of, ordered, whole, within}
 use Rattle.bth_tree.specs.Tree.{end_of}
 use Rattle.bth_tree.proofs.FindLaws.{entry-append}
 use Rattle.bth_tree.proofs.OptionLaws.{bind-some, none-some, some-injective}

@@ -1,5 +1,5 @@
 -- Where a key belongs among the records below pairs, and what becomes of them when the records there change.
-use Rattle.std.proofs.Common.{◌≡◌, ◌≤◌, ◌<◌, ◌+◌, ◌^◌, inl, inr, ◌⊎◌, ℕ, suc, true, List, [], ◌∷◌, ◌++◌, length, Option, Some, refl, sym, ap, ◌∙◌, subst, arith}
+use Rattle.std.proofs.Common.{◌≡◌, ◌≤◌, ◌<◌, ◌^◌, inl, inr, ◌⊎◌, ℕ, suc, true, List, [], ◌∷◌, ◌++◌, length, Option, Some, refl, sym, ap, ◌∙◌, subst, arith}
 use Rattle.mapi_values.specs.Keyed.{put_key, drop_key}
 use Rattle.bth_tree.specs.Records.{entry_of, within}
 use Rattle.bth_tree.specs.Tree.{end_of, gather}

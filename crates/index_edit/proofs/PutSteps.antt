@@ -1,5 +1,5 @@
 -- Leaves that were added for one with a record put, and what stands above them.
-use Rattle.std.proofs.Common.{◌≡◌, ◌≢◌, ◌≤◌, ◌<◌, ◌^◌, ℕ, true, List, [], ◌∷◌, ◌++◌, length, Option, Some, refl, sym, ap, ◌∙◌, subst, arith}
+use Rattle.std.proofs.Common.{◌≡◌, ◌≢◌, ◌<◌, ◌^◌, ℕ, true, List, [], ◌∷◌, ◌++◌, length, Option, Some, refl, sym, ap, ◌∙◌, subst, arith}
 use Rattle.byteorder.specs.Numbers.{little_number-reads_back}
 use Rattle.mapi_values.specs.Keyed.{put_key}
 use Rattle.bth_tree.specs.Records.{ordered, whole, within}

@@ -1,6 +1,6 @@
 -- Records of 8 bytes, one behind the other.
-use Rattle.std.proofs.Common.{◌≡◌, ◌≤◌, ◌<◌, ◌==◌, ◌+◌, ◌-◌, ◌*◌, ◌/◌, ◌%◌, ◌^◌, if◌then◌else◌, inl, inr, ◌⊎◌, ℕ, zero, suc, List, [], ◌∷◌, ◌++◌, length, take, drop, Option, Some, None, refl, sym, ap, ◌∙◌, subst, append_assoc, length-append, length-drop, length-take, get_or, arith}
-use Rattle.std.proofs.lemmas.Bool.{cases_Bool, cases_lt, eq-eqb, ne_eqb}
+use Rattle.std.proofs.Common.{◌≡◌, ◌≤◌, ◌<◌, ◌+◌, ◌-◌, ◌*◌, ◌/◌, ◌^◌, inl, inr, ◌⊎◌, ℕ, suc, List, [], ◌∷◌, ◌++◌, length, take, drop, Some, None, refl, sym, ap, ◌∙◌, subst, append_assoc, length-append, length-drop, length-take, arith}
+use Rattle.std.proofs.lemmas.Bool.{cases_lt, eq-eqb, ne_eqb}
 use Rattle.std.proofs.lemmas.List.{drop-append-le, drop-drop, drop-take, length_push, nil_from_length, take_at, take-append-le}
 use Rattle.std.proofs.Math.Nat.{div-eq_of_lt}
 use Rattle.std.proofs.Math.Seq.{take-add, get_or-take}
@@ -12,7 +12,7 @@ use Rattle.pst_base.proofs.Numbers.{number_at-same}
 use Rattle.bth_tree.specs.Records.{entry_of, record_of, records, whole}
 use Rattle.bth_tree.proofs.OptionLaws.{bind-some, none-some, some-injective}
 use Rattle.bth_tree.proofs.RecordLaws.{whole-none, whole-short, whole-step}
-use Rattle.index_edit.specs.Rows.{as_number, AreBelow, BeginsAbove, IsHere, IsPlaceOf, IsSpan, rows}
+use Rattle.index_edit.specs.Rows.{as_number, AreBelow, BeginsAbove, IsPlaceOf, IsSpan, rows}
 
 -- the bytes are those of these records, one behind the other
 abbrev pub Spells : List ℕ → List (ℕ × List ℕ) → Type 0

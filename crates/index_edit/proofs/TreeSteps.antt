@@ -1,8 +1,8 @@
 -- What items that were added to a heap read as.
-use Rattle.std.proofs.Common.{◌≡◌, ◌≢◌, ◌≤◌, ◌<◌, ◌==◌, ◌&&◌, ◌+◌, ◌*◌, ◌/◌, ◌^◌, if◌then◌else◌, inl, inr, ◌⊎◌, nat_le, ℕ, zero, suc, true, false, List, [], ◌∷◌, ◌++◌, length, take, drop, Option, Some, None, refl, sym, ap, ◌∙◌, subst, length-append, arith}
+use Rattle.std.proofs.Common.{◌≡◌, ◌≢◌, ◌≤◌, ◌<◌, ◌==◌, ◌&&◌, ◌+◌, ◌*◌, ◌^◌, if◌then◌else◌, inl, inr, nat_le, ℕ, suc, true, List, [], ◌∷◌, ◌++◌, length, Option, Some, None, refl, sym, ap, ◌∙◌, subst, length-append, arith}
 use Rattle.std.proofs.lemmas.Bool.{and_parts, cases_Bool, cases_eq, leb-true}
 use Rattle.std.specs.Option.{option_and_then}
-use Rattle.byteorder.specs.Endian.{little_bytes, little_number}
+use Rattle.byteorder.specs.Endian.{little_number}
 use Rattle.byteorder.specs.Numbers.{little_number-reads_back}
 use Rattle.pst_base.specs.Fields.{number_at}
 use Rattle.heap_items.specs.Items.{AddsItem}
@@ -13,12 +13,11 @@ use Rattle.bth_tree.proofs.MakeLaws.{header-over, level-kept, root-from, root-ke
 use Rattle.bth_tree.proofs.OptionLaws.{bind-some, none-some, some-injective}
 use Rattle.bth_tree.proofs.ReadLaws.{filled-some}
 use Rattle.bth_tree.proofs.TreeLaws.{tree-leaf, tree-suc}
-use Rattle.bth_tree.proofs.WholeLaws.{filled-is, tree-some, tree-within, under-none, under-root}
+use Rattle.bth_tree.proofs.WholeLaws.{filled-is, tree-some, under-none, under-root}
 use Rattle.index_edit.specs.Adding.{AddsInner, AddsLeaf, AddsPairs, HasIndex, HasTop, Reaches}
-use Rattle.index_edit.specs.Pairs.{MayBeRoot, pair_of, pairs_of}
-use Rattle.index_edit.specs.Rows.{IsPlaceOf, key_of, rows}
+use Rattle.index_edit.specs.Pairs.{pair_of}
+use Rattle.index_edit.specs.Rows.{IsPlaceOf, rows}
 use Rattle.index_edit.specs.declared.pairs.Pair.{Pair}
-use Rattle.index_edit.specs.declared.pairs.Pairs.{Pairs}
 use Rattle.index_edit.specs.declared.pairs.Pairs.TheVariants.{Single, Double}
 use Rattle.index_edit.proofs.CoverLaws.{covers-none, covers-some, end-left, from-gather, one-leaf, two-leaves}
 use Rattle.index_edit.proofs.LeafLaws.{leaf-first, ordered-parts}

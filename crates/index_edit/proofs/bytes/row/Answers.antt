@@ -1,4 +1,4 @@
-use Rattle.std.proofs.Common.{◌++◌, ◌∷◌, [], ℕ, List, sym, subst}
+use Rattle.std.proofs.Common.{◌∷◌, [], ℕ, List, sym, subst}
 use Rattle.byteorder.specs.Endian.{little_bytes}
 use Rattle.index_edit.proofs.RowLaws.{Spells, spells-row, to-whole}
 use Rattle.index_edit.proofs.bytes.row.Goals as goal

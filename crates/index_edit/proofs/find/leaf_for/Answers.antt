@@ -1,4 +1,4 @@
-use Rattle.std.proofs.Common.{◌≡◌, ◌-◌, ◌+◌, ◌<◌, ◌∙◌, ℕ, suc, Some, refl, ap, arith}
+use Rattle.std.proofs.Common.{◌≡◌, ◌-◌, ◌+◌, ◌<◌, ◌∙◌, ℕ, suc, refl, ap, arith}
 use Rattle.bth_tree.specs.Tree.{root}
 use Rattle.index_edit.proofs.TreeSteps.{find-step, root-is_leaf, root-is_tree}
 use Rattle.index_edit.proofs.find.leaf_for.Goals as goal

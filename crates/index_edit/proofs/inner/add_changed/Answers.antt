@@ -11,4 +11,3 @@ returns-in_err-y-clause-why g c =
 pub returns-in-Ok-clause-adds : goal.returns-in-Ok-clause-adds
 returns-in-Ok-clause-adds g c = λ was get told x here ps recs h below.
     c.in-Ok.ensures.adds was get told ps recs (ap (whole 4 4) (c.as_slice.ensures.value ∙ c.in_ok-y.ensures.changed was get told x here) ∙ h) below
-

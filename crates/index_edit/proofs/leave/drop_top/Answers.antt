@@ -1,4 +1,4 @@
-use Rattle.std.proofs.Common.{◌≡◌, ℕ, List, Option}
+use Rattle.std.proofs.Common.{ℕ, List, Option}
 use Rattle.std.proofs.lemmas.Result.{IfErr-weaker, IfOk-weaker}
 use Rattle.index_edit.specs.Adding.{DropsInto, HasTop, NotFault}
 use Rattle.index_edit.proofs.TreeSteps.{root-is_leaf, root-is_tree, top-some}
