@@ -1,0 +1,4 @@
+pub mod Adding
+pub mod Edits
+pub mod Pairs
+pub mod Rows
