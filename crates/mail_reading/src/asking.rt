@@ -7,14 +7,13 @@ ghost use Rattle.mail_searches.specs.Searching.{Searching};
 ghost use Rattle.search_folders.specs.Comings.{KnowsSearches, coming_of};
 ghost use Rattle.mail_reading.specs.Asked.{asked};
 
-use command_text::{Command, CommandRefusal, LastLine, Reply};
-use mail_parts::fetch;
-use mail_parts::mail_messages::{get_value, list_details};
+use crate::reading::read;
+use command_text::Command;
 use mail_searches::KnownSearches;
 use mail_tree::Known;
 use node_port::NodeReader;
 use pst_outside::Outside;
-use search_folders::mail_draft::{Outcome, Stop};
+use search_folders::mail_draft::Stop;
 use search_folders::{Coming, get_criteria, list_folder};
 use std::alloc::Global;
 
@@ -37,44 +36,9 @@ pub fn ask<W: Outside, K: NodeReader<W>>(
         Command::GetCriteria { search } => {
             get_criteria(alloc, keeper, w, known, searches, *search)
         }
-        Command::GetProperty { message, tag } => {
-            let value = get_value(alloc, keeper, w, &known.places, *message, *tag)?;
-            Ok(Coming::staying(value))
+        _ => {
+            let outcome = read(alloc, keeper, w, &known.places, command)?;
+            Ok(Coming::staying(outcome))
         }
-        Command::ListProperties { message } => {
-            let details = list_details(alloc, keeper, w, &known.places, *message)?;
-            Ok(Coming::staying(details))
-        }
-        Command::FetchData {
-            message,
-            attachment,
-        } => {
-            let fetched = fetch(alloc, keeper, w, &known.places, *message, *attachment)?;
-            Ok(Coming::staying(fetched))
-        }
-        Command::Quit => {
-            let reply = Reply::without_data(alloc, LastLine::Done);
-            Ok(Coming::staying(Outcome::unchanged(alloc, reply)))
-        }
-        Command::MakeFolder { .. }
-        | Command::RenameFolder { .. }
-        | Command::MoveFolder { .. }
-        | Command::RemoveFolder { .. }
-        | Command::NewMessage { .. }
-        | Command::SetProperty { .. }
-        | Command::UnsetProperty { .. }
-        | Command::MoveMessage { .. }
-        | Command::CopyMessage { .. }
-        | Command::RemoveMessage { .. }
-        | Command::AddRecipient { .. }
-        | Command::RemoveRecipient { .. }
-        | Command::AddAttachment { .. }
-        | Command::AppendData { .. }
-        | Command::SetEmbedded { .. }
-        | Command::RemoveAttachment { .. }
-        | Command::NameProperty { .. }
-        | Command::MakeSearch { .. }
-        | Command::SetCriteria { .. }
-        | Command::Save => Err(Stop::Refused(CommandRefusal::Line)),
     }
 }

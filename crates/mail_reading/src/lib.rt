@@ -7,6 +7,7 @@
 
 mod asking;
 mod law;
+mod reading;
 mod viewing;
 
 pub use asking::ask;

@@ -13,7 +13,7 @@ ghost use Rattle.mail_draft.specs.Outcomes.{last_after, outcome_of};
 ghost use Rattle.mail_store.specs.Planning.{Alters, Carries, ChangesNodes, cost_of, Does, IsHindered, Plans, PlansTo, SameKnown, StandsFor, StaysUnwritten, Stores, UnlessFault};
 ghost use Rattle.mail_store.specs.Space.{HasCells, HasRoom, WritesNodes};
 
-use crate::commands::outcome;
+use crate::entry::outcome;
 use crate::knowing::{plan_flags, settle_known};
 use crate::planned::Planned;
 use command_text::{Command, Reply};

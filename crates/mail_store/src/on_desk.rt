@@ -1,0 +1,2 @@
+//! The commands over a desk.
+pub use crate::commands::outcome;
