@@ -1,11 +1,14 @@
 -- What a call that asked answers.
-use Rattle.std.proofs.Common.{◌≡◌, ◌⊎◌, ◌∙◌, true, false, [], None, Some, Ok, Err, ap, inl, inr, refl, subst, sym}
+use Rattle.std.proofs.Common.{◌≡◌, ◌⊎◌, ◌∙◌, true, false, None, Some, Ok, Err, ap, inl, inr, refl, subst, sym}
 use Rattle.std.proofs.lemmas.Bool.{cases_Bool}
+use Rattle.pst_base.specs.declared.ids.Nid.{Nid}
+use Rattle.command_text.specs.Asking.{asks}
 use Rattle.command_text.specs.declared.command.Command.{Command}
+use Rattle.command_text.specs.declared.command.Command.TheVariants.{MakeFolder, RenameFolder, MoveFolder, RemoveFolder, ListFolder, NewMessage, SetProperty, UnsetProperty, GetProperty, ListProperties, MoveMessage, CopyMessage, RemoveMessage, AddRecipient, RemoveRecipient, AddAttachment, AppendData, RemoveAttachment, FetchData, NameProperty, Save, Quit, MakeSearch, SetCriteria, GetCriteria, SetEmbedded}
 use Rattle.command_text.specs.declared.reply.CommandRefusal.TheVariants.{Line}
 use Rattle.command_text.specs.declared.reply.LastLine.TheVariants as last
-use Rattle.mail_tree.specs.Changing.{Answer}
-use Rattle.mail_tree.specs.Folders.{Outcome, replied}
+use Rattle.mail_tree.specs.Changing.{Answer, ◌>>=◌}
+use Rattle.mail_tree.specs.Folders.{replied}
 use Rattle.mail_tree.specs.Whole.{Fine, IsWhole}
 use Rattle.search_folders.proofs.mail_draft_laws.Passes.{stop_says, then_says}
 use Rattle.search_folders.specs.mail_draft.Answers.{Says}
@@ -15,26 +18,57 @@ use Rattle.search_folders.specs.mail_draft.declared.stop.Stop.{Stop}
 use Rattle.search_folders.specs.mail_draft.declared.stop.Stop.TheVariants.{Refused, Fault, Changed, Memory}
 use Rattle.mail_searches.specs.Criteria.{Coming, staying}
 use Rattle.mail_searches.specs.Searching.{AreSearches, Searching}
-use Rattle.mail_searches.specs.Step.{after, outcome, plain_outcome, step, stepped}
-use Rattle.mail_searches.specs.Touching.{touched}
-use Rattle.mail_laws.specs.Laws.{only_reads}
-use Rattle.mail_tree.specs.Step as tree
+use Rattle.mail_searches.specs.Step.{after, outcome, step, stepped}
+use Rattle.mail_tree.specs.Step.{outcome as tree_outcome}
 use Rattle.search_folders.specs.Comings.{coming_of}
 use Rattle.search_folders.specs.declared.coming.Coming.{Coming as Made}
-use Rattle.mail_reading.specs.Asked.{asked, reads}
+use Rattle.mail_reading.specs.Asked.{asked, read, reads}
 use Rattle.mail_reading.proofs.ReadLaws.{plain_reads, reads_leave}
 
--- ---- what a call answers of the tree is what it answers beside its searches
+-- ---- what reads messages, or nothing, comes to what it comes to in the tree
 
-module _ (X : Searching) (c : Command) (only : only_reads c ≡ true) (none : (o : Outcome) → touched X.tree c o ≡ Ok []) where
-  pub plain_given : (o : Planned) (r : Made) → Says (outcome_of X.tree) (tree.outcome X.tree c) (Ok o) → staying X (outcome_of X.tree o) ≡ Ok (coming_of X r) → Says (coming_of X) (plain_outcome X c) (Ok r)
-  plain_given o r said is =
-      subst (λ a. Says (coming_of X) a (Ok r)) (sym (plain_reads X c only none))
-      (then_says (outcome_of X.tree) (coming_of X) (tree.outcome X.tree c) (staying X) o (Ok r) said (subst (λ (a : Answer Coming). Says (coming_of X) a (Ok r)) (sym is) refl))
+-- the command is on no folder and no search
+abbrev pub IsOther : Command → Type 0
+IsOther c = ((folder : Nid) → c ≡ ListFolder folder → ⊥) × ((search : Nid) → c ≡ GetCriteria search → ⊥)
 
-  pub plain_stop : (stop : Stop) → Says (outcome_of X.tree) (tree.outcome X.tree c) (Err stop) → Says (coming_of X) (plain_outcome X c) (Err stop)
-  plain_stop stop said =
-      subst (λ a. Says (coming_of X) a (Err stop)) (sym (plain_reads X c only none)) (stop_says (outcome_of X.tree) (coming_of X) (tree.outcome X.tree c) (staying X) stop said)
+module _ (X : Searching) where
+  asked_read : (c : Command) → IsOther c → asked X c ≡ (read X.tree c >>= staying X)
+  unfolding outcome tree_outcome read asks
+  asked_read (ListFolder folder) other = absurd (other.0 folder refl)
+  asked_read (GetCriteria search) other = absurd (other.1 search refl)
+  asked_read (GetProperty message tag) other = plain_reads X (GetProperty message tag) refl (λ o. refl)
+  asked_read (ListProperties message) other = plain_reads X (ListProperties message) refl (λ o. refl)
+  asked_read (FetchData message attachment) other = plain_reads X (FetchData message attachment) refl (λ o. refl)
+  asked_read Quit other = plain_reads X Quit refl (λ o. refl)
+  asked_read (MakeFolder parent name) other = refl
+  asked_read (RenameFolder folder name) other = refl
+  asked_read (MoveFolder folder parent) other = refl
+  asked_read (RemoveFolder folder) other = refl
+  asked_read (NewMessage folder class time values) other = refl
+  asked_read (SetProperty message value) other = refl
+  asked_read (UnsetProperty message tag) other = refl
+  asked_read (MoveMessage message folder) other = refl
+  asked_read (CopyMessage message folder) other = refl
+  asked_read (RemoveMessage message) other = refl
+  asked_read (AddRecipient message kind address name) other = refl
+  asked_read (RemoveRecipient message row) other = refl
+  asked_read (AddAttachment message name held) other = refl
+  asked_read (AppendData message attachment bytes) other = refl
+  asked_read (SetEmbedded message attachment node) other = refl
+  asked_read (RemoveAttachment message attachment) other = refl
+  asked_read (NameProperty guid number) other = refl
+  asked_read (MakeSearch parent name) other = refl
+  asked_read (SetCriteria search flags scope restriction) other = refl
+  asked_read Save other = refl
+
+  pub read_given : (c : Command) → IsOther c → (o : Planned) (r : Made) → Says (outcome_of X.tree) (read X.tree c) (Ok o) → staying X (outcome_of X.tree o) ≡ Ok (coming_of X r) → Says (coming_of X) (asked X c) (Ok r)
+  read_given c other o r said is =
+      subst (λ a. Says (coming_of X) a (Ok r)) (sym (asked_read c other))
+      (then_says (outcome_of X.tree) (coming_of X) (read X.tree c) (staying X) o (Ok r) said (subst (λ (a : Answer Coming). Says (coming_of X) a (Ok r)) (sym is) refl))
+
+  pub read_stop : (c : Command) → IsOther c → (stop : Stop) → Says {B = Planned} (outcome_of X.tree) (read X.tree c) (Err stop) → Says {B = Made} (coming_of X) (asked X c) (Err stop)
+  read_stop c other stop said =
+      subst (λ a. Says {B = Made} (coming_of X) a (Err stop)) (sym (asked_read c other)) (stop_says (outcome_of X.tree) (coming_of X) (read X.tree c) (staying X) stop said)
 
 -- ---- and it is the reply of the step
 

@@ -24,7 +24,7 @@ abbrev pub asked : Searching → Command → Answer Coming
 asked X c = if reads c then outcome X c else Err (Some Line)
 
 -- what a command comes to that reads messages, or nothing; any other is none of these
-pub read : Tree → Command → Answer Outcome
+unfoldable pub read : Tree → Command → Answer Outcome
 read T (GetProperty message tag) = value_in T message.bits tag
 read T (ListProperties message) = details T message.bits
 read T (FetchData message attachment) = fetched_data T message.bits attachment.bits

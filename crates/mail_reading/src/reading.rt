@@ -21,6 +21,7 @@ use std::alloc::Global;
 use std::mem::replace;
 
 /// What a command comes to that reads messages, or nothing. Refused as `Line` otherwise.
+#[tactic(auto, unfolding(crate::specs::Asked::read))]
 fn read_on_desk<D: Desk>(desk: &mut D, command: &Command) -> Result<Coming, Stop>
     requires fresh { (D.view desk.old).changed ≡ nothing }
     ensures reads { Reads (D.view desk.old) (D.view desk.new) result }
@@ -37,7 +38,28 @@ fn read_on_desk<D: Desk>(desk: &mut D, command: &Command) -> Result<Coming, Stop
             desk.alloc(),
             LastLine::Done,
         ))),
-        _ => Err(Stop::Refused(CommandRefusal::Line)),
+        Command::ListFolder { .. }
+        | Command::GetCriteria { .. }
+        | Command::MakeFolder { .. }
+        | Command::RenameFolder { .. }
+        | Command::MoveFolder { .. }
+        | Command::RemoveFolder { .. }
+        | Command::NewMessage { .. }
+        | Command::SetProperty { .. }
+        | Command::UnsetProperty { .. }
+        | Command::MoveMessage { .. }
+        | Command::CopyMessage { .. }
+        | Command::RemoveMessage { .. }
+        | Command::AddRecipient { .. }
+        | Command::RemoveRecipient { .. }
+        | Command::AddAttachment { .. }
+        | Command::AppendData { .. }
+        | Command::SetEmbedded { .. }
+        | Command::RemoveAttachment { .. }
+        | Command::NameProperty { .. }
+        | Command::MakeSearch { .. }
+        | Command::SetCriteria { .. }
+        | Command::Save => Err(Stop::Refused(CommandRefusal::Line)),
     }
 }
 
