@@ -1,9 +1,9 @@
-//! The commands over a keeper and its world, for callers that have no desk: one is made for the call.
+//! What the commands on search folders take of these, over a keeper and its world: a desk is made for the call.
 ghost use Rattle.std.specs.Prelude.{false, ◌≡◌, IfErr};
 ghost use Rattle.mapi_values.specs.Characters.{folded};
 ghost use Rattle.mail_tree.specs.Changing.{nothing};
 ghost use Rattle.mail_tree.specs.Flags.{AreFlags};
-ghost use Rattle.mail_tree.specs.Folders.{listing, made_folder, moved_between, moved_folder, removed_folder, renamed_folder, siblings, unless_full, unless_named, unless_protected};
+ghost use Rattle.mail_tree.specs.Folders.{listing, moved_between, siblings, unless_full, unless_named, unless_protected};
 ghost use Rattle.mail_tree.specs.Knowing.{Knows};
 ghost use Rattle.mail_tree.specs.Places.{children};
 ghost use Rattle.mail_tree.specs.Tree.{Shown, Tree, object_at};
@@ -19,7 +19,7 @@ use command_text::DataLine;
 use mail_draft::{Draft, Outcome, Seen, Stop, StoreDesk};
 use mail_tree::{Flags, Known, Places};
 use mapi_values::Units;
-use node_port::{Keeper, NodeReader};
+use node_port::NodeReader;
 use pst_base::Nid;
 use pst_outside::Outside;
 use std::alloc::Global;
@@ -112,55 +112,6 @@ pub fn line_of_message<W: Outside, K: NodeReader<W>>(
         alloc,
     };
     line_on(&mut desk, message)
-}
-
-/// What `mkdir` comes to on a desk over a keeper, whose draft is taken.
-fn make_on<W: Outside, K: Keeper<W>>(
-    desk: &mut StoreDesk<'_, '_, '_, '_, '_, '_, W, K>,
-    parent: Nid,
-    name: &Units,
-) -> Result<Outcome, Stop>
-    requires fresh { changed_of desk.old.draft.now ≡ nothing }
-    ensures names { (desk.new.keeper.ghost_name ≡ desk.old.keeper.ghost_name) × (desk.new.world.ghost_name ≡ desk.old.world.ghost_name) × (desk.new.seen.ghost_name ≡ desk.old.seen.ghost_name) × (desk.new.draft.ghost_name ≡ desk.old.draft.ghost_name) }
-    ensures answer { (T : Tree) → Showing (K.holds desk.old.keeper.now (W.view desk.old.world.now)) (K.last desk.old.keeper.now) desk.old.places.now desk.old.flags.now desk.old.seen.now T → Says (outcome_of T) (made_folder T parent.bits name.now) result }
-    ensures looks { Looks (K.holds desk.old.keeper.now (W.view desk.old.world.now)) (K.holds desk.new.keeper.now (W.view desk.new.world.now)) (K.last desk.old.keeper.now) (K.last desk.new.keeper.now) (K.room desk.old.keeper.now) (K.room desk.new.keeper.now) (W.view desk.old.world.now) (W.view desk.new.world.now) }
-    ensures cause { IfErr result (IsCaused K.has_disk (W.view desk.old.world.now).disk_faults (W.view desk.new.world.now).disk_faults) }
-{
-    let coming = on_desk::make_folder(desk, parent, name)?;
-    let draft = replace(desk.draft, Draft::new(desk.alloc));
-    Ok(Outcome {
-        draft,
-        places: coming.places,
-        last: coming.last,
-        reply: coming.reply,
-    })
-}
-
-/// A new folder of this name in a parent. Refused, in this order: the parent isn't there (`Object`) or isn't plain (`Reserved`), a folder in it has the name (`NameTaken`), it would stand below more than 64 others (`Limit(Depth)`), its parent has 100,000 folders or more or its table would have too many rows (`Limit(Rows)`), a folder would have too many values (`Limit(Properties)`), no index is left (`Ids`).
-pub fn make_folder<W: Outside, K: Keeper<W>>(
-    alloc: Global,
-    keeper: &mut K,
-    w: &mut W,
-    known: &Known,
-    parent: Nid,
-    name: &Units,
-) -> Result<Outcome, Stop>
-    ensures answer { (T : Tree) → Shown (K.holds keeper.old (W.view w.old)) (K.last keeper.old) T → Knows T known.now → Says (outcome_of T) (made_folder T parent.bits name.now) result }
-    ensures looks { Looks (K.holds keeper.old (W.view w.old)) (K.holds keeper.new (W.view w.new)) (K.last keeper.old) (K.last keeper.new) (K.room keeper.old) (K.room keeper.new) (W.view w.old) (W.view w.new) }
-    ensures cause { IfErr result (IsCaused K.has_disk (W.view w.old).disk_faults (W.view w.new).disk_faults) }
-{
-    let mut seen = Seen::new(alloc);
-    let mut draft = Draft::new(alloc);
-    let mut desk = StoreDesk {
-        keeper,
-        world: w,
-        places: &known.places,
-        flags: &known.flags,
-        seen: &mut seen,
-        draft: &mut draft,
-        alloc,
-    };
-    make_on(&mut desk, parent, name)
 }
 
 /// Refused where the table at an id has 100,000 rows or more on a desk over a keeper.
@@ -286,55 +237,6 @@ pub fn unless_protected<W: Outside, K: NodeReader<W>>(
     protected_on(&mut desk, folder)
 }
 
-/// What `rename` comes to on a desk over a keeper, whose draft is taken.
-fn rename_on<W: Outside, K: NodeReader<W>>(
-    desk: &mut StoreDesk<'_, '_, '_, '_, '_, '_, W, K>,
-    folder: Nid,
-    name: &Units,
-) -> Result<Outcome, Stop>
-    requires fresh { changed_of desk.old.draft.now ≡ nothing }
-    ensures names { (desk.new.keeper.ghost_name ≡ desk.old.keeper.ghost_name) × (desk.new.world.ghost_name ≡ desk.old.world.ghost_name) × (desk.new.seen.ghost_name ≡ desk.old.seen.ghost_name) × (desk.new.draft.ghost_name ≡ desk.old.draft.ghost_name) }
-    ensures answer { (T : Tree) → Showing (K.holds desk.old.keeper.now (W.view desk.old.world.now)) (K.last desk.old.keeper.now) desk.old.places.now desk.old.flags.now desk.old.seen.now T → Says (outcome_of T) (renamed_folder T folder.bits name.now) result }
-    ensures looks { Looks (K.holds desk.old.keeper.now (W.view desk.old.world.now)) (K.holds desk.new.keeper.now (W.view desk.new.world.now)) (K.last desk.old.keeper.now) (K.last desk.new.keeper.now) (K.room desk.old.keeper.now) (K.room desk.new.keeper.now) (W.view desk.old.world.now) (W.view desk.new.world.now) }
-    ensures cause { IfErr result (IsCaused K.has_disk (W.view desk.old.world.now).disk_faults (W.view desk.new.world.now).disk_faults) }
-{
-    let coming = on_desk::rename_folder(desk, folder, name)?;
-    let draft = replace(desk.draft, Draft::new(desk.alloc));
-    Ok(Outcome {
-        draft,
-        places: coming.places,
-        last: coming.last,
-        reply: coming.reply,
-    })
-}
-
-/// Gives a folder another name. Refused where it isn't there, isn't plain, is protected, or another folder in its parent has the name.
-pub fn rename_folder<W: Outside, K: NodeReader<W>>(
-    alloc: Global,
-    keeper: &mut K,
-    w: &mut W,
-    known: &Known,
-    folder: Nid,
-    name: &Units,
-) -> Result<Outcome, Stop>
-    ensures answer { (T : Tree) → Shown (K.holds keeper.old (W.view w.old)) (K.last keeper.old) T → Knows T known.now → Says (outcome_of T) (renamed_folder T folder.bits name.now) result }
-    ensures looks { Looks (K.holds keeper.old (W.view w.old)) (K.holds keeper.new (W.view w.new)) (K.last keeper.old) (K.last keeper.new) (K.room keeper.old) (K.room keeper.new) (W.view w.old) (W.view w.new) }
-    ensures cause { IfErr result (IsCaused K.has_disk (W.view w.old).disk_faults (W.view w.new).disk_faults) }
-{
-    let mut seen = Seen::new(alloc);
-    let mut draft = Draft::new(alloc);
-    let mut desk = StoreDesk {
-        keeper,
-        world: w,
-        places: &known.places,
-        flags: &known.flags,
-        seen: &mut seen,
-        draft: &mut draft,
-        alloc,
-    };
-    rename_on(&mut desk, folder, name)
-}
-
 /// Refused where another folder in a folder's parent has this name on a desk over a keeper.
 fn beside_on<W: Outside, K: NodeReader<W>>(
     desk: &mut StoreDesk<'_, '_, '_, '_, '_, '_, W, K>,
@@ -421,55 +323,6 @@ pub fn named_anew<W: Outside, K: NodeReader<W>>(
         alloc,
     };
     named_on(&mut desk, folder, name)
-}
-
-/// What `mvdir` comes to on a desk over a keeper, whose draft is taken.
-fn move_on<W: Outside, K: NodeReader<W>>(
-    desk: &mut StoreDesk<'_, '_, '_, '_, '_, '_, W, K>,
-    folder: Nid,
-    parent: Nid,
-) -> Result<Outcome, Stop>
-    requires fresh { changed_of desk.old.draft.now ≡ nothing }
-    ensures names { (desk.new.keeper.ghost_name ≡ desk.old.keeper.ghost_name) × (desk.new.world.ghost_name ≡ desk.old.world.ghost_name) × (desk.new.seen.ghost_name ≡ desk.old.seen.ghost_name) × (desk.new.draft.ghost_name ≡ desk.old.draft.ghost_name) }
-    ensures answer { (T : Tree) → Showing (K.holds desk.old.keeper.now (W.view desk.old.world.now)) (K.last desk.old.keeper.now) desk.old.places.now desk.old.flags.now desk.old.seen.now T → Says (outcome_of T) (moved_folder T folder.bits parent.bits) result }
-    ensures looks { Looks (K.holds desk.old.keeper.now (W.view desk.old.world.now)) (K.holds desk.new.keeper.now (W.view desk.new.world.now)) (K.last desk.old.keeper.now) (K.last desk.new.keeper.now) (K.room desk.old.keeper.now) (K.room desk.new.keeper.now) (W.view desk.old.world.now) (W.view desk.new.world.now) }
-    ensures cause { IfErr result (IsCaused K.has_disk (W.view desk.old.world.now).disk_faults (W.view desk.new.world.now).disk_faults) }
-{
-    let coming = on_desk::move_folder(desk, folder, parent)?;
-    let draft = replace(desk.draft, Draft::new(desk.alloc));
-    Ok(Outcome {
-        draft,
-        places: coming.places,
-        last: coming.last,
-        reply: coming.reply,
-    })
-}
-
-/// Moves a folder, with all below it, into another parent. Refused where one of the two isn't there or isn't plain, where the folder is protected, the parent is it or stands below it (`Cycle`), a folder there has its name, or it would stand too deep.
-pub fn move_folder<W: Outside, K: NodeReader<W>>(
-    alloc: Global,
-    keeper: &mut K,
-    w: &mut W,
-    known: &Known,
-    folder: Nid,
-    parent: Nid,
-) -> Result<Outcome, Stop>
-    ensures answer { (T : Tree) → Shown (K.holds keeper.old (W.view w.old)) (K.last keeper.old) T → Knows T known.now → Says (outcome_of T) (moved_folder T folder.bits parent.bits) result }
-    ensures looks { Looks (K.holds keeper.old (W.view w.old)) (K.holds keeper.new (W.view w.new)) (K.last keeper.old) (K.last keeper.new) (K.room keeper.old) (K.room keeper.new) (W.view w.old) (W.view w.new) }
-    ensures cause { IfErr result (IsCaused K.has_disk (W.view w.old).disk_faults (W.view w.new).disk_faults) }
-{
-    let mut seen = Seen::new(alloc);
-    let mut draft = Draft::new(alloc);
-    let mut desk = StoreDesk {
-        keeper,
-        world: w,
-        places: &known.places,
-        flags: &known.flags,
-        seen: &mut seen,
-        draft: &mut draft,
-        alloc,
-    };
-    move_on(&mut desk, folder, parent)
 }
 
 /// Refused where a folder in a parent has the name that this one has on a desk over a keeper.
@@ -560,51 +413,4 @@ pub fn moved_between<W: Outside, K: NodeReader<W>>(
         alloc,
     };
     moved_on(&mut desk, places, folder, from, to)
-}
-
-/// What `rmdir` comes to on a desk over a keeper, whose draft is taken.
-fn remove_on<W: Outside, K: NodeReader<W>>(
-    desk: &mut StoreDesk<'_, '_, '_, '_, '_, '_, W, K>,
-    folder: Nid,
-) -> Result<Outcome, Stop>
-    requires fresh { changed_of desk.old.draft.now ≡ nothing }
-    ensures names { (desk.new.keeper.ghost_name ≡ desk.old.keeper.ghost_name) × (desk.new.world.ghost_name ≡ desk.old.world.ghost_name) × (desk.new.seen.ghost_name ≡ desk.old.seen.ghost_name) × (desk.new.draft.ghost_name ≡ desk.old.draft.ghost_name) }
-    ensures answer { (T : Tree) → Showing (K.holds desk.old.keeper.now (W.view desk.old.world.now)) (K.last desk.old.keeper.now) desk.old.places.now desk.old.flags.now desk.old.seen.now T → Says (outcome_of T) (removed_folder T folder.bits) result }
-    ensures looks { Looks (K.holds desk.old.keeper.now (W.view desk.old.world.now)) (K.holds desk.new.keeper.now (W.view desk.new.world.now)) (K.last desk.old.keeper.now) (K.last desk.new.keeper.now) (K.room desk.old.keeper.now) (K.room desk.new.keeper.now) (W.view desk.old.world.now) (W.view desk.new.world.now) }
-    ensures cause { IfErr result (IsCaused K.has_disk (W.view desk.old.world.now).disk_faults (W.view desk.new.world.now).disk_faults) }
-{
-    let coming = on_desk::remove_folder(desk, folder)?;
-    let draft = replace(desk.draft, Draft::new(desk.alloc));
-    Ok(Outcome {
-        draft,
-        places: coming.places,
-        last: coming.last,
-        reply: coming.reply,
-    })
-}
-
-/// Removes a folder. Refused where it isn't there, isn't plain, is protected, or one of its tables has a row (`NotEmpty`).
-pub fn remove_folder<W: Outside, K: NodeReader<W>>(
-    alloc: Global,
-    keeper: &mut K,
-    w: &mut W,
-    known: &Known,
-    folder: Nid,
-) -> Result<Outcome, Stop>
-    ensures answer { (T : Tree) → Shown (K.holds keeper.old (W.view w.old)) (K.last keeper.old) T → Knows T known.now → Says (outcome_of T) (removed_folder T folder.bits) result }
-    ensures looks { Looks (K.holds keeper.old (W.view w.old)) (K.holds keeper.new (W.view w.new)) (K.last keeper.old) (K.last keeper.new) (K.room keeper.old) (K.room keeper.new) (W.view w.old) (W.view w.new) }
-    ensures cause { IfErr result (IsCaused K.has_disk (W.view w.old).disk_faults (W.view w.new).disk_faults) }
-{
-    let mut seen = Seen::new(alloc);
-    let mut draft = Draft::new(alloc);
-    let mut desk = StoreDesk {
-        keeper,
-        world: w,
-        places: &known.places,
-        flags: &known.flags,
-        seen: &mut seen,
-        draft: &mut draft,
-        alloc,
-    };
-    remove_on(&mut desk, folder)
 }

@@ -1,6 +1,6 @@
 //! The commands on folders.
 //!
-//! Promises: each call answers what the definition of its command in mail_tree says of every tree that the nodes show, and only looks at the nodes; what changes stands in the draft. `on_desk` has the commands over a desk.
+//! Promises: each command of `on_desk` answers what the definition of its command in mail_tree says of every tree that the desk shows, and only looks at the nodes; what changes stands in the desk's draft. What `entry` has of them says the same of every tree that the nodes show.
 //!
 //! Leaves to others: carrying the changes out.
 #![tactic(auto)]
@@ -23,9 +23,8 @@ mod standing;
 
 pub use desk::{FolderDesk, FolderMakingDesk};
 pub use entry::{
-    line_of_message, list_folder, make_folder, move_folder, moved_between, named_anew,
-    remove_folder, rename_folder, unless_beside, unless_child_named, unless_crowds_name,
-    unless_full, unless_protected,
+    line_of_message, list_folder, moved_between, named_anew, unless_beside, unless_child_named,
+    unless_crowds_name, unless_full, unless_protected,
 };
 pub use finding::{folder_in, plain_in};
 pub use list::listed;

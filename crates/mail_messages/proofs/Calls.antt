@@ -22,16 +22,6 @@ exits view view' answer f stop (Err e) first is = subst (λ z. Says view' (answe
 pub as_at : {X A B : Type 0} (view : B → A) (answer : X → Answer A) (result : Result B Stop) {x x' : X} → x ≡ x' → Says view (answer x) result → Says view (answer x') result
 as_at view answer result e said = subst (λ z. Says view (answer z) result) e said
 
--- the same of two equal things
-pub as_at2 : {X Y A B : Type 0} (view : B → A) (answer : X → Y → Answer A) (result : Result B Stop) {x x' : X} {y y' : Y}
-    → x ≡ x' → y ≡ y' → Says view (answer x y) result → Says view (answer x' y') result
-as_at2 view answer result {x} {x'} {y} {y'} e e' said = subst (λ z. Says view (answer x' z) result) e' (subst (λ z. Says view (answer z y) result) e said)
-
--- the same of three equal things
-pub as_at3 : {X Y Z A B : Type 0} (view : B → A) (answer : X → Y → Z → Answer A) (result : Result B Stop) {x x' : X} {y y' : Y} {z z' : Z}
-    → x ≡ x' → y ≡ y' → z ≡ z' → Says view (answer x y z) result → Says view (answer x' y' z') result
-as_at3 view answer result {x} {x'} {y} {y'} {z} {z'} e e' f said = as_at view (answer x' y') result f (as_at2 view (λ a b. answer a b z) result e e' said)
-
 -- steps grouped from the right
 pub regroup : {A B C D : Type 0} (view : D → C) (answer : Answer A) (f : A → Answer B) (g : B → Answer C) (result : Result D Stop)
     → Says view ((answer >>= f) >>= g) result → Says view (answer >>= λ x. f x >>= g) result

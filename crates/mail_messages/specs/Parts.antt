@@ -17,7 +17,7 @@ use Rattle.mail_tree.specs.Changing.{Answer, Changed, ◌>>=◌, add_shown, cont
 use Rattle.mail_tree.specs.Settling.{settled}
 use Rattle.mail_tree.specs.Ids.{message_kinds, next_index}
 use Rattle.mail_tree.specs.Names.{unless_nameless}
-use Rattle.mail_tree.specs.Folders.{Outcome, changing, listed, making, replied, unchanged, unless_full}
+use Rattle.mail_tree.specs.Folders.{Outcome, changing, making, replied, unchanged, unless_full}
 use Rattle.mail_messages.specs.Finding.{plain_at}
 use Rattle.mail_tree.specs.Messages.{added_message, attachment_line, changed_message, copying, is_overfull, making_message, property_line, recipient_line, value_of}
 use Rattle.mail_tree.specs.Parts.{rows_of}
@@ -114,7 +114,3 @@ copying_into T folder M = plain_at folder Reserved T.places >>= λ u. may_copy M
 -- the lines that tell of a message
 abbrev pub detail_lines : Mes → List DataLine
 detail_lines M = map property_line M.props ++ (map recipient_line (rows_of M.recipients) ++ map attachment_line M.parts)
-
--- the lines that tell of a message are the reply
-abbrev pub telling_details : Tree → Mes → Answer Outcome
-telling_details T M = Ok (unchanged T (listed (detail_lines M)))

@@ -1,6 +1,6 @@
 //! The commands on messages.
 //!
-//! Promises: each call answers what the definition of its command in mail_tree says of every tree that the nodes show, and only looks at the nodes; what changes stands in the draft. `on_desk` has the commands over a desk.
+//! Promises: each command of `on_desk` answers what the definition of its command in mail_tree says of every tree that the desk shows, and only looks at the nodes; what changes stands in the desk's draft.
 //!
 //! Leaves to others: carrying the changes out.
 #![tactic(auto)]
@@ -24,10 +24,7 @@ mod values;
 pub use copying::is_overfull;
 pub use details::rows_of;
 pub use ending::Ending;
-pub use entry::{
-    copy_message, get_value, list_details, message_in, move_message, new_message, remake_message,
-    remove_message, set_value, unset_value,
-};
+pub use entry::message_in;
 pub use mail_names;
 pub use mails::{finished, with_value, without_value};
 pub use reading::{details_reply, reply_of, tell_value};

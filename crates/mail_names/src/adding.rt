@@ -52,7 +52,6 @@ fn add_name<D: Desk>(
     requires fresh { (D.view desk.old).changed ≡ nothing }
     ensures drafts { Drafts (D.view desk.old) (D.view desk.new) result }
     ensures answer { Comes (D.view desk.old) (D.view desk.new) (λ T c. found_or_added T context names guid number None) result }
-    ensures stays { IfOk result (λ coming. coming.places ≡ None) }
 {
     let (names, property) = plan_name(desk.alloc(), names, guid, number)?;
     let props = write_names(desk.alloc(), &names)?;
@@ -78,7 +77,6 @@ fn found_or_added<D: Desk>(
     requires fresh { (D.view desk.old).changed ≡ nothing }
     ensures drafts { Drafts (D.view desk.old) (D.view desk.new) result }
     ensures answer { Comes (D.view desk.old) (D.view desk.new) (λ T c. found_or_added T context names guid number (name_at names.guids names.entries guid number)) result }
-    ensures stays { IfOk result (λ coming. coming.places ≡ None) }
 {
     match names.find(&guid, number) {
         Some(property) => {
@@ -94,7 +92,6 @@ pub fn name_property<D: Desk>(desk: &mut D, guid: [u8; 16], number: u32) -> Resu
     requires fresh { (D.view desk.old).changed ≡ nothing }
     ensures drafts { Drafts (D.view desk.old) (D.view desk.new) result }
     ensures answer { Comes (D.view desk.old) (D.view desk.new) (λ T c. named_property T guid number) result }
-    ensures stays { IfOk result (λ coming. coming.places ≡ None) }
 {
     let context = desk.context_before(NAMES)?;
     let names = names_of(desk.alloc(), &context)?;

@@ -1,3 +1,3 @@
-//! The same over a desk.
+//! The command and the check over a desk.
 pub use crate::adding::name_property;
 pub use crate::reading::check_named;

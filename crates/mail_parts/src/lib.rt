@@ -1,6 +1,6 @@
 //! The commands on the recipients and attachments of messages.
 //!
-//! Promises: each call answers what the definition of its command in mail_tree says of every tree that the nodes show, and only looks at the nodes; what changes stands in the draft. `on_desk` has the commands over a desk.
+//! Promises: each command of `on_desk` answers what the definition of its command in mail_tree says of every tree that the desk shows, and only looks at the nodes; what changes stands in the desk's draft.
 //!
 //! Leaves to others: how a changed message is shown and counted, and carrying the changes out.
 #![tactic(auto)]
@@ -8,7 +8,6 @@
 mod appending;
 mod attachments;
 mod embedding;
-mod entry;
 pub mod on_desk;
 mod part_ids;
 mod part_places;
@@ -18,7 +17,6 @@ mod with_attachments;
 mod with_recipients;
 
 pub use attachments::with_attachment;
-pub use entry::{add_recipient, append, attach, detach, fetch, remove_recipient, set_embedded};
 pub use mail_draft;
 pub use mail_messages;
 pub use mail_messages::mail_names;

@@ -1,9 +1,0 @@
-use Rattle.std.proofs.Common.{[], sym}
-use Rattle.mail_draft.proofs.SeenLaws.{showing_first}
-use Rattle.mail_names.proofs.Elsewhere.{elsewhere, named_else, shown_else}
-use Rattle.mail_names.proofs.entry.name_property.Goals as goal
-
-pub returns-clause-answer : goal.returns-clause-answer
-returns-clause-answer g c = λ T s.
-    named_else [] T c.args.guid c.args.number _ c.named.ensures.stays
-    (c.named.ensures.answer (elsewhere [] T) (showing_first (elsewhere [] T) (shown_else [] T s) (sym c.new-places.ensures) c.new-flags.ensures c.new-seen.ensures))
