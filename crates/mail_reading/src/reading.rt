@@ -63,7 +63,7 @@ fn read_on_desk<D: Desk>(desk: &mut D, command: &Command) -> Result<Coming, Stop
     }
 }
 
-/// The same on a desk over a keeper, whose draft is taken.
+/// What such a command comes to on a desk over a keeper, whose draft is taken.
 fn taken<W: Outside, K: NodeReader<W>>(
     desk: &mut StoreDesk<'_, '_, '_, '_, '_, '_, W, K>,
     command: &Command,
@@ -84,7 +84,7 @@ fn taken<W: Outside, K: NodeReader<W>>(
     })
 }
 
-/// The same over a keeper and its world: the desk is made here.
+/// What such a command comes to over a keeper and its world: the desk is made here.
 pub(crate) fn read<W: Outside, K: NodeReader<W>>(
     alloc: Global,
     keeper: &mut K,
