@@ -34,10 +34,7 @@ fn read_on_desk<D: Desk>(desk: &mut D, command: &Command) -> Result<Coming, Stop
             message,
             attachment,
         } => fetch(desk, *message, *attachment),
-        Command::Quit => Ok(Coming::replied(Reply::without_data(
-            desk.alloc(),
-            LastLine::Done,
-        ))),
+        Command::Quit => Ok(Coming::replied(Reply::without_data(desk.alloc(), LastLine::Done))),
         Command::ListFolder { .. }
         | Command::GetCriteria { .. }
         | Command::MakeFolder { .. }
