@@ -4,6 +4,7 @@ use Rattle.std.specs.Option.{is_some}
 use Rattle.std.proofs.lemmas.Bool.{cases_Bool, eq-eqb}
 use Rattle.mapi_values.specs.Keyed.{keys_ascend}
 use Rattle.mapi_values.specs.Messages.{Mes}
+use Rattle.mapi_values.specs.Properties.{put}
 use Rattle.mapi_values.specs.Tables.{find_row}
 use Rattle.mapi_values.specs.Values.{Val}
 use Rattle.mail_objects.specs.Forms.{Ctx, Tbl}
@@ -13,8 +14,10 @@ use Rattle.mail_tree.specs.Changing.{Changed, as_message, hierarchy, newest, not
 use Rattle.mail_tree.specs.Folders.{Outcome}
 use Rattle.mail_tree.specs.Step.{after, outcome}
 use Rattle.mail_tree.specs.Tree.{Tree, object_at}
+use Rattle.mail_tree.specs.Values.{text}
 use Rattle.mail_tree.specs.Whole.{Fine}
 use Rattle.mail_tree.proofs.AfterTree.{after_now, now_nothing}
+use Rattle.mail_tree.proofs.KeyedFinds.{find-put_other}
 use Rattle.mail_tree.proofs.KindsOfPuts.{beside_kind}
 use Rattle.mail_laws.specs.Laws.{message_with}
 use Rattle.mail_laws.specs.Stays.{IsSearchId, Leaves}
@@ -63,6 +66,36 @@ shows-still T T' D D' s messages table values shows = record {
       subst (λ ms. TellsCounts ms c.props) (sym (same-named T T' D D' t.table.rows (λ m there. messages m))) (told.same (named T D t.table.rows) (shows.counts told.values t told.there (sym table ∙ is)));
 }
 
+same_context : (c k : Ctx) → ◌≡◌ {A = Option Object} (Some (Context c)) (Some (Context k)) → c ≡ k
+same_context c k e = cc
+
+-- values that tell what others told stand there now
+pub tells-now-as : (old now : Option Object) (was is c : Ctx) → old ≡ Some (Context was) → ((ms : List Mes) → TellsCounts ms was.props → TellsCounts ms is.props) → now ≡ Some (Context is) → now ≡ Some (Context c) → TellsAs old c
+tells-now-as old now was is c there more here at = record { values = was; there = there; same = λ ms told. subst (λ (k : Ctx). TellsCounts ms k.props) (same_context is c (sym here ∙ at)) (more ms told) }
+
+-- a folder's name is none of its counts
+pub tells-named : (ms : List Mes) (name : List ℕ) (props : List Val) → TellsCounts ms props → TellsCounts ms (put (text 0x3001 name) props)
+tells-named ms name props told = record {
+  messages = find-put_other (λ v. v.id) 0x3602 (text 0x3001 name) props (λ e. omega arith) ∙ told.messages;
+  unread = find-put_other (λ v. v.id) 0x3603 (text 0x3001 name) props (λ e. omega arith) ∙ told.unread;
+  folders = find-put_other (λ v. v.id) 0x360A (text 0x3001 name) props (λ e. omega arith) ∙ told.folders;
+}
+
+before : (T : Tree) (q : ℕ) → now_at T nothing q ≡ object_at T q
+before T q = ap (λ at. at q) (now_nothing T)
+
+-- the same in another tree
+pub tree-shows : (T T' : Tree) (s : ℕ) → ((m : ℕ) → as_message (object_at T' m) ≡ as_message (object_at T m)) → object_at T' (results s) ≡ object_at T (results s) → ((c : Ctx) → object_at T' s ≡ Some (Context c) → TellsAs (object_at T s) c)
+    → ShowsList T nothing s → ShowsList T' nothing s
+tree-shows T T' s messages table values = shows-still T T' nothing nothing s
+    (λ m. ap as_message (before T' m) ∙ messages m ∙ sym (ap as_message (before T m))) (before T' (results s) ∙ table ∙ sym (before T (results s)))
+    (λ c at. subst (λ o. TellsAs o c) (sym (before T s)) (values c (sym (before T' s) ∙ at)))
+
+-- and where that tree stands after changes
+pub after-shows : (T T' : Tree) (D : Changed) (s : ℕ) → ((q : ℕ) → object_at T' q ≡ now_at T D q) → ShowsList T D s → ShowsList T' nothing s
+after-shows T T' D s now = shows-still T T' D nothing s
+    (λ m. ap as_message (before T' m ∙ now m)) (before T' (results s) ∙ now (results s)) (λ c at. tells-same (now_at T D s) c (sym (before T' s ∙ now s) ∙ at))
+
 module _ (T : Tree) (o : Outcome) (ts : List Touch) (touches : AreTouched T o ts) where
   abbrev d : Around
   d = around T o
@@ -80,9 +113,6 @@ module _ (T : Tree) (o : Outcome) (ts : List Touch) (touches : AreTouched T o ts
   abbrev Shows : Changed → Search → Type 0
   Shows D s = Stood s → ShowsList T D s.nid
 
-  before : (q : ℕ) → now_at T nothing q ≡ object_at T q
-  before q = ap (λ at. at q) (now_nothing T)
-
   module _ (s : Search) (D : Changed) (search : IsSearch s) (same : SameMessages T o.changed D) (waits : Waits D s) (stood : Stood s) where
     abbrev t : Tbl
     t = stood.fresh.0
@@ -95,7 +125,7 @@ module _ (T : Tree) (o : Outcome) (ts : List Touch) (touches : AreTouched T o ts
 
     -- each row mirrored its message
     mirrored : (m : ℕ) → MirrorsMessage t.table.columns t.table.rows m (message_with T m)
-    mirrored m M e = stood.shows.mirrors t (before (results s.nid) ∙ stood.fresh.1) m M (ap as_message (before m) ∙ e)
+    mirrored m M e = stood.shows.mirrors t (before T (results s.nid) ∙ stood.fresh.1) m M (ap as_message (before T m) ∙ e)
 
     -- messages are those after the command
     message-now : (m : ℕ) → as_message (now_at T D m) ≡ message_with (after T o) m
@@ -111,15 +141,15 @@ module _ (T : Tree) (o : Outcome) (ts : List Touch) (touches : AreTouched T o ts
     message-stays none m listed = message-now m ∙ elim (cases_Bool (is_touched ts m)) [
       | inl some ↦ unchanged-same d s t.table.columns stood.run (message_with T) (message_with (after T o)) ts m touches.old touches.new touches.same (sym (rw stood.run refl) ∙ none) some (sym (rows-are.1 m) ∙ listed)
       | inr other ↦ touches.stay m other
-    ] ∙ sym (ap as_message (before m))
+    ] ∙ sym (ap as_message (before T m))
 
     -- so its values tell still what they told
     tells-still : concerns d s ts ≡ false → TellsList T D s.nid
     tells-still none c u at is =
-        let was : now_at T nothing (results s.nid) ≡ Some (Table u) = before (results s.nid) ∙ sym waits.0 ∙ is in
+        let was : now_at T nothing (results s.nid) ≡ Some (Table u) = before T (results s.nid) ∙ sym waits.0 ∙ is in
         let one : t ≡ u = same_table t u (sym there ∙ is) in
         subst (λ ms. TellsCounts ms c.props) (sym (same-named T T nothing D u.table.rows (λ m listed. message-stays none m (subst (λ (x : Tbl). is_some (find_row m x.table.rows) ≡ true) (sym one) listed))))
-        (stood.shows.counts c u (before s.nid ∙ sym waits.1 ∙ at) was)
+        (stood.shows.counts c u (before T s.nid ∙ sym waits.1 ∙ at) was)
 
     tells-now : IfOk (settled_search T d ts s D) (λ D'. TellsList T D' s.nid)
     unfolding settled_search
@@ -200,10 +230,9 @@ all-shown T o ts ss touches leaves a fresh shows =
     (settled-show T o ts touches ss o.changed (λ m. refl) a (each (λ s. s.nid % 32 ≡ 3) (Waits T o ts touches o.changed) ss (are-searches ss a) (λ s is. (left (results s.nid) (inr (inr (inr (beside_kind s.nid 16 (omega arith))))), left s.nid (inl is)))))
     (λ D all.
     let o' : Outcome = record o { changed = D } in
-    let now : (q : ℕ) → now_at (after T o') nothing q ≡ now_at T D q = λ q. ap (λ at. at q) (now_nothing (after T o')) ∙ ap (λ at. at q) (sym (after_now T o')) in
     each-two (λ s. (runs s ≡ true → IsFresh T s) × (runs s ≡ true → ShowsList T nothing s.nid)) (Shows T o ts touches D) (λ s. runs s ≡ true → ShowsList (after T o') nothing s.nid) ss
     (each-two (λ s. runs s ≡ true → IsFresh T s) (λ s. runs s ≡ true → ShowsList T nothing s.nid) (λ s. (runs s ≡ true → IsFresh T s) × (runs s ≡ true → ShowsList T nothing s.nid)) ss fresh shows (λ s f g. (f, g))) all
-    (λ s old is run. shows-still T (after T o') D nothing s.nid (λ m. ap as_message (now m)) (now (results s.nid)) (λ c at. tells-same (now_at T D s.nid) c (sym (now s.nid) ∙ at)) (is (record { run = run; fresh = old.0 run; shows = old.1 run }))))
+    (λ s old is run. after-shows T (after T o') D s.nid (λ q. ap (λ at. at q) (sym (after_now T o'))) (is (record { run = run; fresh = old.0 run; shows = old.1 run }))))
 
 pub shows_after : ShowsAfter
 shows_after T c ss w a fresh shows =
