@@ -27,7 +27,7 @@ use Rattle.mail_searches.specs.Searches.{IsFresh, Search, is_listed, results, ru
 use Rattle.mail_searches.specs.Searching.{AllFresh, Each}
 use Rattle.mail_searches.specs.Relisting.{Around, Touch, around, before_those, concerns, named, relisted, settled_search, settled_searches, with_searches}
 use Rattle.mail_searches.specs.Touching.{followed, touched}
-use Rattle.search_lists.specs.Laws.{AllShow, AreApart, AreTouched, IsSearch, MirrorsMessage, Settles, ShowsAfter, ShowsList, TellsCounts, TellsList, is_touched}
+use Rattle.search_lists.specs.Laws.{AllShow, AreApart, AreTouched, IsSearch, MirrorsList, MirrorsMessage, Settles, ShowsAfter, ShowsList, TellsCounts, TellsList, is_touched}
 use Rattle.search_lists.proofs.CountLaws.{counts_anew}
 use Rattle.search_lists.proofs.ListLaws.{are-rows}
 use Rattle.search_lists.proofs.ResultSteps.{if_given}
@@ -56,15 +56,20 @@ pub record TellsAs (old : Option Object) (c : Ctx) : Type 0 where
 pub tells-same : (old : Option Object) (c : Ctx) → old ≡ Some (Context c) → TellsAs old c
 tells-same old c there = record { values = c; there = there; same = λ ms told. told }
 
--- a search shows its list rightly where its table and each message are the same, and its values tell the same
+-- where a search's table and each message are the same its rows mirror them still
+pub mirrors-still : (T T' : Tree) (D D' : Changed) (s : ℕ) → ((m : ℕ) → as_message (now_at T' D' m) ≡ as_message (now_at T D m)) → now_at T' D' (results s) ≡ now_at T D (results s) → MirrorsList T D s → MirrorsList T' D' s
+mirrors-still T T' D D' s messages table mirrors t is m M e = mirrors t (sym table ∙ is) m M (sym (messages m) ∙ e)
+
+-- and where its values tell the same they tell the counts still
+pub tells-still : (T T' : Tree) (D D' : Changed) (s : ℕ) → ((m : ℕ) → as_message (now_at T' D' m) ≡ as_message (now_at T D m)) → now_at T' D' (results s) ≡ now_at T D (results s)
+    → ((c : Ctx) → now_at T' D' s ≡ Some (Context c) → TellsAs (now_at T D s) c) → TellsList T D s → TellsList T' D' s
+tells-still T T' D D' s messages table values tells c t at is =
+    let told = values c at in
+    subst (λ ms. TellsCounts ms c.props) (sym (same-named T T' D D' t.table.rows (λ m there. messages m))) (told.same (named T D t.table.rows) (tells told.values t told.there (sym table ∙ is)))
+
 pub shows-still : (T T' : Tree) (D D' : Changed) (s : ℕ) → ((m : ℕ) → as_message (now_at T' D' m) ≡ as_message (now_at T D m)) → now_at T' D' (results s) ≡ now_at T D (results s)
     → ((c : Ctx) → now_at T' D' s ≡ Some (Context c) → TellsAs (now_at T D s) c) → ShowsList T D s → ShowsList T' D' s
-shows-still T T' D D' s messages table values shows = record {
-  mirrors = λ t is m M e. shows.mirrors t (sym table ∙ is) m M (sym (messages m) ∙ e);
-  counts = λ c t at is.
-      let told = values c at in
-      subst (λ ms. TellsCounts ms c.props) (sym (same-named T T' D D' t.table.rows (λ m there. messages m))) (told.same (named T D t.table.rows) (shows.counts told.values t told.there (sym table ∙ is)));
-}
+shows-still T T' D D' s messages table values shows = record { mirrors = mirrors-still T T' D D' s messages table shows.mirrors; counts = tells-still T T' D D' s messages table values shows.counts }
 
 same_context : (c k : Ctx) → ◌≡◌ {A = Option Object} (Some (Context c)) (Some (Context k)) → c ≡ k
 same_context c k e = cc
@@ -85,11 +90,21 @@ before : (T : Tree) (q : ℕ) → now_at T nothing q ≡ object_at T q
 before T q = ap (λ at. at q) (now_nothing T)
 
 -- the same in another tree
-pub tree-shows : (T T' : Tree) (s : ℕ) → ((m : ℕ) → as_message (object_at T' m) ≡ as_message (object_at T m)) → object_at T' (results s) ≡ object_at T (results s) → ((c : Ctx) → object_at T' s ≡ Some (Context c) → TellsAs (object_at T s) c)
-    → ShowsList T nothing s → ShowsList T' nothing s
-tree-shows T T' s messages table values = shows-still T T' nothing nothing s
-    (λ m. ap as_message (before T' m) ∙ messages m ∙ sym (ap as_message (before T m))) (before T' (results s) ∙ table ∙ sym (before T (results s)))
-    (λ c at. subst (λ o. TellsAs o c) (sym (before T s)) (values c (sym (before T' s) ∙ at)))
+module _ (T T' : Tree) (s : ℕ) (messages : (m : ℕ) → as_message (object_at T' m) ≡ as_message (object_at T m)) (table : object_at T' (results s) ≡ object_at T (results s)) where
+  messages-before : (m : ℕ) → as_message (now_at T' nothing m) ≡ as_message (now_at T nothing m)
+  messages-before m = ap as_message (before T' m) ∙ messages m ∙ sym (ap as_message (before T m))
+
+  table-before : now_at T' nothing (results s) ≡ now_at T nothing (results s)
+  table-before = before T' (results s) ∙ table ∙ sym (before T (results s))
+
+  pub tree-mirrors : MirrorsList T nothing s → MirrorsList T' nothing s
+  tree-mirrors = mirrors-still T T' nothing nothing s messages-before table-before
+
+  pub tree-tells : ((c : Ctx) → object_at T' s ≡ Some (Context c) → TellsAs (object_at T s) c) → TellsList T nothing s → TellsList T' nothing s
+  tree-tells values = tells-still T T' nothing nothing s messages-before table-before (λ c at. subst (λ o. TellsAs o c) (sym (before T s)) (values c (sym (before T' s) ∙ at)))
+
+  pub tree-shows : ((c : Ctx) → object_at T' s ≡ Some (Context c) → TellsAs (object_at T s) c) → ShowsList T nothing s → ShowsList T' nothing s
+  tree-shows values shows = record { mirrors = tree-mirrors shows.mirrors; counts = tree-tells values shows.counts }
 
 -- and where that tree stands after changes
 pub after-shows : (T T' : Tree) (D : Changed) (s : ℕ) → ((q : ℕ) → object_at T' q ≡ now_at T D q) → ShowsList T D s → ShowsList T' nothing s
@@ -144,8 +159,8 @@ module _ (T : Tree) (o : Outcome) (ts : List Touch) (touches : AreTouched T o ts
     ] ∙ sym (ap as_message (before T m))
 
     -- so its values tell still what they told
-    tells-still : concerns d s ts ≡ false → TellsList T D s.nid
-    tells-still none c u at is =
+    tells-unchanged : concerns d s ts ≡ false → TellsList T D s.nid
+    tells-unchanged none c u at is =
         let was : now_at T nothing (results s.nid) ≡ Some (Table u) = before T (results s.nid) ∙ sym waits.0 ∙ is in
         let one : t ≡ u = same_table t u (sym there ∙ is) in
         subst (λ ms. TellsCounts ms c.props) (sym (same-named T T nothing D u.table.rows (λ m listed. message-stays none m (subst (λ (x : Tbl). is_some (find_row m x.table.rows) ≡ true) (sym one) listed))))
@@ -155,7 +170,7 @@ module _ (T : Tree) (o : Outcome) (ts : List Touch) (touches : AreTouched T o ts
     unfolding settled_search
     tells-now = elim (cases_Bool (concerns d s ts)) [
       | inl y ↦ counts_anew T d ts s D t search there (rw (y, stood.run) refl)
-      | inr n ↦ rw n (tells-still n)
+      | inr n ↦ rw n (tells-unchanged n)
     ]
 
     shows-now : IfOk (settled_search T d ts s D) (λ D'. ShowsList T D' s.nid)
