@@ -1,12 +1,10 @@
 -- After a new search was made the searches are those of the tree, and list what they are to list.
-use Rattle.std.proofs.Common.{◌≡◌, ℕ, ◌%◌, ◌<◌, ◌==◌, true, false, List, [], ◌∷◌, Option, None, Some, IsSome, is_some, arith, refl, sym, subst, ap, ◌∙◌, ◌⊎◌, inl, inr}
+use Rattle.std.proofs.Common.{◌≡◌, ℕ, ◌%◌, ◌<◌, ◌==◌, true, false, List, [], ◌∷◌, Option, None, Some, is_some, arith, refl, sym, subst, ap, ◌∙◌, ◌⊎◌, inl, inr}
 use Rattle.std.specs.List.{list_any}
 use Rattle.std.proofs.lemmas.Bool.{cases_eq, false≢true, eq-eqb}
 use Rattle.std.proofs.lemmas.Option.{none-some, same_Some}
 use Rattle.mapi_values.specs.Messages.{Mes}
-use Rattle.mapi_values.specs.Tables.{find_row}
 use Rattle.mapi_values.proofs.KeyedLaws.{put-ascends}
-use Rattle.mail_objects.specs.Forms.{Tbl}
 use Rattle.mail_objects.specs.declared.object.Object.{Object}
 use Rattle.mail_objects.specs.declared.object.Object.TheVariants.{Bare, Context, Message, Table}
 use Rattle.mail_tree.specs.Places.{find_place, path}
@@ -14,7 +12,7 @@ use Rattle.mail_tree.specs.Tree.{Tree, object_at}
 use Rattle.mail_tree.specs.Changing.{as_message, beside, nothing}
 use Rattle.mail_tree.specs.Columns.{contents_table}
 use Rattle.mail_tree.specs.Whole.{AreWhole, IsWhole}
-use Rattle.mail_tree.proofs.KindsOfPuts.{beside_kind, same_table}
+use Rattle.mail_tree.proofs.KindsOfPuts.{beside_kind}
 use Rattle.mail_laws.proofs.Effects.{no_message}
 use Rattle.search_obj.specs.Changing.{unset}
 use Rattle.search_obj.specs.Found.{crit_found, version_found}

@@ -10,7 +10,7 @@ use Rattle.mapi_values.specs.Values.{Val}
 use Rattle.mail_objects.specs.Forms.{Ctx, Tbl}
 use Rattle.mail_objects.specs.declared.object.Object.{Object}
 use Rattle.mail_objects.specs.declared.object.Object.TheVariants.{Context, Table}
-use Rattle.mail_tree.specs.Changing.{Changed, as_message, hierarchy, newest, nothing, now_at, with_rows}
+use Rattle.mail_tree.specs.Changing.{Changed, as_message, hierarchy, newest, nothing, now_at}
 use Rattle.mail_tree.specs.Folders.{Outcome}
 use Rattle.mail_tree.specs.Step.{after, outcome}
 use Rattle.mail_tree.specs.Tree.{Tree, object_at}

@@ -66,7 +66,7 @@ pub fn fresh_after()
     ensures { FreshAfter }
 {}
 
-/// Where each running search's rows mirrored the messages that they name, and its values told their counts, they do so after each command.
+/// Where each running search's rows mirrored the messages that they name, and its values told their counts, they do so after each command with its searches settled.
 pub fn shows_after()
     ensures { ShowsAfter }
 {}

@@ -1,11 +1,10 @@
 -- Mending a search leaves the tree in order.
-use Rattle.std.proofs.Common.{◌≡◌, ◌∙◌, ℕ, ◌%◌, ◌<◌, ◌==◌, ◌&&◌, ◌||◌, Bool, true, false, not, List, [], ◌∷◌, Option, None, Some, Ok, Err, IfOk, IsSome, is_some, ap, arith, refl, subst, sym, inl, inr, if◌then◌else◌}
+use Rattle.std.proofs.Common.{◌≡◌, ◌∙◌, ℕ, ◌%◌, ◌<◌, ◌&&◌, ◌||◌, Bool, true, false, not, Option, None, Some, Ok, Err, IfOk, IsSome, is_some, ap, arith, refl, subst, sym, inl, inr}
 use Rattle.std.specs.Prelude.{nat_eq}
 use Rattle.std.specs.Cmp.Lexicographic.{pointwise}
 use Rattle.std.specs.Option.{option_and_then, option_map}
-use Rattle.std.proofs.lemmas.Bool.{cases_Bool, cases_eq, false≢true}
+use Rattle.std.proofs.lemmas.Bool.{cases_Bool, cases_eq}
 use Rattle.mapi_values.specs.Keyed.{keys_ascend}
-use Rattle.mapi_values.specs.Values.{Val}
 use Rattle.restr_eval.specs.Eval.{holds_of}
 use Rattle.search_obj.specs.Changing.{migrated}
 use Rattle.search_obj.specs.Crits.{Crit}
@@ -17,7 +16,7 @@ use Rattle.command_text.specs.declared.reply.LastLine.TheVariants.{Done}
 use Rattle.mail_objects.specs.Forms.{Ctx, Tbl}
 use Rattle.mail_objects.specs.declared.object.Object.TheVariants.{Context, Table}
 use Rattle.mail_tree.specs.declared.places.FolderPlace.{FolderPlace}
-use Rattle.mail_tree.specs.Changing.{Answer, Changed, ◌>>=◌, as_context, as_message, as_table, beside, context_at, hierarchy, nothing, now_at, refused_if, table_at, with_rows}
+use Rattle.mail_tree.specs.Changing.{Answer, Changed, ◌>>=◌, as_context, as_message, as_table, beside, hierarchy, nothing, now_at, with_rows}
 use Rattle.mail_tree.specs.Folders.{Outcome, changing, replied}
 use Rattle.mail_tree.specs.Found.{IsFoundBeside}
 use Rattle.mail_tree.specs.Places.{ROOT, find_place}
@@ -28,7 +27,6 @@ use Rattle.mail_tree.specs.Whole.{AreWhole, Fine, IsWhole}
 use Rattle.mail_tree.proofs.AfterTree.{after_now, now_nothing}
 use Rattle.mail_tree.proofs.FineLaws.{after_context, after_table, after_test, fine_then, fine_weaker}
 use Rattle.mail_tree.proofs.KindsOfPuts.{beside_kind, same_table}
-use Rattle.mail_tree.proofs.Nearly.{Puts}
 use Rattle.mail_tree.proofs.Settles.{folders_of}
 use Rattle.mail_tree.proofs.StoodLaws.{AreStood, IsNew, after_limits, fine_stood, none_stood, values_stood}
 use Rattle.mail_laws.specs.Laws.{Counts, Mirrors}
@@ -51,12 +49,12 @@ use Rattle.search_laws.proofs.Attachments.{attachments_still}
 use Rattle.search_laws.proofs.Marked.{marks_still}
 use Rattle.search_laws.proofs.SettingLists.{AreBuilt, rows_built}
 use Rattle.search_laws.proofs.SettingObject.{counts_after_object, found_after_object, messages_after_object, mirrors_after_object, object_puts, put_so, whole_after_object}
-use Rattle.search_mending.proofs.RowLaws.{Rows, stood_ascends, stood_ids, stood_shows}
+use Rattle.search_mending.proofs.RowLaws.{stood_ascends, stood_ids, stood_shows}
 use Rattle.search_mending.proofs.SaysLaws.{says_turned}
-use Rattle.search_mending.proofs.StayLaws.{Listed, Others, found_key, results_listed, results_stood, same_lists, same_results, same_wrong, texts_same}
+use Rattle.search_mending.proofs.StayLaws.{Listed, found_key, results_listed, results_stood, same_lists, same_results, same_wrong, texts_same}
 use Rattle.search_mending.proofs.TouchLaws.{HasNodes, IsAsIs, order_same, search_stays}
 use Rattle.search_mending.specs.Laws.{IsAsBefore, IsElsewhere, IsMendable, IsMended, Mends, MendsInOrder, ShowsMendable}
-use Rattle.search_mending.specs.Mending.{Mending, can_hold_any, is_first, is_of_first, is_stale, list_anew, list_if_wrong, list_of_any, lists_right, lists_wrong, mended_search, mending, mending_with, search_as_is, touched_if, turned, with_list, with_other_rows, with_stood}
+use Rattle.search_mending.specs.Mending.{Mending, can_hold_any, is_first, is_stale, list_anew, list_if_wrong, list_of_any, lists_right, lists_wrong, mended_search, mending, mending_with, search_as_is, touched_if, turned, with_list, with_other_rows}
 
 -- an answer is fine, and has a fact besides
 fine-with : {A : Type 0} (P Q R : A → Type 0) (a : Answer A) → Fine a P → IfOk a Q → ((x : A) → P x → Q x → R x) → Fine a R

@@ -1,13 +1,11 @@
 -- What follows of mending.
 use Rattle.std.specs.Prelude.{◌≡◌, ℕ, ◌%◌, Bool, true, false, Some}
-use Rattle.std.specs.List.{count_by}
 use Rattle.mail_tree.specs.Changing.{nothing}
 use Rattle.mail_tree.specs.Found.{IsFoundBeside}
 use Rattle.mail_tree.specs.Tree.{object_at}
 use Rattle.mail_tree.specs.Whole.{Fine, IsWhole}
 use Rattle.mail_laws.specs.AttachmentLaws.{AllMirrorAttachments}
 use Rattle.mail_laws.specs.Laws.{Counts, Mirrors}
-use Rattle.search_obj.specs.Scope.{is_among}
 use Rattle.mail_searches.specs.Searches.{IsFresh, Search, criteria_node, find_search, results, runs}
 use Rattle.mail_searches.specs.Searching.{AreSearches, Each, IsOfSearch, Searching, is_own}
 use Rattle.mail_searches.specs.Step.{after}
