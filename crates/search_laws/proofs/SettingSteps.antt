@@ -1,5 +1,5 @@
 -- `criteria` leaves a tree with its searches in order.
-use Rattle.std.proofs.Common.{◌≡◌, ◌∙◌, ℕ, suc, ◌<◌, ◌≤◌, ◌%◌, ◌==◌, ◌||◌, Bool, true, false, not, List, [], ◌∷◌, Option, None, Some, Result, Ok, Err, IfOk, IsSome, length, refl, sym, subst, ap, inl, inr, arith}
+use Rattle.std.proofs.Common.{◌≡◌, ◌∙◌, ℕ, suc, ◌<◌, ◌≤◌, ◌%◌, ◌==◌, ◌||◌, Bool, true, false, not, List, [], ◌∷◌, Option, None, Some, Result, Ok, Err, IfOk, IsSome, refl, sym, subst, ap, inl, inr, arith}
 use Rattle.std.specs.Prelude.{nat_le, nat_lt}
 use Rattle.std.specs.List.{list_all}
 use Rattle.std.specs.Option.{option_and_then, option_map}
@@ -25,28 +25,28 @@ use Rattle.command_text.specs.declared.reply.LastLine.TheVariants.{Done}
 use Rattle.command_text.specs.declared.reply.Reply.{Reply}
 use Rattle.mail_objects.specs.Forms.{Ctx, Tbl}
 use Rattle.mail_objects.specs.declared.object.Object.TheVariants.{Context, Table}
-use Rattle.mail_tree.specs.Changing.{Answer, Changed, ◌>>=◌, as_message, beside, context_at, found, hierarchy, nothing, now_at, refused_if, with_object, with_rows}
+use Rattle.mail_tree.specs.Changing.{Answer, Changed, ◌>>=◌, as_message, beside, found, nothing, now_at, refused_if, with_object, with_rows}
 use Rattle.mail_tree.specs.Folders.{Outcome, replied, replying, unless}
 use Rattle.mail_tree.specs.Places.{find_place}
 use Rattle.mail_tree.specs.Settling.{mirrored, with_context}
 use Rattle.mail_tree.specs.Step as tree
 use Rattle.mail_tree.specs.Tree.{Tree, object_at}
-use Rattle.mail_tree.specs.Values.{with_counts}
 use Rattle.mail_tree.specs.Whole.{Fine, IsWhole}
 use Rattle.mail_tree.proofs.AfterTree.{after_now, now_nothing, puts_object}
 use Rattle.mail_tree.proofs.FineLaws.{after_context, after_found, after_table, after_test, fine_then}
 use Rattle.mail_tree.proofs.KeyedFinds.{find-put_other, find-put_same}
 use Rattle.mail_tree.proofs.KindsOfPuts.{beside_kind, same_table}
 use Rattle.mail_tree.proofs.Nearly.{Puts}
-use Rattle.mail_laws.proofs.Keeping.{KeepsAt, both, if_any, if_then, if_weaker, kept_put, mirrored_keeps}
+use Rattle.mail_laws.proofs.Keeping.{KeepsAt, both}
 use Rattle.mail_searches.specs.Building.{built, built_rows}
 use Rattle.mail_searches.specs.Criteria.{Coming, built_unless, can_hold, criteria_in, given_criteria, given_restriction, given_scope, if_readable, overfills, repeats, setting_criteria, unless_other, with_criteria}
-use Rattle.mail_searches.specs.Relisting.{counted_search, named, unless_unclear, unread, with_results}
+use Rattle.mail_searches.specs.Relisting.{counted_search, with_results}
 use Rattle.mail_searches.specs.Searches.{IsFresh, Search, ShowsCriteria, criteria_node, find_search, is_listed, is_plain_at, lists, results, row_ids, runs, search_id, search_of}
 use Rattle.mail_searches.specs.Searching.{AllFresh, AreSearches, Each, IsOfSearch, Searching, is_own}
 use Rattle.mail_searches.specs.Step.{after}
 use Rattle.search_lists.proofs.CountLaws.{results-tell}
 use Rattle.search_lists.proofs.ListLaws.{are-rows, rows-are}
+use Rattle.search_lists.proofs.SettleLaws.{ends-keep}
 use Rattle.search_lists.proofs.ShowLaws.{after-shows, tells-same, tree-shows}
 use Rattle.search_lists.specs.Keeps.{IsThere, KeepsOrder, ResultsKeepOrder}
 use Rattle.search_lists.specs.Laws.{AllShow, MirrorsMessage, ShowsList, TellsList}
@@ -166,20 +166,6 @@ apart-nodes f g kind a b less other e = other (omega arith)
 
 -- ---- the list of a search gets rows
 
--- what stands at these ids stays while a search is counted and its row is made to show it
-module _ (S : ℕ → Type 0) (no_hierarchy : (g : ℕ) → S (hierarchy g) → ⊥) (T : Tree) where
-  counted-keeps : (s : ℕ) (rows : List (ℕ × List Val)) (D : Changed) → (S s → ⊥) → IfOk (counted_search T s rows D) (KeepsAt S T D)
-  unfolding counted_search
-  counted-keeps s rows D other =
-      if_then (λ c. Unit {0}) (KeepsAt S T D) (context_at T D s) _ (if_any (context_at T D s)) (λ c u.
-      if_then (λ v. Unit {0}) (KeepsAt S T D) (unless_unclear T D rows) _ (if_any (unless_unclear T D rows)) (λ v u.
-      let props = with_counts (length (named T D rows)) (length (unread (named T D rows))) false c.props in
-      kept_put S _ _ s _ (puts_object T D s (Some (Context (record c { props = props })))) other))
-
-  ends-keep : (s : ℕ) (rows : List (ℕ × List Val)) (D : Changed) → (S s → ⊥) → IfOk (counted_search T s rows D >>= mirrored T s) (KeepsAt S T D)
-  ends-keep s rows D other = if_then (KeepsAt S T D) (KeepsAt S T D) (counted_search T s rows D) (mirrored T s) (counted-keeps s rows D other)
-      (λ D' k. if_weaker (KeepsAt S T D') (KeepsAt S T D) (mirrored T s D') (mirrored_keeps S no_hierarchy T s D') (λ D'' k' m is. k' m is ∙ k m is))
-
 module _ (T : Tree) (s : ℕ) (kind : s % 32 ≡ 3) (rows : List (ℕ × List Val)) (t : Tbl) (D : Changed) where
   -- neither the list of the search, nor its values, nor a table of folders
   abbrev pub Others : ℕ → Type 0
@@ -207,8 +193,8 @@ module _ (T : Tree) (s : ℕ) (kind : s % 32 ≡ 3) (rows : List (ℕ × List Va
       let a = counted_search T s rows D1 >>= mirrored T s in
       both (λ D'. KeepsAt Others T D1 D' × KeepsAt Mine T D1 D') (λ D'. TellsList T D' s) Listed a
       (both (KeepsAt Others T D1) (KeepsAt Mine T D1) (λ D'. KeepsAt Others T D1 D' × KeepsAt Mine T D1 D') a
-      (ends-keep Others (λ g e. e.1.1 (beside_kind g 13 (omega arith))) T s rows D1 (λ e. e.1.0 refl))
-      (ends-keep Mine (λ g e. omega (arith, e, at-results, beside_kind g 13 (omega arith))) T s rows D1 (λ e. omega (arith, e, at-results)))
+      (ends-keep T Others (λ g e. e.1.1 (beside_kind g 13 (omega arith))) s rows D1 (λ e. e.1.0 refl))
+      (ends-keep T Mine (λ g e. omega (arith, e, at-results, beside_kind g 13 (omega arith))) s rows D1 (λ e. omega (arith, e, at-results)))
       (λ D' others mine. (others, mine)))
       (results-tell T s kind rows t D)
       (λ D' kept tells. record {

@@ -86,7 +86,7 @@ module _ (T : Tree) where
         let props = with_counts (length (named T D rows)) (length (unread (named T D rows))) false c.props in
         kept_put S _ _ s _ (puts_object T D s (Some (Context (record c { props = props })))) other))
 
-    ends-keep : (s : ℕ) (rows : List (ℕ × List Val)) (D : Changed) → (S s → ⊥) → IfOk (counted_search T s rows D >>= mirrored T s) (KeepsAt S T D)
+    pub ends-keep : (s : ℕ) (rows : List (ℕ × List Val)) (D : Changed) → (S s → ⊥) → IfOk (counted_search T s rows D >>= mirrored T s) (KeepsAt S T D)
     ends-keep s rows D other = if_then (KeepsAt S T D) (KeepsAt S T D) (counted_search T s rows D) (mirrored T s) (counted-keeps s rows D other)
         (λ D' k. if_weaker (KeepsAt S T D') (KeepsAt S T D) (mirrored T s D') (mirrored_keeps S no_hierarchy T s D') (λ D'' k' m is. k' m is ∙ k m is))
 

@@ -40,18 +40,18 @@ use Rattle.mail_searches.specs.Step.{after}
 use Rattle.search_store.specs.search_folders.Pieces.{criteria_at}
 use Rattle.search_lists.proofs.AfterOrder.{results_keep_order}
 use Rattle.search_lists.specs.Keeps.{IsThere, KeepsOrder}
-use Rattle.search_lists.specs.Laws.{MirrorsList, MirrorsMessage, ShowsList, TellsList}
+use Rattle.search_lists.specs.Laws.{MirrorsList, MirrorsMessage, ShowsList}
 use Rattle.search_lists.proofs.ApartLaws.{each-found}
-use Rattle.search_lists.proofs.CountLaws.{results-tell}
 use Rattle.search_lists.proofs.SettleLaws.{each-two}
 use Rattle.search_lists.proofs.ShowLaws.{after-shows, shows-still, tells-same, tree-mirrors, tree-tells}
 use Rattle.search_laws.proofs.Attachments.{attachments_still}
 use Rattle.search_laws.proofs.Marked.{marks_still}
 use Rattle.search_laws.proofs.SettingLists.{AreBuilt, rows_built}
 use Rattle.search_laws.proofs.SettingObject.{counts_after_object, found_after_object, messages_after_object, mirrors_after_object, object_puts, put_so, whole_after_object}
+use Rattle.search_laws.proofs.SettingSteps.{Listed, results-listed}
 use Rattle.search_mending.proofs.RowLaws.{stood_ascends, stood_ids, stood_shows}
 use Rattle.search_mending.proofs.SaysLaws.{says_turned}
-use Rattle.search_mending.proofs.StayLaws.{Listed, found_key, results_listed, results_stood, same_lists, same_results, same_wrong, texts_same}
+use Rattle.search_mending.proofs.StayLaws.{found_key, results_stood, same_lists, same_results, same_wrong, texts_same}
 use Rattle.search_mending.proofs.TouchLaws.{HasNodes, IsAsIs, order_same, search_stays}
 use Rattle.search_mending.specs.Laws.{IsAsBefore, IsElsewhere, IsMendable, IsMended, Mends, MendsInOrder, ShowsMendable}
 use Rattle.search_mending.specs.Mending.{Mending, can_hold_any, is_first, is_stale, list_anew, list_if_wrong, list_of_any, lists_right, lists_wrong, mended_search, mending, mending_with, search_as_is, touched_if, turned, with_list, with_other_rows}
@@ -234,21 +234,21 @@ module _ (tidy : Bool) (X : Searching) (f : ℕ) (order : IsMendable tidy X) (ow
       let there : IsThere T (said D1) f = record { kind = kind; placed = order.searches.placed f own; table = (b.old, table) } in
       let same : with_results T f rows b.old D1 ≡ with_results T f rows t D1 = same_results T f rows b.old t D1 (sym (ap (with_rows rows) b.is)) in
       let kept = subst (λ a. Fine a (KeepsOrder T (said D1))) same (results_keep_order T (said D1) f rows b.old order.whole turns.whole there table b.ascend) in
-      fine-with (λ D. KeepsOrder T (said D1) D × AreStood T (IsNew None) D) (λ D. Listed T f kind rows t D1 D × TellsList T D f) (Sets (Some t) D1) (with_results T f rows t D1)
+      fine-with (λ D. KeepsOrder T (said D1) D × AreStood T (IsNew None) D) (Listed T f kind rows t D1) (Sets (Some t) D1) (with_results T f rows t D1)
       (fine_stood (KeepsOrder T (said D1)) (AreStood T (IsNew None)) (with_results T f rows t D1) kept (results_stood T (IsNew None) f rows t D1 turns.stood))
-      (both (Listed T f kind rows t D1) (λ D. TellsList T D f) (λ D. Listed T f kind rows t D1 D × TellsList T D f) (with_results T f rows t D1) (results_listed T f kind rows t D1) (results-tell T f kind rows t D1) (λ D listed tells. (listed, tells)))
-      (λ D p made. record {
+      (results-listed T f kind rows t D1)
+      (λ D p listed. record {
         keeps = p.0;
         stood = p.1;
-        others = made.0.others;
-        here = λ u e. made.0.here ∙ ap (λ (x : Tbl). Some (Table x)) (same-some t u e);
+        others = listed.others;
+        here = λ u e. listed.here ∙ ap (λ (x : Tbl). Some (Table x)) (same-some t u e);
         none = λ e. cc;
         shows = λ u e mirrors. record {
           mirrors = λ v is m.
               let message : as_message (now_at T D m) ≡ as_message (object_at T m) = p.0.messages m ∙ turns.messages m in
-              subst (λ (x : Tbl). MirrorsMessage x.table.columns x.table.rows m (as_message (now_at T D m))) (same_table t v (sym made.0.here ∙ is))
+              subst (λ (x : Tbl). MirrorsMessage x.table.columns x.table.rows m (as_message (now_at T D m))) (same_table t v (sym listed.here ∙ is))
               (subst (MirrorsMessage t.table.columns rows m) (sym message) (b.show_all mirrors m));
-          counts = made.1;
+          counts = listed.tells;
         };
       })
 
