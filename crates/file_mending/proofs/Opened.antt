@@ -129,6 +129,8 @@ ends_mended becomes costs knows bytes header tree first mid now end room o tells
       found = o.tree.shows.found;
       mirrors = λ e. absurd (no_truth e);
       counts = λ e. absurd (no_truth e);
+      attachments = λ e. absurd (no_truth e);
+      lists = λ e. absurd (no_truth e);
       searches = o.tree.shows.searches;
       marked = o.tree.shows.marked;
     } in

@@ -1,5 +1,5 @@
 -- Every command keeps a tree with its searches in order.
-use Rattle.std.proofs.Common.{◌≡◌, ◌∙◌, ℕ, Bool, true, List, [], ◌∷◌, length, Option, None, Some, IfOk, IsSome, Ok, Err, ap, arith, inl, inr, refl, subst, sym}
+use Rattle.std.proofs.Common.{◌≡◌, ◌∙◌, ℕ, Bool, true, List, [], ◌∷◌, length, Option, None, Some, IfOk, Ok, Err, ap, arith, inl, inr, refl, subst, sym}
 use Rattle.std.proofs.lemmas.Bool.{cases_Bool}
 use Rattle.std.specs.FinMap as map
 use Rattle.std.specs.Ordering.{nat_cmp}
@@ -23,6 +23,7 @@ use Rattle.mail_tree.proofs.KindsOfPuts.{beside_kind}
 use Rattle.mail_tree.proofs.StoodLaws.{AreStood, IsNew, after_limits}
 use Rattle.mail_laws.proofs.StoodCommands.{command_stood}
 use Rattle.search_lists.proofs.StoodLists.{followed_stood}
+use Rattle.mail_laws.specs.AttachmentLaws.{AllMirrorAttachments}
 use Rattle.mail_laws.specs.Laws.{AreCountedBut, AreShown, Counts, Mirrors}
 use Rattle.mail_laws.specs.Stays.{Leaves}
 use Rattle.mail_laws.proofs.CountCommands.{counted_after}
@@ -39,10 +40,11 @@ use Rattle.mail_searches.specs.Searches.{criteria_node, find_search, results}
 use Rattle.mail_searches.specs.Searching.{AllFresh, AreSearches, Each, IsOfSearch, Searching, is_own}
 use Rattle.mail_searches.specs.Step.{after, concluded, if_within, listing_in, outcome, plain_outcome}
 use Rattle.mail_searches.specs.Touching.{followed, touched}
-use Rattle.search_lists.specs.Laws.{AreTouched, with_tree}
+use Rattle.search_lists.specs.Laws.{AllShow, AreTouched, with_tree}
 use Rattle.search_lists.proofs.ApartLaws.{all-apart, each-found}
 use Rattle.search_lists.proofs.PlainLaws.{plain_commands_stay}
 use Rattle.search_lists.proofs.SettleLaws.{each}
+use Rattle.search_lists.proofs.ShowLaws.{shows_after}
 use Rattle.search_lists.proofs.TouchLaws.{touches_all}
 use Rattle.search_lists.specs.Keeps.{IsThere, KeepsOrder, with_changes}
 use Rattle.search_lists.specs.Order.{InOrder}
@@ -50,6 +52,7 @@ use Rattle.search_lists.proofs.AfterOrder.{settling_keeps_order}
 use Rattle.search_lists.proofs.ClearLaws.{none_unclear}
 use Rattle.search_lists.proofs.ResultSteps.{if_given}
 use Rattle.search_laws.specs.Laws.{StaysInOrder}
+use Rattle.search_laws.proofs.Attachments.{attachments_after, attachments_still}
 use Rattle.search_laws.proofs.Making.{makes_in_order}
 use Rattle.search_laws.proofs.Marked.{marks_still}
 use Rattle.search_laws.proofs.Moves.{moves_in_order, removes_in_order, renames_in_order}
@@ -133,26 +136,36 @@ module _ (tidy : Bool) (X : Searching) (h : InOrder tidy X) where
   -- what a command of the tree leaves
   abbrev Base : Command → Outcome → Type 0
   Base c o = IsWhole (tree.after X.tree o) × (IsFoundBeside (IsOfSearch X.own) (tree.after X.tree o) × ((tidy ≡ true → Mirrors (tree.after X.tree o)) × ((tidy ≡ true → Counts (tree.after X.tree o)) × (Leaves X.tree o × (Fine (touched X.tree c o) (AreTouched X.tree o)
-      × IfOk (followed X.tree X.searches c o) (λ o'. AreSearches (with_tree X (tree.after X.tree o')) × AllFresh (tree.after X.tree o') X.searches))))))
+      × (IfOk (followed X.tree X.searches c o) (λ o'. AreSearches (with_tree X (tree.after X.tree o')) × AllFresh (tree.after X.tree o') X.searches)
+      × ((tidy ≡ true → AllMirrorAttachments (tree.after X.tree o)) × (tidy ≡ true → IfOk (followed X.tree X.searches c o) (λ o'. AllShow (tree.after X.tree o') X.searches)))))))))
 
   base : (c : Command) → Fine (tree.outcome X.tree c) (Base c)
   base c = let a = tree.outcome X.tree c in
       fine_both _ _ a (whole_after X.tree c h.whole) (if_both _ _ a (stays_beside (IsOfSearch X.own) X.tree c h.whole h.found)
       (if_both _ _ a (if_given (tidy ≡ true) (λ o. Mirrors (tree.after X.tree o)) a (λ t. mirrors_after X.tree c h.whole (h.mirrors t))) (if_both _ _ a (if_given (tidy ≡ true) (λ o. Counts (tree.after X.tree o)) a (λ t. counts_after X.tree c h.whole (h.counts t)))
-      (if_both _ _ a (leaves_searches X.tree c h.whole) (if_both _ _ a (touches_all X.tree c h.whole) (plain_commands_stay X c h.whole h.searches h.fresh))))))
+      (if_both _ _ a (leaves_searches X.tree c h.whole) (if_both _ _ a (touches_all X.tree c h.whole) (if_both _ _ a (plain_commands_stay X c h.whole h.searches h.fresh)
+      (if_both _ _ a (if_given (tidy ≡ true) (λ o. AllMirrorAttachments (tree.after X.tree o)) a (λ t. attachments_after X.tree c h.whole (h.attachments t)))
+      (if_given (tidy ≡ true) (λ o. IfOk (followed X.tree X.searches c o) (λ o'. AllShow (tree.after X.tree o') X.searches)) a (λ t. shows_after X.tree c X.searches h.whole (all-apart X h.searches) h.fresh (h.lists t))))))))))
+
+  -- what the lists that followed it leave
+  abbrev Followed : Outcome → Type 0
+  Followed o' = (AreSearches (with_tree X (tree.after X.tree o')) × AllFresh (tree.after X.tree o') X.searches) × (tidy ≡ true → AllShow (tree.after X.tree o') X.searches)
 
   -- what a command comes to is in order once its lists followed it
   abbrev Stands : Outcome → Type 0
   Stands o = InOrder tidy (with_tree X (tree.after X.tree o))
 
-  in_order : (c : Command) (o o' : Outcome) → Base c o → Keeps o o' → AreSearches (with_tree X (tree.after X.tree o')) × AllFresh (tree.after X.tree o') X.searches → Stands o'
+  in_order : (c : Command) (o o' : Outcome) → Base c o → Keeps o o' → Followed o' → Stands o'
   in_order c o o' b k s = record {
     whole = subst (λ x. IsWhole (tree.after X.tree x)) (sym k.1) (k.0.whole b.0);
     found = subst (λ x. IsFoundBeside (IsOfSearch X.own) (tree.after X.tree x)) (sym k.1) (k.0.found X.own b.1.0);
     mirrors = λ t. subst (λ x. Mirrors (tree.after X.tree x)) (sym k.1) (k.0.mirrors b.0 (b.1.1.0 t));
     counts = λ t. subst (λ x. Counts (tree.after X.tree x)) (sym k.1) (k.0.counts b.0 (b.1.1.1.0 t));
-    searches = s.0;
-    fresh = s.1;
+    attachments = λ t. attachments_still (tree.after X.tree o) (tree.after X.tree o') (λ m.
+        ap (λ at. as_message (at m)) (sym (after_now X.tree o')) ∙ k.0.messages m ∙ ap (λ at. as_message (at m)) (after_now X.tree o)) (b.1.1.1.1.1.1.1.0 t);
+    lists = s.1;
+    searches = s.0.0;
+    fresh = s.0.1;
     marked = marks_still X o' X.searches h.marked (λ f three other. ap (λ (x : Outcome). find_place f x.places) k.1 ∙ b.1.1.1.1.0.places f three);
   }
 
@@ -164,7 +177,8 @@ module _ (tidy : Bool) (X : Searching) (h : InOrder tidy X) where
   unfolding concluded
   concludes c o b known =
       fine_then (λ o'. Stands o' × Known o') Stands (followed X.tree X.searches c o) (if_within X.tree)
-      (fine_both Stands Known (followed X.tree X.searches c o) (fine_weaker _ Stands (followed X.tree X.searches c o) (fine_both (Keeps o) _ (followed X.tree X.searches c o) (keeps c o b.0 b.1.1.1.1.0 b.1.1.1.1.1.0) b.1.1.1.1.1.1) (λ o' p. in_order c o o' b p.0 p.1))
+      (fine_both Stands Known (followed X.tree X.searches c o) (fine_weaker _ Stands (followed X.tree X.searches c o) (fine_both (Keeps o) Followed (followed X.tree X.searches c o) (keeps c o b.0 b.1.1.1.1.0 b.1.1.1.1.1.0)
+      (if_both _ (λ o'. tidy ≡ true → AllShow (tree.after X.tree o') X.searches) (followed X.tree X.searches c o) b.1.1.1.1.1.1.0 (if_given (tidy ≡ true) (λ o'. AllShow (tree.after X.tree o') X.searches) (followed X.tree X.searches c o) b.1.1.1.1.1.1.1.1))) (λ o' p. in_order c o o' b p.0 p.1))
       (followed_stood X.tree X.searches c o known))
       (λ o' is. after_limits Stands X.tree (made_id o'.reply.last) o'.changed (λ u. Ok o') is.1 is.0)
 

@@ -32,6 +32,7 @@ pub mod ShiftingFound
 pub mod ShiftingRows
 pub mod ShiftingTree
 pub mod Moves
+pub mod Attachments
 pub mod Sound
 pub mod Joining
 pub mod MakingStood

@@ -25,6 +25,7 @@ use Rattle.mail_searches.specs.Step.{after}
 use Rattle.search_lists.specs.Order.{AreMarked, InOrder}
 use Rattle.search_lists.proofs.ResultSteps.{if_given}
 use Rattle.search_laws.specs.Laws.{MakesInOrder}
+use Rattle.search_laws.proofs.Attachments.{attachments_still}
 use Rattle.search_laws.proofs.Marked.{marks_stay, none_beside}
 use Rattle.search_laws.proofs.MakingLists.{lists_there}
 use Rattle.search_laws.proofs.MakingCounted.{steps_count}
@@ -32,7 +33,7 @@ use Rattle.search_laws.proofs.MakingFound.{among_kept, among_new, among_was, fou
 use Rattle.search_laws.proofs.MakingIds.{IsFree, new_search_free}
 use Rattle.search_laws.proofs.MakingMade.{Away, Makes, steps_make}
 use Rattle.search_laws.proofs.MakingPuts.{place_others, plain_was, with_place}
-use Rattle.search_laws.proofs.MakingSearches.{fresh_after, searches_after}
+use Rattle.search_laws.proofs.MakingSearches.{fresh_after, same_message, searches_after, show_after}
 use Rattle.search_laws.proofs.MakingShown.{steps_show}
 use Rattle.search_laws.proofs.MakingTree.{fine_making, made, steps}
 
@@ -98,6 +99,8 @@ module _ (tidy : Bool) (X : Searching) (order : InOrder tidy X) (parent : ℕ) (
           found = found_after T w X.own s parent q three free found plain deep order.found o refl m;
           mirrors = λ t. subst (AreShown places) (after_now T o) (shown t);
           counts = λ t. subst (AreCountedBut (λ x. ⊥) places) (after_now T o) (counted t);
+          attachments = λ t. attachments_still T (tree.after T o) (same_message X s parent three free order.whole order.searches none (tree.after T o) refl others objects (now _ ∙ m.criteria_there) (now _ ∙ m.list_there)) (order.attachments t);
+          lists = λ t. show_after X s parent three free order.whole order.searches none (tree.after T o) refl others objects (now _ ∙ m.criteria_there) (now _ ∙ m.list_there) (order.lists t);
           searches = searches_after X s parent three free order.whole order.searches none (tree.after T o) refl others objects (now _ ∙ m.criteria_there) (now _ ∙ m.list_there);
           fresh = fresh_after X s parent three free order.whole order.searches none (tree.after T o) refl others objects (now _ ∙ m.criteria_there) (now _ ∙ m.list_there) order.fresh;
           marked = marked D m;

@@ -1,28 +1,30 @@
 -- After a new search was made the searches are those of the tree, and list what they are to list.
-use Rattle.std.proofs.Common.{◌≡◌, ℕ, ◌%◌, ◌<◌, ◌==◌, true, false, List, [], ◌∷◌, Option, None, Some, IsSome, is_some, arith, refl, sym, subst, ap, ◌∙◌, ◌⊎◌, inl, inr}
+use Rattle.std.proofs.Common.{◌≡◌, ℕ, ◌%◌, ◌<◌, ◌==◌, true, false, List, [], ◌∷◌, Option, None, Some, is_some, arith, refl, sym, subst, ap, ◌∙◌, ◌⊎◌, inl, inr}
 use Rattle.std.specs.List.{list_any}
 use Rattle.std.proofs.lemmas.Bool.{cases_eq, false≢true, eq-eqb}
 use Rattle.std.proofs.lemmas.Option.{none-some, same_Some}
 use Rattle.mapi_values.specs.Messages.{Mes}
-use Rattle.mapi_values.specs.Tables.{find_row}
 use Rattle.mapi_values.proofs.KeyedLaws.{put-ascends}
-use Rattle.mail_objects.specs.Forms.{Tbl}
 use Rattle.mail_objects.specs.declared.object.Object.{Object}
 use Rattle.mail_objects.specs.declared.object.Object.TheVariants.{Bare, Context, Message, Table}
 use Rattle.mail_tree.specs.Places.{find_place, path}
 use Rattle.mail_tree.specs.Tree.{Tree, object_at}
-use Rattle.mail_tree.specs.Changing.{as_message, beside}
+use Rattle.mail_tree.specs.Changing.{as_message, beside, nothing}
 use Rattle.mail_tree.specs.Columns.{contents_table}
 use Rattle.mail_tree.specs.Whole.{AreWhole, IsWhole}
-use Rattle.mail_tree.proofs.KindsOfPuts.{beside_kind, same_table}
+use Rattle.mail_tree.proofs.KindsOfPuts.{beside_kind}
 use Rattle.mail_laws.proofs.Effects.{no_message}
 use Rattle.search_obj.specs.Changing.{unset}
 use Rattle.search_obj.specs.Found.{crit_found, version_found}
 use Rattle.search_obj.specs.Writing.{written}
 use Rattle.mail_searches.specs.Searches.{IsFresh, Search, criteria_node, criteria_of, find_search, is_listed, results, runs}
 use Rattle.mail_searches.specs.Searching.{AllFresh, AreSearches, Each, Searching, is_own}
+use Rattle.search_lists.specs.Laws.{AllShow, ShowsList}
+use Rattle.search_lists.proofs.ApartLaws.{each-found}
 use Rattle.search_lists.proofs.ListLaws.{are-rows, rows-are}
 use Rattle.search_lists.proofs.ScopeLaws.{placed-out, same-listed}
+use Rattle.search_lists.proofs.SettleLaws.{each-two}
+use Rattle.search_lists.proofs.ShowLaws.{tells-same, tree-shows}
 use Rattle.search_laws.proofs.MakingFound.{among_kept, among_was, with_id}
 use Rattle.search_laws.proofs.MakingIds.{IsFree}
 use Rattle.search_laws.proofs.MakingMade.{Away, away_kind}
@@ -69,7 +71,7 @@ module _ (X : Searching) (s parent : ℕ) (three : s % 32 ≡ 3) (free : IsFree 
       (λ e. omega arith) (λ e. few.2 (sym at ∙ e))
 
   -- each message is as it was
-  same_message : (m : ℕ) → as_message (object_at T' m) ≡ as_message (object_at T m)
+  pub same_message : (m : ℕ) → as_message (object_at T' m) ≡ as_message (object_at T m)
   same_message m = elim (cases_eq (m % 32) 4) [
     | inl four ↦ ap as_message (others m (away_kind s m three (λ e. omega arith) (λ e. omega arith) (λ e. omega arith) (λ e. omega arith)) (λ e. omega arith) (λ e. omega arith))
     | inr other ↦ no_message m (object_at T' m) (whole'.typed m) other ∙ sym (no_message m (object_at T m) (whole.objects.typed m) other)
@@ -131,6 +133,14 @@ module _ (X : Searching) (s parent : ℕ) (three : s % 32 ≡ 3) (free : IsFree 
       ∙ fresh.1 in
       let rows = are-rows T x t.table.rows fresh.2 in
       (t, stays, rows-are T' x t.table.rows rows.0 (λ m. rows.1 m ∙ sym (listed_still x m)))
+
+  -- and shows it rightly where it did
+  pub show_after : AllShow T X.searches → AllShow T' X.searches
+  show_after shows = each-two (λ x. find_search x.nid X.searches ≡ Some x) (λ x. runs x ≡ true → ShowsList T nothing x.nid) (λ x. runs x ≡ true → ShowsList T' nothing x.nid) X.searches (each-found 0 X.searches searches.ascend) shows (λ x found was run.
+      let own = searches.among x.nid x found in
+      let kind = searches.kinds x.nid own in
+      let away : Away s x.nid = ((λ same. not_own (subst (λ z. is_own X.own z ≡ true) same own)), (λ e. omega (arith, e, kind, beside_kind s 6 (omega arith))), (λ e. omega (arith, e, kind, beside_kind s 7 (omega arith))), (λ e. omega (arith, e, kind, beside_kind s 16 (omega arith)))) in
+      tree-shows T T' x.nid same_message (list_still x.nid own) (λ c at. tells-same (object_at T x.nid) c (sym (others x.nid away (λ e. omega (arith, e, kind)) (λ e. omega (arith, e, kind))) ∙ at)) (was run))
 
   pub fresh_after : AllFresh T X.searches → AllFresh T' X.searches
   fresh_after fresh = each_still (λ x. runs x ≡ true → IsFresh T x) (λ x. runs x ≡ true → IsFresh T' x) X.searches (λ x f is. fresh_still x (f is)) fresh

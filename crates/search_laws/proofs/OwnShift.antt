@@ -2,11 +2,13 @@
 use Rattle.std.proofs.Common.{◌≡◌, ◌∙◌, ℕ, ◌%◌, Bool, true, Some, IsSome, ap, arith, refl, subst, sym, inl, inr}
 use Rattle.std.proofs.lemmas.Bool.{cases_eq, false≢true}
 use Rattle.mail_objects.specs.Forms.{Ctx}
+use Rattle.mail_objects.specs.declared.object.Object.TheVariants.{Context}
 use Rattle.mail_tree.specs.declared.places.FolderPlace.{FolderPlace}
-use Rattle.mail_tree.specs.Changing.{hierarchy, nothing, now_at}
+use Rattle.mail_tree.specs.Changing.{as_message, hierarchy, nothing, now_at}
 use Rattle.mail_tree.specs.Folders.{Outcome}
 use Rattle.mail_tree.specs.Found.{IsFoundBeside}
 use Rattle.mail_tree.specs.Places.{find_place, is_plain}
+use Rattle.mail_tree.specs.Step as tree
 use Rattle.mail_tree.specs.Tree.{Tree, object_at}
 use Rattle.mail_tree.proofs.AfterTree.{after_now}
 use Rattle.mail_tree.proofs.KindsOfPuts.{beside_kind}
@@ -21,9 +23,11 @@ use Rattle.mail_searches.specs.Searches.{criteria_node, results}
 use Rattle.mail_searches.specs.Searching.{IsOfSearch, Searching, is_own}
 use Rattle.mail_searches.specs.Step.{after}
 use Rattle.search_lists.specs.Order.{InOrder}
+use Rattle.search_lists.proofs.ShowLaws.{TellsAs, tells-same}
 use Rattle.search_laws.proofs.AfterFound.{found_then, whole_then}
+use Rattle.search_laws.proofs.Attachments.{attachments_still}
 use Rattle.search_laws.proofs.Marked.{marks_still}
-use Rattle.search_laws.proofs.OwnStays.{Follows, all_fresh, searches_stay}
+use Rattle.search_laws.proofs.OwnStays.{Follows, all_fresh, all_show, searches_stay}
 use Rattle.search_laws.proofs.OwnSteps.{IsQuietId, messages_stay, now_before, place_of}
 use Rattle.search_laws.proofs.PlainPlaces.{same_context}
 
@@ -38,6 +42,7 @@ finds_before beside T w h = record {
 -- What a command that names an own search folder left, which has a place still.
 pub record Shifts (tidy : Bool) (X : Searching) (s : ℕ) (o : Outcome) : Type 0 where
   pub kept : (q : ℕ) → IsQuietId q → (q ≡ s → ⊥) → now_at X.tree o.changed q ≡ object_at X.tree q
+  pub values : (c : Ctx) → now_at X.tree o.changed s ≡ Some (Context c) → TellsAs (object_at X.tree s) c
   pub here : IsSome (find_place s o.places)
   pub others : (g : ℕ) → (g ≡ s → ⊥) → find_place g o.places ≡ find_place g X.tree.places
   pub foreign : (g : ℕ) (q : FolderPlace) → find_place g o.places ≡ Some q → is_plain q ≡ true → g ≡ s → ⊥
@@ -76,6 +81,10 @@ module _ (tidy : Bool) (X : Searching) (s : ℕ) (h : InOrder tidy X) (own : is_
     ];
     criteria = λ f e. let kind = beside_kind f 7 (omega arith) in k.kept (criteria_node f) ((λ a. omega (arith, a, kind)), (λ a. omega (arith, a, kind))) (λ a. omega (arith, a, kind, three));
     lists = λ f e. let kind = beside_kind f 16 (omega arith) in k.kept (results f) ((λ a. omega (arith, a, kind)), (λ a. omega (arith, a, kind))) (λ a. omega (arith, a, kind, three));
+    values = λ f c e at. elim (cases_eq f s) [
+      | inl same ↦ subst (λ x. TellsAs (object_at X.tree x) c) (sym same) (k.values c (ap (now_at X.tree o.changed) (sym same) ∙ at))
+      | inr other ↦ let kind = h.searches.kinds f e in tells-same (object_at X.tree f) c (sym (k.kept f ((λ a. omega (arith, a, kind)), (λ a. omega (arith, a, kind))) other) ∙ at)
+    ];
     messages = messages_stay X.tree o (before X.tree h.whole) w' (λ q four. k.kept q ((λ e. omega (arith, e, four)), (λ e. omega (arith, e, four))) (λ e. omega (arith, e, four, three)));
     places = k.others;
   }
@@ -86,6 +95,8 @@ module _ (tidy : Bool) (X : Searching) (s : ℕ) (h : InOrder tidy X) (own : is_
     found = found_then X.tree o stood (IsOfSearch X.own) k.finds k.reached;
     mirrors = λ t. subst (AreShown o.places) (after_now X.tree o) (all_shown o.places (now_at X.tree o.changed) (k.shown t));
     counts = λ t. subst (AreCountedBut (λ x. ⊥) o.places) (after_now X.tree o) (k.counted t);
+    attachments = λ t. attachments_still X.tree (tree.after X.tree o) (λ m. ap (λ at. as_message (at m)) (sym (after_now X.tree o)) ∙ follows.messages m) (h.attachments t);
+    lists = λ t. all_show X s (same_searches X o) h.whole h.searches three follows (h.lists t);
     searches = searches_stay X s (same_searches X o) h.whole h.searches three follows;
     fresh = all_fresh X s (same_searches X o) h.whole h.searches three follows h.fresh;
     marked = marks_still X o X.searches h.marked (λ f kind other. k.others f (λ same. false≢true (sym other ∙ ap (is_own X.own) same ∙ own)));

@@ -5,9 +5,11 @@ use Rattle.std.proofs.lemmas.Bool.{cases_Bool, eqb-false, ne_eqb}
 use Rattle.std.proofs.lemmas.Option.{none-some, same_Some}
 use Rattle.mapi_values.specs.Keyed.{keys_ascend}
 use Rattle.mapi_values.specs.Messages.{Mes}
+use Rattle.mail_objects.specs.Forms.{Ctx}
 use Rattle.mail_objects.specs.declared.object.Object.{Object}
+use Rattle.mail_objects.specs.declared.object.Object.TheVariants.{Context}
 use Rattle.mail_tree.specs.declared.places.FolderPlace.{FolderPlace}
-use Rattle.mail_tree.specs.Changing.{as_message, now_at}
+use Rattle.mail_tree.specs.Changing.{as_message, nothing, now_at}
 use Rattle.mail_tree.specs.Places.{ROOT, find_place, is_plain, is_within, path_from}
 use Rattle.mail_tree.specs.Tree.{object_at}
 use Rattle.mail_tree.specs.Whole.{AreWhole, IsWhole}
@@ -18,10 +20,12 @@ use Rattle.mail_searches.specs.Criteria.{Coming}
 use Rattle.mail_searches.specs.Searches.{IsFresh, Search, criteria_node, find_search, is_listed, results, runs, search_id}
 use Rattle.mail_searches.specs.Searching.{AllFresh, AreSearches, Each, Searching, is_own}
 use Rattle.mail_searches.specs.Step.{after}
+use Rattle.search_lists.specs.Laws.{AllShow, ShowsList}
 use Rattle.search_lists.proofs.ApartLaws.{each-found}
 use Rattle.search_lists.proofs.ListLaws.{are-rows, rows-are}
 use Rattle.search_lists.proofs.ScopeLaws.{same-listed}
 use Rattle.search_lists.proofs.SettleLaws.{each}
+use Rattle.search_lists.proofs.ShowLaws.{TellsAs, tree-shows}
 use Rattle.search_laws.proofs.PlainPlaces.{plain_other}
 
 -- what holds of each search holds of one that is found
@@ -58,6 +62,7 @@ pub record Follows (X : Searching) (s : ℕ) (o : Coming) : Type 0 where
   pub placed : (f : ℕ) → is_own o.own f ≡ true → IsSome (find_place f o.outcome.places)
   pub criteria : (f : ℕ) → is_own o.own f ≡ true → now_at X.tree o.outcome.changed (criteria_node f) ≡ object_at X.tree (criteria_node f)
   pub lists : (f : ℕ) → is_own o.own f ≡ true → now_at X.tree o.outcome.changed (results f) ≡ object_at X.tree (results f)
+  pub values : (f : ℕ) (c : Ctx) → is_own o.own f ≡ true → now_at X.tree o.outcome.changed f ≡ Some (Context c) → TellsAs (object_at X.tree f) c
   pub messages : (q : ℕ) → as_message (now_at X.tree o.outcome.changed q) ≡ as_message (object_at X.tree q)
   pub places : (g : ℕ) → (g ≡ s → ⊥) → find_place g o.outcome.places ≡ find_place g X.tree.places
 
@@ -97,3 +102,10 @@ module _ (X : Searching) (s : ℕ) (o : Coming) (w : IsWhole X.tree) (are : AreS
   all_fresh fresh = each (λ t. find_search t.nid o.searches ≡ Some t) (λ t. runs t ≡ true → IsFresh (after X o).tree t) o.searches (each-found 0 o.searches k.ascend) (λ t e run.
       let own = k.among t.nid t e in
       fresh_still t own (each_at (λ u. runs u ≡ true → IsFresh X.tree u) X.searches t.nid t fresh (sym (k.found t.nid own) ∙ e) run))
+
+  -- and shows it rightly, if it did
+  pub all_show : AllShow X.tree X.searches → AllShow (after X o).tree o.searches
+  all_show shows = each (λ t. find_search t.nid o.searches ≡ Some t) (λ t. runs t ≡ true → ShowsList (after X o).tree nothing t.nid) o.searches (each-found 0 o.searches k.ascend) (λ t e run.
+      let own = k.among t.nid t e in
+      tree-shows X.tree (after X o).tree t.nid (λ m. ap as_message (now m) ∙ k.messages m) (now (results t.nid) ∙ k.lists t.nid own) (λ c at. k.values t.nid c own (sym (now t.nid) ∙ at))
+      (each_at (λ u. runs u ≡ true → ShowsList X.tree nothing u.nid) X.searches t.nid t shows (sym (k.found t.nid own) ∙ e) run))

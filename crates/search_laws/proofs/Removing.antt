@@ -5,9 +5,10 @@ use Rattle.std.proofs.lemmas.Option.{none-some}
 use Rattle.mapi_values.specs.Keyed.{drop_key}
 use Rattle.mapi_values.proofs.KeyedLaws.{drop-ascends}
 use Rattle.mail_tree.specs.declared.places.FolderPlace.{FolderPlace}
-use Rattle.mail_tree.specs.Changing.{Changed, nothing, now_at}
+use Rattle.mail_tree.specs.Changing.{Changed, as_message, nothing, now_at}
 use Rattle.mail_tree.specs.Folders.{Outcome}
 use Rattle.mail_tree.specs.Places.{find_place, place_id}
+use Rattle.mail_tree.specs.Step as tree
 use Rattle.mail_tree.specs.Tree.{Tree, object_at}
 use Rattle.mail_tree.proofs.AfterTree.{after_now}
 use Rattle.mail_tree.proofs.FineLaws.{fine_then}
@@ -28,9 +29,11 @@ use Rattle.mail_searches.specs.Step.{after}
 use Rattle.search_lists.specs.Order.{InOrder}
 use Rattle.search_lists.proofs.ResultSteps.{if_given}
 use Rattle.search_laws.specs.Laws.{RemovesInOrder}
+use Rattle.search_lists.proofs.ShowLaws.{tells-same}
 use Rattle.search_laws.proofs.AfterFound.{found_then, whole_then}
+use Rattle.search_laws.proofs.Attachments.{attachments_still}
 use Rattle.search_laws.proofs.Marked.{marks_stay}
-use Rattle.search_laws.proofs.OwnStays.{Follows, all_fresh, searches_stay}
+use Rattle.search_laws.proofs.OwnStays.{Follows, all_fresh, all_show, searches_stay}
 use Rattle.search_laws.proofs.OwnSteps.{IsQuietId, fine_with, if_four, messages_stay, no_root, now_before, place_of}
 use Rattle.search_laws.proofs.RemovingFound.{finds_removed, own_gone, own_other, reached_removed}
 use Rattle.search_laws.proofs.RemovingRows.{counted_removed, keeps_removed, shown_removed}
@@ -146,6 +149,20 @@ module _ (tidy : Bool) (X : Searching) (s : ℕ) (h : InOrder tidy X) (own : is_
           ]
         ]
 
+    folder_other : (f : ℕ) → is_own own' f ≡ true → IsNode s f → ⊥
+    folder_other f e n =
+        let kind_f = h.searches.kinds f (stays f e) in
+        elim n [
+          | inl a ↦ other_search f e a
+          | inr m ↦ elim m [
+            | inl a ↦ omega (arith, kind_f, a, beside_kind s 7 (omega arith))
+            | inr l ↦ elim l [
+              | inl a ↦ omega (arith, kind_f, a, beside_kind s 16 (omega arith))
+              | inr a ↦ omega (arith, kind_f, a, beside_kind s 6 (omega arith))
+            ]
+          ]
+        ]
+
     follows : Follows X s (coming o)
     follows = record {
       own_ascend = drop-ascends (λ f. f) 0 s X.own h.searches.own_ascend;
@@ -158,6 +175,7 @@ module _ (tidy : Bool) (X : Searching) (s : ℕ) (h : InOrder tidy X) (own : is_
       placed = λ f e. subst IsSome (sym (place_other f (other_search f e))) (h.searches.placed f (stays f e));
       criteria = λ f e. let kind = beside_kind f 7 (omega arith) in elsewhere (criteria_node f) ((λ a. omega (arith, a, kind)), (λ a. omega (arith, a, kind))) (criteria_other f e);
       lists = λ f e. let kind = beside_kind f 16 (omega arith) in elsewhere (results f) ((λ a. omega (arith, a, kind)), (λ a. omega (arith, a, kind))) (list_other f e);
+      values = λ f c e at. let kind = h.searches.kinds f (stays f e) in tells-same (object_at T f) c (sym (elsewhere f ((λ a. omega (arith, a, kind)), (λ a. omega (arith, a, kind))) (folder_other f e)) ∙ at);
       messages = messages_stay T o w w' (λ q four. elsewhere q ((λ e. omega (arith, e, four)), (λ e. omega (arith, e, four))) (no_message_node q four));
       places = place_other;
     }
@@ -168,6 +186,8 @@ module _ (tidy : Bool) (X : Searching) (s : ℕ) (h : InOrder tidy X) (own : is_
       found = found_then T o stood (IsOfSearch own') g.finds g.reached;
       mirrors = λ t. subst (AreShown o.places) (after_now T o) (all_shown o.places (now_at T o.changed) (g.shown t));
       counts = λ t. subst (AreCountedBut (λ x. ⊥) o.places) (after_now T o) (g.counted t);
+      attachments = λ t. attachments_still T (tree.after T o) (λ m. ap (λ at. as_message (at m)) (sym (after_now T o)) ∙ follows.messages m) (h.attachments t);
+      lists = λ t. all_show X s (coming o) h.whole h.searches three follows (h.lists t);
       searches = searches_stay X s (coming o) h.whole h.searches three follows;
       fresh = all_fresh X s (coming o) h.whole h.searches three follows h.fresh;
       marked = marks_stay X (coming o) h.marked

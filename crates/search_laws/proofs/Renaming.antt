@@ -13,7 +13,7 @@ use Rattle.mail_tree.specs.Folders.{Outcome, nid, replied, siblings, unless_name
 use Rattle.mail_tree.specs.Found.{IsFoundBeside}
 use Rattle.mail_tree.specs.Places.{ROOT, children, find_place}
 use Rattle.mail_tree.specs.Settling.{mirrored, with_context}
-use Rattle.mail_tree.specs.Tree.{Tree}
+use Rattle.mail_tree.specs.Tree.{Tree, object_at}
 use Rattle.mail_tree.specs.Values.{text}
 use Rattle.mail_tree.specs.Whole.{AreWhole, Fine}
 use Rattle.mail_tree.proofs.AfterTree.{puts_object}
@@ -37,6 +37,7 @@ use Rattle.mail_searches.specs.Searching.{IsOfSearch, Searching, is_own}
 use Rattle.mail_searches.specs.Step.{after}
 use Rattle.search_lists.specs.Order.{InOrder}
 use Rattle.search_lists.proofs.ResultSteps.{if_given}
+use Rattle.search_lists.proofs.ShowLaws.{tells-named, tells-now-as}
 use Rattle.search_laws.specs.Laws.{RenamesInOrder}
 use Rattle.search_laws.proofs.OwnShift.{Shifts, finds_before, in_order, same_searches}
 use Rattle.search_laws.proofs.OwnSteps.{IsQuietId, counted_before, no_hierarchy, shown_before, fine_with, if_four, no_root, now_before, place_of}
@@ -138,6 +139,9 @@ module _ (tidy : Bool) (X : Searching) (s : ℕ) (name : List ℕ) (h : InOrder 
       (if_given (tidy ≡ true) Shown (mirrored T' s first) (λ t. shown_row T' s name at.0 whole kind at.1 (h.mirrors t))) (if_given (tidy ≡ true) Counted (mirrored T' s first) (λ t. counted_row T' s name at.0 whole kind at.1 (h.counts t)))
       (λ D' kept finds shown counted. record {
         kept = λ q quiet other. kept q quiet ∙ (puts_object T' nothing s (Some (Context (record c.0 { props = values })))).others q other ∙ now_before T' q;
+        values = λ x at.
+            let stays : now_at T' D' s ≡ Some (Context (record c.0 { props = values })) = kept s ((λ e. omega (arith, e, kind)), (λ e. omega (arith, e, kind))) ∙ (puts_object T' nothing s (Some (Context (record c.0 { props = values })))).here in
+            tells-now-as (object_at T' s) (now_at T' D' s) c.0 (record c.0 { props = values }) x (sym (now_before T' s) ∙ c.1) (λ ms told. tells-named ms name c.0.props told) stays at;
         here = h.searches.placed s own;
         others = λ g other. refl;
         foreign = λ g q e plain. plain_other (nearly (λ x. ⊥) T'.places (now_at T' nothing) whole) s kind g q e plain;

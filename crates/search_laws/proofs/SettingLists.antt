@@ -1,11 +1,11 @@
 -- The list of a search that is built has just the messages that the search is to list.
 use Rattle.std.proofs.Common.{◌≡◌, ◌∙◌, ℕ, suc, ◌%◌, ◌==◌, ◌&&◌, Bool, true, false, List, [], ◌∷◌, filter, map, Option, None, Some, is_some, refl, sym, subst, ap, inl, inr, arith, if◌then◌else◌, ◌||◌}
 use Rattle.std.specs.Prelude.{nat_le}
-use Rattle.std.proofs.lemmas.Bool.{and_parts, cases_Bool, eq-eqb, eqb-true, false≢true, ne_eqb}
+use Rattle.std.proofs.lemmas.Bool.{and_parts, cases_Bool, cases_eq, eq-eqb, eqb-true, false≢true, ne_eqb}
 use Rattle.std.proofs.lemmas.Option.{none-some, same_Some}
 use Rattle.mapi_values.specs.Keyed.{find_key, keys_ascend}
 use Rattle.mapi_values.specs.Messages.{Mes}
-use Rattle.mapi_values.specs.Tables.{find_row, mirror}
+use Rattle.mapi_values.specs.Tables.{find_row, mirror, put_row}
 use Rattle.mapi_values.specs.Values.{Val}
 use Rattle.mapi_values.specs.declared.column.Column.{Column}
 use Rattle.mapi_values.proofs.KeyedLaws.{put-ascends}
@@ -20,7 +20,7 @@ use Rattle.mail_tree.specs.Tree.{Tree, object_at}
 use Rattle.mail_tree.specs.Whole.{Fine, IsWhole}
 use Rattle.mail_tree.proofs.AfterTree.{now_nothing}
 use Rattle.mail_tree.proofs.FineLaws.{after_message, after_table, fine_then, fine_weaker}
-use Rattle.mail_tree.proofs.KeyedFinds.{below, find-put}
+use Rattle.mail_tree.proofs.KeyedFinds.{below, find-put, find-put_other, find-put_same}
 use Rattle.mail_tree.proofs.KindsOfPuts.{beside_kind, same_table}
 use Rattle.mail_tree.proofs.Nearly.{message_id, table_of}
 use Rattle.restr_eval.specs.Eval.{eval, holds_of, subject}
@@ -28,6 +28,7 @@ use Rattle.search_obj.specs.Scope.{is_among}
 use Rattle.mail_searches.specs.Building.{built_rows, found_among, found_below, with_found}
 use Rattle.mail_searches.specs.Searches.{Search, in_scope, is_listed, is_plain_at, lists, row_ids}
 use Rattle.mail_searches.specs.Searching.{Each}
+use Rattle.search_lists.specs.Laws.{MirrorsMessage}
 use Rattle.search_lists.proofs.ListLaws.{rows-are}
 
 abbrev pub Rows : Type 0
@@ -109,9 +110,24 @@ module _ (T : Tree) (s : Search) (columns : List Column) (w : IsWhole T) where
   abbrev listed : ℕ → Bool
   listed k = is_listed T.places s (as_message (object_at T k))
 
+  -- each row of a message shows it
+  abbrev AllShown : Rows → Type 0
+  AllShown rows = (k : ℕ) → MirrorsMessage columns rows k (as_message (object_at T k))
+
+  put-shows : (m : ℕ) (M : Mes) (rows : Rows) → object_at T m ≡ Some (Message M) → AllShown rows → AllShown (put_row m (mirror columns M.props) rows)
+  put-shows m M rows is shown k N e there = elim (cases_eq k m) [
+    | inl same ↦
+        let one : M ≡ N = same_Some M N (sym (ap as_message is) ∙ ap (λ x. as_message (object_at T x)) (sym same) ∙ e) in
+        ap (λ x. find_row x (put_row m (mirror columns M.props) rows)) same ∙ find-put_same (λ r. r.0) (m, mirror columns M.props) rows ∙ ap (λ (x : Mes). Some (m, mirror columns x.props)) one ∙ ap (λ x. Some (x, mirror columns N.props)) (sym same)
+    | inr other ↦
+        let kept = find-put_other (λ r. r.0) k (m, mirror columns M.props) rows other in
+        kept ∙ shown k N e (ap is_some (sym kept) ∙ there)
+  ]
+
   -- rows after one message was looked at
   record AreWith (one : ℕ → Bool) (rows rows' : Rows) : Type 0 where
     ascend_still : ascend rows' ≡ true
+    show_still : AllShown rows → AllShown rows'
     have : (k : ℕ) → has k rows' ≡ (has k rows || (one k && listed k))
 
   one-row : (m : ℕ) (M : Mes) (rows : Rows) → object_at T m ≡ Some (Message M) → in_scope T.places s M.folder ≡ true → ascend rows ≡ true → AreWith (λ k. m == k) rows (with_found s columns m M rows)
@@ -120,12 +136,14 @@ module _ (T : Tree) (s : Search) (columns : List Column) (w : IsWhole T) where
         let there : listed m ≡ true = rw (is, scope, holds) refl in
         record {
           ascend_still = rw holds (put-ascends (λ r. r.0) 0 (m, mirror columns M.props) rows (omega arith) a);
+          show_still = λ shown. rw holds (put-shows m M rows is shown);
           have = λ k. rw holds (ap is_some (find-put (λ r. r.0) k (m, mirror columns M.props) rows) ∙ put-one k (m == k) refl there);
         }
     | inr fails ↦
         let gone : listed m ≡ false = rw (is, scope, fails) refl in
         record {
           ascend_still = rw fails a;
+          show_still = λ shown. rw fails shown;
           have = λ k. rw fails (left-one k (m == k) refl gone);
         }
   ]
@@ -147,7 +165,7 @@ module _ (T : Tree) (s : Search) (columns : List Column) (w : IsWhole T) where
   AreHeld f ms = (m : ℕ) → is_among ms m ≡ true → (M : Mes) × (object_at T m ≡ Some (Message M)) × (M.folder ≡ f)
 
   rows-among : (f : ℕ) → in_scope T.places s f ≡ true → (ms : List ℕ) → AreHeld f ms → (rows : Rows) → ascend rows ≡ true → Fine (found_among T s columns ms rows) (AreWith (is_among ms) rows)
-  rows-among f scope [] held rows a = record { ascend_still = a; have = λ k. sym (or-false (has k rows)) }
+  rows-among f scope [] held rows a = record { ascend_still = a; show_still = λ shown. shown; have = λ k. sym (or-false (has k rows)) }
   rows-among f scope (m ∷ ms) held rows a =
       let h = held m (first-in m ms) in
       let now : now_at T nothing m ≡ Some (Message h.0) = ap (λ at. at m) (now_nothing T) ∙ h.1 in
@@ -157,6 +175,7 @@ module _ (T : Tree) (s : Search) (columns : List Column) (w : IsWhole T) where
       (rows-among f scope ms (λ k e. held k (later-in m k ms e)) (with_found s columns m h.0 rows) one.ascend_still)
       (λ rows' p. record {
         ascend_still = p.ascend_still;
+        show_still = λ shown. p.show_still (one.show_still shown);
         have = λ k. p.have k ∙ ap (λ b. b || (is_among ms k && listed k)) (one.have k) ∙ merged (has k rows) (m == k) (is_among ms k) (listed k);
       }))
 
@@ -238,7 +257,7 @@ module _ (T : Tree) (s : Search) (columns : List Column) (w : IsWhole T) where
   plain-scope f e = (and_parts (is_plain_at T.places f) _ e).0
 
   rows-below : (ps : List FolderPlace) → EachFound place_id T.places ps → (rows : Rows) → ascend rows ≡ true → Fine (found_below T s columns ps rows) (AreWith (stands_in ps) rows)
-  rows-below [] each rows a = record { ascend_still = a; have = λ k. nowhere k (as_message (object_at T k)) }
+  rows-below [] each rows a = record { ascend_still = a; show_still = λ shown. shown; have = λ k. nowhere k (as_message (object_at T k)) }
     where
       nowhere : (k : ℕ) (o : Option Mes) → has k rows ≡ (has k rows || (holds_of (λ M. is_some (find_place M.folder [])) o && is_listed T.places s o))
       nowhere k None = sym (or-false (has k rows))
@@ -257,12 +276,13 @@ module _ (T : Tree) (s : Search) (columns : List Column) (w : IsWhole T) where
         (λ rows1 one. fine_weaker (AreWith (stands_in ps) rows1) (AreWith (stands_in (p ∷ ps)) rows) (found_below T s columns ps rows1) (rows-below ps each.1 rows1 one.ascend_still)
         (λ rows2 two. record {
           ascend_still = two.ascend_still;
+          show_still = λ shown. two.show_still (one.show_still shown);
           have = λ k. two.have k ∙ ap (λ b. b || (stands_in ps k && listed k)) (one.have k) ∙ merged (has k rows) (is_among (message_ids t.table) k) (stands_in ps k) (listed k)
               ∙ ap (λ b. has k rows || (b && listed k)) (sym (stands-here f p t each.0 plain table.1 ps k refl));
         })))
         )
     | inr scope ↦ rw scope (fine_weaker (AreWith (stands_in ps) rows) (AreWith (stands_in (p ∷ ps)) rows) (found_below T s columns ps rows) (rows-below ps each.1 rows a)
-        (λ rows1 one. record { ascend_still = one.ascend_still; have = λ k. one.have k ∙ ap (λ b. has k rows || b) (stands-apart p ps k scope) }))
+        (λ rows1 one. record { ascend_still = one.ascend_still; show_still = one.show_still; have = λ k. one.have k ∙ ap (λ b. has k rows || b) (stands-apart p ps k scope) }))
   ]
 
   -- each message stands in a folder
@@ -273,12 +293,17 @@ module _ (T : Tree) (s : Search) (columns : List Column) (w : IsWhole T) where
       split None e = refl
       split (Some M) e = rw (w.objects.held k M (is-message k M e)).1 refl
 
--- the rows that are built ascend, and are those of the messages that the search is to list
-pub record AreBuilt (T : Tree) (s : Search) (rows : List (ℕ × List Val)) : Type 0 where
+-- the rows that are built ascend, are those of the messages that the search is to list, and mirror them
+pub record AreBuilt (T : Tree) (s : Search) (columns : List Column) (rows : List (ℕ × List Val)) : Type 0 where
   pub ascend : keys_ascend (λ r. r.0) 0 rows ≡ true
   pub lists_all : row_ids rows ≡ lists T s
+  pub show_all : (m : ℕ) → MirrorsMessage columns rows m (as_message (object_at T m))
 
-pub rows_built : (T : Tree) (s : Search) (columns : List Column) → IsWhole T → Fine (built_rows T s columns) (AreBuilt T s)
+pub rows_built : (T : Tree) (s : Search) (columns : List Column) → IsWhole T → Fine (built_rows T s columns) (AreBuilt T s columns)
 rows_built T s columns w =
-    fine_weaker _ (AreBuilt T s) (built_rows T s columns) (rows-below T s columns w T.places (each-found place_id 0 T.places w.objects.ascend) [] refl)
-    (λ rows p. record { ascend = p.ascend_still; lists_all = rows-are T s rows p.ascend_still (λ k. p.have k ∙ all-stand T s columns w k) })
+    fine_weaker _ (AreBuilt T s columns) (built_rows T s columns) (rows-below T s columns w T.places (each-found place_id 0 T.places w.objects.ascend) [] refl)
+    (λ rows p. record {
+      ascend = p.ascend_still;
+      lists_all = rows-are T s rows p.ascend_still (λ k. p.have k ∙ all-stand T s columns w k);
+      show_all = p.show_still (λ m M e there. absurd (false≢true there));
+    })

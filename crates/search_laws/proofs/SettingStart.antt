@@ -11,7 +11,9 @@ use Rattle.mail_tree.specs.Found.{IsFound, IsFoundBeside}
 use Rattle.mail_tree.specs.Places.{find_place}
 use Rattle.mail_tree.specs.Tree.{Tree}
 use Rattle.search_lists.specs.Order.{AreMarked, InOrder}
+use Rattle.search_lists.specs.Laws.{AllShow}
 use Rattle.search_laws.specs.Laws.{StartsInOrder}
+use Rattle.search_laws.proofs.Attachments.{attachments_start}
 use Rattle.search_laws.proofs.OwnSteps.{place_of}
 
 -- what an opening finds it finds whatever may stand beside
@@ -50,6 +52,8 @@ module _ (name : List ℕ) (X : Searching) (s : StartsSearching name X) where
         found = found-beside (IsOfSearch X.own) X.tree (starts_found name X.tree s.tree);
         mirrors = λ t. w.1;
         counts = λ t. w.2;
+        attachments = λ t. attachments_start name X.tree s.tree;
+        lists = λ t. subst (AllShow X.tree) (sym s.none) tt;
         searches = no-searches;
         fresh = subst (AllFresh X.tree) (sym s.none) tt;
         marked = no-marks;

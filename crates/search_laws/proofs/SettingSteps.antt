@@ -1,13 +1,12 @@
 -- `criteria` leaves a tree with its searches in order.
-use Rattle.std.proofs.Common.{◌≡◌, ◌∙◌, ℕ, suc, ◌<◌, ◌≤◌, ◌%◌, ◌==◌, ◌||◌, Bool, true, false, not, List, [], ◌∷◌, Option, None, Some, Result, Ok, Err, IfOk, IsSome, length, refl, sym, subst, ap, inl, inr, arith}
+use Rattle.std.proofs.Common.{◌≡◌, ◌∙◌, ℕ, suc, ◌<◌, ◌≤◌, ◌%◌, ◌==◌, ◌||◌, Bool, true, false, not, List, [], ◌∷◌, Option, None, Some, Result, Ok, Err, IfOk, IsSome, refl, sym, subst, ap, inl, inr, arith}
 use Rattle.std.specs.Prelude.{nat_le, nat_lt}
 use Rattle.std.specs.List.{list_all}
 use Rattle.std.specs.Option.{option_and_then, option_map}
 use Rattle.std.proofs.lemmas.Bool.{and_parts, cases_Bool, cases_eq, eqb-true, false≢true, leb-true, ltb-true}
-use Rattle.std.proofs.lemmas.Option.{none-some, same_Some}
+use Rattle.std.proofs.lemmas.Option.{same_Some}
 use Rattle.mapi_values.specs.Keyed.{keys_ascend, put_key}
 use Rattle.mapi_values.specs.Messages.{Mes}
-use Rattle.mapi_values.specs.Tables.{find_row}
 use Rattle.mapi_values.specs.Values.{Val}
 use Rattle.mapi_values.proofs.KeyedLaws.{put-ascends}
 use Rattle.restr_codec.specs.Reading.{reading}
@@ -26,30 +25,34 @@ use Rattle.command_text.specs.declared.reply.LastLine.TheVariants.{Done}
 use Rattle.command_text.specs.declared.reply.Reply.{Reply}
 use Rattle.mail_objects.specs.Forms.{Ctx, Tbl}
 use Rattle.mail_objects.specs.declared.object.Object.TheVariants.{Context, Table}
-use Rattle.mail_tree.specs.Changing.{Answer, Changed, ◌>>=◌, as_message, beside, context_at, found, hierarchy, nothing, now_at, refused_if, with_object, with_rows}
+use Rattle.mail_tree.specs.Changing.{Answer, Changed, ◌>>=◌, as_message, beside, found, nothing, now_at, refused_if, with_object, with_rows}
 use Rattle.mail_tree.specs.Folders.{Outcome, replied, replying, unless}
 use Rattle.mail_tree.specs.Places.{find_place}
 use Rattle.mail_tree.specs.Settling.{mirrored, with_context}
 use Rattle.mail_tree.specs.Step as tree
 use Rattle.mail_tree.specs.Tree.{Tree, object_at}
-use Rattle.mail_tree.specs.Values.{with_counts}
 use Rattle.mail_tree.specs.Whole.{Fine, IsWhole}
 use Rattle.mail_tree.proofs.AfterTree.{after_now, now_nothing, puts_object}
 use Rattle.mail_tree.proofs.FineLaws.{after_context, after_found, after_table, after_test, fine_then}
 use Rattle.mail_tree.proofs.KeyedFinds.{find-put_other, find-put_same}
 use Rattle.mail_tree.proofs.KindsOfPuts.{beside_kind, same_table}
 use Rattle.mail_tree.proofs.Nearly.{Puts}
-use Rattle.mail_laws.proofs.Keeping.{KeepsAt, both, if_any, if_then, if_weaker, kept_put, mirrored_keeps}
+use Rattle.mail_laws.proofs.Keeping.{KeepsAt, both}
 use Rattle.mail_searches.specs.Building.{built, built_rows}
 use Rattle.mail_searches.specs.Criteria.{Coming, built_unless, can_hold, criteria_in, given_criteria, given_restriction, given_scope, if_readable, overfills, repeats, setting_criteria, unless_other, with_criteria}
-use Rattle.mail_searches.specs.Relisting.{counted_search, named, unless_unclear, unread, with_results}
+use Rattle.mail_searches.specs.Relisting.{counted_search, with_results}
 use Rattle.mail_searches.specs.Searches.{IsFresh, Search, ShowsCriteria, criteria_node, find_search, is_listed, is_plain_at, lists, results, row_ids, runs, search_id, search_of}
 use Rattle.mail_searches.specs.Searching.{AllFresh, AreSearches, Each, IsOfSearch, Searching, is_own}
 use Rattle.mail_searches.specs.Step.{after}
+use Rattle.search_lists.proofs.CountLaws.{results-tell}
 use Rattle.search_lists.proofs.ListLaws.{are-rows, rows-are}
+use Rattle.search_lists.proofs.SettleLaws.{ends-keep}
+use Rattle.search_lists.proofs.ShowLaws.{after-shows, tells-same, tree-shows}
 use Rattle.search_lists.specs.Keeps.{IsThere, KeepsOrder, ResultsKeepOrder}
+use Rattle.search_lists.specs.Laws.{AllShow, MirrorsMessage, ShowsList, TellsList}
 use Rattle.search_lists.specs.Order.{InOrder}
 use Rattle.search_laws.specs.Laws.{SetsInOrder}
+use Rattle.search_laws.proofs.Attachments.{attachments_still}
 use Rattle.search_laws.proofs.Marked.{marks_still}
 use Rattle.search_laws.proofs.SettingLists.{AreBuilt, each-found, rows_built}
 use Rattle.search_laws.proofs.SettingObject.{counts_after_object, found_after_object, messages_after_object, mirrors_after_object, object_puts, put_so, whole_after_object}
@@ -163,23 +166,10 @@ apart-nodes f g kind a b less other e = other (omega arith)
 
 -- ---- the list of a search gets rows
 
--- what stands at these ids stays while a search is counted and its row is made to show it
-module _ (S : ℕ → Type 0) (no_hierarchy : (g : ℕ) → S (hierarchy g) → ⊥) (T : Tree) where
-  counted-keeps : (s : ℕ) (rows : List (ℕ × List Val)) (D : Changed) → (S s → ⊥) → IfOk (counted_search T s rows D) (KeepsAt S T D)
-  unfolding counted_search
-  counted-keeps s rows D other =
-      if_then (λ c. Unit {0}) (KeepsAt S T D) (context_at T D s) _ (if_any (context_at T D s)) (λ c u.
-      if_then (λ v. Unit {0}) (KeepsAt S T D) (unless_unclear T D rows) _ (if_any (unless_unclear T D rows)) (λ v u.
-      let props = with_counts (length (named T D rows)) (length (unread (named T D rows))) false c.props in
-      kept_put S _ _ s _ (puts_object T D s (Some (Context (record c { props = props })))) other))
-
-  ends-keep : (s : ℕ) (rows : List (ℕ × List Val)) (D : Changed) → (S s → ⊥) → IfOk (counted_search T s rows D >>= mirrored T s) (KeepsAt S T D)
-  ends-keep s rows D other = if_then (KeepsAt S T D) (KeepsAt S T D) (counted_search T s rows D) (mirrored T s) (counted-keeps s rows D other)
-      (λ D' k. if_weaker (KeepsAt S T D') (KeepsAt S T D) (mirrored T s D') (mirrored_keeps S no_hierarchy T s D') (λ D'' k' m is. k' m is ∙ k m is))
-
 module _ (T : Tree) (s : ℕ) (kind : s % 32 ≡ 3) (rows : List (ℕ × List Val)) (t : Tbl) (D : Changed) where
-  abbrev Others : ℕ → Type 0
-  Others q = (q % 32 ≡ 16) × (q ≡ results s → ⊥)
+  -- neither the list of the search, nor its values, nor a table of folders
+  abbrev pub Others : ℕ → Type 0
+  Others q = (q ≡ results s → ⊥) × ((q ≡ s → ⊥) × (q % 32 ≡ 13 → ⊥))
 
   abbrev Mine : ℕ → Type 0
   Mine q = q ≡ results s
@@ -187,10 +177,11 @@ module _ (T : Tree) (s : ℕ) (kind : s % 32 ≡ 3) (rows : List (ℕ × List Va
   at-results : results s % 32 ≡ 16
   at-results = beside_kind s 16 (omega arith)
 
-  -- lists of others stay, and this one has these rows
+  -- all else stays, the list has these rows, and the values tell their counts
   pub record Listed (D' : Changed) : Type 0 where
-    pub others : (q : ℕ) → q % 32 ≡ 16 → (q ≡ results s → ⊥) → now_at T D' q ≡ now_at T D q
+    pub others : (q : ℕ) → Others q → now_at T D' q ≡ now_at T D q
     pub here : now_at T D' (results s) ≡ Some (with_rows rows t)
+    pub tells : TellsList T D' s
 
   abbrev D1 : Changed
   D1 = with_object (results s) (Some (with_rows rows t)) D
@@ -199,12 +190,17 @@ module _ (T : Tree) (s : ℕ) (kind : s % 32 ≡ 3) (rows : List (ℕ × List Va
   unfolding with_results
   results-listed =
       let puts = puts_object T D (results s) (Some (with_rows rows t)) in
-      both (KeepsAt Others T D1) (KeepsAt Mine T D1) Listed (counted_search T s rows D1 >>= mirrored T s)
-      (ends-keep Others (λ g e. omega (arith, e.0, beside_kind g 13 (omega arith))) T s rows D1 (λ e. omega (arith, e.0)))
-      (ends-keep Mine (λ g e. omega (arith, e, at-results, beside_kind g 13 (omega arith))) T s rows D1 (λ e. omega (arith, e, at-results)))
-      (λ D' others mine. record {
-        others = λ q is other. others q (is, other) ∙ puts.others q other;
-        here = mine (results s) refl ∙ puts.here;
+      let a = counted_search T s rows D1 >>= mirrored T s in
+      both (λ D'. KeepsAt Others T D1 D' × KeepsAt Mine T D1 D') (λ D'. TellsList T D' s) Listed a
+      (both (KeepsAt Others T D1) (KeepsAt Mine T D1) (λ D'. KeepsAt Others T D1 D' × KeepsAt Mine T D1 D') a
+      (ends-keep T Others (λ g e. e.1.1 (beside_kind g 13 (omega arith))) s rows D1 (λ e. e.1.0 refl))
+      (ends-keep T Mine (λ g e. omega (arith, e, at-results, beside_kind g 13 (omega arith))) s rows D1 (λ e. omega (arith, e, at-results)))
+      (λ D' others mine. (others, mine)))
+      (results-tell T s kind rows t D)
+      (λ D' kept tells. record {
+        others = λ q other. kept.0 q other ∙ puts.others q other.0;
+        here = kept.1 (results s) refl ∙ puts.here;
+        tells = tells;
       })
 
 -- ---- the criteria that are set
@@ -223,7 +219,8 @@ listed-there T z (Some M) e = refl
 -- What was changed: the object of criteria, and the list, which is as it was where the search is stopped.
 record Sets (T : Tree) (s : ℕ) (search : Search) (D1 D : Changed) : Type 0 where
   keeps : KeepsOrder T (put_so T (replied Done) D1) D
-  others : (q : ℕ) → q % 32 ≡ 16 → (q ≡ results s → ⊥) → now_at T D q ≡ now_at T D1 q
+  others : (q : ℕ) → (q ≡ results s → ⊥) × ((q ≡ s → ⊥) × (q % 32 ≡ 13 → ⊥)) → now_at T D q ≡ now_at T D1 q
+  shows : runs search ≡ true → ShowsList T D s
   fresh : runs search ≡ true → (t : Tbl) × (now_at T D (results s) ≡ Some (Table t)) × (row_ids t.table.rows ≡ lists T search)
 
 module _ (results_keep : ResultsKeepOrder) (tidy : Bool) (X : Searching) (s : ℕ) (c : Ctx) (set : CritSet) (order : InOrder tidy X) (own : is_own X.own s ≡ true) (at : object_at X.tree (criteria_node s) ≡ Some (Context c)) (holds : can_hold set ≡ true) where
@@ -279,20 +276,30 @@ module _ (results_keep : ResultsKeepOrder) (tidy : Bool) (X : Searching) (s : �
   unfolding built
   by-stop true e = record {
     keeps = record { whole = λ w. w; found = λ own f. f; mirrors = λ w m. m; counts = λ w k. k; criteria = λ q is. refl; messages = λ q. refl; tables = λ q t is e. (t, e) };
-    others = λ q is other. refl;
+    others = λ q other. refl;
+    shows = λ run. absurd (false≢true (sym (runs-on s set run) ∙ e));
     fresh = λ run. absurd (false≢true (sym (runs-on s set run) ∙ e));
   }
   by-stop false e =
       let t = table.0 in
+      let Built : List (ℕ × List Val) → Type 0 = AreBuilt T search t.table.columns in
       after_table (Sets T s search first) T first (results s) t (λ t. built_rows T search t.table.columns >>= λ rows. with_results T s rows t first) table.1
-      (fine_then (AreBuilt T search) (Sets T s search first) (built_rows T search t.table.columns) (λ rows. with_results T s rows t first) (rows_built T search t.table.columns order.whole) (λ rows b.
+      (fine_then Built (Sets T s search first) (built_rows T search t.table.columns) (λ rows. with_results T s rows t first) (rows_built T search t.table.columns order.whole) (λ rows b.
       fine-with (KeepsOrder T said) (Listed T s kind rows t first) (Sets T s search first) (with_results T s rows t first)
       (results_keep T said s rows t order.whole first-whole there table.1 b.ascend)
       (results-listed T s kind rows t first)
-      (λ D keeps listed. record {
+      (λ D keeps listed.
+      let u : Tbl = record { parent = t.parent; table = record t.table { rows = rows } } in
+      record {
         keeps = keeps;
         others = listed.others;
-        fresh = λ run. (record { parent = t.parent; table = record t.table { rows = rows } }, listed.here, b.lists_all);
+        shows = λ run. record {
+          mirrors = λ v is m.
+              let message : as_message (now_at T D m) ≡ as_message (object_at T m) = keeps.messages m ∙ first-messages m in
+              subst (λ (x : Tbl). MirrorsMessage x.table.columns x.table.rows m (as_message (now_at T D m))) (same_table u v (sym listed.here ∙ is)) (subst (MirrorsMessage t.table.columns rows m) (sym message) (b.show_all m));
+          counts = listed.tells;
+        };
+        fresh = λ run. (u, listed.here, b.lists_all);
       })))
 
   module _ (D : Changed) (sets : Sets T s search first D) where
@@ -314,7 +321,14 @@ module _ (results_keep : ResultsKeepOrder) (tidy : Bool) (X : Searching) (s : �
     -- the list of another search is as it was
     list-now : (f : ℕ) → is_own X.own f ≡ true → (f ≡ s → ⊥) → object_at X'.tree (results f) ≡ object_at T (results f)
     list-now f is other =
-        at-now (results f) ∙ sets.others (results f) (beside_kind f 16 (omega arith)) (apart-nodes f s 16 (order.searches.kinds f is) kind (omega arith) other) ∙ first-listed f
+        let sixteen = beside_kind f 16 (omega arith) in
+        at-now (results f) ∙ sets.others (results f) (apart-nodes f s 16 (order.searches.kinds f is) kind (omega arith) other, ((λ e. omega (arith, e, sixteen, kind)), (λ e. omega (arith, e, sixteen)))) ∙ first-listed f
+
+    -- so are its values
+    values-now : (f : ℕ) → is_own X.own f ≡ true → (f ≡ s → ⊥) → object_at X'.tree f ≡ object_at T f
+    values-now f is other =
+        let three = order.searches.kinds f is in
+        at-now f ∙ sets.others f ((λ e. omega (arith, e, three, beside_kind s 16 (omega arith))), (other, (λ e. omega (arith, e, three)))) ∙ puts.others f (λ e. omega (arith, e, three, node))
 
     found-now : (f : ℕ) → (f ≡ s → ⊥) → find_search f searches ≡ find_search f X.searches
     found-now f other = find-put_other search_id f search X.searches other
@@ -359,12 +373,21 @@ module _ (results_keep : ResultsKeepOrder) (tidy : Bool) (X : Searching) (s : �
         (each-found search_id 0 X.searches order.searches.ascend) order.fresh
         (λ z stands fresh other run. let f = fresh run in (f.0, list-now z.nid (order.searches.among z.nid z stands) other ∙ f.1, same-lists T X'.tree z f.0.table.rows refl messages-now f.2)))
 
+    shows-now : AllShow T X.searches → AllShow X'.tree searches
+    shows-now shows = each-put search_id (λ z. runs z ≡ true → ShowsList X'.tree nothing z.nid) search 0 X.searches order.searches.ascend (λ run. after-shows T X'.tree D s at-now (sets.shows run))
+        (each-two (λ z. find_search (search_id z) X.searches ≡ Some z) (λ z. runs z ≡ true → ShowsList T nothing z.nid) (λ z. (search_id z ≡ s → ⊥) → runs z ≡ true → ShowsList X'.tree nothing z.nid) X.searches
+        (each-found search_id 0 X.searches order.searches.ascend) shows (λ z stands was other run.
+        let is = order.searches.among z.nid z stands in
+        tree-shows T X'.tree z.nid messages-now (list-now z.nid is other) (λ c at. tells-same (object_at T z.nid) c (sym (values-now z.nid is other) ∙ at)) (was run)))
+
     order-now : InOrder tidy X'
     order-now = record {
       whole = sets.keeps.whole first-whole;
       found = sets.keeps.found X.own (found_after_object T (criteria_node s) c props (replied Done) node at (IsOfSearch X.own) (s, own, inr (inl refl)) order.found);
       mirrors = λ t. sets.keeps.mirrors first-whole (mirrors_after_object T (criteria_node s) c props (replied Done) node at order.whole (order.mirrors t));
       counts = λ t. sets.keeps.counts first-whole (counts_after_object T (criteria_node s) c props (replied Done) node at order.whole (order.counts t));
+      attachments = λ t. attachments_still T X'.tree messages-now (order.attachments t);
+      lists = λ t. shows-now (order.lists t);
       searches = searches-now;
       fresh = fresh-now;
       marked = marks_still X now searches order.marked (λ f three other. refl);

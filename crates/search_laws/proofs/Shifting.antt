@@ -1,5 +1,5 @@
 -- `mvdir` of an own search folder leaves all in order.
-use Rattle.std.proofs.Common.{◌≡◌, ◌∙◌, ℕ, ◌%◌, Bool, true, false, Some, IsSome, IfOk, refl, subst, sym}
+use Rattle.std.proofs.Common.{◌≡◌, ◌∙◌, ℕ, ◌%◌, Bool, true, false, Some, IsSome, IfOk, arith, refl, subst, sym}
 use Rattle.command_text.specs.declared.reply.LastLine.TheVariants.{Done}
 use Rattle.mail_objects.specs.Forms.{Ctx}
 use Rattle.mail_objects.specs.declared.object.Object.TheVariants.{Context}
@@ -7,7 +7,7 @@ use Rattle.mail_tree.specs.declared.places.FolderPlace.{FolderPlace}
 use Rattle.mail_tree.specs.Changing.{Changed, nothing, now_at}
 use Rattle.mail_tree.specs.Folders.{replied, unchanged}
 use Rattle.mail_tree.specs.Places.{find_place, is_plain, is_within, moves_deep}
-use Rattle.mail_tree.specs.Tree.{Tree}
+use Rattle.mail_tree.specs.Tree.{Tree, object_at}
 use Rattle.mail_tree.specs.Whole.{AreWhole, Fine}
 use Rattle.mail_tree.proofs.AfterTree.{puts_object}
 use Rattle.mail_tree.proofs.FineLaws.{fine_then}
@@ -24,6 +24,7 @@ use Rattle.mail_searches.specs.Searching.{IsOfSearch, Searching, is_own}
 use Rattle.mail_searches.specs.Step.{after}
 use Rattle.search_lists.specs.Order.{InOrder}
 use Rattle.search_lists.proofs.ResultSteps.{if_given}
+use Rattle.search_lists.proofs.ShowLaws.{tells-now-as, tells-same}
 use Rattle.search_laws.specs.Laws.{MovesInOrder}
 use Rattle.search_laws.proofs.OwnShift.{Shifts, finds_before, in_order, same_searches}
 use Rattle.search_laws.proofs.OwnSteps.{IsQuietId, counted_before, shown_before, fine_with, if_four, no_root, now_before, place_of}
@@ -49,6 +50,7 @@ module _ (tidy : Bool) (X : Searching) (s : ℕ) (h : InOrder tidy X) (own : is_
   stays : Shifts tidy X s (unchanged T (replied Done))
   stays = record {
     kept = λ q quiet other. now_before T q;
+    values = λ c at. tells-same (object_at T s) c (sym (now_before T s) ∙ at);
     here = h.searches.placed s own;
     others = λ g other. refl;
     foreign = λ g q e plain. plain_other (nearly (λ x. ⊥) T.places (now_at T nothing) w) s three g q e plain;
@@ -75,6 +77,9 @@ module _ (tidy : Bool) (X : Searching) (s : ℕ) (h : InOrder tidy X) (own : is_
         (if_given (tidy ≡ true) Counted (shifting T s c p.0.parent.bits to) (λ t. counted_shifted T s to p.0 r c w three p.1 at_to plain_to root (h.counts t)))
         (λ D kept finds shown counted. record {
           kept = λ q quiet other. kept q quiet ∙ (puts_object T nothing s (Some (Context (in_parent to c)))).others q other ∙ now_before T q;
+          values = λ x at.
+              let stays : now_at T D s ≡ Some (Context (in_parent to c)) = kept s ((λ e. omega (arith, e, three)), (λ e. omega (arith, e, three))) ∙ (puts_object T nothing s (Some (Context (in_parent to c)))).here in
+              tells-now-as (object_at T s) (now_at T D s) c (in_parent to c) x (sym (now_before T s) ∙ (w.contexts s p.0 p.1).1) (λ ms told. told) stays at;
           here = subst IsSome (sym (shifted_here T.places s to)) refl;
           others = λ g other. shifted_other T.places s to g other;
           foreign = λ g q e plain. plain_not_here T.places s to g q e plain;

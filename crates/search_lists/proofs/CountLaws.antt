@@ -17,7 +17,7 @@ use Rattle.mail_tree.proofs.KindsOfPuts.{beside_kind}
 use Rattle.mail_laws.proofs.Keeping.{KeepsAt, both, if_any, if_then, mirrored_keeps}
 use Rattle.mail_searches.specs.Searches.{results, runs}
 use Rattle.mail_searches.specs.Relisting.{before_those, concerns, counted_search, named, relisted, settled_search, takes_row, unless_unclear, unread, with_results}
-use Rattle.search_lists.specs.Laws.{CountsAnew, TellsCounts}
+use Rattle.search_lists.specs.Laws.{CountsAnew, TellsCounts, TellsList}
 use Rattle.search_lists.proofs.SettleLaws.{SameMessages, found-context, mirrored-apart, put-apart}
 
 named-same : (T : Tree) (D D' : Changed) → SameMessages T D D' → (rows : List (ℕ × List Val)) → named T D' rows ≡ named T D rows
@@ -68,15 +68,13 @@ module _ (T : Tree) (s : ℕ) (search : s % 32 ≡ 3) where
       (k, puts.here, subst (λ ms. TellsCounts ms props) (sym (named-same T D D' same rows)) (counts-are ms c.props), puts.others (results s) (λ e. omega (arith, e, search, at-results)))))
 
   -- what a search's table has, its values tell
-  abbrev Tells : Changed → Type 0
-  Tells D = (c : Ctx) (t : Tbl) → now_at T D s ≡ Some (Context c) → now_at T D (results s) ≡ Some (Table t) → TellsCounts (named T D t.table.rows) c.props
-
-  results-tell : (rows : List (ℕ × List Val)) (t : Tbl) (D : Changed) → IfOk (with_results T s rows t D) Tells
+  pub results-tell : (rows : List (ℕ × List Val)) (t : Tbl) (D : Changed) → IfOk (with_results T s rows t D) (λ D'. TellsList T D' s)
   unfolding with_results
   results-tell rows t D =
       let D1 = with_object (results s) (Some (with_rows rows t)) D in
       let u : Tbl = record { parent = t.parent; table = record t.table { rows = rows } } in
       let put = puts_object T D (results s) (Some (with_rows rows t)) in
+      let Tells : Changed → Type 0 = λ D'. TellsList T D' s in
       if_then (Told D1 rows) Tells (counted_search T s rows D1) (mirrored T s) (counted-tells rows D1) (λ D2 told.
       both (SameMessages T D2) (KeepsAt Own T D2) Tells (mirrored T s D2) (mirrored-apart T s D2) (mirrored_keeps Own own-hierarchy T s D2) (λ D3 same keeps c v is-c is-v.
       let k-c : told.0 ≡ c = same_context told.0 c (sym (keeps s (inl refl) ∙ told.1) ∙ is-c) in

@@ -19,3 +19,4 @@ pub mod ListSteps
 pub mod ResultSteps
 pub mod SettleSteps
 pub mod AfterOrder
+pub mod ShowLaws

@@ -15,7 +15,7 @@ use Rattle.live_search.specs.Touching.{delta}
 use Rattle.mail_searches.specs.Searches.{Search, is_listed, runs}
 use Rattle.mail_searches.specs.Relisting.{Around, Touch, by_delta, changes_row, is, is_gone, props_of, relisted, relisted_row, takes_row, was}
 use Rattle.mail_searches.specs.Searching.{Each}
-use Rattle.search_lists.specs.Laws.{HaltedStays, ShowsTouched, is_touched}
+use Rattle.search_lists.specs.Laws.{HaltedStays, MirrorsMessage, ShowsTouched, is_touched}
 
 abbrev pub Rows : Type 0
 Rows = List (ℕ × List Val)
@@ -42,7 +42,7 @@ either : (b c : Bool) → (b ≡ c) ⊎ (b ≡ c) → b ≡ c
 either b c (inl e) = e
 either b c (inr e) = e
 
-none-is : {X : Type 0} (o : Option X) → is_some o ≡ false → o ≡ None
+pub none-is : {X : Type 0} (o : Option X) → is_some o ≡ false → o ≡ None
 none-is None e = refl
 none-is (Some x) e = cc
 
@@ -85,6 +85,23 @@ module _ (columns : List Column) (m : ℕ) (props : List Val) where
   one-still true false anew rows e = cc
   one-still true true true rows e = cc
   one-still true true false rows e = refl
+
+  -- a row that showed its message shows it as it is now
+  one-shows : (w i anew : Bool) (old new : Option Mes) (rows : Rows) → props ≡ props_of new → ascend rows ≡ true → (anew ≡ false → new ≡ old) → ((has m rows ≡ w) × MirrorsMessage columns rows m old) ⊎ MirrorsMessage columns rows m new
+      → MirrorsMessage columns (by_delta (delta w i) anew columns m props rows) m new
+  one-shows false false anew old new rows are a same (inl stood) M e there = absurd (false≢true (sym stood.0 ∙ there))
+  one-shows false false anew old new rows are a same (inr shows) M e there = shows M e there
+  one-shows false true anew old new rows are a same stood M e there = put-here m (mirror columns props) rows ∙ ap (λ ps. Some (m, mirror columns ps)) (are ∙ ap props_of e)
+  one-shows true false anew old new rows are a same stood M e there = absurd (false≢true (sym (ap is_some (drop-here m rows a)) ∙ there))
+  one-shows true true true old new rows are a same stood M e there = put-here m (mirror columns props) rows ∙ ap (λ ps. Some (m, mirror columns ps)) (are ∙ ap props_of e)
+  one-shows true true false old new rows are a same (inl stood) M e there = stood.1 M (sym (same refl) ∙ e) there
+  one-shows true true false old new rows are a same (inr shows) M e there = shows M e there
+
+-- a message that was listed and of which no row changes wasn't put anew
+one-kept : (w i anew : Bool) → w ≡ true → changes_row (delta w i) anew ≡ false → anew ≡ false
+one-kept true true anew there e = e
+one-kept true false anew there e = cc
+one-kept false i anew there e = cc
 
 -- a row that isn't there is dropped for nothing
 pub dropped-none : (m : ℕ) (rows : Rows) → has m rows ≡ false → drop_row m rows ≡ rows
@@ -142,6 +159,49 @@ module _ (d : Around) (s : Search) (columns : List Column) where
                 let other : has k rows' ≡ has k rows = ap is_some (row-other t rows k n) in
                 relisted-at ts rows' k olds.1 news.1 a' (λ none. other ∙ rest (rw (f, none) refl))
                 (λ some. elim (todo (rw some (or-true (t.nid == k)))) [ inl e ↦ inl (other ∙ e) | inr e ↦ inr (other ∙ e) ])
+          ]
+
+      -- a row that shows its message still, or shows it as it is now where that was looked at
+      pub relisted-shows : (ts : List Touch) (rows : Rows) (k : ℕ) → Each (λ t. t.old ≡ before t.nid) ts → Each (λ t. t.new ≡ after t.nid) ts → Each (λ t. t.anew ≡ false → t.new ≡ t.old) ts → ascend rows ≡ true
+          → (is_touched ts k ≡ false → MirrorsMessage columns rows k (after k)) → (is_touched ts k ≡ true → ((has k rows ≡ W k) × MirrorsMessage columns rows k (before k)) ⊎ MirrorsMessage columns rows k (after k))
+          → MirrorsMessage columns (relisted d s columns ts rows) k (after k)
+      relisted-shows [] rows k olds news sames a rest todo = rest refl
+      relisted-shows (t ∷ ts) rows k olds news sames a rest todo =
+          let rows' = relisted_row d s columns t rows in
+          let a' = row-ascends t rows a in
+          elim (cases_Bool (t.nid == k)) [
+            | inl y ↦
+                let e : t.nid ≡ k = eqb-true t.nid k y in
+                let stood : ((has t.nid rows ≡ was d s t) × MirrorsMessage columns rows t.nid t.old) ⊎ MirrorsMessage columns rows t.nid t.new = elim (todo (rw y refl)) [
+                  | inl is ↦
+                      let there : (has t.nid rows ≡ W t.nid) × MirrorsMessage columns rows t.nid (before t.nid) = subst (λ x. (has x rows ≡ W x) × MirrorsMessage columns rows x (before x)) (sym e) is in
+                      inl (there.0 ∙ ap (is_listed d.before s) (sym olds.0), subst (MirrorsMessage columns rows t.nid) (sym olds.0) there.1)
+                  | inr shows ↦ inr (subst (MirrorsMessage columns rows t.nid) (sym news.0) (subst (λ x. MirrorsMessage columns rows x (after x)) (sym e) shows))
+                ] in
+                let here : MirrorsMessage columns rows' t.nid t.new = subst (λ r. MirrorsMessage columns r t.nid t.new) (sym (running-row t rows))
+                (one-shows columns t.nid (props_of t.new) (was d s t) (is d s t) t.anew t.old t.new rows refl a sames.0 stood) in
+                let now : MirrorsMessage columns rows' k (after k) = subst (λ x. MirrorsMessage columns rows' x (after x)) e (subst (MirrorsMessage columns rows' t.nid) news.0 here) in
+                relisted-shows ts rows' k olds.1 news.1 sames.1 a' (λ none. now) (λ some. inr now)
+            | inr f ↦
+                let n : k ≡ t.nid → ⊥ = λ e. false≢true (sym f ∙ eq-eqb t.nid k (sym e)) in
+                let other : find_row k rows' ≡ find_row k rows = row-other t rows k n in
+                let still : (o : Option Mes) → MirrorsMessage columns rows k o → MirrorsMessage columns rows' k o = λ o shows M e there. other ∙ shows M e (ap is_some (sym other) ∙ there) in
+                relisted-shows ts rows' k olds.1 news.1 sames.1 a' (λ none. still (after k) (rest (rw (f, none) refl)))
+                (λ some. elim (todo (rw some (or-true (t.nid == k)))) [ inl is ↦ inl (ap is_some other ∙ is.0, still (before k) is.1) | inr shows ↦ inr (still (after k) shows) ])
+          ]
+
+      -- a message that was listed is as it was where no row changes
+      pub unchanged-same : (ts : List Touch) (k : ℕ) → Each (λ t. t.old ≡ before t.nid) ts → Each (λ t. t.new ≡ after t.nid) ts → Each (λ t. t.anew ≡ false → t.new ≡ t.old) ts
+          → list_any (λ t. changes_row (delta (was d s t) (is d s t)) t.anew) ts ≡ false → is_touched ts k ≡ true → W k ≡ true → after k ≡ before k
+      unchanged-same [] k olds news sames none some listed = cc
+      unchanged-same (t ∷ ts) k olds news sames none some listed =
+          let p = or_parts (changes_row (delta (was d s t) (is d s t)) t.anew) _ none in
+          elim (cases_Bool (t.nid == k)) [
+            | inl y ↦
+                let e : t.nid ≡ k = eqb-true t.nid k y in
+                let there : was d s t ≡ true = ap (is_listed d.before s) (olds.0 ∙ ap before e) ∙ listed in
+                sym (news.0 ∙ ap after e) ∙ sames.0 (one-kept (was d s t) (is d s t) t.anew there p.0) ∙ olds.0 ∙ ap before e
+            | inr f ↦ unchanged-same ts k olds.1 news.1 sames.1 p.1 (sym (rw f refl) ∙ some) listed
           ]
 
     -- a search in which none of these messages comes, goes or was put anew

@@ -86,7 +86,7 @@ module _ (T : Tree) where
         let props = with_counts (length (named T D rows)) (length (unread (named T D rows))) false c.props in
         kept_put S _ _ s _ (puts_object T D s (Some (Context (record c { props = props })))) other))
 
-    ends-keep : (s : ℕ) (rows : List (ℕ × List Val)) (D : Changed) → (S s → ⊥) → IfOk (counted_search T s rows D >>= mirrored T s) (KeepsAt S T D)
+    pub ends-keep : (s : ℕ) (rows : List (ℕ × List Val)) (D : Changed) → (S s → ⊥) → IfOk (counted_search T s rows D >>= mirrored T s) (KeepsAt S T D)
     ends-keep s rows D other = if_then (KeepsAt S T D) (KeepsAt S T D) (counted_search T s rows D) (mirrored T s) (counted-keeps s rows D other)
         (λ D' k. if_weaker (KeepsAt S T D') (KeepsAt S T D) (mirrored T s D') (mirrored_keeps S no_hierarchy T s D') (λ D'' k' m is. k' m is ∙ k m is))
 
@@ -96,7 +96,7 @@ module _ (T : Tree) where
     results-keep s rows t D other list = if_weaker (KeepsAt S T (with_object (results s) (Some (with_rows rows t)) D)) (KeepsAt S T D) _ (ends-keep s rows (with_object (results s) (Some (with_rows rows t)) D) other)
         (λ D' k m is. k m is ∙ kept_put S _ _ (results s) _ (puts_object T D (results s) (Some (with_rows rows t))) list m is)
 
-    search-keeps : (d : Around) (ts : List Touch) (s : Search) (D : Changed) → (S s.nid → ⊥) → (S (results s.nid) → ⊥) → IfOk (settled_search T d ts s D) (KeepsAt S T D)
+    pub search-keeps : (d : Around) (ts : List Touch) (s : Search) (D : Changed) → (S s.nid → ⊥) → (S (results s.nid) → ⊥) → IfOk (settled_search T d ts s D) (KeepsAt S T D)
     unfolding settled_search
     search-keeps d ts s D other list = elim (cases_Bool (concerns d s ts)) [
       | inl y ↦ rw y (if_then (λ t. Unit {0}) (KeepsAt S T D) (table_at T D (results s.nid)) _ (if_any (table_at T D (results s.nid))) (λ t u. elim (cases_Bool (runs s || takes_row t.table.rows ts)) [

@@ -1,6 +1,7 @@
 -- The messages that each command touches are all that matter to searches.
 use Rattle.std.proofs.Common.{◌≡◌, ◌∙◌, ℕ, ◌==◌, true, false, List, [], ◌∷◌, ◌++◌, Option, None, Some, IfOk, ap, sym, refl, subst, inl, inr}
 use Rattle.std.proofs.lemmas.Bool.{cases_Bool, cases_eq, eq-eqb, false≢true}
+use Rattle.std.specs.FinMap as map
 use Rattle.mapi_values.specs.Messages.{Mes}
 use Rattle.command_text.specs.declared.command.Command.{Command}
 use Rattle.command_text.specs.declared.command.Command.TheVariants.{MakeFolder, RenameFolder, MoveFolder, RemoveFolder, ListFolder, NewMessage, SetProperty, UnsetProperty, GetProperty, ListProperties, MoveMessage, CopyMessage, RemoveMessage, AddRecipient, RemoveRecipient, AddAttachment, AppendData, RemoveAttachment, FetchData, Save, Quit, NameProperty, MakeSearch, SetCriteria, GetCriteria, SetEmbedded}
@@ -10,7 +11,7 @@ use Rattle.command_text.specs.declared.reply.Reply.{Reply}
 use Rattle.mail_objects.specs.declared.object.Object.{Object}
 use Rattle.mail_objects.specs.declared.object.Object.TheVariants.{Bare, Context, Message, Table}
 use Rattle.mail_tree.specs.declared.places.FolderPlace.{FolderPlace}
-use Rattle.mail_tree.specs.Changing.{as_message, nothing, now_at, refused_if}
+use Rattle.mail_tree.specs.Changing.{as_message, newest, nothing, now_at, refused_if}
 use Rattle.mail_tree.specs.Folders.{Outcome, folder_in, moved_folder, nid, place, replied, unchanged, unless_plain, unless_protected}
 use Rattle.mail_tree.specs.Ids.{new_id}
 use Rattle.mail_tree.specs.Messages.{copy_of, in_folder}
@@ -35,8 +36,9 @@ use Rattle.mail_searches.specs.Searches.{is_listed}
 use Rattle.mail_searches.specs.Relisting.{Touch}
 use Rattle.mail_searches.specs.Touching.{made, messages_below, stands_in, touch_at, touched}
 use Rattle.mail_searches.specs.Searching.{Each}
-use Rattle.search_lists.specs.Laws.{AreTouched, TouchesAll}
+use Rattle.search_lists.specs.Laws.{AreTouched, TouchesAll, is_touched}
 use Rattle.search_lists.proofs.BelowLaws.{Stays, below-folder}
+use Rattle.search_lists.proofs.RowLaws.{none-is}
 use Rattle.search_lists.proofs.ScopeLaws.{meets-none, placed-out, same-listed}
 
 -- one message is touched, and no other changed
@@ -44,16 +46,21 @@ one_touch : (T : Tree) (o : Outcome) (m : ℕ) (now : Option Mes) → OnlyMessag
 one_touch T o m now only = record {
   old = (refl, tt);
   new = (ap (λ g. as_message (g m)) (after_now T o), tt);
-  others = λ s k none.
-      let apart : k ≡ m → ⊥ = λ e. false≢true (sym none ∙ rw (eq-eqb m k (sym e)) refl) in
-      sym (ap (λ places. is_listed places s (message_with (after T o) k)) only.places ∙ ap (is_listed T.places s) (only.others k apart));
+  same = (λ kept. ap (λ x. as_message (newest x (object_at T m))) (none-is (map.get o.changed.objects m) kept), tt);
+  stay = λ k none. only.others k (apart k none);
+  others = λ s k none. sym (ap (λ places. is_listed places s (message_with (after T o) k)) only.places ∙ ap (is_listed T.places s) (only.others k (apart k none)));
 }
+  where
+    apart : (k : ℕ) → is_touched (touch_at T o m ∷ []) k ≡ false → k ≡ m → ⊥
+    apart k none e = false≢true (sym none ∙ rw (eq-eqb m k (sym e)) refl)
 
 -- nothing is touched, where each message and each place of a folder is as it was
 none_touched : (T : Tree) (o : Outcome) → ((k : ℕ) → message_with (after T o) k ≡ message_with T k) → o.places ≡ T.places → AreTouched T o []
 none_touched T o messages places = record {
   old = tt;
   new = tt;
+  same = tt;
+  stay = λ k none. messages k;
   others = λ s k none. sym (ap (λ ps. is_listed ps s (message_with (after T o) k)) places ∙ ap (is_listed T.places s) (messages k));
 }
 
@@ -67,6 +74,8 @@ stands T o f p was only =
     record {
       old = tt;
       new = tt;
+      same = tt;
+      stay = λ k none. only.messages k;
       others = λ s k none. sym (ap (is_listed o.places s) (only.messages k) ∙ same-listed (λ g. false) T.places o.places (λ g e. same g) s (message_with T k) (λ m is. meets-none (path T.places m.folder)));
     }
 
@@ -93,6 +102,8 @@ came : (T : Tree) (o : Outcome) (f : ℕ) (now : Option FolderPlace) → IsWhole
 came T o f now w none only = record {
   old = tt;
   new = tt;
+  same = tt;
+  stay = λ k u. only.messages k;
   others = λ s k u. sym (ap (is_listed o.places s) (only.messages k) ∙ same-listed (λ g. g == f) T.places o.places (λ g n. only.others g (not_same f g n)) s (message_with T k)
       (λ m is. let h = home T w.objects k m is in placed-out T.places (parents T w.objects) f none m.folder h.0 h.1));
 }
@@ -103,6 +114,8 @@ went T o f w only =
     let T' = after T o in record {
       old = tt;
       new = tt;
+      same = tt;
+      stay = λ k u. only.messages k;
       others = λ s k u. ap (is_listed T.places s) (sym (only.messages k)) ∙ same-listed (λ g. g == f) o.places T.places (λ g n. sym (only.others g (not_same f g n))) s (message_with T' k)
           (λ m is. let h = home T' w k m is in placed-out o.places (parents T' w) f only.here m.folder h.0 h.1);
     }
@@ -112,6 +125,8 @@ moved : (T : Tree) (o : Outcome) (f : ℕ) (now : Option FolderPlace) → IsWhol
 moved T o f now w only = fine_weaker _ (AreTouched T o) (messages_below T f T.places) (below-folder T (before T w) f) (λ ts b. record {
   old = each-old ts b.0;
   new = each-new ts b.0;
+  same = each-same ts b.0;
+  stay = λ k none. only.messages k;
   others = λ s k none. sym (ap (is_listed o.places s) (only.messages k) ∙ same-listed (λ g. g == f) T.places o.places (λ g n. only.others g (not_same f g n)) s (message_with T k) (λ m is. b.1 k m is none));
 })
   where
@@ -122,6 +137,10 @@ moved T o f now w only = fine_weaker _ (AreTouched T o) (messages_below T f T.pl
     each-new : (ts : List Touch) → Each (Stays T) ts → Each (λ t. t.new ≡ message_with (after T o) t.nid) ts
     each-new [] h = tt
     each-new (t ∷ ts) h = (h.0.1 ∙ sym (only.messages t.nid), each-new ts h.1)
+
+    each-same : (ts : List Touch) → Each (Stays T) ts → Each (λ t. t.anew ≡ false → t.new ≡ t.old) ts
+    each-same [] h = tt
+    each-same (t ∷ ts) h = (λ kept. h.0.1 ∙ sym h.0.0, each-same ts h.1)
 
 -- `mvdir` to the parent in which the folder stands changes nothing
 stays_there : (T : Tree) (f parent : ℕ) → stands_in T f parent ≡ true → IfOk (moved_folder T f parent) (λ o. o ≡ unchanged T (replied Done))

@@ -11,7 +11,7 @@ use Rattle.mapi_values.specs.Tables.{find_row, mirror}
 use Rattle.command_text.specs.declared.command.Command.{Command}
 use Rattle.mail_objects.specs.Forms.{Ctx, Tbl}
 use Rattle.mail_objects.specs.declared.object.Object.TheVariants.{Context, Table}
-use Rattle.mail_tree.specs.Changing.{Changed, as_message, hierarchy, now_at, with_rows}
+use Rattle.mail_tree.specs.Changing.{Changed, as_message, hierarchy, nothing, now_at, with_rows}
 use Rattle.mail_tree.specs.Folders.{Outcome}
 use Rattle.mail_tree.specs.Places.{is_within}
 use Rattle.mail_tree.specs.declared.places.FolderPlace.{FolderPlace}
@@ -30,10 +30,12 @@ use Rattle.mail_searches.specs.Touching.{followed, touched}
 abbrev pub is_touched : List Touch → ℕ → Bool
 is_touched ts m = list_any (λ t. t.nid == m) ts
 
--- The touched messages tell what stood and what stands at their ids, and each other message is to be listed in each search just where it was.
+-- The touched messages tell what stood and what stands at their ids, the same where they weren't put anew. Each other message is as it was, and is to be listed in each search just where it was.
 pub record AreTouched (T : Tree) (o : Outcome) (ts : List Touch) : Type 0 where
   pub old : Each (λ t. t.old ≡ message_with T t.nid) ts
   pub new : Each (λ t. t.new ≡ message_with (after T o) t.nid) ts
+  pub same : Each (λ t. t.anew ≡ false → t.new ≡ t.old) ts
+  pub stay : (m : ℕ) → is_touched ts m ≡ false → message_with (after T o) m ≡ message_with T m
   pub others : (s : Search) (m : ℕ) → is_touched ts m ≡ false → is_listed T.places s (message_with T m) ≡ is_listed o.places s (message_with (after T o) m)
 
 -- the messages that a command touches are all that matter to searches
@@ -103,6 +105,10 @@ pub record TellsCounts (ms : List Mes) (props : List Val) : Type 0 where
   pub unread : find 0x3603 props ≡ Some (number 0x3603 (length (unread ms)))
   pub folders : find 0x360A props ≡ Some (truth 0x360A false)
 
+-- after these changes the values of this search tell the counts of the messages that its rows name
+abbrev pub TellsList : Tree → Changed → ℕ → Type 0
+TellsList T D s = (c : Ctx) (t : Tbl) → now_at T D s ≡ Some (Context c) → now_at T D (results s) ≡ Some (Table t) → TellsCounts (named T D t.table.rows) c.props
+
 -- one of the touched messages changes a row of the search
 abbrev pub changes_rows : Around → Search → List Touch → List (ℕ × List Val) → Bool
 changes_rows d s ts rows = concerns d s ts && (runs s || takes_row rows ts)
@@ -110,7 +116,7 @@ changes_rows d s ts rows = concerns d s ts && (runs s || takes_row rows ts)
 -- a search of which a row changed tells the counts of the messages that its rows name
 abbrev pub CountsAnew : Type 0
 CountsAnew = (T : Tree) (d : Around) (ts : List Touch) (s : Search) (D : Changed) (t : Tbl) → IsSearch s → now_at T D (results s.nid) ≡ Some (Table t) → changes_rows d s ts t.table.rows ≡ true
-    → IfOk (settled_search T d ts s D) (λ D'. (c : Ctx) (u : Tbl) → now_at T D' s.nid ≡ Some (Context c) → now_at T D' (results s.nid) ≡ Some (Table u) → TellsCounts (named T D' u.table.rows) c.props)
+    → IfOk (settled_search T d ts s D) (λ D'. TellsList T D' s.nid)
 
 -- the nodes of a search are there: its table, its values, and its parent's table of folders
 abbrev pub HasNodes : Tree → Changed → Search → Type 0
@@ -137,6 +143,27 @@ StaysFresh = (T : Tree) (o : Outcome) (ts : List Touch) (ss : List Search) → A
 -- so do they after each command
 abbrev pub FreshAfter : Type 0
 FreshAfter = (T : Tree) (c : Command) (ss : List Search) → IsWhole T → AreApart ss → AllFresh T ss → IfOk (outcome T c) (λ o. IfOk (followed T ss c o) (λ o'. AllFresh (after T o') ss))
+
+-- the row of this message, if there is one, mirrors it
+abbrev pub MirrorsMessage : List Column → List (ℕ × List Val) → ℕ → Option Mes → Type 0
+MirrorsMessage columns rows m message = (M : Mes) → message ≡ Some M → IsSome (find_row m rows) → find_row m rows ≡ Some (m, mirror columns M.props)
+
+-- after these changes each row of this search that names a message mirrors it
+abbrev pub MirrorsList : Tree → Changed → ℕ → Type 0
+MirrorsList T D s = (t : Tbl) → now_at T D (results s) ≡ Some (Table t) → (m : ℕ) → MirrorsMessage t.table.columns t.table.rows m (as_message (now_at T D m))
+
+-- A search shows its list rightly: so do its rows, and its values tell their counts.
+pub record ShowsList (T : Tree) (D : Changed) (s : ℕ) : Type 0 where
+  pub mirrors : MirrorsList T D s
+  pub counts : TellsList T D s
+
+-- each running search shows its list rightly
+abbrev pub AllShow : Tree → List Search → Type 0
+AllShow T ss = Each (λ s. runs s ≡ true → ShowsList T nothing s.nid) ss
+
+-- where each running search shows its list rightly, so does each after each command
+abbrev pub ShowsAfter : Type 0
+ShowsAfter = (T : Tree) (c : Command) (ss : List Search) → IsWhole T → AreApart ss → AllFresh T ss → AllShow T ss → IfOk (outcome T c) (λ o. IfOk (followed T ss c o) (λ o'. AllShow (after T o') ss))
 
 -- the same searches, where the tree is now that one
 abbrev pub with_tree : Searching → Tree → Searching

@@ -1,5 +1,5 @@
 //! What follows of the definitions on searches.
-ghost use Rattle.search_lists.specs.Laws.{CountsAnew, FreshAfter, HaltedStays, LeavesAll, ListsAfter, ListsAll, PlainCommandsStay, Relists, ScopesAreWithin, SettlesAll, SettlesThere, ShowsTouched, StaysFresh, TouchesAll};
+ghost use Rattle.search_lists.specs.Laws.{CountsAnew, FreshAfter, HaltedStays, LeavesAll, ListsAfter, ListsAll, PlainCommandsStay, Relists, ScopesAreWithin, SettlesAll, SettlesThere, ShowsAfter, ShowsTouched, StaysFresh, TouchesAll};
 
 /// A search looks in the plain folders that it is given, and in those within them where it is recursive.
 pub fn scopes_are_within()
@@ -64,6 +64,11 @@ pub fn stays_fresh()
 /// After each command, with its searches settled, each running search lists what filtering all messages gives, where it did before.
 pub fn fresh_after()
     ensures { FreshAfter }
+{}
+
+/// Where each running search's rows mirrored the messages that they name, and its values told their counts, they do so after each command with its searches settled.
+pub fn shows_after()
+    ensures { ShowsAfter }
 {}
 
 /// After each command that knows no searches these are still those of the tree, and each running one lists what filtering all messages gives, where all that was so before.

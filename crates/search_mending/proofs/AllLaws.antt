@@ -1,26 +1,28 @@
 -- Mending several searches leaves the tree in order, and mending all leaves each running search fresh.
-use Rattle.std.proofs.Common.{◌≡◌, ◌∙◌, ℕ, suc, ◌+◌, ◌<◌, ◌≤◌, ◌==◌, ◌&&◌, ◌||◌, Bool, true, false, not, List, [], ◌∷◌, ◌++◌, filter, map, take, zero, Option, None, Some, IsSome, is_some, Ok, Err, ap, arith, refl, subst, sym, inl, inr, if◌then◌else◌}
+use Rattle.std.proofs.Common.{◌≡◌, ◌∙◌, ℕ, suc, ◌<◌, ◌≤◌, ◌==◌, ◌&&◌, ◌||◌, Bool, true, false, not, List, [], ◌∷◌, ◌++◌, filter, map, take, zero, Option, None, Some, IsSome, is_some, Ok, Err, ap, arith, refl, subst, sym, inl, inr}
 use Rattle.std.specs.Prelude.{nat_le}
 use Rattle.std.proofs.lemmas.Bool.{and_from, and_parts, cases_Bool, eq-eqb, eqb-true, false≢true, leb-true, le-leb, ne_eqb}
-use Rattle.mapi_values.specs.Keyed.{find_key, keys_ascend}
+use Rattle.mapi_values.specs.Keyed.{keys_ascend}
 use Rattle.search_obj.specs.Scope.{is_among}
 use Rattle.mail_tree.specs.declared.places.FolderPlace.{FolderPlace}
-use Rattle.mail_tree.specs.Changing.{Answer, ◌>>=◌}
+use Rattle.mail_tree.specs.Changing.{Answer, ◌>>=◌, nothing}
 use Rattle.mail_tree.specs.Places.{find_place, place_id}
 use Rattle.mail_tree.specs.Whole.{Fine}
 use Rattle.mail_tree.proofs.FineLaws.{fine_then, fine_weaker}
 use Rattle.restr_eval.specs.Eval.{holds_of}
 use Rattle.mail_searches.specs.Searches.{IsFresh, Search, find_search, runs, search_id}
-use Rattle.mail_searches.specs.Searching.{AllFresh, Each, Searching, is_own}
+use Rattle.mail_searches.specs.Searching.{Each, Searching, is_own}
 use Rattle.mail_searches.specs.Step.{after}
 use Rattle.search_lists.proofs.ListLaws.{one-list}
+use Rattle.search_lists.specs.Laws.{ShowsList}
 use Rattle.search_lists.specs.Order.{InOrder}
+use Rattle.search_lists.proofs.SettleLaws.{each-two}
 use Rattle.search_laws.proofs.SettingLists.{each-found}
 use Rattle.search_mending.proofs.MendLaws.{mends_in_order}
 use Rattle.search_mending.proofs.StayLaws.{fresh_right, right_fresh}
-use Rattle.search_mending.specs.Laws.{IsAsBefore, IsMendable, IsMended, Mends, MendsAll, MendsThese, StaleIsNotFresh, TellsStale}
-use Rattle.search_mending.specs.Mended.{mended, mended_all}
-use Rattle.search_mending.specs.Mending.{Mending, is_of_first, is_stale, lists_right, lists_wrong, mended_search}
+use Rattle.search_mending.specs.Laws.{IsMendable, IsMended, Mends, MendsAll, MendsThese, ShowsMendable, TellsStale}
+use Rattle.search_mending.specs.Mended.{mended_all}
+use Rattle.search_mending.specs.Mending.{Mending, is_stale, lists_right, lists_wrong, mended_search}
 
 abbrev pub ascend : ℕ → List ℕ → Bool
 ascend low ids = keys_ascend (λ i. i) low ids
@@ -192,14 +194,18 @@ each-so P Q (x ∷ xs) each so = (so x each.0, each-so P Q xs each.1 so)
 pub all_order : (tidy : Bool) (X Y : Searching) → MendsThese tidy X (is_among X.own) Y → InOrder tidy Y
 all_order tidy X Y all =
     let order = all.order in
+    let mended : (s : Search) → find_search (search_id s) Y.searches ≡ Some s → IsMended Y (search_id s) = λ s found. all.here (search_id s) (subst (λ os. is_own os (search_id s) ≡ true) all.own (order.searches.among (search_id s) s found)) in
     record {
       whole = order.whole;
       found = order.found;
       mirrors = order.mirrors;
       counts = order.counts;
+      attachments = order.attachments;
+      lists = λ t. each-two (λ s. find_search (search_id s) Y.searches ≡ Some s) (ShowsMendable Y) (λ s. runs s ≡ true → ShowsList Y.tree nothing s.nid) Y.searches (each-found search_id 0 Y.searches order.searches.ascend) (order.lists t)
+          (λ s found shows run. record { mirrors = shows.mirrors run; counts = shows.counts run (mended s found).fresh });
       searches = order.searches;
       fresh = each-so (λ s. find_search (search_id s) Y.searches ≡ Some s) (λ s. runs s ≡ true → IsFresh Y.tree s) Y.searches (each-found search_id 0 Y.searches order.searches.ascend)
-          (λ s found run. (tells_stale Y (search_id s) s found).fresh (all.here (search_id s) (subst (λ os. is_own os (search_id s) ≡ true) all.own (order.searches.among (search_id s) s found))).fresh run);
+          (λ s found run. (tells_stale Y (search_id s) s found).fresh (mended s found).fresh run);
       marked = order.marked;
     }
 

@@ -1,11 +1,10 @@
 -- Mending a search leaves the tree in order.
-use Rattle.std.proofs.Common.{◌≡◌, ◌∙◌, ℕ, ◌%◌, ◌<◌, ◌==◌, ◌&&◌, ◌||◌, Bool, true, false, not, List, [], ◌∷◌, Option, None, Some, Ok, Err, IfOk, IsSome, is_some, ap, arith, refl, subst, sym, inl, inr, if◌then◌else◌}
+use Rattle.std.proofs.Common.{◌≡◌, ◌∙◌, ℕ, ◌%◌, ◌<◌, ◌&&◌, ◌||◌, Bool, true, false, not, Option, None, Some, Ok, Err, IfOk, IsSome, is_some, ap, arith, refl, subst, sym, inl, inr}
 use Rattle.std.specs.Prelude.{nat_eq}
 use Rattle.std.specs.Cmp.Lexicographic.{pointwise}
 use Rattle.std.specs.Option.{option_and_then, option_map}
-use Rattle.std.proofs.lemmas.Bool.{cases_Bool, cases_eq, false≢true}
+use Rattle.std.proofs.lemmas.Bool.{cases_Bool, cases_eq}
 use Rattle.mapi_values.specs.Keyed.{keys_ascend}
-use Rattle.mapi_values.specs.Values.{Val}
 use Rattle.restr_eval.specs.Eval.{holds_of}
 use Rattle.search_obj.specs.Changing.{migrated}
 use Rattle.search_obj.specs.Crits.{Crit}
@@ -17,7 +16,7 @@ use Rattle.command_text.specs.declared.reply.LastLine.TheVariants.{Done}
 use Rattle.mail_objects.specs.Forms.{Ctx, Tbl}
 use Rattle.mail_objects.specs.declared.object.Object.TheVariants.{Context, Table}
 use Rattle.mail_tree.specs.declared.places.FolderPlace.{FolderPlace}
-use Rattle.mail_tree.specs.Changing.{Answer, Changed, ◌>>=◌, as_context, as_message, as_table, beside, context_at, hierarchy, nothing, now_at, refused_if, table_at, with_rows}
+use Rattle.mail_tree.specs.Changing.{Answer, Changed, ◌>>=◌, as_context, as_message, as_table, beside, hierarchy, nothing, now_at, with_rows}
 use Rattle.mail_tree.specs.Folders.{Outcome, changing, replied}
 use Rattle.mail_tree.specs.Found.{IsFoundBeside}
 use Rattle.mail_tree.specs.Places.{ROOT, find_place}
@@ -27,29 +26,35 @@ use Rattle.mail_tree.specs.Tree.{Tree, object_at}
 use Rattle.mail_tree.specs.Whole.{AreWhole, Fine, IsWhole}
 use Rattle.mail_tree.proofs.AfterTree.{after_now, now_nothing}
 use Rattle.mail_tree.proofs.FineLaws.{after_context, after_table, after_test, fine_then, fine_weaker}
-use Rattle.mail_tree.proofs.KindsOfPuts.{beside_kind}
-use Rattle.mail_tree.proofs.Nearly.{Puts}
+use Rattle.mail_tree.proofs.KindsOfPuts.{beside_kind, same_table}
 use Rattle.mail_tree.proofs.Settles.{folders_of}
 use Rattle.mail_tree.proofs.StoodLaws.{AreStood, IsNew, after_limits, fine_stood, none_stood, values_stood}
 use Rattle.mail_laws.specs.Laws.{Counts, Mirrors}
+use Rattle.mail_laws.proofs.Keeping.{both}
 use Rattle.search_store.proofs.mail_store_laws.QuietLaws.{quiet}
 use Rattle.mail_searches.specs.Building.{built_rows}
 use Rattle.mail_searches.specs.Relisting.{with_results}
 use Rattle.mail_searches.specs.Searches.{Search, ShowsCriteria, criteria_node, criteria_of, find_search, lists, results, row_ids, runs, search_id, search_of}
-use Rattle.mail_searches.specs.Searching.{AreSearches, IsOfSearch, Searching, is_own}
+use Rattle.mail_searches.specs.Searching.{AreSearches, Each, IsOfSearch, Searching, is_own}
 use Rattle.mail_searches.specs.Step.{after}
 use Rattle.search_store.specs.search_folders.Pieces.{criteria_at}
 use Rattle.search_lists.proofs.AfterOrder.{results_keep_order}
 use Rattle.search_lists.specs.Keeps.{IsThere, KeepsOrder}
+use Rattle.search_lists.specs.Laws.{MirrorsList, MirrorsMessage, ShowsList}
+use Rattle.search_lists.proofs.ApartLaws.{each-found}
+use Rattle.search_lists.proofs.SettleLaws.{each-two}
+use Rattle.search_lists.proofs.ShowLaws.{after-shows, shows-still, tells-same, tree-mirrors, tree-tells}
+use Rattle.search_laws.proofs.Attachments.{attachments_still}
 use Rattle.search_laws.proofs.Marked.{marks_still}
 use Rattle.search_laws.proofs.SettingLists.{AreBuilt, rows_built}
 use Rattle.search_laws.proofs.SettingObject.{counts_after_object, found_after_object, messages_after_object, mirrors_after_object, object_puts, put_so, whole_after_object}
-use Rattle.search_mending.proofs.RowLaws.{Rows, stood_ascends, stood_ids}
+use Rattle.search_laws.proofs.SettingSteps.{Listed, results-listed}
+use Rattle.search_mending.proofs.RowLaws.{stood_ascends, stood_ids, stood_shows}
 use Rattle.search_mending.proofs.SaysLaws.{says_turned}
-use Rattle.search_mending.proofs.StayLaws.{Listed, Others, found_key, results_listed, results_stood, same_lists, same_results, same_wrong, texts_same}
+use Rattle.search_mending.proofs.StayLaws.{found_key, results_stood, same_lists, same_results, same_wrong, texts_same}
 use Rattle.search_mending.proofs.TouchLaws.{HasNodes, IsAsIs, order_same, search_stays}
-use Rattle.search_mending.specs.Laws.{IsAsBefore, IsElsewhere, IsMendable, IsMended, Mends, MendsInOrder}
-use Rattle.search_mending.specs.Mending.{Mending, can_hold_any, is_first, is_of_first, is_stale, list_anew, list_if_wrong, list_of_any, lists_right, lists_wrong, mended_search, mending, mending_with, search_as_is, touched_if, turned, with_list, with_other_rows, with_stood}
+use Rattle.search_mending.specs.Laws.{IsAsBefore, IsElsewhere, IsMendable, IsMended, Mends, MendsInOrder, ShowsMendable}
+use Rattle.search_mending.specs.Mending.{Mending, can_hold_any, is_first, is_stale, list_anew, list_if_wrong, list_of_any, lists_right, lists_wrong, mended_search, mending, mending_with, search_as_is, touched_if, turned, with_list, with_other_rows}
 
 -- an answer is fine, and has a fact besides
 fine-with : {A : Type 0} (P Q R : A → Type 0) (a : Answer A) → Fine a P → IfOk a Q → ((x : A) → P x → Q x → R x) → Fine a R
@@ -88,6 +93,7 @@ module _ (tidy : Bool) (X : Searching) (f : ℕ) (order : IsMendable tidy X) (ow
     is : t ≡ with_other_rows t.table.rows old
     ascend : keys_ascend (λ r. r.0) 0 t.table.rows ≡ true
     lists_all : row_ids t.table.rows ≡ lists T s
+    show_all : MirrorsList T nothing f → (m : ℕ) → MirrorsMessage t.table.columns t.table.rows m (as_message (object_at T m))
 
   -- the list that the search is to get, if it is to get one
   record HasList (list : Option Tbl) : Type 0 where
@@ -101,12 +107,14 @@ module _ (tidy : Bool) (X : Searching) (f : ℕ) (order : IsMendable tidy X) (ow
       let old = table.0 in
       let stood : object_at T (results s.nid) ≡ Some (Table old) = ap (λ n. object_at T (results n)) id ∙ table.1 in
       after_table (IsAnew s) T nothing (results s.nid) old _ (ap (λ at. at (results s.nid)) (now_nothing T) ∙ stood)
-      (fine_then (AreBuilt T s) (IsAnew s) (built_rows T s old.table.columns) _ (rows_built T s old.table.columns order.whole) (λ rows b. record {
+      (fine_then (AreBuilt T s old.table.columns) (IsAnew s) (built_rows T s old.table.columns) _ (rows_built T s old.table.columns order.whole) (λ rows b. record {
         old = old;
         stood = table.1;
         is = refl;
         ascend = stood_ascends 0 old.table.rows rows ∙ b.ascend;
         lists_all = stood_ids old.table.rows rows ∙ b.lists_all;
+        show_all = λ mirrors m. stood_shows old.table.columns old.table.rows rows m (as_message (object_at T m))
+            (subst (MirrorsMessage old.table.columns old.table.rows m) (ap (λ at. as_message (at m)) (now_nothing T)) (mirrors old (ap (λ at. at (results f)) (now_nothing T) ∙ table.1) m)) (b.show_all m);
       }))
 
   none-listed : (b : Bool) → b ≡ false → is_stale X f ≡ b → HasList None
@@ -203,7 +211,8 @@ module _ (tidy : Bool) (X : Searching) (f : ℕ) (order : IsMendable tidy X) (ow
     stood : AreStood T (IsNew None) D
     others : (q : ℕ) → (q ≡ results f → ⊥) × ((q ≡ f → ⊥) × (q % 32 ≡ 13 → ⊥)) → now_at T D q ≡ now_at T D1 q
     here : (t : Tbl) → list ≡ Some t → now_at T D (results f) ≡ Some (Table t)
-    none : list ≡ None → now_at T D (results f) ≡ now_at T D1 (results f)
+    none : list ≡ None → (q : ℕ) → now_at T D q ≡ now_at T D1 q
+    shows : (t : Tbl) → list ≡ Some t → MirrorsList T nothing f → ShowsList T D f
 
   list-kind : results f % 32 ≡ 16
   list-kind = beside_kind f 16 (omega arith)
@@ -214,7 +223,8 @@ module _ (tidy : Bool) (X : Searching) (f : ℕ) (order : IsMendable tidy X) (ow
     stood = turns.stood;
     others = λ q other. refl;
     here = λ t e. cc;
-    none = λ e. refl;
+    none = λ e q. refl;
+    shows = λ t e. cc;
   }
   sets-fine (Some t) h k D1 turns =
       let b = (h.built t refl).2 in
@@ -226,13 +236,20 @@ module _ (tidy : Bool) (X : Searching) (f : ℕ) (order : IsMendable tidy X) (ow
       let kept = subst (λ a. Fine a (KeepsOrder T (said D1))) same (results_keep_order T (said D1) f rows b.old order.whole turns.whole there table b.ascend) in
       fine-with (λ D. KeepsOrder T (said D1) D × AreStood T (IsNew None) D) (Listed T f kind rows t D1) (Sets (Some t) D1) (with_results T f rows t D1)
       (fine_stood (KeepsOrder T (said D1)) (AreStood T (IsNew None)) (with_results T f rows t D1) kept (results_stood T (IsNew None) f rows t D1 turns.stood))
-      (results_listed T f kind rows t D1)
+      (results-listed T f kind rows t D1)
       (λ D p listed. record {
         keeps = p.0;
         stood = p.1;
         others = listed.others;
         here = λ u e. listed.here ∙ ap (λ (x : Tbl). Some (Table x)) (same-some t u e);
         none = λ e. cc;
+        shows = λ u e mirrors. record {
+          mirrors = λ v is m.
+              let message : as_message (now_at T D m) ≡ as_message (object_at T m) = p.0.messages m ∙ turns.messages m in
+              subst (λ (x : Tbl). MirrorsMessage x.table.columns x.table.rows m (as_message (now_at T D m))) (same_table t v (sym listed.here ∙ is))
+              (subst (MirrorsMessage t.table.columns rows m) (sym message) (b.show_all mirrors m));
+          counts = listed.tells;
+        };
       })
 
   -- all nodes of the search stand there
@@ -263,7 +280,8 @@ module _ (tidy : Bool) (X : Searching) (f : ℕ) (order : IsMendable tidy X) (ow
     stood = still.stood sets.stood;
     others = λ q other. ap (λ at. at q) still.now ∙ sets.others q other;
     here = λ t e. ap (λ at. at (results f)) still.now ∙ sets.here t e;
-    none = λ e. ap (λ at. at (results f)) still.now ∙ sets.none e;
+    none = λ e q. ap (λ at. at q) still.now ∙ sets.none e q;
+    shows = λ t e mirrors. shows-still T T D D' f (λ m. ap (λ at. as_message (at m)) still.now) (ap (λ at. at (results f)) still.now) (λ c at. tells-same (now_at T D f) c (sym (ap (λ at. at f) still.now) ∙ at)) (sets.shows t e mirrors);
   }
 
   touched-fine : (b : Bool) (list : Option Tbl) (k : Crit) (D1 D : Changed) → Turns k D1 → Sets list D1 D → Fine (touched_if b T f D) (Sets list D1)
@@ -332,16 +350,6 @@ module _ (tidy : Bool) (X : Searching) (f : ℕ) (order : IsMendable tidy X) (ow
       tables = tables-now;
     }
 
-    order-now : IsMendable tidy Y
-    order-now = record {
-      whole = sets.keeps.whole turns.whole;
-      found = sets.keeps.found X.own turns.found;
-      mirrors = λ t. sets.keeps.mirrors turns.whole (turns.mirrors t);
-      counts = λ t. sets.keeps.counts turns.whole (turns.counts t);
-      searches = searches-now;
-      marked = marks_still X (said D) X.searches order.marked (λ g three other. refl);
-    }
-
     -- another search is as it was
     as-before : (g : ℕ) → is_own X.own g ≡ true → (g ≡ f → ⊥) → IsAsBefore X Y g
     as-before g is other = record {
@@ -357,6 +365,51 @@ module _ (tidy : Bool) (X : Searching) (f : ℕ) (order : IsMendable tidy X) (ow
             let table = all-else (results g) (beside-else g 16 (order.searches.kinds g is) other (omega arith) (λ e. omega arith) (λ e. omega arith)) in
             same_wrong T Y.tree s (lists-now s) (subst (λ n. object_at Y.tree (results n) ≡ object_at T (results n)) (sym id) table)
 
+    -- another search shows what it showed
+    shows-other : (s : Search) → find_search s.nid X.searches ≡ Some s → (s.nid ≡ f → ⊥) → ShowsMendable X s → ShowsMendable Y s
+    shows-other s found other old =
+        let is = order.searches.among s.nid s found in
+        let three = order.searches.kinds s.nid is in
+        let table = all-else (results s.nid) (beside-else s.nid 16 three other (omega arith) (λ e. omega arith) (λ e. omega arith)) in
+        let values = all-else s.nid (record { list = λ e. omega (arith, e, three, list-kind); criteria = λ e. omega (arith, e, three, node); values = other; shows = λ e. omega (arith, e, three) }) in
+        record {
+          mirrors = λ run. tree-mirrors T Y.tree s.nid messages-now table (old.mirrors run);
+          counts = λ run fresh. tree-tells T Y.tree s.nid messages-now table (λ c at. tells-same (object_at T s.nid) c (sym values ∙ at)) (old.counts run (sym (as-before s.nid is other).stale ∙ fresh));
+        }
+
+    -- this one shows it rightly, anew or as it did
+    shows-here : (l : Option Tbl) → list ≡ l → (s : Search) → s.nid ≡ f → ShowsMendable X s → ShowsMendable Y s
+    shows-here (Some t) e s id old =
+        let shows : runs s ≡ true → ShowsList Y.tree nothing s.nid = λ run.
+        subst (λ g. ShowsList Y.tree nothing g) (sym id) (after-shows T Y.tree D f at-now (sets.shows t e (subst (MirrorsList T nothing) id (old.mirrors run)))) in
+        record { mirrors = λ run. (shows run).mirrors; counts = λ run fresh. (shows run).counts }
+    shows-here None e s id old =
+        let table : object_at Y.tree (results s.nid) ≡ object_at T (results s.nid) = subst (λ g. object_at Y.tree (results g) ≡ object_at T (results g)) (sym id)
+        (at-now (results f) ∙ sets.none e (results f) ∙ turns.others (results f) (λ a. omega (arith, a, list-kind, node))) in
+        let values : object_at Y.tree s.nid ≡ object_at T s.nid = subst (λ g. object_at Y.tree g ≡ object_at T g) (sym id) (at-now f ∙ sets.none e f ∙ turns.others f (λ a. omega (arith, a, kind, node))) in
+        record {
+          mirrors = λ run. tree-mirrors T Y.tree s.nid messages-now table (old.mirrors run);
+          counts = λ run fresh. tree-tells T Y.tree s.nid messages-now table (λ c at. tells-same (object_at T s.nid) c (sym values ∙ at)) (old.counts run (ap (is_stale X) id ∙ sym has.told ∙ ap is_some e));
+        }
+
+    shows-now : Each (ShowsMendable X) X.searches → Each (ShowsMendable Y) X.searches
+    shows-now shows = each-two (λ s. find_search s.nid X.searches ≡ Some s) (ShowsMendable X) (ShowsMendable Y) X.searches (each-found 0 X.searches order.searches.ascend) shows (λ s found old. elim (cases_eq s.nid f) [
+      | inl same ↦ shows-here list refl s same old
+      | inr other ↦ shows-other s found other old
+    ])
+
+    order-now : IsMendable tidy Y
+    order-now = record {
+      whole = sets.keeps.whole turns.whole;
+      found = sets.keeps.found X.own turns.found;
+      mirrors = λ t. sets.keeps.mirrors turns.whole (turns.mirrors t);
+      counts = λ t. sets.keeps.counts turns.whole (turns.counts t);
+      attachments = λ t. attachments_still T Y.tree messages-now (order.attachments t);
+      lists = λ t. shows-now (order.lists t);
+      searches = searches-now;
+      marked = marks_still X (said D) X.searches order.marked (λ g three other. refl);
+    }
+
     -- where nothing is to be listed anew it is fresh
     kept-fresh : list ≡ None → is_stale Y f ≡ false
     kept-fresh none = by-search (find_search f X.searches) refl (sym has.told ∙ ap is_some none)
@@ -365,7 +418,7 @@ module _ (tidy : Bool) (X : Searching) (f : ℕ) (order : IsMendable tidy X) (ow
         by-search None e fresh = refl
         by-search (Some s) e fresh =
             let id : s.nid ≡ f = found_key search_id f X.searches s e in
-            let table : object_at Y.tree (results f) ≡ object_at T (results f) = at-now (results f) ∙ sets.none none ∙ turns.others (results f) (λ e. omega (arith, e, list-kind, node)) in
+            let table : object_at Y.tree (results f) ≡ object_at T (results f) = at-now (results f) ∙ sets.none none (results f) ∙ turns.others (results f) (λ e. omega (arith, e, list-kind, node)) in
             same_wrong T Y.tree s (lists-now s) (subst (λ n. object_at Y.tree (results n) ≡ object_at T (results n)) (sym id) table) ∙ fresh
 
     -- and where something is

@@ -1,13 +1,15 @@
 -- Rows, of which those that stay keep their cells.
-use Rattle.std.proofs.Common.{◌≡◌, ◌∙◌, ℕ, suc, ◌==◌, ◌&&◌, Bool, true, false, List, [], ◌∷◌, ◌++◌, Option, None, Some, ap, refl, sym, inl, inr, if◌then◌else◌}
+use Rattle.std.proofs.Common.{◌≡◌, ◌∙◌, ℕ, suc, ◌==◌, ◌&&◌, true, List, [], ◌∷◌, ◌++◌, Option, None, Some, ap, is_some, refl, sym, inl, inr}
 use Rattle.std.specs.Prelude.{nat_le}
 use Rattle.std.specs.List.{list_all}
-use Rattle.std.proofs.lemmas.Bool.{and_from, and_parts, cases_Bool, eqb-true}
+use Rattle.std.proofs.lemmas.Bool.{and_from, and_parts, cases_Bool, eqb-true, false≢true}
 use Rattle.mapi_values.specs.Keyed.{keys_ascend}
-use Rattle.mapi_values.specs.Tables.{IsTable, Tab, find_row, row_suits}
+use Rattle.mapi_values.specs.Messages.{Mes}
+use Rattle.mapi_values.specs.Tables.{IsTable, Tab, find_row, mirror, row_suits}
 use Rattle.mapi_values.specs.Values.{Val}
 use Rattle.mapi_values.specs.declared.column.Column.{Column}
 use Rattle.mail_searches.specs.Searches.{row_ids}
+use Rattle.search_lists.specs.Laws.{MirrorsMessage}
 use Rattle.search_mending.specs.Mending.{or_stood, with_stood}
 
 abbrev pub Rows : Type 0
@@ -55,3 +57,17 @@ stood_table stood built same s b = record {
 pub stood_more : (stood rows more : Rows) → with_stood stood (rows ++ more) ≡ with_stood stood rows ++ with_stood stood more
 stood_more stood [] more = refl
 stood_more stood (r ∷ rs) more = ap (λ x. or_stood r (find_row r.0 stood) ∷ x) (stood_more stood rs more)
+
+-- rows that keep their cells mirror their message where both did
+pub stood_shows : (columns : List Column) (stood rows : Rows) (m : ℕ) (message : Option Mes) → MirrorsMessage columns stood m message → MirrorsMessage columns rows m message → MirrorsMessage columns (with_stood stood rows) m message
+stood_shows columns stood [] m message old new M e there = absurd (false≢true there)
+stood_shows columns stood (r ∷ rs) m message old new M e there =
+    let id : ((or_stood r (find_row r.0 stood)).0 == m) ≡ (r.0 == m) = ap (λ x. x == m) (stood_id r stood) in
+    elim (cases_Bool (r.0 == m)) [
+      | inl t ↦ rw (id, t) (by-stood (find_row r.0 stood) (ap (λ x. find_row x stood) (eqb-true r.0 m t)) (sym (rw t refl) ∙ new M e (rw t refl)))
+      | inr f ↦ rw (id, f) (stood_shows columns stood rs m message old (λ N e' there'. sym (rw f refl) ∙ new N e' (rw f there')) M e (sym (rw (id, f) refl) ∙ there))
+    ]
+  where
+    by-stood : (o : Option (ℕ × List Val)) → o ≡ find_row m stood → Some r ≡ Some (m, mirror columns M.props) → Some (or_stood r o) ≡ Some (m, mirror columns M.props)
+    by-stood None is one = one
+    by-stood (Some row) is one = is ∙ old M e (ap is_some (sym is))

@@ -1,76 +1,25 @@
 -- What stays while a search gets other rows, and which searches are stale still.
-use Rattle.std.proofs.Common.{◌≡◌, ◌∙◌, ℕ, ◌%◌, ◌==◌, ◌&&◌, Bool, true, false, not, List, [], ◌∷◌, Option, None, Some, IfOk, length, ap, arith, refl, subst, sym, inl, inr}
+use Rattle.std.proofs.Common.{◌≡◌, ◌∙◌, ℕ, ◌==◌, ◌&&◌, true, not, List, [], ◌∷◌, Option, None, Some, IfOk, ap, refl, sym, inl, inr}
 use Rattle.std.specs.Prelude.{nat_eq}
 use Rattle.std.specs.Cmp.Lexicographic.{pointwise, same_text}
-use Rattle.std.proofs.lemmas.Bool.{cases_Bool, eqb-true, false≢true}
+use Rattle.std.proofs.lemmas.Bool.{cases_Bool, eqb-true}
 use Rattle.std.proofs.lemmas.Cmp.{nat_list_eq_equiv}
 use Rattle.mapi_values.specs.Keyed.{find_key}
-use Rattle.mapi_values.specs.Messages.{Mes}
-use Rattle.mapi_values.specs.Values.{Val}
 use Rattle.restr_eval.specs.Eval.{holds_of}
 use Rattle.mail_objects.specs.Forms.{Tbl}
 use Rattle.mail_objects.specs.declared.object.Object.{Object}
 use Rattle.mail_objects.specs.declared.object.Object.TheVariants.{Bare, Context, Message, Table}
-use Rattle.mail_tree.specs.Changing.{Changed, ◌>>=◌, as_message, as_table, context_at, hierarchy, now_at, with_object, with_rows}
+use Rattle.mail_tree.specs.Changing.{Changed, ◌>>=◌, as_message, as_table, context_at, now_at, with_object, with_rows}
 use Rattle.mail_tree.specs.Settling.{mirrored}
 use Rattle.mail_tree.specs.Tree.{Tree, object_at}
-use Rattle.mail_tree.specs.Values.{with_counts}
-use Rattle.mail_tree.proofs.AfterTree.{puts_object}
-use Rattle.mail_tree.proofs.KindsOfPuts.{beside_kind}
 use Rattle.mail_tree.proofs.StoodLaws.{AreStood, goes_on, is_context, mirrored_stood, stood_put, stood_then, values_stood}
-use Rattle.mail_laws.proofs.Keeping.{KeepsAt, both, if_any, if_then, if_weaker, kept_put, mirrored_keeps}
-use Rattle.mail_searches.specs.Relisting.{counted_search, named, unless_unclear, unread, with_results}
+use Rattle.mail_searches.specs.Relisting.{counted_search, unless_unclear, with_results}
 use Rattle.mail_searches.specs.Searches.{IsFresh, Search, is_listed, lists, results, row_ids, runs}
 use Rattle.search_lists.proofs.ListLaws.{lists_all, one-list}
 use Rattle.search_mending.proofs.RowLaws.{Rows}
 use Rattle.search_mending.specs.Mending.{lists_right, lists_wrong}
 
 -- ---- a search gets other rows
-
--- what stands at these ids stays while a search is counted and its row is made to show it
-module _ (S : ℕ → Type 0) (no_hierarchy : (g : ℕ) → S (hierarchy g) → ⊥) (T : Tree) where
-  counted-keeps : (s : ℕ) (rows : Rows) (D : Changed) → (S s → ⊥) → IfOk (counted_search T s rows D) (KeepsAt S T D)
-  unfolding counted_search
-  counted-keeps s rows D other =
-      if_then (λ c. Unit {0}) (KeepsAt S T D) (context_at T D s) _ (if_any (context_at T D s)) (λ c u.
-      if_then (λ v. Unit {0}) (KeepsAt S T D) (unless_unclear T D rows) _ (if_any (unless_unclear T D rows)) (λ v u.
-      let props = with_counts (length (named T D rows)) (length (unread (named T D rows))) false c.props in
-      kept_put S _ _ s _ (puts_object T D s (Some (Context (record c { props = props })))) other))
-
-  ends-keep : (s : ℕ) (rows : Rows) (D : Changed) → (S s → ⊥) → IfOk (counted_search T s rows D >>= mirrored T s) (KeepsAt S T D)
-  ends-keep s rows D other = if_then (KeepsAt S T D) (KeepsAt S T D) (counted_search T s rows D) (mirrored T s) (counted-keeps s rows D other)
-      (λ D' k. if_weaker (KeepsAt S T D') (KeepsAt S T D) (mirrored T s D') (mirrored_keeps S no_hierarchy T s D') (λ D'' k' m is. k' m is ∙ k m is))
-
-module _ (T : Tree) (s : ℕ) (kind : s % 32 ≡ 3) (rows : Rows) (t : Tbl) (D : Changed) where
-  -- neither the list of the search, nor its values, nor a table of folders
-  abbrev pub Others : ℕ → Type 0
-  Others q = (q ≡ results s → ⊥) × ((q ≡ s → ⊥) × (q % 32 ≡ 13 → ⊥))
-
-  abbrev Mine : ℕ → Type 0
-  Mine q = q ≡ results s
-
-  at-results : results s % 32 ≡ 16
-  at-results = beside_kind s 16 (omega arith)
-
-  -- all else stays, and the list has these rows
-  pub record Listed (D' : Changed) : Type 0 where
-    pub others : (q : ℕ) → Others q → now_at T D' q ≡ now_at T D q
-    pub here : now_at T D' (results s) ≡ Some (with_rows rows t)
-
-  abbrev D1 : Changed
-  D1 = with_object (results s) (Some (with_rows rows t)) D
-
-  pub results_listed : IfOk (with_results T s rows t D) Listed
-  unfolding with_results
-  results_listed =
-      let puts = puts_object T D (results s) (Some (with_rows rows t)) in
-      both (KeepsAt Others T D1) (KeepsAt Mine T D1) Listed (counted_search T s rows D1 >>= mirrored T s)
-      (ends-keep Others (λ g e. e.1.1 (beside_kind g 13 (omega arith))) T s rows D1 (λ e. e.1.0 refl))
-      (ends-keep Mine (λ g e. omega (arith, e, at-results, beside_kind g 13 (omega arith))) T s rows D1 (λ e. omega (arith, e, at-results)))
-      (λ D' others mine. record {
-        others = λ q other. others q other ∙ puts.others q other.0;
-        here = mine (results s) refl ∙ puts.here;
-      })
 
 -- the table counts by its rows alone
 pub same_results : (T : Tree) (s : ℕ) (rows : Rows) (t u : Tbl) (D : Changed) → with_rows rows t ≡ with_rows rows u → with_results T s rows t D ≡ with_results T s rows u D

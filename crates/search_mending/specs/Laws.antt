@@ -1,24 +1,32 @@
 -- What follows of mending.
 use Rattle.std.specs.Prelude.{◌≡◌, ℕ, ◌%◌, Bool, true, false, Some}
-use Rattle.std.specs.List.{count_by}
+use Rattle.mail_tree.specs.Changing.{nothing}
 use Rattle.mail_tree.specs.Found.{IsFoundBeside}
 use Rattle.mail_tree.specs.Tree.{object_at}
 use Rattle.mail_tree.specs.Whole.{Fine, IsWhole}
+use Rattle.mail_laws.specs.AttachmentLaws.{AllMirrorAttachments}
 use Rattle.mail_laws.specs.Laws.{Counts, Mirrors}
-use Rattle.search_obj.specs.Scope.{is_among}
 use Rattle.mail_searches.specs.Searches.{IsFresh, Search, criteria_node, find_search, results, runs}
-use Rattle.mail_searches.specs.Searching.{AreSearches, IsOfSearch, Searching, is_own}
+use Rattle.mail_searches.specs.Searching.{AreSearches, Each, IsOfSearch, Searching, is_own}
 use Rattle.mail_searches.specs.Step.{after}
+use Rattle.search_lists.specs.Laws.{MirrorsList, TellsList}
 use Rattle.search_lists.specs.Order.{AreMarked, InOrder}
 use Rattle.search_mending.specs.Mended.{mended}
 use Rattle.search_mending.specs.Mending.{Mending, is_of_first, is_stale, mended_search}
 
--- A tree with its searches is in order but for what these list: it can be mended. Where it is tidy its rows mirror what they show and its counts are right.
+-- A running search shows its list rightly: its rows mirror the messages that they name, and, unless it is stale, its values tell their counts.
+pub record ShowsMendable (X : Searching) (s : Search) : Type 0 where
+  pub mirrors : runs s ≡ true → MirrorsList X.tree nothing s.nid
+  pub counts : runs s ≡ true → is_stale X s.nid ≡ false → TellsList X.tree nothing s.nid
+
+-- A tree with its searches is in order but for what these list: it can be mended. Where it is tidy its rows mirror what they show, those of attachments and of running searches too, and its counts are right, but for those of stale searches.
 pub record IsMendable (tidy : Bool) (X : Searching) : Type 0 where
   pub whole : IsWhole X.tree
   pub found : IsFoundBeside (IsOfSearch X.own) X.tree
   pub mirrors : tidy ≡ true → Mirrors X.tree
   pub counts : tidy ≡ true → Counts X.tree
+  pub attachments : tidy ≡ true → AllMirrorAttachments X.tree
+  pub lists : tidy ≡ true → Each (ShowsMendable X) X.searches
   pub searches : AreSearches X
   pub marked : AreMarked X
 

@@ -68,7 +68,7 @@ halted T s b is off = let halts : runs s ≡ false = sym is ∙ off in rw halts 
 list_right : (T : Tree) (s : Search) (t : Tbl) (rows : Rows) → IsWhole T → table_at T nothing (results s.nid) ≡ Ok t → built_rows T s t.table.columns ≡ Ok rows
     → lists_right T s ≡ pointwise nat_eq (row_ids t.table.rows) (row_ids rows)
 list_right T s t rows whole there are =
-    let built : AreBuilt T s rows = subst (λ a. Fine a (AreBuilt T s)) are (rows_built T s t.table.columns whole) in
+    let built : AreBuilt T s t.table.columns rows = subst (λ a. Fine a (AreBuilt T s t.table.columns)) are (rows_built T s t.table.columns whole) in
     ap (holds_of (λ (u : Tbl). pointwise nat_eq (row_ids u.table.rows) (lists T s))) (table_there T (results s.nid) t there) ∙ ap (pointwise nat_eq (row_ids t.table.rows)) (sym built.lists_all)
 
 module _ (T : Tree) (s : Search) (b : Bool) (is : b ≡ runs s) (on : b ≡ true) where
