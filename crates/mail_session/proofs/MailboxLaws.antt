@@ -1,5 +1,5 @@
 -- What the session in memory comes to: over a new store, at each line, and in each of its states.
-use Rattle.std.proofs.Common.{◌≡◌, ◌∙◌, ◌≤◌, ◌*◌, ◌^◌, ℕ, Bool, true, false, List, [], ◌∷◌, Option, None, Some, Result, Ok, Err, refl, sym, subst, arith}
+use Rattle.std.proofs.Common.{◌≡◌, ◌∙◌, ◌≤◌, ◌*◌, ◌^◌, ℕ, Bool, true, false, List, [], Option, None, Some, Result, Ok, Err, refl, sym, subst, arith}
 use Rattle.std.proofs.lemmas.Bool.{false≢true}
 use Rattle.command_text.specs.declared.reply.CommandRefusal.{CommandRefusal}
 use Rattle.command_text.specs.declared.reply.CommandRefusal.TheVariants.{Full, Ids}
@@ -42,7 +42,7 @@ use Rattle.file_filling.specs.store_session.declared.carrying.StoreStop.TheVaria
 use Rattle.mail_session.specs.declared.mailbox.Mailbox.{Mailbox}
 use Rattle.mail_session.specs.declared.memory.MemoryKeeper.{MemoryKeeper}
 use Rattle.mail_session.specs.declared.nowhere.Nowhere.{Nowhere}
-use Rattle.mail_session.specs.Boxes.{AnswersFrom, IsSound, NAME, no_disk, room_left}
+use Rattle.mail_session.specs.Boxes.{AnswersFrom, IsSound, NAME, room_left}
 use Rattle.mail_session.specs.Mailboxes.{BoxAnswers, Sits, nowhere_view}
 use Rattle.mail_session.specs.Memory.{memory_effects, memory_holds, memory_last, memory_pinned, memory_rests, memory_room, memory_stands}
 
@@ -140,7 +140,7 @@ line_stopped o s t n m bytes Disk is carries cause S sits = false≢true cause.1
 line_stopped o s t n m bytes (Changed ib stored computed) is carries cause S sits = carries [] true S (subst (λ (p : Option (SessionStore MemoryKeeper)). sits_in p n S) is sits) (λ no. absurd (false≢true no))
 
 -- what is no line is answered without it
-own_room : State → Room
+abbrev own_room : State → Room
 own_room S = record ample { pins = pins_in S }
 
 own_measured : (S : State) → (memory_effects (pins_in S)).measures nothing (own_room S)
@@ -148,7 +148,7 @@ own_measured S = (record { free = refl; pages = refl; spent = refl; found = refl
 
 -- a piece was answered over the mailbox
 pub box_answered : {W : Type 0} (piece : Piece) (said : List ℕ) (a b : Mailbox) (v w : W) → AnswersPiece BoxAnswers piece a v said b w → (S : State) → Sits a S → (Z : State) × AnswersFrom S piece said Z × Sits b Z
-box_answered (line bytes) said a b v w is = is.0
+box_answered (line bytes) said a b v w is S sits = is.0 S sits
 box_answered too_long said a b v w is S sits = (S, (own_room S, own_measured S, (is.0 ∙ limit_text, (refl, λ none. absurd none))), subst (λ (m : Mailbox). Sits m S) (sym is.1) sits)
 box_answered further said a b v w is S sits = (S, (own_room S, own_measured S, (is.0, (refl, λ none. absurd none))), subst (λ (m : Mailbox). Sits m S) (sym is.1) sits)
 

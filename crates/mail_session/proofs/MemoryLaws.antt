@@ -1,6 +1,6 @@
 -- What copies of nodes tell, and the pins that have them.
-use Rattle.std.proofs.Common.{◌≡◌, ◌≢◌, ◌∙◌, ◌⊎◌, inl, inr, ℕ, suc, ◌+◌, ◌-◌, ◌^◌, ◌<◌, ◌≤◌, ◌==◌, eqb, Bool, true, false, get_or, List, [], ◌∷◌, ◌++◌, map, length, remove, position, Option, None, Some, IsSome, is_some, if◌then◌else◌, refl, sym, ap, subst, arith, ⊎_elim, ◌||◌}
-use Rattle.std.specs.List.{list_any, position_or_len}
+use Rattle.std.proofs.Common.{◌≡◌, ◌∙◌, ◌⊎◌, inl, inr, ℕ, suc, ◌+◌, ◌-◌, ◌^◌, ◌<◌, ◌≤◌, ◌==◌, eqb, Bool, true, false, get_or, List, [], ◌∷◌, ◌++◌, map, length, remove, position, Option, None, Some, IsSome, is_some, if◌then◌else◌, refl, sym, ap, subst, arith, ⊎_elim, ◌||◌}
+use Rattle.std.specs.List.{position_or_len}
 use Rattle.std.specs.Ordering.{nat_cmp}
 use Rattle.std.specs.BTreeMap as tree
 use Rattle.std.proofs.lemmas.Bool.{cases_eq, cases_lt, eqb-false, eqb-true, le-ltb, lt-ltb}
@@ -8,9 +8,9 @@ use Rattle.std.proofs.lemmas.List.{length-map, map-append}
 use Rattle.pst_base.specs.declared.ids.Nid.{Nid}
 use Rattle.node_port.specs.declared.node.NodeRec.{NodeRec}
 use Rattle.node_port.specs.Nodes.{IsAfter, IsNext, Nodes, node_at}
-use Rattle.node_port.specs.Pins.{AddsPin, Pins, has_pin, opened_without, without_pin}
+use Rattle.node_port.specs.Pins.{AddsPin, has_pin, opened_without, without_pin}
 use Rattle.mail_session.specs.declared.copied.MemoryPin.{MemoryPin}
-use Rattle.mail_session.specs.Memory.{Copied, Copies, CopiesTo, IsNextCopied, IsNextNode, TellsCopy, ids_left, pin_at, pins_of, pins_without, told_of}
+use Rattle.mail_session.specs.Memory.{Copied, Copies, CopiesTo, IsNextCopied, IsNextNode, TellsCopy, pin_at, pins_of, pins_without, told_of}
 
 -- ---- a copy, node by node
 
@@ -35,15 +35,6 @@ copies_next N passed m n next put so_far is q = ⊎_elim
   where
     apart : (q ≡ (next.0).bits → ⊥) → tree.get nat_cmp n q ≡ tree.get nat_cmp m q
     apart other = grind (arith, put.0 q, other)
-
--- all were copied
-pub copies_all : (N : Nodes) (passed : Option Nid) (m : Copied) → CopiesTo passed m N → IsNext N passed None → Copies m N
-copies_all N passed m so_far is q = ⊎_elim (λ after. is q after ∙ sym ((so_far q).0 after)) (λ copied. copied) (so_far q).1
-
--- what comes next is beyond, and fewer numbers are left
-pub fewer_left : (passed : Option Nid) (nid : Nid) → nid.bits < 2 ^ 32 → IsAfter passed nid.bits → ids_left (Some nid) < ids_left passed
-fewer_left None nid fits is = omega (arith, fits)
-fewer_left (Some before) nid fits is = omega (arith, fits, is)
 
 -- ---- the pin of a number
 

@@ -1,5 +1,5 @@
 -- What a session in memory is: a run from a new store, which has room for all and writes nothing.
-use Rattle.std.specs.Prelude.{◌≡◌, ◌⊎◌, ℕ, List, [], ◌∷◌, codes, Option, None, Some}
+use Rattle.std.specs.Prelude.{◌≡◌, ◌⊎◌, ℕ, true, List, [], codes, Option, None, Some}
 use Rattle.command_text.specs.declared.reply.CommandRefusal.{CommandRefusal}
 use Rattle.line_server.specs.Lines.{Piece}
 use Rattle.mail_searches.specs.Searching.{Searching, StartsSearching}

@@ -93,9 +93,9 @@ module _ {K W : Type 0} (view : W → World) (holds : K → World → Nodes → 
 
   pub session_first : (s : SessionStore K) (store : SearchStore K) (v : W) (tidy : Bool) (X : Searching) → s.pinned.store ≡ store → s.pinned.given ≡ 0 → s.pinned.pins.items ≡ [] → viewing_of s.pinned.views ≡ record { given = 0; opened = [] } → s.open ≡ None
       → Has (holds store.store.keeper (view v)) (last store.store.keeper) store.store.known store.searches rests (view v) tidy X → (room store.store.keeper).pins ≡ no_pins → Stands view holds last pinned room rests s v (room store.store.keeper).found tidy (begins X)
-  session_first s store v tidy X is given pins views none h no =
+  session_first s store v tidy X is given pins views none h unpinned =
       let has : SearchStore K → Searching → Type 0 = λ t. Has (holds t.store.keeper (view v)) (last t.store.keeper) t.store.known t.searches rests (view v) tidy in
-      let sits : HasSitting (has store) (pinned store.store.keeper (view v)) (room store.store.keeper) s.pinned.pins.items 0 s.pinned.views (room store.store.keeper).found (begins_sitting X) = sits_first s.pinned.pins.items s.pinned.views X h pins views no in
+      let sits : HasSitting (has store) (pinned store.store.keeper (view v)) (room store.store.keeper) s.pinned.pins.items 0 s.pinned.views (room store.store.keeper).found (begins_sitting X) = sits_first s.pinned.pins.items s.pinned.views X h pins views unpinned in
       let over : HasSitting (has s.pinned.store) (pinned s.pinned.store.store.keeper (view v)) (room s.pinned.store.store.keeper) s.pinned.pins.items 0 s.pinned.views (room store.store.keeper).found (begins_sitting X) =
       subst (λ (t : SearchStore K). HasSitting (has t) (pinned t.store.keeper (view v)) (room t.store.keeper) s.pinned.pins.items 0 s.pinned.views (room store.store.keeper).found (begins_sitting X)) (sym is) sits in
       subst (λ (o : Option OpenTransaction). StandsIn view holds last pinned room rests s.pinned o v (room store.store.keeper).found tidy None (begins_sitting X)) (sym none)

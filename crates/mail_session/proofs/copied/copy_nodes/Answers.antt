@@ -1,6 +1,6 @@
 use Rattle.std.proofs.Common.{◌∙◌, subst}
 use Rattle.mail_session.specs.Memory.{IsNextNode}
-use Rattle.mail_session.proofs.MemoryLaws.{copies_all, copies_next, fewer_left}
+use Rattle.mail_session.proofs.MemoryLaws.{copies_next}
 use Rattle.mail_session.proofs.copied.copy_nodes.Goals as goal
 
 pub loop-nodes-preserved : goal.loop-nodes-preserved

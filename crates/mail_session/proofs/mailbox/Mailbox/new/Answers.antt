@@ -10,5 +10,5 @@ pub returns : goal.returns
 returns c =
     let shows = c.in_ok-new.ensures.shows in
     let start = subst (λ name. IsStart name shows.0) c.in_ok-name.ensures shows.1 in
-    let all = new_has c.in_ok-keeper.keeper _ _ c.new-nowhere.result c.in_ok-new.new.nodes.items shows.0 start shows.2 c.in_ok-keeper.ensures.nodes (c.in_ok-keeper.ensures.counts ∙ c.in_ok-new.ensures.counts) c.in_ok-new.ensures.places c.new-flags.ensures c.new.ensures c.new-2.ensures in
-    (all.0, all.1, session_first nowhere_view memory_holds memory_last memory_pinned memory_room memory_rests c.new-session.result _ c.new-nowhere.result true all.0 c.new-session.ensures.store c.new-session.ensures.given c.new-session.ensures.pins c.new-session.ensures.views c.new-session.ensures.none all.2 c.in_ok-keeper.ensures.pins)
+    let all = new_has c.in_ok-keeper.keeper _ _ c.new-5.result c.in_ok-new.new.nodes.items shows.0 start shows.2 c.in_ok-keeper.ensures.nodes (c.in_ok-keeper.ensures.counts ∙ c.in_ok-new.ensures.counts) c.in_ok-new.ensures.places c.new.ensures c.new-2.ensures c.new-3.ensures in
+    (all.0, all.1, session_first nowhere_view memory_holds memory_last memory_pinned memory_room memory_rests c.new-4.result _ c.new-5.result true all.0 c.new-4.ensures.store c.new-4.ensures.given c.new-4.ensures.pins c.new-4.ensures.views c.new-4.ensures.none all.2 c.in_ok-keeper.ensures.pins)

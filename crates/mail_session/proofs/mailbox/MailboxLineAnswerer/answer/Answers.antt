@@ -20,8 +20,7 @@ returns-in-Err-clause-answers g c =
     let t = c.answer_line-session.result.0 in
     let m = c.answer_line-session.new.world in
     let bytes = c.args.line.now in
-    let cause = subst (λ r. IfErr r (IsCaused false (nowhere_view a.nowhere) (nowhere_view m))) c.in-Err.is c.answer_line-session.ensures.cause in
-    (
+    let cause = subst (λ r. IfErr r (IsCaused false (nowhere_view a.nowhere) (nowhere_view m))) c.in-Err.is c.answer_line-session.ensures.cause in (
       (λ S sits. absurd (line_stopped a.session s t a.nowhere m bytes c.in-Err.field-0 (sym (sym c.in-Some.is ∙ c.take.ensures.value)) (subst (λ r. Carried s a.nowhere t m bytes r) c.in-Err.is c.answer_line-session.ensures.carries) cause S sits)),
       refl,
     )

@@ -1,4 +1,4 @@
-use Rattle.std.proofs.Common.{◌∙◌, ap, sym}
+use Rattle.std.proofs.Common.{◌∙◌, ap}
 use Rattle.std.specs.Option.{is_some}
 use Rattle.mail_session.proofs.MemoryLaws.{has_place}
 use Rattle.mail_session.proofs.pinning.MemoryKeeperPinner.has_pin.Goals as goal
