@@ -170,7 +170,7 @@ pub ends_opened : (knows : Header → List ℕ → Type 0) (becomes : List (ℕ 
     → (mid.tells → mid.input ≡ first.input) → SameStore first.here mid.here
     → mid.written ≤ first.written + 580 → (IsShut first.here.side → Untouched first mid)
     → ((tidy : Bool) (X : Searching) → Has (Holds knows bytes header mid) header.indexes tree.known tree.searches (λ image. IsShut image.side) mid tidy X → (true ≡ true → now.tells)
-    → SessionEnds (file_effects becomes costs) (StandsCommitted Stands bytes tidy) (IsOrdered tidy) (λ image. IsShut image.side) (medium mid) mid now (begins true X) end)
+    → SessionEnds (file_effects becomes costs) (StandsCommitted Stands bytes tidy) (IsOrdered tidy) (λ image. IsShut image.side) (medium mid) mid now (begins X) end)
     → EndsOpened becomes costs first now end
 ends_opened knows becomes costs bytes header tree first mid now end s tells told input store written idle session =
     let X : Searching = s.start in
@@ -184,8 +184,8 @@ ends_opened knows becomes costs bytes header tree first mid now end s tells told
       idle = λ shut. let same = idle shut in same_medium first mid (same.stays.here (told tells)) same.stays.written;
       session = λ still tidy read.
           let opening : LeavesOnly first mid (λ c. (c.said ≡ first.here.said) × ReadsAs tidy bytes c X) = s.opening still tidy read in
-          subst (λ f. SessionEnds (file_effects becomes costs) (StandsCommitted Stands f tidy) (IsOrdered tidy) (λ image. IsShut image.side) (medium mid) first now (begins true X) end) s.front
-          (session_behind (file_effects becomes costs) (StandsCommitted Stands bytes tidy) (IsOrdered tidy) (λ image. IsShut image.side) (medium mid) first mid now (begins true X) end told input (λ t. (opening.here t).0) opening (session tidy X (s.has still tidy read) (λ e. tells)));
+          subst (λ f. SessionEnds (file_effects becomes costs) (StandsCommitted Stands f tidy) (IsOrdered tidy) (λ image. IsShut image.side) (medium mid) first now (begins X) end) s.front
+          (session_behind (file_effects becomes costs) (StandsCommitted Stands bytes tidy) (IsOrdered tidy) (λ image. IsShut image.side) (medium mid) first mid now (begins X) end told input (λ t. (opening.here t).0) opening (session tidy X (s.has still tidy read) (λ e. tells)));
     }
 
 -- ---- one that gave none

@@ -55,7 +55,7 @@ pub record EndsOpened (becomes : List (ℕ × List Bool) → List ℕ → List �
   pub opening : opened.written ≤ first.written + 580
   pub idle : IsShut first.here.side → SameMedium (medium first) opened
   pub session : Settled first → (tidy : Bool) → ReadsAs tidy (front_of first.here) first.here start
-      → SessionEnds (file_effects becomes costs) (StandsCommitted Stands (front_of first.here) tidy) (IsOrdered tidy) (λ image. IsShut image.side) opened first now (begins true start) end
+      → SessionEnds (file_effects becomes costs) (StandsCommitted Stands (front_of first.here) tidy) (IsOrdered tidy) (λ image. IsShut image.side) opened first now (begins start) end
 
 -- how a session over a file ends that wasn't refused
 abbrev pub FileRunEnds : (List (ℕ × List Bool) → List ℕ → List ℕ → Type 0) → (List ℕ → List ℕ → List (Nid × Option NodeRec) → ℕ → Type 0) → World → World → SessionEnd → Type 0

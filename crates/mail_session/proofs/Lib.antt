@@ -1,5 +1,3 @@
-pub mod AnswerLaws
-pub mod Boxed
 pub mod CompactLaws
 pub mod CopyLaws
 pub mod Disks
@@ -8,7 +6,8 @@ pub mod FillLaws
 pub mod InfoLaws
 pub mod LookLaws
 pub mod LookingLaws
+pub mod MailboxLaws
+pub mod MemoryLaws
 pub mod MendLaws
 pub mod NodesLaws
-pub mod Orders
 pub mod ScratchLaws

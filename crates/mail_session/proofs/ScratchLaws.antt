@@ -9,29 +9,31 @@ use Rattle.line_server.proofs.PieceLaws.{nothing_cuts}
 use Rattle.line_server.specs.History.{Hushes, Turns}
 use Rattle.line_server.specs.Lines.{Piece, up_to_quit}
 use Rattle.line_server.specs.Server.{ServerEnds}
-use Rattle.mail_session.specs.declared.answers.NoStop.{NoStop}
+use Rattle.mail_session.specs.declared.mailbox.NoStop.{NoStop}
 use Rattle.mail_session.specs.declared.exit.Status.{Status}
 use Rattle.mail_session.specs.declared.exit.Status.TheVariants.{Done, Input, Output, Memory, Lines}
 use Rattle.mail_session.specs.declared.mailbox.Mailbox.{Mailbox}
 use Rattle.mail_session.specs.Mailboxes.{BoxAnswers, BoxStops, Sits}
-use Rattle.mail_session.specs.Boxes.{IsSession, NAME}
-use Rattle.mail_session.specs.Run.{InMemory, Run, begins}
+use Rattle.file_filling.specs.mail_transactions.Run.{Run}
+use Rattle.file_filling.specs.mail_transactions.State.{AfterEach, State, begins}
+use Rattle.file_filling.specs.store_session.Turns.{StoreTurn, replies_of}
+use Rattle.mail_session.specs.Boxes.{IsSession, IsSound, NAME, no_disk}
+use Rattle.mail_session.specs.Memory.{memory_effects}
 use Rattle.mail_session.specs.Scratch.{ScratchEnds, status_of}
 use Rattle.mail_session.specs.Worlds.{KeepsDisk}
-use Rattle.mail_session.proofs.AnswerLaws.{box_answered, same_world}
 use Rattle.mail_session.proofs.Disks.{keeps_front, keeps_listens, keeps_started}
-use Rattle.mail_session.proofs.Orders.{session_in_order}
+use Rattle.mail_session.proofs.MailboxLaws.{box_answered, same_world, sits_sound}
 use Rattle.mail_searches.specs.Searching.{Searching, StartsSearching}
 
--- the replies are those of a run
+-- the replies are those of a run, each state of which is sound
 pub runs : {W : Type 0} (view : W → World) (whole : Type 0) (ps : List Piece) (rs : List (List ℕ)) (a b : Mailbox) (v w : W)
-    → Turns view BoxAnswers whole ps rs a v b w → (S : InMemory) → Sits a S → (states : List InMemory) × Run S ps rs states
-runs view whole [] [] a b v w turns S sits = ([], tt)
+    → Turns view BoxAnswers whole ps rs a v b w → (S : State) → Sits a S → (turns : List (StoreTurn State)) × Run memory_effects ⊥ S no_disk ps turns × (rs ≡ replies_of turns) × AfterEach IsSound turns
+runs view whole [] [] a b v w turns S sits = ([], tt, refl, tt)
 runs view whole (p ∷ ps) (r ∷ rs) a b v w turns S sits =
     let turn = turns.2 in
     let one = box_answered p r a turns.0 turn.heard turn.answered turn.answer S sits in
     let rest = runs view whole ps rs turns.0 b turns.1 w turns.3 one.0 one.2 in
-    (one.0 ∷ rest.0, (one.1, rest.1))
+    (record { said = r; tree = one.0; disk = no_disk } ∷ rest.0, (one.1, rest.1), ap (λ (replies : List (List ℕ)). r ∷ replies) rest.2, (sits_sound turns.0 one.0 one.2, rest.3))
 runs view whole [] (r ∷ rs) a b v w turns S sits = absurd turns
 runs view whole (p ∷ ps) [] a b v w turns S sits = absurd turns
 
@@ -52,7 +54,7 @@ is_session : {W : Type 0} (view : W → World) (whole : Type 0) (ps : List Piece
     → ((X : Searching) × StartsSearching NAME X × Sits a (begins X)) → Turns view BoxAnswers whole ps rs a v b w → IsSession ps rs
 is_session view whole ps rs a b v w start turns =
     let run = runs view whole ps rs a b v w turns (begins start.0) start.2 in
-    inr (start.0, run.0, start.1, run.1, session_in_order start.0 ps rs run.0 start.1 run.1)
+    inr (record { start = start.0; new = start.1; turns = run.0; run = run.1; are = run.2; first = sits_sound a (begins start.0) start.2; sound = run.3 })
 
 -- a mailbox says nothing itself
 hushes : {W : Type 0} (view : W → World) → Hushes view BoxAnswers BoxStops

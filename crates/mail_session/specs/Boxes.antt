@@ -1,48 +1,58 @@
--- The store of a session in memory, and the tree with its searches that it has.
-use Rattle.std.specs.Prelude.{◌≡◌, ◌⊎◌, ℕ, Bool, true, false, List, [], ◌∷◌, codes}
-use Rattle.command_text.specs.declared.command.Command.{Command}
+-- What a session in memory is: a run from a new store, which has room for all and writes nothing.
+use Rattle.std.specs.Prelude.{◌≡◌, ◌⊎◌, ℕ, true, List, [], codes, Option, None, Some}
 use Rattle.command_text.specs.declared.reply.CommandRefusal.{CommandRefusal}
-use Rattle.command_text.specs.declared.reply.CommandRefusal.TheVariants.{Full}
-use Rattle.node_port.specs.Slots.{Keeps}
-use Rattle.node_port.specs.declared.map_keeper.MapKeeper.{MapKeeper}
-use Rattle.mail_searches.specs.Searching.{Searching, StartsSearching}
-use Rattle.search_lists.specs.Order.{InOrder}
-use Rattle.file_filling.specs.search_store.Planning.{StoresSearches}
-use Rattle.file_filling.specs.search_store.declared.store.SearchStore.{SearchStore}
 use Rattle.line_server.specs.Lines.{Piece}
-use Rattle.mail_session.specs.Run.{InMemory, Run, Steps, begins}
-
--- the store has this tree with its searches
-abbrev pub Has : SearchStore MapKeeper → Searching → Type 0
-Has s X = StoresSearches (Keeps s.store.keeper.nodes) s.store.keeper.counts.last s.store.known s.searches X
-
--- the store has this tree with its searches, and all is in order and tidy
-pub record Holds (store : SearchStore MapKeeper) (X : Searching) : Type 0 where
-  pub stores : Has store X
-  pub order : InOrder true X
-
--- whatever tree the store had, it has it still
-abbrev pub StaysAs : SearchStore MapKeeper → SearchStore MapKeeper → Type 0
-StaysAs old new = (X : Searching) → Holds old X → Holds new X
-
--- whatever tree the store had, it has the one after the step of a command, and the text is that of its reply
-abbrev pub DoesStep : SearchStore MapKeeper → Command → List ℕ → SearchStore MapKeeper → Type 0
-DoesStep old c said new = (X : Searching) → Holds old X → (Y : Searching) × Steps X c said Y × Holds new Y
+use Rattle.mail_searches.specs.Searching.{Searching, StartsSearching}
+use Rattle.mail_tree.specs.Changing.{Changed}
+use Rattle.node_port.specs.Stops.{Room, SameSpace, ample}
+use Rattle.pst_outside.specs.Sure.{nothing}
+use Rattle.tree_look.specs.mail_draft.declared.stop.Stop.TheVariants.{Refused}
+use Rattle.file_filling.specs.mail_store.Planning.{IsHindered}
+use Rattle.file_filling.specs.mail_transactions.Run.{Answers, Run}
+use Rattle.file_filling.specs.mail_transactions.Stands.{IsOrdered}
+use Rattle.file_filling.specs.mail_transactions.State.{AfterEach, State, Within, begins, pins_in}
+use Rattle.file_filling.specs.staged_nodes.Room.{room_beside}
+use Rattle.file_filling.specs.staged_nodes.Staged.{staged_size}
+use Rattle.file_filling.specs.store_session.Disks.{Medium}
+use Rattle.file_filling.specs.store_session.Turns.{StoreTurn, replies_of}
+use Rattle.mail_session.specs.Memory.{memory_effects}
 
 -- the name of the store in memory
 abbrev pub NAME : List ℕ
 NAME = codes "scratch"
 
--- the tree of each of these states is in order with its searches, and tidy
-abbrev pub AllInOrder : List InMemory → Type 0
-AllInOrder [] = Unit {0}
-AllInOrder (S ∷ states) = InOrder true S.now × AllInOrder states
+-- no disk
+abbrev pub no_disk : Medium
+no_disk = record { image = nothing; written = 0 }
 
--- the replies to lines are those of a run from a new store, and its tree and each after a reply is in order: each running search lists what filtering lists; or there were no lines
+-- a piece was answered from a state on, in memory, where nothing is told of a disk
+abbrev pub AnswersFrom : State → Piece → List ℕ → State → Type 0
+AnswersFrom S piece said Z = (room : Room) × (memory_effects (pins_in S)).measures nothing room × Answers memory_effects room S no_disk ⊥ piece said Z no_disk
+
+-- the room that is left for a command, within a transaction or outside
+abbrev pub room_left : Option Within → Room → Room
+room_left None room = room
+room_left (Some w) room = room_beside (staged_size w.nodes) room
+
+-- want of room hinders no command, nor does want of numbers
+abbrev pub IsFree : State → Type 0
+IsFree S = (room : Room) → SameSpace ample room → (D : Changed) (refusal : CommandRefusal) → IsHindered (room_left S.within room) D (Refused refusal) → ⊥
+
+-- the tree of a state is in order with its searches, each running one of which lists what filtering lists, and tidy; and nothing hinders a command but want of memory
+pub record IsSound (S : State) : Type 0 where
+  pub order : IsOrdered true S
+  pub free : IsFree S
+
+-- The replies to lines are those of a run of a session from a new store, which keeps to no disk; each state of it is sound.
+pub record Serves (done : List Piece) (replies : List (List ℕ)) : Type 0 where
+  pub start : Searching
+  pub new : StartsSearching NAME start
+  pub turns : List (StoreTurn State)
+  pub run : Run memory_effects ⊥ (begins start) no_disk done turns
+  pub are : replies ≡ replies_of turns
+  pub first : IsSound (begins start)
+  pub sound : AfterEach IsSound turns
+
+-- the same, or there were no lines
 abbrev pub IsSession : List Piece → List (List ℕ) → Type 0
-IsSession done replies = ((done ≡ []) × (replies ≡ [])) ⊎ ((start : Searching) × (states : List InMemory) × StartsSearching NAME start × Run (begins start) done replies states × AllInOrder (begins start ∷ states))
-
--- the refusal is that of a full file
-abbrev pub is_full : CommandRefusal → Bool
-is_full (Full free need) = true
-is_full other = false
+IsSession done replies = ((done ≡ []) × (replies ≡ [])) ⊎ Serves done replies

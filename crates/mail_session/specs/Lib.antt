@@ -10,9 +10,9 @@ pub mod Info
 pub mod Look
 pub mod Looking
 pub mod Mailboxes
+pub mod Memory
 pub mod Mend
 pub mod Nodes
-pub mod Run
 pub mod Scratch
 pub mod Statuses
 pub mod Texts

@@ -1,30 +1,27 @@
--- What a mailbox answers.
-use Rattle.std.specs.Prelude.{◌≡◌, ◌⊎◌, ℕ, List, Result}
-use Rattle.line_server.specs.Lines.{Piece, line}
-use Rattle.mail_session.specs.declared.answers.NoStop.{NoStop}
+-- What the session in memory answers.
+use Rattle.std.specs.Prelude.{◌≡◌, ℕ, true, List, []}
+use Rattle.line_server.specs.Lines.{line}
+use Rattle.pst_outside.specs.Sure.{silent}
+use Rattle.pst_outside.specs.World.{World}
+use Rattle.file_filling.specs.mail_transactions.Stands.{StandsSome}
+use Rattle.file_filling.specs.mail_transactions.State.{State}
 use Rattle.mail_session.specs.declared.mailbox.Mailbox.{Mailbox}
-use Rattle.command_text.specs.declared.command.LineRefusal.{LineRefusal}
-use Rattle.session_lines.specs.declared.line.SessionLine.{SessionLine}
-use Rattle.file_filling.specs.pinned_session.Viewing.{viewing_of}
-use Rattle.mail_session.specs.Boxes.{Holds}
-use Rattle.mail_session.specs.Run.{Answers, Carries, InMemory, LacksMemory}
+use Rattle.mail_session.specs.declared.mailbox.NoStop.{NoStop}
+use Rattle.mail_session.specs.declared.nowhere.Nowhere.{Nowhere}
+use Rattle.mail_session.specs.Boxes.{AnswersFrom}
+use Rattle.mail_session.specs.Memory.{memory_holds, memory_last, memory_pinned, memory_rests, memory_room}
+
+-- the world over which its keeper is asked tells nothing
+abbrev pub nowhere_view : Nowhere → World
+nowhere_view w = silent 0 0 0 w.written
 
 -- the mailbox stands in a state
-pub record Sits (box : Mailbox) (S : InMemory) : Type 0 where
-  pub stands : Holds box.store S.now
-  pub shows : S.views ≡ viewing_of box.views
+abbrev pub Sits : Mailbox → State → Type 0
+Sits box S = StandsSome nowhere_view memory_holds memory_last memory_pinned memory_room memory_rests box.session box.nowhere [] true S
 
--- what a line asks for was answered over a mailbox, or there was no memory
-abbrev pub Responds : Mailbox → Result SessionLine LineRefusal → List ℕ → Mailbox → Type 0
-Responds old asked said new = (S : InMemory) → Sits old S → (Z : InMemory) × (Carries S asked said Z ⊎ LacksMemory S said Z) × Sits new Z
-
--- a piece was answered over a mailbox
-abbrev pub Answering : Mailbox → Piece → List ℕ → Mailbox → Type 0
-Answering old piece said new = (S : InMemory) → Sits old S → (Z : InMemory) × Answers S piece said Z × Sits new Z
-
--- a line was answered over the mailbox, and nothing was asked of the world
+-- a line was answered by the mailbox, and nothing was asked of the world
 abbrev pub BoxAnswers : {W : Type 0} → Mailbox → W → List ℕ → List ℕ → Mailbox → W → Type 0
-BoxAnswers a before bytes said b after = Answering a (line bytes) said b × (after ≡ before)
+BoxAnswers a before bytes said b after = ((S : State) → Sits a S → (Z : State) × AnswersFrom S (line bytes) said Z × Sits b Z) × (after ≡ before)
 
 -- it never stops at a line
 abbrev pub BoxStops : {W : Type 0} → Mailbox → W → List ℕ → NoStop → Mailbox → W → Type 0

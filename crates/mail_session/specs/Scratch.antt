@@ -7,7 +7,7 @@ use Rattle.line_server.specs.declared.end.ServerEnd.{ServerEnd}
 use Rattle.line_server.specs.declared.end.ServerEnd.TheVariants as server_ends
 use Rattle.line_server.specs.Lines.{Piece, is_quit, lines}
 use Rattle.line_server.specs.Server.{LINES}
-use Rattle.mail_session.specs.declared.answers.NoStop.{NoStop}
+use Rattle.mail_session.specs.declared.mailbox.NoStop.{NoStop}
 use Rattle.mail_session.specs.declared.exit.Status.{Status}
 use Rattle.mail_session.specs.declared.exit.Status.TheVariants.{Done, Input, Output, Memory, Lines}
 use Rattle.mail_session.specs.Boxes.{IsSession}
@@ -35,7 +35,7 @@ pub record ScratchEnds (first now : World) (status : Status) : Type 0 where
   pub done : List Piece
   pub left : List Piece
   pub cuts : lines all taken ≡ done ++ left
-  -- the replies to them are those of a plain tree whose running searches list what filtering lists
+  -- the replies to them are those of a run, whose running searches list what filtering lists
   pub replies : List (List ℕ)
   pub run : IsSession done replies
   -- a front of the replies was said, and all of them unless the output failed

@@ -82,7 +82,7 @@ pub fn run<W: Outside, L: Ledger>(
     ensures mend { form_of (spelled words.now) ≡ Some Form.Mend → EndsAs (MendEnds (W.view world.old) (W.view world.new)) result.status }
     // `fill`: the commands of a large input are carried out in turn over the tree that the files are read as, and a stop at any moment since the call's start leaves files that are read as the tree after some of them.
     ensures fill { (seed count : ℕ) → form_of (spelled words.now) ≡ Some Form.Fill → fill_numbers (spelled words.now) ≡ Some (seed, count) → EndsAs (FillEnds seed count (W.view world.old) (W.view world.new)) result.status }
-    // `scratch`: the replies are those of a plain tree whose running searches list what filtering lists.
+    // `scratch`: the replies are those of a session over a new store in memory, whose running searches list what filtering lists.
     ensures scratch { form_of (spelled words.now) ≡ Some Form.Scratch → EndsAs (ScratchEnds (W.view world.old) (W.view world.new)) result.status }
     ensures no_memory { form_of (spelled words.now) ≡ Some Form.Scratch → result.status ≡ 7 → world.new ≡ world.old }
     ensures changed { (result.status ≡ 9) ↔ IsSome result.changed }

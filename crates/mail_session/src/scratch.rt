@@ -2,9 +2,8 @@
 ghost use Rattle.std.specs.Prelude.{◌≡◌};
 ghost use Rattle.mail_session.specs.Scratch.{ScratchEnds, status_of};
 
-use crate::answers::NoStop;
 use crate::exit::Status;
-use crate::mailbox::Mailbox;
+use crate::mailbox::{Mailbox, NoStop};
 use line_server::{ServerEnd, serve};
 use pst_outside::Outside;
 use std::alloc::{AllocError, Global};

@@ -55,11 +55,11 @@ module _ {K W : Type 0} (view : W → World) (holds : K → World → Nodes → 
   rests_in p None v found tidy (Some w) S h told = absurd h
   rests_in p (Some t) v found tidy None S h told = absurd h
 
-  order_in : (p : PinnedStore K) (o : Option OpenTransaction) (v : W) (found : List ℕ) (tidy : Bool) (w : Option Within) (S : Sitting) (pinnable : Bool) → stands_in p o v found tidy w S → IsOrdered tidy (record { sitting = S; within = w; pinnable = pinnable })
-  order_in p None v found tidy None S pinnable h = h.store.order
-  order_in p (Some t) v found tidy (Some w) S pinnable h = h.now.order
-  order_in p None v found tidy (Some w) S pinnable h = absurd h
-  order_in p (Some t) v found tidy None S pinnable h = absurd h
+  order_in : (p : PinnedStore K) (o : Option OpenTransaction) (v : W) (found : List ℕ) (tidy : Bool) (w : Option Within) (S : Sitting) → stands_in p o v found tidy w S → IsOrdered tidy (record { sitting = S; within = w })
+  order_in p None v found tidy None S h = h.store.order
+  order_in p (Some t) v found tidy (Some w) S h = h.now.order
+  order_in p None v found tidy (Some w) S h = absurd h
+  order_in p (Some t) v found tidy None S h = absurd h
 
   pins_within : (w : Within) (S : Sitting) → S ≡ record w.before { now = S.now; views = S.views } → pins_of S ≡ pins_of w.before
   pins_within w S rest = ap pins_of rest
@@ -130,30 +130,30 @@ module _ {K W : Type 0} (view : W → World) (holds : K → World → Nodes → 
 
   some_settled : (found : List ℕ) (tidy : Bool) (o : Option (SessionStore K)) (v : W) (S : State) → some_of found tidy o v S → Settled (view v)
   some_settled found tidy None v S h = absurd h
-  some_settled found tidy (Some s) v S h = settled_in s.pinned s.open v found tidy S.within S.sitting h.stands
+  some_settled found tidy (Some s) v S h = settled_in s.pinned s.open v found tidy S.within S.sitting h
 
   some_rests : (found : List ℕ) (tidy : Bool) (o : Option (SessionStore K)) (v : W) (S : State) → some_of found tidy o v S → (view v).tells → rests (view v).here
   some_rests found tidy None v S h told = absurd h
-  some_rests found tidy (Some s) v S h told = rests_in s.pinned s.open v found tidy S.within S.sitting h.stands told
+  some_rests found tidy (Some s) v S h told = rests_in s.pinned s.open v found tidy S.within S.sitting h told
 
   some_here : ((k : K) (w : W) (N : Nodes) → holds k (view w) N → stands (room k).found (view w).here N (last k)) → (found : List ℕ) (tidy : Bool) (o : Option (SessionStore K)) (v : W) (S : State) → some_of found tidy o v S → StandsCommitted stands found tidy (view v).here S
   some_here held_stands found tidy None v S h = absurd h
-  some_here held_stands found tidy (Some s) v S h = here_in held_stands s.pinned s.open v found tidy S.within S.sitting h.stands
+  some_here held_stands found tidy (Some s) v S h = here_in held_stands s.pinned s.open v found tidy S.within S.sitting h
 
   pub some_order : (found : List ℕ) (tidy : Bool) (o : Option (SessionStore K)) (v : W) (S : State) → some_of found tidy o v S → IsOrdered tidy S
   some_order found tidy None v S h = absurd h
-  some_order found tidy (Some s) v S h = order_in s.pinned s.open v found tidy S.within S.sitting S.pinnable h.stands
+  some_order found tidy (Some s) v S h = order_in s.pinned s.open v found tidy S.within S.sitting h
 
-  some_measured : ((k : K) (w : W) (N : Nodes) → holds k (view w) N → (effects (room k).pins).measures (view w).here (room k)) → (found : List ℕ) (tidy : Bool) (o : Option (SessionStore K)) (v : W) (S : State) → some_of found tidy o v S → (effects (pins_in S)).measures (view v).here (room_of room o)
+  pub some_measured : ((k : K) (w : W) (N : Nodes) → holds k (view w) N → (effects (room k).pins).measures (view w).here (room k)) → (found : List ℕ) (tidy : Bool) (o : Option (SessionStore K)) (v : W) (S : State) → some_of found tidy o v S → (effects (pins_in S)).measures (view v).here (room_of room o)
   some_measured held_measures found tidy None v S h = absurd h
-  some_measured held_measures found tidy (Some s) v S h = measured_in held_measures s.pinned s.open v found tidy S.within S.sitting h.stands
+  some_measured held_measures found tidy (Some s) v S h = measured_in held_measures s.pinned s.open v found tidy S.within S.sitting h
 
   pub some_on : ((k : K) (v w : W) → (disk ≡ true → (view w).tells × SameDisk (view v).here (view w).here) → (N : Nodes) → holds k (view v) N → holds k (view w) N)
       → ((k : K) (v w : W) → (disk ≡ true → (view w).tells × SameDisk (view v).here (view w).here) → (q : ℕ) (N : Nodes) → pinned k (view v) q N → pinned k (view w) q N)
       → ((c d : Image) → SameDisk c d → rests c → rests d)
       → (found : List ℕ) (tidy : Bool) (o : Option (SessionStore K)) (v w : W) (S : State) → some_of found tidy o v S → Settled (view w) → ((view w).tells → (view v).tells × SameDisk (view v).here (view w).here) → (disk ≡ true → (view w).tells) → some_of found tidy o w S
   some_on holds_on pinned_on rests_on found tidy None v w S h settled same tells = absurd h
-  some_on holds_on pinned_on rests_on found tidy (Some s) v w S h settled same tells = record { stands = on_in holds_on pinned_on rests_on s.pinned s.open v w found tidy S.within S.sitting h.stands settled same tells; pinnable = h.pinnable }
+  some_on holds_on pinned_on rests_on found tidy (Some s) v w S h settled same tells = on_in holds_on pinned_on rests_on s.pinned s.open v w found tidy S.within S.sitting h settled same tells
 
   pub session_keeps : ((k : K) (v w : W) → (disk ≡ true → (view w).tells × SameDisk (view v).here (view w).here) → (N : Nodes) → holds k (view v) N → holds k (view w) N)
       → ((k : K) (v w : W) → (disk ≡ true → (view w).tells × SameDisk (view v).here (view w).here) → (q : ℕ) (N : Nodes) → pinned k (view v) q N → pinned k (view w) q N)

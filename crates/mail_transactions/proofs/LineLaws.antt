@@ -22,7 +22,7 @@ use Rattle.staged_store.proofs.pinned_session_laws.LineLaws.{carries_map, carrie
 use Rattle.staged_store.proofs.store_session_laws.Between.{same_between}
 use Rattle.staged_store.proofs.store_session_laws.Carry.{its_medium, memory_text}
 use Rattle.mail_transactions.specs.Lines.{AnswersLine, StopsLine}
-use Rattle.mail_transactions.specs.Run.{Answers, Carries, CarriesBegin, CarriesCommit, CarriesIn, CarriesLine, CarriesRollback, CommitsStaged, SaysTo, Stays, is_line}
+use Rattle.mail_transactions.specs.Run.{Answers, Carries, CarriesBegin, CarriesCommit, CarriesIn, CarriesRollback, CommitsStaged, SaysTo, Stays}
 use Rattle.mail_transactions.specs.State.{State, Within, pins_in}
 
 -- what is said to what a line asks for is said to the line
@@ -74,10 +74,6 @@ module _ (effects : Pins → Effects) (room : Room) (S : State) {old from new to
   in_on None asked said Z is = (is.0, carries_on effects room S.sitting tells starts ends asked said is.0 is.1, is.2)
   in_on (Some w) asked said Z is = (is.0, is.1, is.2, disk_on is.3)
 
-  lines_on : (taken : Bool) (asked : SessionLine) (said : List ℕ) (Z : State) → CarriesLine effects room S old told taken asked said Z new → CarriesLine effects room S from also taken asked said Z to
-  lines_on true asked said Z is = in_on S.within asked said Z is
-  lines_on false asked said Z is = (is.0, stays_on Z is.1)
-
   begins_on : (within : Option Within) (said : List ℕ) (Z : State) → CarriesBegin effects room S old told within said Z new → CarriesBegin effects room S from also within said Z to
   begins_on None said Z is = (is.0, is.1, disk_on is.2)
   begins_on (Some w) said Z is = (is.0, stays_on Z is.1)
@@ -94,7 +90,7 @@ module _ (effects : Pins → Effects) (room : Room) (S : State) {old from new to
   asked_on (Ok Begin) said Z is = begins_on S.within said Z is
   asked_on (Ok Commit) said Z is = commit_on S.within said Z is
   asked_on (Ok Rollback) said Z is = rolls_on S.within said Z is
-  asked_on (Ok (Session asked)) said Z is = lines_on (is_line S.pinnable asked) asked said Z is
+  asked_on (Ok (Session asked)) said Z is = in_on S.within asked said Z is
   asked_on (Err refusal) said Z is = (is.0, stays_on Z is.1)
 
   pub answers_on : (piece : Piece) (said : List ℕ) (Z : State) → Answers effects room S old told piece said Z new → Answers effects room S from also piece said Z to

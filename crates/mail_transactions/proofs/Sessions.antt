@@ -28,7 +28,7 @@ use Rattle.mail_transactions.specs.State.{AfterEach, State, pins_in}
 use Rattle.mail_transactions.proofs.LineLaws.{answers_on}
 use Rattle.staged_store.proofs.store_session_laws.Reached.{reached_before, reached_then, said_behind, said_front, said_none, turn_leaves}
 
-limit_text : too_long_text ≡ refused (Limit limits.Line)
+pub limit_text : too_long_text ≡ refused (Limit limits.Line)
 unfolding text last_text last_words refusal_words limit_word
 limit_text = refl
 

@@ -1,9 +1,10 @@
 -- That a session stands in a state, as its keeper goes on, a transaction begins, is dropped or is committed.
-use Rattle.std.proofs.Common.{◌≡◌, ◌∙◌, ◌⊎◌, inl, inr, ℕ, Bool, List, [], Option, refl, sym, ap, subst}
+use Rattle.std.proofs.Common.{◌≡◌, ◌∙◌, ◌⊎◌, inl, inr, ℕ, Bool, List, [], Option, None, refl, sym, ap, subst}
 use Rattle.pst_outside.specs.World.{Image, World}
 use Rattle.pst_outside.specs.Calls.{Untouched}
 use Rattle.pst_outside.proofs.Moments.{weaker}
 use Rattle.node_port.specs.Nodes.{Nodes, changed, node_at}
+use Rattle.node_port.specs.Pins.{no_pins}
 use Rattle.node_port.specs.Stops.{KeepsPins, Room}
 use Rattle.node_port.specs.declared.node.NodeRec.{NodeRec}
 use Rattle.pst_base.specs.declared.ids.Nid.{Nid}
@@ -15,20 +16,24 @@ use Rattle.staged_store.specs.staged_nodes.Room.{IsLeft}
 use Rattle.staged_store.specs.staged_nodes.Staged.{IsOver, Staged, listed, none_staged}
 use Rattle.staged_store.specs.staged_nodes.Staging.{IsStaged}
 use Rattle.staged_store.specs.pinned_session.Sits.{Sits}
-use Rattle.staged_store.specs.pinned_session.Sitting.{Sitting}
+use Rattle.staged_store.specs.pinned_session.Holding.{HasSitting}
+use Rattle.staged_store.specs.pinned_session.Sitting.{Sitting, begins as begins_sitting}
 use Rattle.staged_store.specs.pinned_session.Viewing.{viewing_of}
 use Rattle.staged_store.specs.pinned_session.declared.pins.PinnedStore.{PinnedStore}
 use Rattle.staged_store.specs.pinned_session.mail_reading.search_folders.Comings.{KnowsSearches}
-use Rattle.staged_store.specs.pinned_session.store_session.Carrying.{Leaves, StandsFor, StandsOrdered}
+use Rattle.staged_store.specs.pinned_session.store_session.Carrying.{Has, Leaves, StandsFor, StandsOrdered}
+use Rattle.staged_store.specs.pinned_session.store_session.search_store.declared.store.SearchStore.{SearchStore}
 use Rattle.staged_store.proofs.pinned_session_laws.MakeLaws.{sitting_same}
 use Rattle.staged_store.proofs.pinned_session_laws.PinLaws.{has_mapped, views_on}
+use Rattle.staged_store.proofs.pinned_session_laws.PinnedKeeps.{sits_first}
 use Rattle.staged_store.proofs.staged_nodes_laws.StagedLaws.{listed_none, over_listed, over_none}
 use Rattle.staged_store.proofs.store_session_laws.mail_draft_laws.Looking.{untouched_same}
 use Rattle.staged_store.proofs.store_session_laws.mail_store_laws.StoreLaws.{shown_stands}
 use Rattle.mail_transactions.specs.Committing.{LeavesNodes, MadeChanges}
-use Rattle.mail_transactions.specs.Stands.{IsWithin, store_before}
-use Rattle.mail_transactions.specs.State.{Within, taken_back}
+use Rattle.mail_transactions.specs.Stands.{IsWithin, Stands, StandsIn, store_before}
+use Rattle.mail_transactions.specs.State.{Within, begins, taken_back}
 use Rattle.mail_transactions.specs.declared.store.OpenTransaction.{OpenTransaction}
+use Rattle.mail_transactions.specs.declared.store.SessionStore.{SessionStore}
 
 -- the store over another keeper
 abbrev pub with_keeper : {K : Type 0} → PinnedStore K → K → PinnedStore K
@@ -83,6 +88,18 @@ module _ {K W : Type 0} (view : W → World) (holds : K → World → Nodes → 
     rest = h.rest;
     counted = h.counted;
   }
+
+  -- ---- a session begins
+
+  pub session_first : (s : SessionStore K) (store : SearchStore K) (v : W) (tidy : Bool) (X : Searching) → s.pinned.store ≡ store → s.pinned.given ≡ 0 → s.pinned.pins.items ≡ [] → viewing_of s.pinned.views ≡ record { given = 0; opened = [] } → s.open ≡ None
+      → Has (holds store.store.keeper (view v)) (last store.store.keeper) store.store.known store.searches rests (view v) tidy X → (room store.store.keeper).pins ≡ no_pins → Stands view holds last pinned room rests s v (room store.store.keeper).found tidy (begins X)
+  session_first s store v tidy X is given pins views none h unpinned =
+      let has : SearchStore K → Searching → Type 0 = λ t. Has (holds t.store.keeper (view v)) (last t.store.keeper) t.store.known t.searches rests (view v) tidy in
+      let sits : HasSitting (has store) (pinned store.store.keeper (view v)) (room store.store.keeper) s.pinned.pins.items 0 s.pinned.views (room store.store.keeper).found (begins_sitting X) = sits_first s.pinned.pins.items s.pinned.views X h pins views unpinned in
+      let over : HasSitting (has s.pinned.store) (pinned s.pinned.store.store.keeper (view v)) (room s.pinned.store.store.keeper) s.pinned.pins.items 0 s.pinned.views (room store.store.keeper).found (begins_sitting X) =
+      subst (λ (t : SearchStore K). HasSitting (has t) (pinned t.store.keeper (view v)) (room t.store.keeper) s.pinned.pins.items 0 s.pinned.views (room store.store.keeper).found (begins_sitting X)) (sym is) sits in
+      subst (λ (o : Option OpenTransaction). StandsIn view holds last pinned room rests s.pinned o v (room store.store.keeper).found tidy None (begins_sitting X)) (sym none)
+      (subst (λ (n : ℕ). HasSitting (has s.pinned.store) (pinned s.pinned.store.store.keeper (view v)) (room s.pinned.store.store.keeper) s.pinned.pins.items n s.pinned.views (room store.store.keeper).found (begins_sitting X)) (sym given) over)
 
   -- ---- a transaction begins
 

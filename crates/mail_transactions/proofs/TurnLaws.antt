@@ -40,8 +40,8 @@ use Rattle.staged_store.proofs.pinned_session_laws.MakeLaws.{sitting_same}
 use Rattle.staged_store.proofs.pinned_session_laws.PinLaws.{has_mapped}
 use Rattle.staged_store.proofs.store_session_laws.Carry.{memory_text, quiet_leaves, same_medium}
 use Rattle.mail_transactions.specs.Committing.{CommitsAs, HasRoomFor}
-use Rattle.mail_transactions.specs.Opening.{StandsAs, inside, outside, read_as}
-use Rattle.mail_transactions.specs.Run.{Carries, CarriesLine, CommitsStaged, SaysTo, is_line}
+use Rattle.mail_transactions.specs.Opening.{inside, outside, read_as}
+use Rattle.mail_transactions.specs.Run.{Carries, CommitsStaged, SaysTo}
 use Rattle.mail_transactions.specs.Stands.{IsWithin, Stands, StandsIn, StandsCommitted}
 use Rattle.mail_transactions.specs.State.{State, Within, taken_back, underway}
 use Rattle.mail_transactions.specs.declared.store.OpenTransaction.{OpenTransaction}
@@ -75,40 +75,32 @@ failed_said effects room S v w has stands asked leaves = (S, text (replied last_
 
 -- a session outside of a transaction is in a state outside, and one within in a state within
 module _ {K W : Type 0} (view : W → World) (holds : K → World → Nodes → Type 0) (last : K → List ℕ) (pinned : K → World → ℕ → Nodes → Type 0) (room : K → Room) (rests : Image → Type 0) (p : PinnedStore K) (v : W) (found : List ℕ) (tidy : Bool) (P : State → Type 0) where
-  pub in_none : (i : Option Within) (S : Sitting) (pinnable : Bool) → StandsIn view holds last pinned room rests p None v found tidy i S → (StandsIn view holds last pinned room rests p None v found tidy None S → P (outside S pinnable)) → P (record { sitting = S; within = i; pinnable = pinnable })
-  in_none None S pinnable h so = so h
-  in_none (Some i) S pinnable h so = absurd h
+  pub in_none : (i : Option Within) (S : Sitting) → StandsIn view holds last pinned room rests p None v found tidy i S → (StandsIn view holds last pinned room rests p None v found tidy None S → P (outside S)) → P (record { sitting = S; within = i })
+  in_none None S h so = so h
+  in_none (Some i) S h so = absurd h
 
-  pub in_some : (t : OpenTransaction) (i : Option Within) (S : Sitting) (pinnable : Bool) → StandsIn view holds last pinned room rests p (Some t) v found tidy i S → ((w : Within) → IsWithin view holds last pinned room rests p t v found tidy w S → P (inside S w pinnable)) → P (record { sitting = S; within = i; pinnable = pinnable })
-  in_some t None S pinnable h so = absurd h
-  in_some t (Some i) S pinnable h so = so i h
-
--- a store and a transaction that stand in a state are a session that does
-pub session_carries : {K W : Type 0} (view : W → World) (holds : K → World → Nodes → Type 0) (last : K → List ℕ) (pinned : K → World → ℕ → Nodes → Type 0) (room : K → Room) (rests : Image → Type 0) (p : PinnedStore K) (o : Option OpenTransaction) (u : W) (found : List ℕ) (tidy pinnable of_session : Bool)
-    (stands : Image → State → Type 0) (answers : Type 0 → List ℕ → State → Medium → Type 0) (v w : World) (X : State) (r : Result Spoken StoreStop) → pinnable ≡ of_session → CarriesOut (StandsAs view holds last pinned room rests p o u found tidy pinnable) stands answers v w X r
-    → CarriesOut (Stands view holds last pinned room rests (record { pinned = p; «open» = o; pinnable = of_session }) u found tidy) stands answers v w X r
-session_carries view holds last pinned room rests p o u found tidy pinnable of_session stands answers v w X r same is =
-    carries_map (StandsAs view holds last pinned room rests p o u found tidy pinnable) (Stands view holds last pinned room rests (record { pinned = p; «open» = o; pinnable = of_session }) u found tidy) stands answers answers (λ told said Y m a. a)
-    (λ Z h. record { stands = h.0; pinnable = h.1 ∙ same }) v w X r is
+  pub in_some : (t : OpenTransaction) (i : Option Within) (S : Sitting) → StandsIn view holds last pinned room rests p (Some t) v found tidy i S → ((w : Within) → IsWithin view holds last pinned room rests p t v found tidy w S → P (inside S w)) → P (record { sitting = S; within = i })
+  in_some t None S h so = absurd h
+  in_some t (Some i) S h so = so i h
 
 -- ---- a line outside of a transaction
 
-module _ (effects : Pins → Effects) (room : Room) (v w : World) (S : Sitting) (pinnable : Bool) (has : Sitting → Type 0) (has' : State → Type 0) (stands : Image → Sitting → Type 0) (stands' : Image → State → Type 0) (on : (Z : Sitting) → has Z → has' (outside Z pinnable))
-    (also : (c : Image) (Z : Sitting) → stands c Z → stands' c (outside Z pinnable)) (asked : SessionLine) (line : is_line pinnable asked ≡ true) where
-  outside_says : (told : Type 0) (said : List ℕ) (Z : Sitting) (m : Medium) → SaysOutside effects room S (medium v) asked told said Z m → SaysTo effects room (outside S pinnable) (medium v) (Session asked) told said (outside Z pinnable) m
-  outside_says told said Z m (inl is) = inl (subst (λ b. CarriesLine effects room (outside S pinnable) (medium v) told b asked said (outside Z pinnable) m) (sym line) (Z, is, refl))
-  outside_says told said Z m (inr is) = inr (is.0, (ap (λ (X : Sitting). outside X pinnable) (is.1).0, (is.1).1))
+module _ (effects : Pins → Effects) (room : Room) (v w : World) (S : Sitting) (has : Sitting → Type 0) (has' : State → Type 0) (stands : Image → Sitting → Type 0) (stands' : Image → State → Type 0) (on : (Z : Sitting) → has Z → has' (outside Z))
+    (also : (c : Image) (Z : Sitting) → stands c Z → stands' c (outside Z)) (asked : SessionLine) where
+  outside_says : (told : Type 0) (said : List ℕ) (Z : Sitting) (m : Medium) → SaysOutside effects room S (medium v) asked told said Z m → SaysTo effects room (outside S) (medium v) (Session asked) told said (outside Z) m
+  outside_says told said Z m (inl is) = inl (Z, is, refl)
+  outside_says told said Z m (inr is) = inr (is.0, (ap (λ (X : Sitting). outside X) (is.1).0, (is.1).1))
 
-  leaves_outside : (Z : Sitting) → Leaves stands v w S Z → Leaves stands' v w (outside S pinnable) (outside Z pinnable)
-  leaves_outside Z leaves = weaker (λ c. (c.said ≡ v.here.said) × (stands' c (outside S pinnable) ⊎ stands' c (outside Z pinnable))) leaves (λ c told is. (is.0, one c is.1))
+  leaves_outside : (Z : Sitting) → Leaves stands v w S Z → Leaves stands' v w (outside S) (outside Z)
+  leaves_outside Z leaves = weaker (λ c. (c.said ≡ v.here.said) × (stands' c (outside S) ⊎ stands' c (outside Z))) leaves (λ c told is. (is.0, one c is.1))
     where
-      one : (c : Image) → stands c S ⊎ stands c Z → stands' c (outside S pinnable) ⊎ stands' c (outside Z pinnable)
+      one : (c : Image) → stands c S ⊎ stands c Z → stands' c (outside S) ⊎ stands' c (outside Z)
       one c (inl is) = inl (also c S is)
       one c (inr is) = inr (also c Z is)
 
-  pub outside_carries : (r : Result Spoken StoreStop) → CarriesOut has stands (SaysOutside effects room S (medium v) asked) v w S r → CarriesOut has' stands' (SaysTo effects room (outside S pinnable) (medium v) (Session asked)) v w (outside S pinnable) r
-  outside_carries (Ok spoken) is = (outside is.0 pinnable, outside_says w.tells (spoken_text spoken) is.0 (medium w) is.1, on is.0 is.2, leaves_outside is.0 is.3)
-  outside_carries (Err Disk) is = (outside is.0 pinnable, is.1, outside_says ⊥ is.1 is.0 (medium w) is.2, leaves_outside is.0 is.3)
+  pub outside_carries : (r : Result Spoken StoreStop) → CarriesOut has stands (SaysOutside effects room S (medium v) asked) v w S r → CarriesOut has' stands' (SaysTo effects room (outside S) (medium v) (Session asked)) v w (outside S) r
+  outside_carries (Ok spoken) is = (outside is.0, outside_says w.tells (spoken_text spoken) is.0 (medium w) is.1, on is.0 is.2, leaves_outside is.0 is.3)
+  outside_carries (Err Disk) is = (outside is.0, is.1, outside_says ⊥ is.1 is.0 (medium w) is.2, leaves_outside is.0 is.3)
   outside_carries (Err (Changed ib stored computed)) is = is
 
 -- ---- a line within one
@@ -157,15 +149,15 @@ module _ {K W : Type 0} (view : W → World) (holds : K → World → Nodes → 
     responds_within asked (Err (Changed ib stored computed)) is = is
 
 -- what was answered within is carried out
-module _ (effects : Pins → Effects) (room : Room) (v w : World) (i : Within) (S : Sitting) (pinnable : Bool) (has : Underway → Type 0) (has' : State → Type 0) (stands : Image → State → Type 0) (on : (U : Underway) → has U → has' (inside (sitting_of S U) (within_of i U) pinnable))
-    (asked : SessionLine) (line : is_line pinnable asked ≡ true) (same : w.tells → SameMedium (medium v) (medium w)) (leaves : (U : Underway) → Leaves stands v w (inside S i pinnable) (inside (sitting_of S U) (within_of i U) pinnable)) where
-  pub inside_carries : (r : Result Spoken StoreStop) → Responds room (underway S i) asked has r → CarriesOut has' stands (SaysTo effects room (inside S i pinnable) (medium v) (Session asked)) v w (inside S i pinnable) r
-  inside_carries (Ok spoken) is = (inside (sitting_of S is.0) (within_of i is.0) pinnable, says is.0 is.1, on is.0 is.2, leaves is.0)
+module _ (effects : Pins → Effects) (room : Room) (v w : World) (i : Within) (S : Sitting) (has : Underway → Type 0) (has' : State → Type 0) (stands : Image → State → Type 0) (on : (U : Underway) → has U → has' (inside (sitting_of S U) (within_of i U)))
+    (asked : SessionLine) (same : w.tells → SameMedium (medium v) (medium w)) (leaves : (U : Underway) → Leaves stands v w (inside S i) (inside (sitting_of S U) (within_of i U))) where
+  pub inside_carries : (r : Result Spoken StoreStop) → Responds room (underway S i) asked has r → CarriesOut has' stands (SaysTo effects room (inside S i) (medium v) (Session asked)) v w (inside S i) r
+  inside_carries (Ok spoken) is = (inside (sitting_of S is.0) (within_of i is.0), says is.0 is.1, on is.0 is.2, leaves is.0)
     where
-      says : (U : Underway) → SaysOn room (underway S i) asked (spoken_text spoken) U ⊎ LacksOn room (underway S i) (spoken_text spoken) U → SaysTo effects room (inside S i pinnable) (medium v) (Session asked) w.tells (spoken_text spoken) (inside (sitting_of S U) (within_of i U) pinnable) (medium w)
-      says U (inl said) = inl (subst (λ b. CarriesLine effects room (inside S i pinnable) (medium v) w.tells b asked (spoken_text spoken) (inside (sitting_of S U) (within_of i U) pinnable) (medium w)) (sym line) (U, said, refl, same))
-      says U (inr said) = inr (said.0, (ap (λ (V : Underway). inside (sitting_of S V) (within_of i V) pinnable) said.1, same))
-  inside_carries (Err Disk) is = (inside S i pinnable, text (replied last_line.NoMemory), inr (refl, (refl, λ none. absurd none)), leaves (underway S i))
+      says : (U : Underway) → SaysOn room (underway S i) asked (spoken_text spoken) U ⊎ LacksOn room (underway S i) (spoken_text spoken) U → SaysTo effects room (inside S i) (medium v) (Session asked) w.tells (spoken_text spoken) (inside (sitting_of S U) (within_of i U)) (medium w)
+      says U (inl said) = inl (U, said, refl, same)
+      says U (inr said) = inr (said.0, (ap (λ (V : Underway). inside (sitting_of S V) (within_of i V)) said.1, same))
+  inside_carries (Err Disk) is = (inside S i, text (replied last_line.NoMemory), inr (refl, (refl, λ none. absurd none)), leaves (underway S i))
   inside_carries (Err (Changed ib stored computed)) is = absurd is
 
 -- ---- changes committed
@@ -178,20 +170,20 @@ room_for room F asked has none some = (has.numbers some, enough)
     enough = let cells = has.cells some in omega (arith, cells, none)
 
 -- what a transaction that was committed comes to
-module _ (effects : Pins → Effects) (room : Room) (v w : World) (i : Within) (S : Sitting) (pinnable : Bool) (has : State → Type 0) (stands : Image → State → Type 0) where
-  pub commit_said : (spoken : Spoken) → spoken_text spoken ≡ transaction_text Done → has (outside S pinnable) → (w.tells → CommitsStaged (effects (pins_of S)) i.nodes (medium v) (medium w)) → Leaves stands v w (inside S i pinnable) (outside S pinnable)
-      → CarriesOut has stands (SaysTo effects room (inside S i pinnable) (medium v) Commit) v w (inside S i pinnable) (Ok spoken)
-  commit_said spoken says h commits leaves = (outside S pinnable, inl (says, refl, commits), h, leaves)
+module _ (effects : Pins → Effects) (room : Room) (v w : World) (i : Within) (S : Sitting) (has : State → Type 0) (stands : Image → State → Type 0) where
+  pub commit_said : (spoken : Spoken) → spoken_text spoken ≡ transaction_text Done → has (outside S) → (w.tells → CommitsStaged (effects (pins_of S)) i.nodes (medium v) (medium w)) → Leaves stands v w (inside S i) (outside S)
+      → CarriesOut has stands (SaysTo effects room (inside S i) (medium v) Commit) v w (inside S i) (Ok spoken)
+  commit_said spoken says h commits leaves = (outside S, inl (says, refl, commits), h, leaves)
 
   -- or dropped
-  pub rollback_said : (spoken : Spoken) → spoken_text spoken ≡ transaction_text Done → has (outside (taken_back S i) pinnable) → (w.tells → SameMedium (medium v) (medium w)) → Leaves stands v w (inside S i pinnable) (outside (taken_back S i) pinnable)
-      → CarriesOut has stands (SaysTo effects room (inside S i pinnable) (medium v) Rollback) v w (inside S i pinnable) (Ok spoken)
-  rollback_said spoken says h same leaves = (outside (taken_back S i) pinnable, inl (says, refl, same), h, leaves)
+  pub rollback_said : (spoken : Spoken) → spoken_text spoken ≡ transaction_text Done → has (outside (taken_back S i)) → (w.tells → SameMedium (medium v) (medium w)) → Leaves stands v w (inside S i) (outside (taken_back S i))
+      → CarriesOut has stands (SaysTo effects room (inside S i) (medium v) Rollback) v w (inside S i) (Ok spoken)
+  rollback_said spoken says h same leaves = (outside (taken_back S i), inl (says, refl, same), h, leaves)
 
 -- or opened
-pub begin_said : (effects : Pins → Effects) (room : Room) (v w : World) (S : Sitting) (pinnable : Bool) (has : State → Type 0) (stands : Image → State → Type 0) (spoken : Spoken) → spoken_text spoken ≡ transaction_text Done → has (inside S (record { before = S; nodes = none_staged }) pinnable)
-    → (w.tells → SameMedium (medium v) (medium w)) → Leaves stands v w (outside S pinnable) (inside S (record { before = S; nodes = none_staged }) pinnable) → CarriesOut has stands (SaysTo effects room (outside S pinnable) (medium v) Begin) v w (outside S pinnable) (Ok spoken)
-begin_said effects room v w S pinnable has stands spoken says h same leaves = (inside S (record { before = S; nodes = none_staged }) pinnable, inl (says, refl, same), h, leaves)
+pub begin_said : (effects : Pins → Effects) (room : Room) (v w : World) (S : Sitting) (has : State → Type 0) (stands : Image → State → Type 0) (spoken : Spoken) → spoken_text spoken ≡ transaction_text Done → has (inside S (record { before = S; nodes = none_staged }))
+    → (w.tells → SameMedium (medium v) (medium w)) → Leaves stands v w (outside S) (inside S (record { before = S; nodes = none_staged })) → CarriesOut has stands (SaysTo effects room (outside S) (medium v) Begin) v w (outside S) (Ok spoken)
+begin_said effects room v w S has stands spoken says h same leaves = (inside S (record { before = S; nodes = none_staged }), inl (says, refl, same), h, leaves)
 
 -- what was written for a transaction
 pub committed_staged : (effects : Pins → Effects) (room : Room) (S : Sitting) (F : Staged) (old new : Medium) → room.pins ≡ pins_of S → ((listed F ≡ [] → ⊥) → Becomes ((effects room.pins).applied (listed F)) old new) → (listed F ≡ [] → SameMedium old new) → CommitsStaged (effects (pins_of S)) F old new
@@ -202,12 +194,12 @@ committed_staged effects room S F old new pins written unwritten = record { writ
 module _ {K W : Type 0} (view : W → World) (holds : K → World → Nodes → Type 0) (last : K → List ℕ) (pinned : K → World → ℕ → Nodes → Type 0) (room : K → Room) (disk : Bool) (stands : List ℕ → Image → Nodes → List ℕ → Type 0) (rests : Image → Type 0) (effects : Pins → Effects)
     (held_stands : (k : K) (w : W) (N : Nodes) → holds k (view w) N → stands (room k).found (view w).here N (last k)) (found : List ℕ) (tidy : Bool) where
   -- nothing was written on the way to a state
-  pub still_leaves : (p : PinnedStore K) (o : Option OpenTransaction) (v w : W) (i : Option Within) (S : Sitting) (pinnable : Bool) (Z : State) → StandsIn view holds last pinned room rests p o v found tidy i S → Untouched (view v) (view w)
-      → Leaves (StandsCommitted stands found tidy) (view v) (view w) (record { sitting = S; within = i; pinnable = pinnable }) Z
-  still_leaves p o v w i S pinnable Z h same =
-      quiet_leaves (StandsCommitted stands found tidy) (record { sitting = S; within = i; pinnable = pinnable }) Z (settled_in view holds last pinned room disk stands rests effects p o v found tidy i S h) same (here_in view holds last pinned room disk stands rests effects held_stands p o v found tidy i S h)
+  pub still_leaves : (p : PinnedStore K) (o : Option OpenTransaction) (v w : W) (i : Option Within) (S : Sitting) (Z : State) → StandsIn view holds last pinned room rests p o v found tidy i S → Untouched (view v) (view w)
+      → Leaves (StandsCommitted stands found tidy) (view v) (view w) (record { sitting = S; within = i }) Z
+  still_leaves p o v w i S Z h same =
+      quiet_leaves (StandsCommitted stands found tidy) (record { sitting = S; within = i }) Z (settled_in view holds last pinned room disk stands rests effects p o v found tidy i S h) same (here_in view holds last pinned room disk stands rests effects held_stands p o v found tidy i S h)
 
-  module _ (p : PinnedStore K) (t : OpenTransaction) (k : K) (v w : W) (i : Within) (S : Sitting) (pinnable : Bool) (h : IsWithin view holds last pinned room rests p t v found tidy i S) where
+  module _ (p : PinnedStore K) (t : OpenTransaction) (k : K) (v w : W) (i : Within) (S : Sitting) (h : IsWithin view holds last pinned room rests p t v found tidy i S) where
     abbrev Ends : List (Nid × Option NodeRec) → List ℕ → Result Bool StoreStop → Type 0
     Ends cs counters r = CommitsAs (stands (room p.store.store.keeper).found) (effects (room p.store.store.keeper).pins).applied (holds k (view w)) (pinned p.store.store.keeper (view v)) (pinned k (view w)) (last p.store.store.keeper) (last k) (room p.store.store.keeper) (room k) rests (view v) (view w) h.base cs counters r
 
@@ -221,25 +213,25 @@ module _ {K W : Type 0} (view : W → World) (holds : K → World → Nodes → 
         (subst (λ l. HasRoomFor (room p.store.store.keeper) asked l) (sym are) (room_for (room p.store.store.keeper) i.nodes asked h.now.enough none))))
 
     abbrev Carried : PinnedStore K → Option OpenTransaction → Result Spoken StoreStop → Type 0
-    Carried q o r = CarriesOut (StandsAs view holds last pinned room rests q o w found tidy pinnable) (StandsCommitted stands found tidy) (SaysTo effects (room p.store.store.keeper) (inside S i pinnable) (medium (view v)) Commit) (view v) (view w) (inside S i pinnable) r
+    Carried q o r = CarriesOut (Stands view holds last pinned room rests (record { pinned = q; «open» = o }) w found tidy) (StandsCommitted stands found tidy) (SaysTo effects (room p.store.store.keeper) (inside S i) (medium (view v)) Commit) (view v) (view w) (inside S i) r
 
     pub commit_done : Ends (listed i.nodes) t.staging.counts.last (Ok true) → (spoken : Spoken) → spoken_text spoken ≡ transaction_text Done → Carried (with_keeper p k) None (Ok spoken)
     commit_done made spoken says = (
-      outside S pinnable,
+      outside S,
       inl (says, refl, λ told. committed_staged effects (room p.store.store.keeper) S i.nodes (medium (view v)) (medium (view w)) (h.before.pins ∙ sym (ap pins_of h.rest)) (λ some. made.written told some) (λ none. made.unwritten told none)),
-      (sits_made view holds last pinned room rests stands (effects (room p.store.store.keeper).pins).applied p t k v w found tidy i S h made, refl),
+      sits_made view holds last pinned room rests stands (effects (room p.store.store.keeper).pins).applied p t k v w found tidy i S h made,
       leaves_trees view holds last pinned room rests stands (effects (room p.store.store.keeper).pins).applied p t v w found tidy i S h made.leaves,
     )
 
     pub commit_lacks : Ends (listed i.nodes) t.staging.counts.last (Ok false) → Carried (with_keeper p k) (Some t) (Ok spoken_as.NoMemory)
     commit_lacks left =
-        lacks_said effects (room p.store.store.keeper) (inside S i pinnable) (view v) (view w) (StandsAs view holds last pinned room rests (with_keeper p k) (Some t) w found tidy pinnable) (StandsCommitted stands found tidy)
-        (within_goes_on view holds last pinned room rests p t k v w found tidy i S h left.held left.keeps left.counted left.room left.same, refl) (λ told. same_medium (view v) (view w) (left.same.stays.here told) left.same.stays.written)
-        (still_leaves p (Some t) v w (Some i) S pinnable (inside S i pinnable) h left.same) Commit
+        lacks_said effects (room p.store.store.keeper) (inside S i) (view v) (view w) (Stands view holds last pinned room rests (record { pinned = with_keeper p k; «open» = Some t }) w found tidy) (StandsCommitted stands found tidy)
+        (within_goes_on view holds last pinned room rests p t k v w found tidy i S h left.held left.keeps left.counted left.room left.same) (λ told. same_medium (view v) (view w) (left.same.stays.here told) left.same.stays.written)
+        (still_leaves p (Some t) v w (Some i) S (inside S i) h left.same) Commit
 
     pub commit_stops : (q : PinnedStore K) (o : Option OpenTransaction) (stop : StoreStop) → Ends (listed i.nodes) t.staging.counts.last (Err stop) → Carried q o (Err stop)
     commit_stops q o Disk leaves = (
-      outside S pinnable,
+      outside S,
       transaction_text Done,
       inl (refl, refl, λ none. absurd none),
       leaves_trees view holds last pinned room rests stands (effects (room p.store.store.keeper).pins).applied p t v w found tidy i S h leaves,

@@ -1,5 +1,5 @@
 -- A run of a session: the replies to lines, one after another, and the states and the disks after them.
-use Rattle.std.specs.Prelude.{◌≡◌, ◌⊎◌, ℕ, Bool, true, false, List, [], ◌∷◌, Option, None, Some, Result, Ok, Err}
+use Rattle.std.specs.Prelude.{◌≡◌, ◌⊎◌, ℕ, List, [], ◌∷◌, Option, None, Some, Result, Ok, Err}
 use Rattle.command_text.specs.declared.command.LineRefusal.{LineRefusal}
 use Rattle.command_text.specs.declared.reply.CommandRefusal.TheVariants.{Limit, Line}
 use Rattle.command_text.specs.declared.reply.Limit.TheVariants as limits
@@ -13,7 +13,6 @@ use Rattle.node_port.specs.Stops.{Room}
 use Rattle.session_lines.specs.Lines.{transaction_line}
 use Rattle.session_lines.specs.Texts.{transaction_text}
 use Rattle.session_lines.specs.declared.line.SessionLine.{SessionLine}
-use Rattle.session_lines.specs.declared.line.SessionLine.TheVariants.{Pin, At, Unpin}
 use Rattle.session_lines.specs.declared.line.TransactionLine.{TransactionLine}
 use Rattle.session_lines.specs.declared.line.TransactionLine.TheVariants.{Begin, Commit, Rollback, Session}
 use Rattle.session_lines.specs.declared.line.TransactionReply.TheVariants.{Done}
@@ -25,13 +24,6 @@ use Rattle.staged_store.specs.pinned_session.store_session.Run.{refused}
 use Rattle.staged_store.specs.pinned_session.store_session.Turns.{StoreTurn}
 use Rattle.staged_store.specs.staged_nodes.Staged.{Staged, listed, none_staged}
 use Rattle.mail_transactions.specs.State.{State, Within, pins_in, taken_back, underway, with_underway}
-
--- a line is one, where lines on pins are lines or not
-abbrev pub is_line : Bool → SessionLine → Bool
-is_line pinnable Pin = pinnable
-is_line pinnable (At pin c) = pinnable
-is_line pinnable (Unpin pin) = pinnable
-is_line pinnable other = true
 
 -- The changes of a transaction were committed, as one, by writing just these nodes; where there are none nothing was written.
 pub record CommitsStaged (effects : Effects) (F : Staged) (old new : Medium) : Type 0 where
@@ -62,11 +54,6 @@ module _ (effects : Pins → Effects) (room : Room) (before : State) (old : Medi
   CarriesIn None asked said after new = CarriesPlain asked said after new
   CarriesIn (Some w) asked said after new = CarriesStaged w asked said after new
 
-  -- the same of a line that may be none
-  abbrev pub CarriesLine : Bool → SessionLine → List ℕ → State → Medium → Type 0
-  CarriesLine true asked said after new = CarriesIn before.within asked said after new
-  CarriesLine false asked said after new = IsNone said after new
-
   -- a transaction was opened; there is one at a time
   abbrev pub CarriesBegin : Option Within → List ℕ → State → Medium → Type 0
   CarriesBegin None said after new = (said ≡ transaction_text Done) × (after ≡ record before { within = Some (record { before = before.sitting; nodes = none_staged }) }) × (told → SameMedium old new)
@@ -87,7 +74,7 @@ module _ (effects : Pins → Effects) (room : Room) (before : State) (old : Medi
   Carries (Ok Begin) said after new = CarriesBegin before.within said after new
   Carries (Ok Commit) said after new = CarriesCommit before.within said after new
   Carries (Ok Rollback) said after new = CarriesRollback before.within said after new
-  Carries (Ok (Session asked)) said after new = CarriesLine (is_line before.pinnable asked) asked said after new
+  Carries (Ok (Session asked)) said after new = CarriesIn before.within asked said after new
   Carries (Err refusal) said after new = (said ≡ refused (refusal_of refusal)) × Stays after new
 
   -- want of memory: the line changes nothing

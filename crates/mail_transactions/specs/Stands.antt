@@ -47,9 +47,8 @@ module _ {K W : Type 0} (view : W → World) (holds : K → World → Nodes → 
   StandsIn p (Some t) v found tidy None S = ⊥
 
   -- a session stands in a state
-  pub record Stands (s : SessionStore K) (v : W) (found : List ℕ) (tidy : Bool) (S : State) : Type 0 where
-    pub stands : StandsIn s.pinned s.open v found tidy S.within S.sitting
-    pub pinnable : S.pinnable ≡ s.pinnable
+  abbrev pub Stands : SessionStore K → W → List ℕ → Bool → State → Type 0
+  Stands s v found tidy S = StandsIn s.pinned s.open v found tidy S.within S.sitting
 
   -- the same of one that may not be there
   abbrev pub StandsSome : Option (SessionStore K) → W → List ℕ → Bool → State → Type 0

@@ -1,5 +1,5 @@
 -- The state of a session with transactions.
-use Rattle.std.specs.Prelude.{Bool, List, [], ◌∷◌, Option, None, Some}
+use Rattle.std.specs.Prelude.{List, [], ◌∷◌, Option, None, Some}
 use Rattle.mail_searches.specs.Searching.{Searching}
 use Rattle.node_port.specs.Pins.{Pins}
 use Rattle.staged_store.specs.pinned_session.Sitting.{Sitting, begins as begins_sitting, pins_of}
@@ -12,15 +12,14 @@ pub record Within : Type 0 where
   pub before : Sitting
   pub nodes : Staged
 
--- The present tree with its pins and views, the transaction, if one is open, and whether lines on pins are lines.
+-- the present tree with its pins and views, and the transaction, if one is open
 pub record State : Type 0 where
   pub sitting : Sitting
   pub within : Option Within
-  pub pinnable : Bool
 
 -- a session that begins has no pins, no views and no transaction
-abbrev pub begins : Bool → Searching → State
-begins pinnable X = record { sitting = begins_sitting X; within = None; pinnable = pinnable }
+abbrev pub begins : Searching → State
+begins X = record { sitting = begins_sitting X; within = None }
 
 -- the tree that is committed: within a transaction the one from before it
 abbrev pub committed_in : Option Within → Sitting → Searching

@@ -7,7 +7,7 @@ ghost use Rattle.staged_store.specs.pinned_session.Sitting.{Sitting};
 ghost use Rattle.staged_store.specs.pinned_session.store_session.Carrying.{CarriesOut, IsCaused};
 ghost use Rattle.staged_store.specs.pinned_session.store_session.Disks.{effects_of, medium};
 ghost use Rattle.mail_transactions.specs.Committing.{CommitsAs, HasRoomFor, unprepared};
-ghost use Rattle.mail_transactions.specs.Opening.{StandsAs, inside};
+ghost use Rattle.mail_transactions.specs.Opening.{inside};
 ghost use Rattle.mail_transactions.specs.Stands.{IsWithin, Stands, StandsCommitted};
 ghost use Rattle.mail_transactions.specs.State.{State, Within};
 ghost use Rattle.session_lines.specs.declared.line.TransactionLine.TheVariants.{Commit};
@@ -81,27 +81,31 @@ fn commit_open<W: Outside, K: Pinner<W> + Saver<W>>(
     pinned: PinnedStore<K>,
     transaction: OpenTransaction,
     world: &mut W,
-) -> (
-    PinnedStore<K>,
-    Option<OpenTransaction>,
-    Result<Spoken, StoreStop>,
-)
-    ensures carries { (found : List ℕ) (tidy : Bool) (w : Within) (S : Sitting) (pinnable : Bool) → IsWithin W.view K.holds K.last K.pinned K.room K.rests pinned transaction world.old found tidy w S → (K.has_disk ≡ true → (W.view world.new).tells)
-        → CarriesOut (StandsAs W.view K.holds K.last K.pinned K.room K.rests result.0 result.1 world.new found tidy pinnable) (StandsCommitted K.stands found tidy) (SaysTo (λ pins. effects_of pins K.measures K.applied K.saved) (K.room pinned.store.store.keeper) (inside S w pinnable) (medium (W.view world.old)) Commit) (W.view world.old) (W.view world.new) (inside S w pinnable) result.2 }
-    ensures cause { IfErr result.2 (IsCaused K.has_disk (W.view world.old) (W.view world.new)) }
+) -> (SessionStore<K>, Result<Spoken, StoreStop>)
+    ensures carries { (found : List ℕ) (tidy : Bool) (w : Within) (S : Sitting) → IsWithin W.view K.holds K.last K.pinned K.room K.rests pinned transaction world.old found tidy w S → (K.has_disk ≡ true → (W.view world.new).tells)
+        → CarriesOut (Stands W.view K.holds K.last K.pinned K.room K.rests result.0 world.new found tidy) (StandsCommitted K.stands found tidy) (SaysTo (λ pins. effects_of pins K.measures K.applied K.saved) (K.room pinned.store.store.keeper) (inside S w) (medium (W.view world.old)) Commit) (W.view world.old) (W.view world.new) (inside S w) result.1 }
+    ensures cause { IfErr result.1 (IsCaused K.has_disk (W.view world.old) (W.view world.new)) }
     ensures quiet { Quiet (W.view world.old) (W.view world.new) }
 {
     let mut pinned = pinned;
     let Ok(text) = transaction_reply_text(alloc, TransactionReply::Done) else {
-        return (pinned, Some(transaction), Ok(Spoken::NoMemory));
+        let open = Some(transaction);
+        return (SessionStore { pinned, open }, Ok(Spoken::NoMemory));
     };
     let Ok(changes) = transaction.staging.changes(alloc) else {
-        return (pinned, Some(transaction), Ok(Spoken::NoMemory));
+        let open = Some(transaction);
+        return (SessionStore { pinned, open }, Ok(Spoken::NoMemory));
     };
     match commit_changes(alloc, &mut pinned.store.store.keeper, world, changes) {
-        Ok(true) => (pinned, None, Ok(Spoken::Reply(text))),
-        Ok(false) => (pinned, Some(transaction), Ok(Spoken::NoMemory)),
-        Err(stop) => (pinned, Some(transaction), Err(stop)),
+        Ok(true) => (SessionStore { pinned, open: None }, Ok(Spoken::Reply(text))),
+        Ok(false) => {
+            let open = Some(transaction);
+            (SessionStore { pinned, open }, Ok(Spoken::NoMemory))
+        }
+        Err(stop) => {
+            let open = Some(transaction);
+            (SessionStore { pinned, open }, Err(stop))
+        }
     }
 }
 
@@ -116,28 +120,12 @@ pub(crate) fn commit<W: Outside, K: Pinner<W> + Saver<W>>(
     ensures cause { IfErr result.1 (IsCaused K.has_disk (W.view world.old) (W.view world.new)) }
     ensures quiet { Quiet (W.view world.old) (W.view world.new) }
 {
-    let SessionStore {
-        pinned,
-        open,
-        pinnable,
-    } = session;
+    let SessionStore { pinned, open } = session;
     match open {
         None => {
-            let session = SessionStore {
-                pinned,
-                open: None,
-                pinnable,
-            };
+            let session = SessionStore { pinned, open: None };
             (session, Ok(refusal_spoken(alloc, CommandRefusal::Line)))
         }
-        Some(transaction) => {
-            let (pinned, open, answer) = commit_open(alloc, pinned, transaction, world);
-            let session = SessionStore {
-                pinned,
-                open,
-                pinnable,
-            };
-            (session, answer)
-        }
+        Some(transaction) => commit_open(alloc, pinned, transaction, world),
     }
 }

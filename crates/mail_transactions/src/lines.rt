@@ -15,7 +15,7 @@ ghost use Rattle.command_text.specs.Asking.{asks};
 ghost use Rattle.command_text.specs.declared.command.Command.{Command};
 ghost use Rattle.session_lines.specs.declared.line.SessionLine.TheVariants.{At};
 ghost use Rattle.std.specs.Prelude.{Option};
-ghost use Rattle.mail_transactions.specs.Run.{Answers, SaysTo, is_line};
+ghost use Rattle.mail_transactions.specs.Run.{Answers, SaysTo};
 
 use crate::committing::commit;
 use crate::opening::{begin, roll_back};
@@ -32,16 +32,6 @@ use staged_store::pinned_session::store_session::{StoreStop, refusal_spoken};
 use staged_store::pinned_session::{PinnedStore, answer};
 use staged_store::{StagedStore, answer_within};
 use std::alloc::Global;
-
-/// Whether a line is one, where lines on pins are lines or not.
-fn is_line(pinnable: bool, asked: &SessionLine) -> bool
-    ensures { result ≡ is_line pinnable asked.now }
-{
-    match asked {
-        SessionLine::Pin | SessionLine::At { .. } | SessionLine::Unpin { .. } => pinnable,
-        _ => true,
-    }
-}
 
 /// Answers a line within a transaction, over the store and its transaction.
 fn answer_staged<W: Outside, K: Pinner<W> + Saver<W>>(
@@ -107,22 +97,11 @@ fn answer_session<W: Outside, K: Pinner<W> + Saver<W>>(
     ensures cause { IfErr result.1 (IsCaused K.has_disk (W.view world.old) (W.view world.new)) }
     ensures quiet { Quiet (W.view world.old) (W.view world.new) }
 {
-    if !is_line(session.pinnable, asked) {
-        return (session, Ok(refusal_spoken(alloc, CommandRefusal::Line)));
-    }
-    let SessionStore {
-        pinned,
-        open,
-        pinnable,
-    } = session;
+    let SessionStore { pinned, open } = session;
     match open {
         None => {
             let (pinned, answer) = answer(alloc, pinned, world, asked);
-            let session = SessionStore {
-                pinned,
-                open: None,
-                pinnable,
-            };
+            let session = SessionStore { pinned, open: None };
             (session, answer)
         }
         Some(transaction) => {
@@ -136,7 +115,6 @@ fn answer_session<W: Outside, K: Pinner<W> + Saver<W>>(
             let session = SessionStore {
                 pinned,
                 open: Some(transaction),
-                pinnable,
             };
             (session, answer)
         }

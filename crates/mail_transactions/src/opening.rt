@@ -12,7 +12,7 @@ ghost use Rattle.staged_store.specs.pinned_session.Viewing.{viewing_of};
 ghost use Rattle.staged_store.specs.pinned_session.mail_reading.search_folders.Comings.{KnowsSearches};
 ghost use Rattle.staged_store.specs.pinned_session.store_session.Carrying.{CarriesOut, IsCaused};
 ghost use Rattle.staged_store.specs.pinned_session.store_session.Disks.{effects_of, medium};
-ghost use Rattle.mail_transactions.specs.Opening.{StandsAs, inside, outside, read_as};
+ghost use Rattle.mail_transactions.specs.Opening.{inside, outside, read_as};
 ghost use Rattle.mail_transactions.specs.Stands.{IsWithin, Stands, StandsCommitted, store_before};
 ghost use Rattle.mail_transactions.specs.State.{State, Within};
 ghost use Rattle.session_lines.specs.declared.line.TransactionLine.TheVariants.{Begin, Rollback};
@@ -84,26 +84,28 @@ fn open_new<W: Outside, K: Pinner<W> + Saver<W>>(
     alloc: Global,
     pinned: PinnedStore<K>,
     world: &mut W,
-) -> (
-    PinnedStore<K>,
-    Option<OpenTransaction>,
-    Result<Spoken, StoreStop>,
-)
-    ensures carries { (found : List ℕ) (tidy : Bool) (S : Sitting) (pinnable : Bool) → Sits W.view K.holds K.last K.pinned K.room K.rests pinned world.old found tidy S → (K.has_disk ≡ true → (W.view world.new).tells)
-        → CarriesOut (StandsAs W.view K.holds K.last K.pinned K.room K.rests result.0 result.1 world.new found tidy pinnable) (StandsCommitted K.stands found tidy) (SaysTo (λ pins. effects_of pins K.measures K.applied K.saved) (K.room pinned.store.store.keeper) (outside S pinnable) (medium (W.view world.old)) Begin) (W.view world.old) (W.view world.new) (outside S pinnable) result.2 }
-    ensures cause { IfErr result.2 (IsCaused K.has_disk (W.view world.old) (W.view world.new)) }
+) -> (SessionStore<K>, Result<Spoken, StoreStop>)
+    ensures carries { (found : List ℕ) (tidy : Bool) (S : Sitting) → Sits W.view K.holds K.last K.pinned K.room K.rests pinned world.old found tidy S → (K.has_disk ≡ true → (W.view world.new).tells)
+        → CarriesOut (Stands W.view K.holds K.last K.pinned K.room K.rests result.0 world.new found tidy) (StandsCommitted K.stands found tidy) (SaysTo (λ pins. effects_of pins K.measures K.applied K.saved) (K.room pinned.store.store.keeper) (outside S) (medium (W.view world.old)) Begin) (W.view world.old) (W.view world.new) (outside S) result.1 }
+    ensures cause { IfErr result.1 (IsCaused K.has_disk (W.view world.old) (W.view world.new)) }
     ensures quiet { Quiet (W.view world.old) (W.view world.new) }
 {
     let mut pinned = pinned;
     let Ok(text) = transaction_reply_text(alloc, TransactionReply::Done) else {
-        return (pinned, None, Ok(Spoken::NoMemory));
+        return (SessionStore { pinned, open: None }, Ok(Spoken::NoMemory));
     };
     match cells_left(alloc, &mut pinned.store.store.keeper, world) {
         Ok(left) => match new_transaction(alloc, &pinned, world, left) {
-            Ok(transaction) => (pinned, Some(transaction), Ok(Spoken::Reply(text))),
-            Err(AllocError) => (pinned, None, Ok(Spoken::NoMemory)),
+            Ok(transaction) => {
+                let session = SessionStore {
+                    pinned,
+                    open: Some(transaction),
+                };
+                (session, Ok(Spoken::Reply(text)))
+            }
+            Err(AllocError) => (SessionStore { pinned, open: None }, Ok(Spoken::NoMemory)),
         },
-        Err(stop) => (pinned, None, read_stopped(stop)),
+        Err(stop) => (SessionStore { pinned, open: None }, read_stopped(stop)),
     }
 }
 
@@ -118,26 +120,13 @@ pub(crate) fn begin<W: Outside, K: Pinner<W> + Saver<W>>(
     ensures cause { IfErr result.1 (IsCaused K.has_disk (W.view world.old) (W.view world.new)) }
     ensures quiet { Quiet (W.view world.old) (W.view world.new) }
 {
-    let SessionStore {
-        pinned,
-        open,
-        pinnable,
-    } = session;
+    let SessionStore { pinned, open } = session;
     match open {
-        None => {
-            let (pinned, open, answer) = open_new(alloc, pinned, world);
-            let session = SessionStore {
-                pinned,
-                open,
-                pinnable,
-            };
-            (session, answer)
-        }
+        None => open_new(alloc, pinned, world),
         Some(transaction) => {
             let session = SessionStore {
                 pinned,
                 open: Some(transaction),
-                pinnable,
             };
             (session, Ok(refusal_spoken(alloc, CommandRefusal::Line)))
         }
@@ -179,23 +168,27 @@ fn drop_open<W: Outside, K: Pinner<W> + Saver<W>>(
     pinned: PinnedStore<K>,
     transaction: OpenTransaction,
     world: &mut W,
-) -> (
-    PinnedStore<K>,
-    Option<OpenTransaction>,
-    Result<Spoken, StoreStop>,
-)
-    ensures carries { (found : List ℕ) (tidy : Bool) (w : Within) (S : Sitting) (pinnable : Bool) → IsWithin W.view K.holds K.last K.pinned K.room K.rests pinned transaction world.old found tidy w S → (K.has_disk ≡ true → (W.view world.new).tells)
-        → CarriesOut (StandsAs W.view K.holds K.last K.pinned K.room K.rests result.0 result.1 world.new found tidy pinnable) (StandsCommitted K.stands found tidy) (SaysTo (λ pins. effects_of pins K.measures K.applied K.saved) (K.room pinned.store.store.keeper) (inside S w pinnable) (medium (W.view world.old)) Rollback) (W.view world.old) (W.view world.new) (inside S w pinnable) result.2 }
-    ensures cause { IfErr result.2 (IsCaused K.has_disk (W.view world.old) (W.view world.new)) }
+) -> (SessionStore<K>, Result<Spoken, StoreStop>)
+    ensures carries { (found : List ℕ) (tidy : Bool) (w : Within) (S : Sitting) → IsWithin W.view K.holds K.last K.pinned K.room K.rests pinned transaction world.old found tidy w S → (K.has_disk ≡ true → (W.view world.new).tells)
+        → CarriesOut (Stands W.view K.holds K.last K.pinned K.room K.rests result.0 world.new found tidy) (StandsCommitted K.stands found tidy) (SaysTo (λ pins. effects_of pins K.measures K.applied K.saved) (K.room pinned.store.store.keeper) (inside S w) (medium (W.view world.old)) Rollback) (W.view world.old) (W.view world.new) (inside S w) result.1 }
+    ensures cause { IfErr result.1 (IsCaused K.has_disk (W.view world.old) (W.view world.new)) }
     ensures quiet { Quiet (W.view world.old) (W.view world.new) }
 {
     match transaction_reply_text(alloc, TransactionReply::Done) {
-        Ok(text) => (
-            taken_back(pinned, transaction),
-            None,
-            Ok(Spoken::Reply(text)),
-        ),
-        Err(AllocError) => (pinned, Some(transaction), Ok(Spoken::NoMemory)),
+        Ok(text) => {
+            let session = SessionStore {
+                pinned: taken_back(pinned, transaction),
+                open: None,
+            };
+            (session, Ok(Spoken::Reply(text)))
+        }
+        Err(AllocError) => {
+            let session = SessionStore {
+                pinned,
+                open: Some(transaction),
+            };
+            (session, Ok(Spoken::NoMemory))
+        }
     }
 }
 
@@ -210,28 +203,12 @@ pub(crate) fn roll_back<W: Outside, K: Pinner<W> + Saver<W>>(
     ensures cause { IfErr result.1 (IsCaused K.has_disk (W.view world.old) (W.view world.new)) }
     ensures quiet { Quiet (W.view world.old) (W.view world.new) }
 {
-    let SessionStore {
-        pinned,
-        open,
-        pinnable,
-    } = session;
+    let SessionStore { pinned, open } = session;
     match open {
         None => {
-            let session = SessionStore {
-                pinned,
-                open: None,
-                pinnable,
-            };
+            let session = SessionStore { pinned, open: None };
             (session, Ok(refusal_spoken(alloc, CommandRefusal::Line)))
         }
-        Some(transaction) => {
-            let (pinned, open, answer) = drop_open(alloc, pinned, transaction, world);
-            let session = SessionStore {
-                pinned,
-                open,
-                pinnable,
-            };
-            (session, answer)
-        }
+        Some(transaction) => drop_open(alloc, pinned, transaction, world),
     }
 }

@@ -1,9 +1,5 @@
 use Rattle.std.proofs.Common.{sym, subst}
 use Rattle.mail_session.specs.declared.exit.Status.TheVariants.{Memory}
-use Rattle.mail_searches.specs.Searching.{Searching, StartsSearching}
-use Rattle.mail_session.specs.Boxes.{NAME}
-use Rattle.mail_session.specs.Mailboxes.{Sits}
-use Rattle.mail_session.specs.Run.{begins}
 use Rattle.mail_session.specs.Scratch.{ScratchEnds}
 use Rattle.mail_session.proofs.ScratchLaws.{ends_by_memory, scratch_ends}
 use Rattle.mail_session.proofs.scratch.serve_memory.Goals as goal
@@ -13,9 +9,7 @@ returns-in_default-clause-ends g c = ends_by_memory (g.W.Outside.view c.args.wor
 
 pub returns-in-Ok-serve-clause-ends : goal.returns-in-Ok-serve-clause-ends
 returns-in-Ok-serve-clause-ends g c =
-    let new = c.in-Ok.ensures.store in
-    let start : (X : Searching) × StartsSearching NAME X × Sits c.in-Ok.mailbox (begins X) = (new.0, new.1, record { stands = new.2; shows = sym c.in-Ok.ensures.views }) in
-    let ends = scratch_ends g.W.Outside.view _ _ c.args.world.now c.serve.new.world c.in-Ok-serve.end start c.in-Ok-serve.ensures.ends in
+    let ends = scratch_ends g.W.Outside.view _ _ c.args.world.now c.serve.new.world c.in-Ok-serve.end c.in-Ok.ensures c.in-Ok-serve.ensures.ends in
     subst (ScratchEnds (g.W.Outside.view c.args.world.now) (g.W.Outside.view c.serve.new.world)) (sym c.status_of.ensures) ends
 
 pub returns-clause-ends : goal.returns-clause-ends

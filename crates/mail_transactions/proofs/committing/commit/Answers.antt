@@ -12,7 +12,7 @@ use Rattle.mail_transactions.specs.State.{State}
 use Rattle.mail_transactions.specs.declared.store.SessionStore.{SessionStore}
 use Rattle.mail_transactions.proofs.Keeps.{here_in, settled_in}
 use Rattle.mail_transactions.specs.declared.store.OpenTransaction.{OpenTransaction}
-use Rattle.mail_transactions.proofs.TurnLaws.{in_none, in_some, none_said, session_carries}
+use Rattle.mail_transactions.proofs.TurnLaws.{in_none, in_some, none_said}
 use Rattle.mail_transactions.proofs.committing.commit.Goals as goal
 
 pub returns-in-None-clause-carries : goal.returns-in-None-clause-carries
@@ -28,13 +28,13 @@ returns-in-None-clause-carries g c = λ found tidy S h tells.
     let s = c.args.session in
     let k = s.pinned.store.store.keeper in
     let v = view c.args.world.now in
-    let here = subst (λ (o : Option OpenTransaction). StandsIn view holds last told room rests s.pinned o c.args.world.now found tidy S.within S.sitting) c.in-None.is h.stands in
-    let session : SessionStore g.row.K.Denot = record { pinned = s.pinned; «open» = None; pinnable = s.pinnable } in
+    let here = subst (λ (o : Option OpenTransaction). StandsIn view holds last told room rests s.pinned o c.args.world.now found tidy S.within S.sitting) c.in-None.is h in
+    let session : SessionStore g.row.K.Denot = record { pinned = s.pinned; «open» = None } in
     let has : State → Type 0 = λ Y. Stands view holds last told room rests session c.args.world.now found tidy Y in
     let P : State → Type 0 = λ Z. CarriesOut has stands (SaysTo effects (room k) Z (medium v) Commit) v v Z (Ok c.refusal_spoken.result) in
-    in_none view holds last told room rests s.pinned c.args.world.now found tidy P S.within S.sitting S.pinnable here (λ h2.
-    none_said effects (room k) (outside S.sitting S.pinnable) v v has stands (record { stands = h2; pinnable = h.pinnable }) (λ t. its_medium v)
-    (quiet_leaves stands (outside S.sitting S.pinnable) (outside S.sitting S.pinnable) (settled_in view holds last told room g.K.NodeReader.has_disk g.K.Keeper.stands rests effects s.pinned (None) c.args.world.now found tidy None S.sitting h2) (untouched_same v)
+    in_none view holds last told room rests s.pinned c.args.world.now found tidy P S.within S.sitting here (λ h2.
+    none_said effects (room k) (outside S.sitting) v v has stands h2 (λ t. its_medium v)
+    (quiet_leaves stands (outside S.sitting) (outside S.sitting) (settled_in view holds last told room g.K.NodeReader.has_disk g.K.Keeper.stands rests effects s.pinned (None) c.args.world.now found tidy None S.sitting h2) (untouched_same v)
     (here_in view holds last told room g.K.NodeReader.has_disk g.K.Keeper.stands rests effects g.met.K.Keeper.held_stands s.pinned (None) c.args.world.now found tidy None S.sitting h2))
     Commit (λ said says. (says, (refl, λ t. its_medium v))) c.refusal_spoken.result c.refusal_spoken.ensures)
 
@@ -51,9 +51,8 @@ returns-in-Some-clause-carries g c = λ found tidy S h tells.
     let s = c.args.session in
     let k = s.pinned.store.store.keeper in
     let v = view c.args.world.now in
-    let here = subst (λ (o : Option OpenTransaction). StandsIn view holds last told room rests s.pinned o c.args.world.now found tidy S.within S.sitting) c.in-Some.is h.stands in
-    let w = view c.commit_open-pinned.new.world in
-    let P : State → Type 0 = λ Z. CarriesOut (λ (Y : State). Stands view holds last told room rests (record { pinned = c.commit_open-pinned.result.0; «open» = c.commit_open-pinned.result.1; pinnable = s.pinnable }) c.commit_open-pinned.new.world found tidy Y) stands (SaysTo effects (room k) Z (medium v) Commit) v w Z c.commit_open-pinned.result.2 in
-    in_some view holds last told room rests s.pinned c.args.world.now found tidy P c.in-Some.transaction S.within S.sitting S.pinnable here (λ i h2.
-    session_carries view holds last told room rests c.commit_open-pinned.result.0 c.commit_open-pinned.result.1 c.commit_open-pinned.new.world found tidy S.pinnable s.pinnable stands (SaysTo effects (room k) (inside S.sitting i S.pinnable) (medium v) Commit) v w (inside S.sitting i S.pinnable) c.commit_open-pinned.result.2 h.pinnable
-    (c.commit_open-pinned.ensures.carries found tidy i S.sitting S.pinnable h2 tells))
+    let here = subst (λ (o : Option OpenTransaction). StandsIn view holds last told room rests s.pinned o c.args.world.now found tidy S.within S.sitting) c.in-Some.is h in
+    let w = view c.commit_open.new.world in
+    let P : State → Type 0 = λ Z. CarriesOut (λ (Y : State). Stands view holds last told room rests c.commit_open.result.0 c.commit_open.new.world found tidy Y) stands (SaysTo effects (room k) Z (medium v) Commit) v w Z c.commit_open.result.1 in
+    in_some view holds last told room rests s.pinned c.args.world.now found tidy P c.in-Some.transaction S.within S.sitting here (λ i h2.
+    c.commit_open.ensures.carries found tidy i S.sitting h2 tells)

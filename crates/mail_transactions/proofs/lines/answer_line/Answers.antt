@@ -89,7 +89,7 @@ returns-in-Err-Refused-clause-carries g c = λ found tidy S h tells.
     let s = c.args.session in
     let v = view c.args.world.now in
     refused_line effects (room s.pinned.store.store.keeper) S v (λ (Z : State). Stands view holds last told room rests s c.args.world.now found tidy Z) stands h
-    (still_leaves view holds last told room disk g.K.Keeper.stands rests effects g.met.K.Keeper.held_stands found tidy s.pinned s.open c.args.world.now c.args.world.now S.within S.sitting S.pinnable S h.stands (untouched_same v))
+    (still_leaves view holds last told room disk g.K.Keeper.stands rests effects g.met.K.Keeper.held_stands found tidy s.pinned s.open c.args.world.now c.args.world.now S.within S.sitting S h (untouched_same v))
     c.in-Err-Refused.refusal c.args.bytes.now c.refusal_spoken-spoken.result (rw c.in-Err-Refused.field-0-is at c.in-Err-Refused.ensures) (subst (λ r. SaysRefusal r c.refusal_spoken-spoken.result) c.from.ensures c.refusal_spoken-spoken.ensures)
 
 pub returns-in-Err-Memory-clause-carries : goal.returns-in-Err-Memory-clause-carries
@@ -106,4 +106,4 @@ returns-in-Err-Memory-clause-carries g c = λ found tidy S h tells.
     let s = c.args.session in
     let v = view c.args.world.now in
     silent_line effects (room s.pinned.store.store.keeper) S v (λ (Z : State). Stands view holds last told room rests s c.args.world.now found tidy Z) stands h
-    (still_leaves view holds last told room disk g.K.Keeper.stands rests effects g.met.K.Keeper.held_stands found tidy s.pinned s.open c.args.world.now c.args.world.now S.within S.sitting S.pinnable S h.stands (untouched_same v)) c.args.bytes.now
+    (still_leaves view holds last told room disk g.K.Keeper.stands rests effects g.met.K.Keeper.held_stands found tidy s.pinned s.open c.args.world.now c.args.world.now S.within S.sitting S h (untouched_same v)) c.args.bytes.now

@@ -12,7 +12,7 @@ use Rattle.mail_transactions.specs.State.{State}
 use Rattle.mail_transactions.specs.declared.store.SessionStore.{SessionStore}
 use Rattle.mail_transactions.proofs.Keeps.{here_in, settled_in}
 use Rattle.mail_transactions.specs.declared.store.OpenTransaction.{OpenTransaction}
-use Rattle.mail_transactions.proofs.TurnLaws.{in_none, in_some, none_said, session_carries}
+use Rattle.mail_transactions.proofs.TurnLaws.{in_none, in_some, none_said}
 use Rattle.mail_transactions.proofs.opening.begin.Goals as goal
 
 pub returns-in-None-clause-carries : goal.returns-in-None-clause-carries
@@ -28,12 +28,11 @@ returns-in-None-clause-carries g c = λ found tidy S h tells.
     let s = c.args.session in
     let k = s.pinned.store.store.keeper in
     let v = view c.args.world.now in
-    let here = subst (λ (o : Option OpenTransaction). StandsIn view holds last told room rests s.pinned o c.args.world.now found tidy S.within S.sitting) c.in-None.is h.stands in
-    let w = view c.open_new-pinned.new.world in
-    let P : State → Type 0 = λ Z. CarriesOut (λ (Y : State). Stands view holds last told room rests (record { pinned = c.open_new-pinned.result.0; «open» = c.open_new-pinned.result.1; pinnable = s.pinnable }) c.open_new-pinned.new.world found tidy Y) stands (SaysTo effects (room k) Z (medium v) Begin) v w Z c.open_new-pinned.result.2 in
-    in_none view holds last told room rests s.pinned c.args.world.now found tidy P S.within S.sitting S.pinnable here (λ h2.
-    session_carries view holds last told room rests c.open_new-pinned.result.0 c.open_new-pinned.result.1 c.open_new-pinned.new.world found tidy S.pinnable s.pinnable stands (SaysTo effects (room k) (outside S.sitting S.pinnable) (medium v) Begin) v w (outside S.sitting S.pinnable) c.open_new-pinned.result.2 h.pinnable
-    (c.open_new-pinned.ensures.carries found tidy S.sitting S.pinnable h2 tells))
+    let here = subst (λ (o : Option OpenTransaction). StandsIn view holds last told room rests s.pinned o c.args.world.now found tidy S.within S.sitting) c.in-None.is h in
+    let w = view c.open_new.new.world in
+    let P : State → Type 0 = λ Z. CarriesOut (λ (Y : State). Stands view holds last told room rests c.open_new.result.0 c.open_new.new.world found tidy Y) stands (SaysTo effects (room k) Z (medium v) Begin) v w Z c.open_new.result.1 in
+    in_none view holds last told room rests s.pinned c.args.world.now found tidy P S.within S.sitting here (λ h2.
+    c.open_new.ensures.carries found tidy S.sitting h2 tells)
 
 pub returns-in-Some-clause-carries : goal.returns-in-Some-clause-carries
 returns-in-Some-clause-carries g c = λ found tidy S h tells.
@@ -48,12 +47,12 @@ returns-in-Some-clause-carries g c = λ found tidy S h tells.
     let s = c.args.session in
     let k = s.pinned.store.store.keeper in
     let v = view c.args.world.now in
-    let here = subst (λ (o : Option OpenTransaction). StandsIn view holds last told room rests s.pinned o c.args.world.now found tidy S.within S.sitting) c.in-Some.is h.stands in
-    let session : SessionStore g.row.K.Denot = record { pinned = s.pinned; «open» = Some c.in-Some.transaction; pinnable = s.pinnable } in
+    let here = subst (λ (o : Option OpenTransaction). StandsIn view holds last told room rests s.pinned o c.args.world.now found tidy S.within S.sitting) c.in-Some.is h in
+    let session : SessionStore g.row.K.Denot = record { pinned = s.pinned; «open» = Some c.in-Some.transaction } in
     let has : State → Type 0 = λ Y. Stands view holds last told room rests session c.args.world.now found tidy Y in
     let P : State → Type 0 = λ Z. CarriesOut has stands (SaysTo effects (room k) Z (medium v) Begin) v v Z (Ok c.refusal_spoken.result) in
-    in_some view holds last told room rests s.pinned c.args.world.now found tidy P c.in-Some.transaction S.within S.sitting S.pinnable here (λ i h2.
-    none_said effects (room k) (inside S.sitting i S.pinnable) v v has stands (record { stands = h2; pinnable = h.pinnable }) (λ t. its_medium v)
-    (quiet_leaves stands (inside S.sitting i S.pinnable) (inside S.sitting i S.pinnable) (settled_in view holds last told room g.K.NodeReader.has_disk g.K.Keeper.stands rests effects s.pinned (Some c.in-Some.transaction) c.args.world.now found tidy (Some i) S.sitting h2) (untouched_same v)
+    in_some view holds last told room rests s.pinned c.args.world.now found tidy P c.in-Some.transaction S.within S.sitting here (λ i h2.
+    none_said effects (room k) (inside S.sitting i) v v has stands h2 (λ t. its_medium v)
+    (quiet_leaves stands (inside S.sitting i) (inside S.sitting i) (settled_in view holds last told room g.K.NodeReader.has_disk g.K.Keeper.stands rests effects s.pinned (Some c.in-Some.transaction) c.args.world.now found tidy (Some i) S.sitting h2) (untouched_same v)
     (here_in view holds last told room g.K.NodeReader.has_disk g.K.Keeper.stands rests effects g.met.K.Keeper.held_stands s.pinned (Some c.in-Some.transaction) c.args.world.now found tidy (Some i) S.sitting h2))
     Begin (λ said says. (says, (refl, λ t. its_medium v))) c.refusal_spoken.result c.refusal_spoken.ensures)
