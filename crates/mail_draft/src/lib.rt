@@ -22,6 +22,7 @@ mod once;
 mod outcome;
 mod outcomes;
 mod read;
+mod row_look;
 mod rows;
 mod seen;
 mod settle;

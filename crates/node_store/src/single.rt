@@ -85,7 +85,14 @@ pub fn read_node_block<W: Outside>(
         root: header.bbt,
         eof: header.eof,
     };
-    match read_tree(alloc, w, &mut caches.blocks, blocks, entry.content, position) {
+    match read_tree(
+        alloc,
+        w,
+        &mut caches.blocks,
+        blocks,
+        entry.content,
+        position,
+    ) {
         Ok((count, block)) => Ok(Some(NodeBlock { count, block })),
         Err(stop) => Err(tree_stop(header.bbt.ib, stop)),
     }

@@ -4,7 +4,7 @@ use Rattle.mapi_values.specs.Tables.{find_row}
 use Rattle.mail_objects.specs.Forms.{Tbl}
 use Rattle.mail_tree.specs.Changing.{as_table, nothing, now_at}
 use Rattle.mail_draft.proofs.GlanceLaws.{content-table, content-there, has-said, says-where, table-there}
-use Rattle.mail_draft.proofs.glance.has_row.Goals as goal
+use Rattle.mail_draft.proofs.glance.row_by_content.Goals as goal
 
 pub returns-in_err-node-clause-answer : goal.returns-in_err-node-clause-answer
 returns-in_err-node-clause-answer g c = λ T s.
