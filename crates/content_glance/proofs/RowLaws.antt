@@ -1,5 +1,5 @@
 -- The ids of a table's rows are the keys of its row index.
-use Rattle.std.proofs.Common.{if◌then◌else◌, ◌≡◌, ◌==◌, ◌≤◌, nat_le, ℕ, true, List, [], ◌∷◌, length, Option, Some, None, is_some, refl, sym, ap, ◌∙◌, inl, inr, arith}
+use Rattle.std.proofs.Common.{if◌then◌else◌, ◌≡◌, ◌==◌, ◌≤◌, nat_le, ℕ, Bool, true, List, [], ◌∷◌, length, Option, Some, None, is_some, refl, sym, ap, ◌∙◌, inl, inr, arith}
 use Rattle.std.proofs.lemmas.Bool.{and_parts, cases_Bool, leb-true}
 use Rattle.std.specs.Option.{option_and_then}
 use Rattle.byteorder.specs.Endian.{little_number}
@@ -9,7 +9,9 @@ use Rattle.mapi_values.specs.declared.column.Column.{Column}
 use Rattle.mapi_values.specs.Tables.{Tab, find_row}
 use Rattle.mapi_values.specs.Properties.{ascend_from}
 use Rattle.mapi_values.specs.Values.{Val}
+use Rattle.heap_edit.specs.Known.{AreKnown, Known, Reads, blocks_now}
 use Rattle.heap_on_node.specs.Heap.{IsHeap, item}
+use Rattle.index_edit.specs.Rows.{as_number}
 use Rattle.bth_tree.specs.Records.{entry_of}
 use Rattle.bth_tree.specs.Tree.{any_bth, bth}
 use Rattle.bth_tree.proofs.OptionLaws.{bind-some, none-some, some-injective}
@@ -17,7 +19,7 @@ use Rattle.node_values.specs.Subnodes.{data_of}
 use Rattle.mail_objects.specs.table_context.Context.{IsTableContext, table_in, table_of}
 use Rattle.mail_objects.specs.table_context.Header.{columns_of, ends_in, index_in, matrix_in, names_index, size_in}
 use Rattle.mail_objects.specs.table_context.Rows.{cells_of, others, raw_rows, row_in, row_of, rows_of, shows_id, used}
-use Rattle.content_glance.specs.Rows.{TellsCount, TellsRow}
+use Rattle.content_glance.specs.Rows.{TellsCount, TellsKnown, TellsRow}
 use Rattle.content_glance.proofs.EntryLaws.{any-bth}
 
 -- a row's bytes have its record's id
@@ -133,3 +135,21 @@ tells-count blocks root head rs heap at looked = λ subs t c.
     let same : head ≡ c.head = some-injective head c.head (sym at ∙ same-head blocks root subs t heap c) in
     let recs : rs ≡ c.recs = some-injective rs c.recs (sym looked ∙ ap (λ (x : List ℕ). bth (item blocks) (index_in x) 4 4) same ∙ c.index) in
     ap Some (ap (length {A = ℕ × List ℕ}) recs ∙ sym (table-count (item blocks) subs c.head c.recs t c.table))
+
+-- ---- of some blocks
+
+-- the header's heap id is that of the table
+pub known-head : (blocks : List (List ℕ)) (root : ℕ) (head : Option (List ℕ)) (subs : List Flat) (t : Tab) → IsHeap blocks 0x7C root → head ≡ item blocks root → (c : IsTableContext blocks subs t) → head ≡ Some c.head
+known-head blocks root head subs t heap at c = at ∙ same-head blocks root subs t heap c
+
+number-some : (o : Option (List ℕ)) → is_some (as_number o) ≡ is_some o
+number-some None = refl
+number-some (Some x) = refl
+
+-- what the row index tells of a row is so of the table
+pub tells-known : (h : Known) (id index : ℕ) (entry : Option ℕ) (has : Bool) → ((old : List (List ℕ)) → AreKnown h old → (subs : List Flat) (t : Tab) → (c : IsTableContext (blocks_now h old) subs t) → index ≡ index_in c.head)
+    → ((was : List (List ℕ)) (get : ℕ → Option (List ℕ)) → Reads h was get → (recs : List (ℕ × List ℕ)) → bth get index 4 4 ≡ Some recs → entry ≡ as_number (entry_of id recs)) → has ≡ is_some entry → TellsKnown h id has
+tells-known h id index entry has at found is = λ old known subs t c.
+    let get : ℕ → Option (List ℕ) = item (blocks_now h old) in
+    let recs : bth get index 4 4 ≡ Some c.recs = ap (λ (i : ℕ). bth get i 4 4) (at old known subs t c) ∙ c.index in
+    is ∙ ap is_some (found old get (record { known = known; start = (c.heap).start; items = λ i. refl }) c.recs recs) ∙ number-some (entry_of id c.recs) ∙ sym (table-keys get subs c.head c.recs t id c.table)

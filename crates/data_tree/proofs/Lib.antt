@@ -10,5 +10,6 @@ pub mod NamedLaws
 pub mod PieceLaws
 pub mod PlanLaws
 pub mod PlanSteps
+pub mod SingleLaws
 pub mod SizeLaws
 pub mod Steps

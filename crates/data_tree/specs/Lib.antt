@@ -4,6 +4,7 @@ pub mod Listed
 pub mod Measure
 pub mod Named
 pub mod Plan
+pub mod Single
 pub mod Source
 pub mod Stops
 pub mod Tree

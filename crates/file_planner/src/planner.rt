@@ -5,8 +5,8 @@ ghost use Rattle.file_planner.specs.Stopping.{prepare_stop};
 use crate::held::Held;
 use crate::room::decide;
 use alloc_map::Slots;
-use node_port::{Changes, KeepStop, NodeRec, PrepareStop};
-use node_store::{PageCaches, next_node, read_node, read_node_data};
+use node_port::{Changes, KeepStop, NodeBlock, NodeRec, PrepareStop};
+use node_store::{PageCaches, next_node, read_node, read_node_block, read_node_data};
 use plan_drawing::PlanEffects;
 use pst_base::Nid;
 use pst_commit::{CommitPlan, NodeStore, Pin};
@@ -70,6 +70,17 @@ impl<W: Outside> NodeStore<W> for FilePlanner {
         nid: Nid,
     ) -> Result<Option<NodeRec>, KeepStop> {
         read_node_data(alloc, w, header, nid, &mut self.caches)
+    }
+
+    fn data_block(
+        &mut self,
+        alloc: Global,
+        w: &mut W,
+        header: &Header,
+        nid: Nid,
+        position: usize,
+    ) -> Result<Option<NodeBlock>, KeepStop> {
+        read_node_block(alloc, w, header, nid, position, &mut self.caches)
     }
 
     fn next(

@@ -16,3 +16,4 @@ pub mod DeskLoops
 pub mod DeskPieces
 mod DeskRows
 pub mod SeenLaws
+pub mod RowLookLaws

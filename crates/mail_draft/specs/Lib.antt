@@ -10,6 +10,7 @@ pub mod Space
 pub mod Unread
 pub mod Listed
 pub mod Glancing
+pub mod RowLooks
 pub mod Sight
 pub mod Desks
 pub mod Seen

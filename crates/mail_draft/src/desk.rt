@@ -6,6 +6,7 @@ ghost use Rattle.mail_tree.specs.Ids.{next_index};
 ghost use Rattle.mail_tree.specs.Messages.{parent_at};
 ghost use Rattle.mail_tree.specs.Tree.{Tree};
 ghost use Rattle.mail_draft.specs.Drafts.{all_fit};
+ghost use Rattle.mail_draft.specs.Glancing.{HoldsMessage};
 ghost use Rattle.mail_draft.specs.Listed.{has_row, listed_in, row_count};
 ghost use Rattle.mail_draft.specs.Placed.{is_placed};
 ghost use Rattle.mail_draft.specs.Sight.{Answers, AreOwn, Changes, Drafts, IsAbout, Reads, SameBeside, Sight};
@@ -15,7 +16,7 @@ ghost use Rattle.mail_draft.specs.Walks.{are_kinds};
 use crate::stop::Stop;
 use mail_objects::{Context, Mail, Object, TableNode};
 use mail_tree::Places;
-use node_port::Counts;
+use node_port::{Counts, NodeRec};
 use pst_base::Nid;
 use std::alloc::Global;
 
@@ -43,6 +44,11 @@ pub trait Desk {
     fn message_before(&mut self, nid: Nid) -> Result<Mail, Stop>
         ensures reads { Reads (view self.old) (view self.new) result }
         ensures answer { Answers (view self.old) (λ m. m) (λ T D. message_at T nothing nid.bits) result };
+
+    /// The node of the message at an id before the line, without its subnodes, for `glance_of`.
+    fn content_before(&mut self, nid: Nid) -> Result<NodeRec, Stop>
+        ensures reads { Reads (view self.old) (view self.new) result }
+        ensures content { IsAbout (view self.old) (λ T. HoldsMessage T nid.bits result) };
 
     /// The table at an id before the line.
     fn table_before(&mut self, nid: Nid) -> Result<TableNode, Stop>

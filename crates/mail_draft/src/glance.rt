@@ -13,6 +13,7 @@ ghost use Rattle.mail_draft.specs.Glancing.{AreOfTable, HasContent, HoldsMessage
 ghost use Rattle.mail_draft.specs.Listed.{has_row, row_count};
 ghost use Rattle.mail_draft.specs.Unread.{unread_of};
 
+use crate::row_look::row_by_blocks;
 use crate::stop::Stop;
 use content_glance::{Glance, glance_at, has_row_at, row_count_at};
 use mapi_values::Units;
@@ -137,8 +138,8 @@ fn row_told(node: &NodeRec, row: Nid) -> Result<bool, Stop>
     }
 }
 
-/// Whether the table at an id of the nodes has a row. Neither the other rows nor the table's subnodes are read.
-pub fn has_row<W: Outside, K: NodeReader<W>>(
+/// Whether the table at an id of the nodes has a row, of all data of its node.
+fn row_by_content<W: Outside, K: NodeReader<W>>(
     alloc: Global,
     keeper: &mut K,
     w: &mut W,
@@ -153,6 +154,24 @@ pub fn has_row<W: Outside, K: NodeReader<W>>(
         Some(node) => row_told(&node, row),
         None => Err(Stop::formless()),
     }
+}
+
+/// Whether the table at an id of the nodes has a row. Neither the other rows nor the table's subnodes are read, and of its data the blocks on the way to the row alone, if the table is of the form that this program writes.
+pub fn has_row<W: Outside, K: NodeReader<W>>(
+    alloc: Global,
+    keeper: &mut K,
+    w: &mut W,
+    table: Nid,
+    row: Nid,
+) -> Result<bool, Stop>
+    ensures answer { (T : Tree) → Shown (K.holds keeper.old (W.view w.old)) (K.last keeper.old) T → Says (λ b. b) (has_row T table.bits row.bits) result }
+    ensures looks { Looks (K.holds keeper.old (W.view w.old)) (K.holds keeper.new (W.view w.new)) (K.last keeper.old) (K.last keeper.new) (K.room keeper.old) (K.room keeper.new) (W.view w.old) (W.view w.new) }
+    ensures cause { IfErr result (IsCaused K.has_disk (W.view w.old).disk_faults (W.view w.new).disk_faults) }
+{
+    if let Some(has) = row_by_blocks(alloc, keeper, w, table, row)? {
+        return Ok(has);
+    }
+    row_by_content(alloc, keeper, w, table, row)
 }
 
 /// How many rows the table whose data a node has has.

@@ -22,6 +22,7 @@ mod once;
 mod outcome;
 mod outcomes;
 mod read;
+mod row_look;
 mod rows;
 mod seen;
 mod settle;
@@ -38,9 +39,7 @@ pub use desk::{CountingDesk, Desk};
 pub use draft::Draft;
 pub use ending::finish;
 pub use flags::{flag_changes, flag_of};
-pub use glance::{
-    content_at, glance_of, has_row, message_content, number_told, row_count, text_told,
-};
+pub use glance::{content_at, glance_of, has_row, number_told, row_count, text_told};
 pub use ids::{new_id, next_index};
 pub use limits::{crowds_message, within_limits};
 pub use listed::{message_ids, message_ids_at};

@@ -1,7 +1,7 @@
 //! A desk over a keeper and its world.
 use crate::desk::{CountingDesk, Desk};
 use crate::draft::Draft;
-use crate::glance::{has_row, row_count};
+use crate::glance::{has_row, message_content, row_count};
 use crate::ids::next_index;
 use crate::kept::{kept_message, kept_table};
 use crate::limits::within_limits;
@@ -14,7 +14,7 @@ use crate::stop::Stop;
 use crate::unread::is_unread;
 use mail_objects::{Context, Mail, Object, TableNode};
 use mail_tree::{Flags, Places};
-use node_port::{Counts, Keeper, NodeReader};
+use node_port::{Counts, Keeper, NodeReader, NodeRec};
 use pst_base::Nid;
 use pst_outside::Outside;
 use std::alloc::Global;
@@ -63,6 +63,10 @@ impl<'k, 'w, 'p, 'f, 's, 'd, W: Outside, K: NodeReader<W>> Desk
 
     fn message_before(&mut self, nid: Nid) -> Result<Mail, Stop> {
         kept_message(self.alloc, self.keeper, self.world, nid)
+    }
+
+    fn content_before(&mut self, nid: Nid) -> Result<NodeRec, Stop> {
+        message_content(self.alloc, self.keeper, self.world, nid)
     }
 
     fn table_before(&mut self, nid: Nid) -> Result<TableNode, Stop> {

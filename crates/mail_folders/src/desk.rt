@@ -1,6 +1,5 @@
 //! What the commands on folders ask of a desk, beside what all commands ask.
 ghost use Rattle.mail_draft.specs.Desks.{Comes};
-ghost use Rattle.mail_draft.specs.Glancing.{HoldsMessage};
 ghost use Rattle.mail_draft.specs.Sight.{Answers, Changes, Drafts, IsAbout, Reads};
 ghost use Rattle.mail_tree.specs.Flags.{AreFlags};
 ghost use Rattle.mail_tree.specs.Folders.{making};
@@ -11,7 +10,6 @@ ghost use Rattle.std.specs.Prelude.{Ok};
 
 use mail_draft::{Coming, Desk, Stop};
 use mail_tree::{Flags, Places};
-use node_port::NodeRec;
 use pst_base::Nid;
 
 /// A desk for the commands on folders.
@@ -24,11 +22,6 @@ pub trait FolderDesk: Desk {
     fn is_taken(&mut self, nid: Nid) -> Result<bool, Stop>
         ensures reads { Reads (Self.view self.old) (Self.view self.new) result }
         ensures answer { Answers (Self.view self.old) (λ b. b) (λ T c. Ok (is_taken T nid.bits)) result };
-
-    /// The node of the message at an id before the line, without its subnodes, for `glance_of`.
-    fn content_before(&mut self, nid: Nid) -> Result<NodeRec, Stop>
-        ensures reads { Reads (Self.view self.old) (Self.view self.new) result }
-        ensures content { IsAbout (Self.view self.old) (λ T. HoldsMessage T nid.bits result) };
 
     /// Makes the row of a folder in its parent's table show it, as the line has both.
     fn mirror(&mut self, folder: Nid) -> Result<(), Stop>

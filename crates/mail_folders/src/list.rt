@@ -12,7 +12,6 @@ ghost use Rattle.mail_draft.specs.Desks.{Comes};
 ghost use Rattle.mail_draft.specs.Glancing.{IsContent};
 ghost use Rattle.mail_draft.specs.Sight.{Answers, Reads};
 
-use crate::desk::FolderDesk;
 use crate::finding::folder_in;
 use crate::names::{is_child, name_in};
 use command_text::{DataLine, DataLines, LastLine, Reply};
@@ -28,7 +27,7 @@ use pst_base::Nid;
 use std::alloc::{AllocError, Global};
 
 /// Lists the folders and then the messages in a folder. Refused where it isn't there.
-pub fn list_folder<D: FolderDesk>(desk: &mut D, folder: Nid) -> Result<Coming, Stop>
+pub fn list_folder<D: Desk>(desk: &mut D, folder: Nid) -> Result<Coming, Stop>
     requires fresh { (D.view desk.old).changed ≡ nothing }
     ensures reads { Reads (D.view desk.old) (D.view desk.new) result }
     ensures answer { Comes (D.view desk.old) (D.view desk.new) (λ T c. listing T folder.bits) result }
@@ -52,7 +51,7 @@ pub fn listed(lines: Vec<DataLine>) -> Reply
 }
 
 /// What is listed of a plain folder.
-fn plain_listing<D: FolderDesk>(desk: &mut D, folder: Nid) -> Result<Coming, Stop>
+fn plain_listing<D: Desk>(desk: &mut D, folder: Nid) -> Result<Coming, Stop>
     requires fresh { (D.view desk.old).changed ≡ nothing }
     ensures reads { Reads (D.view desk.old) (D.view desk.new) result }
     ensures answer { Comes (D.view desk.old) (D.view desk.new) (λ T c. plain_listing T folder.bits) result }
@@ -62,7 +61,7 @@ fn plain_listing<D: FolderDesk>(desk: &mut D, folder: Nid) -> Result<Coming, Sto
 }
 
 /// The lines of the folders and of the messages in a folder.
-fn lines_in<D: FolderDesk>(desk: &mut D, folder: Nid) -> Result<Vec<DataLine>, Stop>
+fn lines_in<D: Desk>(desk: &mut D, folder: Nid) -> Result<Vec<DataLine>, Stop>
     ensures reads { Reads (D.view desk.old) (D.view desk.new) result }
     ensures answer { Answers (D.view desk.old) (λ lines. lines.items) (λ T c. lines_in T folder.bits) result }
 {
@@ -80,7 +79,7 @@ fn child_lines<D: Desk>(desk: &mut D, folder: Nid) -> Result<Vec<DataLine>, Stop
 }
 
 /// These lines, and behind them those of the messages in a folder.
-fn with_messages<D: FolderDesk>(
+fn with_messages<D: Desk>(
     desk: &mut D,
     folder: Nid,
     mut lines: Vec<DataLine>,
@@ -94,7 +93,7 @@ fn with_messages<D: FolderDesk>(
 }
 
 /// The lines of the messages in a folder.
-fn lines_of_messages<D: FolderDesk>(desk: &mut D, folder: Nid) -> Result<Vec<DataLine>, Stop>
+fn lines_of_messages<D: Desk>(desk: &mut D, folder: Nid) -> Result<Vec<DataLine>, Stop>
     ensures reads { Reads (D.view desk.old) (D.view desk.new) result }
     ensures answer { Answers (D.view desk.old) (λ lines. lines.items) (λ T c. lines_of_messages T folder.bits) result }
 {
@@ -200,7 +199,7 @@ fn line_in<D: Desk>(desk: &mut D, id: Nid, node: &NodeRec) -> Result<DataLine, S
 }
 
 /// The line of a message: what it tells of its size, and its subject.
-pub fn line_of_message<D: FolderDesk>(desk: &mut D, message: u32) -> Result<DataLine, Stop>
+pub fn line_of_message<D: Desk>(desk: &mut D, message: u32) -> Result<DataLine, Stop>
     ensures reads { Reads (D.view desk.old) (D.view desk.new) result }
     ensures answer { Answers (D.view desk.old) (λ line. line) (λ T c. line_of_message T message) result }
 {
@@ -223,7 +222,7 @@ fn folder_lines<D: Desk>(desk: &mut D, places: &[FolderPlace]) -> Result<Vec<Dat
 }
 
 /// The lines of messages.
-fn message_lines<D: FolderDesk>(desk: &mut D, messages: &[u32]) -> Result<Vec<DataLine>, Stop>
+fn message_lines<D: Desk>(desk: &mut D, messages: &[u32]) -> Result<Vec<DataLine>, Stop>
     ensures reads { Reads (D.view desk.old) (D.view desk.new) result }
     ensures answer { Answers (D.view desk.old) (λ lines. lines.items) (λ T c. each (line_of_message T) messages.now) result }
 {

@@ -1,11 +1,9 @@
 //! What the commands on folders ask of the desk over a keeper.
 use crate::desk::{FolderDesk, FolderMakingDesk};
 use crate::reading::is_taken;
-use mail_draft::{
-    Coming, CountingDesk, Draft, Stop, StoreDesk, message_content, mirrored, on_desk, settled,
-};
+use mail_draft::{Coming, CountingDesk, Draft, Stop, StoreDesk, mirrored, on_desk, settled};
 use mail_tree::{Flags, Places};
-use node_port::{Keeper, NodeReader, NodeRec};
+use node_port::{Keeper, NodeReader};
 use pst_base::Nid;
 use pst_outside::Outside;
 use std::mem::replace;
@@ -21,10 +19,6 @@ impl<'k, 'w, 'p, 'f, 's, 'd, W: Outside, K: NodeReader<W>> FolderDesk
 
     fn is_taken(&mut self, nid: Nid) -> Result<bool, Stop> {
         is_taken(self.alloc, self.keeper, self.world, nid)
-    }
-
-    fn content_before(&mut self, nid: Nid) -> Result<NodeRec, Stop> {
-        message_content(self.alloc, self.keeper, self.world, nid)
     }
 
     fn mirror(&mut self, folder: Nid) -> Result<(), Stop> {

@@ -8,8 +8,8 @@ use Rattle.mail_draft.specs.declared.coming.Coming.{Coming}
 use Rattle.mail_draft.specs.declared.stop.Stop.{Stop}
 use Rattle.mail_draft.specs.Answers.{Says}
 use Rattle.mail_draft.specs.Desks.{Comes, coming_of}
-use Rattle.mail_draft.specs.Sight.{Changes, Sight}
-use Rattle.mail_draft.proofs.DeskCalls.{changes_at}
+use Rattle.mail_draft.specs.Sight.{Answers, Changes, Sight}
+use Rattle.mail_draft.proofs.DeskCalls.{changes_at, comes_as}
 use Rattle.mail_draft.proofs.Passes.{stop_says}
 
 -- the exit of a `?`
@@ -46,6 +46,16 @@ pub then_is : {A B C D : Type 0} (view : B → A) (view' : D → C) (answer : An
 then_is view view' (Ok x) f y result first next = subst (λ z. Says view' (f z) result) first (next (ap Ok (sym first)))
 then_is view view' (Err None) f y result first next = tt
 then_is view view' (Err (Some refusal)) f y result first next = absurd first
+
+-- a call that only looks, by another way to its answer
+pub answers_same : {A X Y : Type 0} {desk : Sight A} {view : Y → X} {step step' : Tree → Changed → Answer X} {result : Result Y Stop}
+    → ((T : Tree) (D : Changed) → step T D ≡ step' T D) → Answers desk view step result → Answers desk view step' result
+answers_same {desk = desk} {view = view} {result = result} e a = record { says = λ T s. subst (λ z. Says view z result) (e T desk.changed) (a.says T s) }
+
+-- what comes of a line, by another way to it
+pub comes_same : {A : Type 0} {old new : Sight A} {step step' : Tree → Changed → Answer Outcome} {result : Result Coming Stop}
+    → ((T : Tree) (D : Changed) → step T D ≡ step' T D) → Comes old new step result → Comes old new step' result
+comes_same {result = result} e a = comes_as (λ T D view said. subst (λ z. Says view z result) (e T D) said) a
 
 -- the same of what comes of a line on a desk
 pub comes_regrouped : {A B C : Type 0} {old new : Sight A} {result : Result Coming Stop} (step : Tree → Changed → Answer B) (f : Tree → Changed → B → Answer C) (h : Tree → Changed → C → Answer Outcome)

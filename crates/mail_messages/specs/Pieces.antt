@@ -13,14 +13,6 @@ use Rattle.mail_tree.specs.Settling.{settled}
 use Rattle.mail_tree.specs.Folders.{Outcome, changing, replied}
 use Rattle.mail_tree.specs.Messages.{in_folder}
 
--- the message with this id, if the folder lists it
-unfoldable pub listed_message : Tree → ℕ → ℕ → Answer Mes
-listed_message T m f = table_at T nothing (contents f) >>= λ t. refused_if (not (is_some (find_row m t.table.rows))) Object >>= λ u. message_at T nothing m
-
--- the message with this id, if the folder is plain and lists it
-unfoldable pub message_below : Tree → ℕ → ℕ → Answer Mes
-message_below T m f = found Object (find_place f T.places) >>= λ p. refused_if (not (is_plain p)) Object >>= λ u. listed_message T m f
-
 -- the row of a message shows it as it is now, and its folder is counted anew
 unfoldable pub showing_message : Tree → Mes → Answer Changed
 showing_message T m = put_shown T (contents m.folder) m.nid m.props (with_object m.nid (Some (objects.Message m)) nothing) >>= settled T T.places m.folder

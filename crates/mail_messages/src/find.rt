@@ -4,8 +4,7 @@ ghost use Rattle.mail_tree.specs.Changing.{contents};
 ghost use Rattle.mail_tree.specs.Messages.{message_in};
 ghost use Rattle.mail_draft.specs.Answers.{IsCalm, Says};
 ghost use Rattle.mail_draft.specs.Sight.{Answers, Reads};
-ghost use Rattle.mail_messages.specs.Finding.{message_if, plain_at};
-ghost use Rattle.mail_messages.specs.Pieces.{listed_message, message_below};
+ghost use Rattle.mail_messages.specs.Finding.{is_listed, is_there, listed_below, plain_at};
 
 use command_text::CommandRefusal;
 use mail_draft::{Desk, Stop};
@@ -38,33 +37,38 @@ pub(crate) fn check_plain(
     }
 }
 
-/// The message with this id. Refused where its folder doesn't list it.
-fn message_if<D: Desk>(desk: &mut D, listed: bool, message: Nid) -> Result<Mail, Stop>
+/// Refused where the folder doesn't list the message: its table is asked for the one row, and no other is read.
+fn check_row<D: Desk>(desk: &mut D, message: Nid, folder: Nid) -> Result<(), Stop>
     ensures reads { Reads (D.view desk.old) (D.view desk.new) result }
-    ensures answer { Answers (D.view desk.old) (λ m. m) (λ T c. message_if T message.bits listed) result }
-{
-    if !listed {
-        return Err(Stop::Refused(CommandRefusal::Object));
-    }
-    desk.message_before(message)
-}
-
-/// The message with this id. Refused where the folder doesn't list it: its table is asked for the one row, and no other is read.
-fn listed_message<D: Desk>(desk: &mut D, message: Nid, folder: Nid) -> Result<Mail, Stop>
-    ensures reads { Reads (D.view desk.old) (D.view desk.new) result }
-    ensures answer { Answers (D.view desk.old) (λ m. m) (λ T c. listed_message T message.bits folder.bits) result }
+    ensures answer { Answers (D.view desk.old) (λ u. u) (λ T c. is_listed T message.bits folder.bits) result }
 {
     let listed = desk.has_row(contents(folder), message)?;
-    message_if(desk, listed, message)
+    if listed {
+        Ok(())
+    } else {
+        Err(Stop::Refused(CommandRefusal::Object))
+    }
 }
 
-/// The message with this id. Refused where the folder isn't plain, or doesn't list it.
-fn message_below<D: Desk>(desk: &mut D, message: Nid, folder: Nid) -> Result<Mail, Stop>
+/// Refused where the folder isn't plain, or doesn't list the message.
+fn check_below<D: Desk>(desk: &mut D, message: Nid, folder: Nid) -> Result<(), Stop>
     ensures reads { Reads (D.view desk.old) (D.view desk.new) result }
-    ensures answer { Answers (D.view desk.old) (λ m. m) (λ T c. message_below T message.bits folder.bits) result }
+    ensures answer { Answers (D.view desk.old) (λ u. u) (λ T c. listed_below T message.bits folder.bits) result }
 {
     check_plain(desk.places(), folder, CommandRefusal::Object)?;
-    listed_message(desk, message, folder)
+    check_row(desk, message, folder)
+}
+
+/// Refused where the folder that is the parent of the message's node doesn't list it. The message isn't read.
+pub fn check_there<D: Desk>(desk: &mut D, message: Nid) -> Result<(), Stop>
+    ensures reads { Reads (D.view desk.old) (D.view desk.new) result }
+    ensures answer { Answers (D.view desk.old) (λ u. u) (λ T c. is_there T message.bits) result }
+{
+    if message.kind() != 4 {
+        return Err(Stop::Refused(CommandRefusal::Object));
+    }
+    let folder = desk.parent(message)?;
+    check_below(desk, message, folder)
 }
 
 /// The message with this id, which the folder that is its node's parent lists. Refused otherwise.
@@ -72,9 +76,6 @@ pub fn message_in<D: Desk>(desk: &mut D, message: Nid) -> Result<Mail, Stop>
     ensures reads { Reads (D.view desk.old) (D.view desk.new) result }
     ensures answer { Answers (D.view desk.old) (λ m. m) (λ T c. message_in T message.bits) result }
 {
-    if message.kind() != 4 {
-        return Err(Stop::Refused(CommandRefusal::Object));
-    }
-    let folder = desk.parent(message)?;
-    message_below(desk, message, folder)
+    check_there(desk, message)?;
+    desk.message_before(message)
 }

@@ -1,9 +1,10 @@
 -- The nodes that a keeper holds, and what changes make of them.
-use Rattle.std.specs.Prelude.{◌≡◌, ℕ, ◌+◌, ◌<◌, ◌&&◌, Bool, true, nat_le, cond, List, [], ◌∷◌, Option, None, Some, IsSome}
+use Rattle.std.specs.Prelude.{◌≡◌, ℕ, ◌+◌, ◌<◌, ◌&&◌, Bool, true, nat_le, cond, List, [], ◌∷◌, length, slice_get, Option, None, Some, IsSome}
 use Rattle.std.specs.Ordering.{nat_cmp, eq_by_cmp}
 use Rattle.std.specs.Cmp.{nat_cmp_total}
 use Rattle.std.specs.FinMap as map
 use Rattle.pst_base.specs.declared.ids.Nid.{Nid}
+use Rattle.node_port.specs.declared.node.NodeBlock.{NodeBlock}
 use Rattle.node_port.specs.declared.node.NodeRec.{NodeRec}
 
 -- the nodes by the bits of their ids
@@ -21,6 +22,15 @@ node_at N nid = map.get N nid
 abbrev pub content_of : Option NodeRec → Option NodeRec
 content_of None = None
 content_of (Some node) = Some (record { parent = node.parent; blocks = node.blocks; subs = [] })
+
+-- how many blocks there are, and the one at a position
+abbrev pub counted : ℕ → List (List ℕ) → NodeBlock
+counted position blocks = record { count = length blocks; block = slice_get blocks position }
+
+-- how many data blocks a node has, and the one at a position
+abbrev pub block_in : ℕ → Option NodeRec → Option NodeBlock
+block_in position None = None
+block_in position (Some node) = Some (counted position node.blocks)
 
 -- the nodes with this one put, or removed
 abbrev pub set_at : Nodes → ℕ → Option NodeRec → Nodes

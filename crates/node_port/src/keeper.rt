@@ -4,11 +4,11 @@ ghost use Rattle.pst_base.specs.declared.ids.Nid.{Nid as Id};
 ghost use Rattle.pst_outside.specs.World.{Image, World, SameDisk};
 ghost use Rattle.pst_outside.specs.Calls.{NeverFall, Rose, Untouched, Settled, LeavesOnly};
 ghost use Rattle.node_port.specs.declared.node.NodeRec.{NodeRec as Rec};
-ghost use Rattle.node_port.specs.Nodes.{Nodes, ascend, changed, content_of, IsNext, node_at};
+ghost use Rattle.node_port.specs.Nodes.{Nodes, ascend, changed, block_in, content_of, IsNext, node_at};
 ghost use Rattle.node_port.specs.Pins.{Pins};
 ghost use Rattle.node_port.specs.Stops.{KeepStops, KeepsPins, PrepareStops, Room, RoomDecides, Tells};
 
-use crate::node::{Changes, Counts, NodeRec};
+use crate::node::{Changes, Counts, NodeBlock, NodeRec};
 use pst_base::{Nid, Subs};
 use pst_outside::{Failed, Outside};
 use std::alloc::{AllocError, Global};
@@ -119,6 +119,28 @@ pub trait NodeReader<W: Outside> {
                 blocks: node.blocks,
                 subs: Subs::new(alloc),
             })),
+            None => Ok(None),
+        }
+    }
+
+    /// The data block of a node at a position, and how many it has; `None` where there is no such node. No other data block is read where the nodes stand on a disk. It stops as `get`.
+    fn data_block(
+        &mut self,
+        alloc: Global,
+        w: &mut W,
+        nid: Nid,
+        position: usize,
+    ) -> Result<Option<NodeBlock>, KeepStop>
+        ensures block { IfOk result (λ block. Tells (holds self.old (W.view w.old)) (λ N. block ≡ block_in position (node_at N nid.bits))) }
+        ensures stops { IfErr result (KeepStops has_disk (W.view w.old).disk_faults (W.view w.new).disk_faults (holds self.old (W.view w.old))) }
+        ensures stays { Tells (holds self.old (W.view w.old)) (holds self.new (W.view w.new)) }
+        ensures pinned { KeepsPins (holds self.old (W.view w.old)) (pinned self.old (W.view w.old)) (pinned self.new (W.view w.new)) }
+        ensures last { last self.new ≡ last self.old }
+        ensures room { room self.new ≡ room self.old }
+        ensures untouched { Untouched (W.view w.old) (W.view w.new) }
+    {
+        match self.get(alloc, w, nid)? {
+            Some(node) => Ok(Some(node.data_block(alloc, position)?)),
             None => Ok(None),
         }
     }

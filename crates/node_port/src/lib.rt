@@ -17,5 +17,5 @@ mod slots;
 
 pub use keeper::{KeepStop, Keeper, NodeReader, PrepareStop, Saver};
 pub use map_keeper::{MapKeeper, MapReady};
-pub use node::{Changes, Counts, NodeRec};
+pub use node::{Changes, Counts, NodeBlock, NodeRec};
 pub use pinner::{Pinner, PinsFull};

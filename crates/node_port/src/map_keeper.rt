@@ -4,7 +4,7 @@ ghost use Rattle.node_port.specs.Nodes.{no_nodes};
 ghost use Rattle.node_port.specs.Slots.{Keeps};
 
 use crate::keeper::{KeepStop, Keeper, NodeReader, PrepareStop, Saver};
-use crate::node::{Changes, Counts, NodeRec};
+use crate::node::{Changes, Counts, NodeBlock, NodeRec};
 use crate::slots::{Slots, fill_all, find, make_slots, next_kept};
 use pst_base::Nid;
 use pst_outside::{Failed, Outside};
@@ -60,6 +60,19 @@ impl<W: Outside> NodeReader<W> for MapKeeper {
     fn get(&mut self, alloc: Global, _w: &mut W, nid: Nid) -> Result<Option<NodeRec>, KeepStop> {
         match find(&self.nodes, nid.bits) {
             Some(node) => Ok(Some(node.copy(alloc)?)),
+            None => Ok(None),
+        }
+    }
+
+    fn data_block(
+        &mut self,
+        alloc: Global,
+        _w: &mut W,
+        nid: Nid,
+        position: usize,
+    ) -> Result<Option<NodeBlock>, KeepStop> {
+        match find(&self.nodes, nid.bits) {
+            Some(node) => Ok(Some(node.data_block(alloc, position)?)),
             None => Ok(None),
         }
     }

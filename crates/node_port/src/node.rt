@@ -1,8 +1,8 @@
 //! A node, and changes of nodes.
 ghost use Rattle.std.specs.Prelude.{◌≡◌, IfOk};
-ghost use Rattle.node_port.specs.Nodes.{ascend};
+ghost use Rattle.node_port.specs.Nodes.{ascend, counted};
 
-use pst_base::{Blocks, Nid, Subs};
+use pst_base::{Blocks, Bytes, Nid, Subs};
 use std::alloc::{AllocError, Global};
 
 /// A node ([MS-PST] 2.2.2.7.7.4): the id of its parent, its data blocks, and its subnodes.
@@ -24,6 +24,27 @@ impl NodeRec {
             subs: self.subs.copy(alloc)?,
         })
     }
+
+    /// Its data block at a position, and how many it has.
+    pub fn data_block(&self, alloc: Global, position: usize) -> Result<NodeBlock, AllocError>
+        ensures { IfOk result (λ block. block ≡ counted position self.now.blocks) }
+    {
+        let block = match self.blocks.as_slice().get(position) {
+            Some(block) => Some(block.copy(alloc)?),
+            None => None,
+        };
+        Ok(NodeBlock {
+            count: self.blocks.len(),
+            block,
+        })
+    }
+}
+
+/// One data block of a node, `None` where it has none at the position that was asked for, and how many it has.
+#[derive(Debug, Drop)]
+pub struct NodeBlock {
+    pub count: usize,
+    pub block: Option<Bytes>,
 }
 
 /// The counter of indices for each kind of node ([MS-PST] 2.2.2.6, rgnid).

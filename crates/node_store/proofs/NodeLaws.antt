@@ -1,5 +1,5 @@
 -- The nodes of a file by the entries of its trees.
-use Rattle.std.proofs.Common.{Bool, true, false, ◌≡◌, ℕ, ◌≤◌, eqb, if◌then◌else◌, List, [], ◌∷◌, map, refl, sym, ap, subst, ◌∙◌, arith, Option, Some, None, IsSome, Result, Ok, Err}
+use Rattle.std.proofs.Common.{Bool, true, false, ◌≡◌, ℕ, ◌≤◌, eqb, if◌then◌else◌, length, slice_get, List, [], ◌∷◌, map, refl, sym, ap, subst, ◌∙◌, arith, Option, Some, None, IsSome, Result, Ok, Err}
 use Rattle.pst_base.specs.declared.ids.Nid.{Nid}
 use Rattle.pst_base.specs.Flat.{Flat}
 use Rattle.pst_base.specs.Ids.{key_of}
@@ -10,7 +10,9 @@ use Rattle.btree_pages.specs.declared.entry.NodeEntry.{NodeEntry}
 use Rattle.btree_pages.specs.Entries.{block_of, node_of, node_key}
 use Rattle.btree_pages.specs.EntryLaws.{key-block_of, key-node_of}
 use Rattle.data_tree.specs.declared.source.TreeStop.{TreeStop}
+use Rattle.data_tree.specs.Single.{single_of}
 use Rattle.data_tree.specs.Tree.{and_then, blocks_of}
+use Rattle.data_tree.proofs.SingleLaws.{single-is}
 use Rattle.subnode_tree.specs.Subnodes.{subs_of}
 use Rattle.file_blocks.specs.Blocks.{entry_key, file_of, found_in}
 use Rattle.file_layout.specs.Nodes.{AreNodes, Lays, Node, NodeMap, block_tree, blocks_in, node_at, node_tree, nodes_in}
@@ -176,6 +178,32 @@ part-reads {header} {file} {m} is k e reach fault here bad =
     let find = found_in file (blocks_in is.blocks) in
     let n = node-some find header.eof k (nodes_in is.nodes) m.nodes e is.are (sym here) in
     let both_are : ◌≡◌ {A = Result Node TreeStop} (Ok (node-part reach n.0)) (Err fault) = sym (part-read find header.eof e n.0 reach n.1) ∙ bad in
+    cc
+
+-- ---- one data block of a node
+
+block-read : (find : ℕ → Option (List ℕ)) (eof position : ℕ) (e : NodeEntry) (n : Node) → node_at find eof e ≡ Ok n → single_of find position e.content ≡ Ok (length n.blocks, slice_get n.blocks position)
+block-read find eof position e n is = single-is find eof e.content position n.blocks (data-read find eof e n is).0
+
+-- the block that was read is that of the keeper's node
+pub block-kept : (N : port.Nodes) (m : NodeMap) (find : ℕ → Option (List ℕ)) (eof k position : ℕ) (es : List NodeEntry) (e : NodeEntry) (single : ℕ × Option (List ℕ)) → AreThose m N → AreNodes find eof es m.nodes
+    → Some e ≡ entry_with node_id k es → single_of find position e.content ≡ Ok single → Some (record { count = single.0; block = single.1 }) ≡ port.block_in position (port.node_at N k)
+block-kept N m find eof k position es e single those are here is =
+    let n = node-some find eof k es m.nodes e are (sym here) in
+    let same : single ≡ (length (n.0).blocks, slice_get (n.0).blocks position) = ok-same single _ (sym is ∙ block-read find eof position e n.0 n.1) in
+    ap (λ (s : ℕ × Option (List ℕ)). Some (record { count = s.0; block = s.1 })) same ∙ sym (ap (port.block_in position) (those k ∙ n.2))
+
+pub block-none : (N : port.Nodes) (m : NodeMap) (find : ℕ → Option (List ℕ)) (eof k position : ℕ) (es : List NodeEntry) → AreThose m N → AreNodes find eof es m.nodes → None ≡ entry_with node_id k es
+    → None ≡ port.block_in position (port.node_at N k)
+block-none N m find eof k position es those are here = sym (ap (port.block_in position) (those k ∙ node-none find eof k es m.nodes are (sym here)))
+
+-- a block of the node of an entry that is there reads
+pub block-reads : {header : Header} {file : List ℕ} {m : NodeMap} (is : Lays header file m) (k position : ℕ) (e : NodeEntry) (fault : TreeStop) → Some e ≡ entry_with node_id k (nodes_in is.nodes)
+    → single_of (found_in file (blocks_in is.blocks)) position e.content ≡ Err fault → ⊥
+block-reads {header} {file} {m} is k position e fault here bad =
+    let find = found_in file (blocks_in is.blocks) in
+    let n = node-some find header.eof k (nodes_in is.nodes) m.nodes e is.are (sym here) in
+    let both_are : ◌≡◌ {A = Result (ℕ × Option (List ℕ)) TreeStop} (Ok (length (n.0).blocks, slice_get (n.0).blocks position)) (Err fault) = sym (block-read find header.eof position e n.0 n.1) ∙ bad in
     cc
 
 -- ---- the next node

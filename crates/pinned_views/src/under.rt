@@ -1,6 +1,8 @@
 //! A keeper whose pins are kept by each call.
 use crate::around::Around;
-use node_port::{Changes, Counts, KeepStop, Keeper, NodeReader, NodeRec, PrepareStop, Saver};
+use node_port::{
+    Changes, Counts, KeepStop, Keeper, NodeBlock, NodeReader, NodeRec, PrepareStop, Saver,
+};
 use pst_base::Nid;
 use pst_outside::{Failed, Outside};
 use std::alloc::Global;
@@ -45,6 +47,16 @@ impl<W: Outside, K: NodeReader<W>, P: Around> NodeReader<W> for UnderPins<K, P> 
         nid: Nid,
     ) -> Result<Option<NodeRec>, KeepStop> {
         self.keeper.get_content(alloc, w, nid)
+    }
+
+    fn data_block(
+        &mut self,
+        alloc: Global,
+        w: &mut W,
+        nid: Nid,
+        position: usize,
+    ) -> Result<Option<NodeBlock>, KeepStop> {
+        self.keeper.data_block(alloc, w, nid, position)
     }
 }
 

@@ -4,7 +4,9 @@ ghost use Rattle.pst_header.specs.Format.{IsWritable};
 use crate::apply::apply_pieces;
 use crate::save::{count_regions, region_end, save_maps, unmap};
 use crate::store::{CommitPlan, NodeStore};
-use node_port::{Changes, Counts, KeepStop, Keeper, NodeReader, NodeRec, PrepareStop, Saver};
+use node_port::{
+    Changes, Counts, KeepStop, Keeper, NodeBlock, NodeReader, NodeRec, PrepareStop, Saver,
+};
 use pst_base::Nid;
 use pst_header::Header;
 use pst_outside::{Failed, Outside};
@@ -50,6 +52,16 @@ impl<W: Outside, S: NodeStore<W>> NodeReader<W> for FileKeeper<S> {
         nid: Nid,
     ) -> Result<Option<NodeRec>, KeepStop> {
         self.store.content(alloc, w, &self.header, nid)
+    }
+
+    fn data_block(
+        &mut self,
+        alloc: Global,
+        w: &mut W,
+        nid: Nid,
+        position: usize,
+    ) -> Result<Option<NodeBlock>, KeepStop> {
+        self.store.data_block(alloc, w, &self.header, nid, position)
     }
 
     fn next_after(&mut self, w: &mut W, nid: Option<Nid>) -> Result<Option<Nid>, KeepStop> {

@@ -4,7 +4,7 @@ ghost use Rattle.node_port.specs.declared.node.NodeRec.{NodeRec as Rec};
 ghost use Rattle.pst_base.specs.declared.ids.Nid.{Nid as Id};
 ghost use Rattle.pst_header.specs.declared.header.Header.{Header as Head};
 ghost use Rattle.pst_header.specs.Format.{IsWritable};
-ghost use Rattle.node_port.specs.Nodes.{ascend, content_of, IsNext, node_at};
+ghost use Rattle.node_port.specs.Nodes.{ascend, block_in, content_of, IsNext, node_at};
 ghost use Rattle.node_port.specs.Pins.{no_pins};
 ghost use Rattle.node_port.specs.Stops.{KeepStops, PrepareStops, RoomDecides, Tells};
 ghost use Rattle.lays_kept.specs.Saved.{LaysSame};
@@ -14,7 +14,7 @@ ghost use Rattle.pst_commit.specs.Keeping.{Holds, IsKnowledge, LooksOn, PlansFor
 
 use alloc_map::Slots;
 use lays_kept::Piece;
-use node_port::{Changes, KeepStop, NodeRec, PrepareStop};
+use node_port::{Changes, KeepStop, NodeBlock, NodeRec, PrepareStop};
 use pst_base::{Bref, Nid};
 use pst_header::Header;
 use pst_outside::Outside;
@@ -89,6 +89,19 @@ pub trait NodeStore<W: Outside> {
         nid: Nid,
     ) -> Result<Option<NodeRec>, KeepStop>
         ensures node { IfOk result (λ node. Tells (ReadsAs (knows self.old) header.now (W.view w.old)) (λ N. node ≡ content_of (node_at N nid.bits))) }
+        ensures stops { IfErr result (KeepStops true (W.view w.old).disk_faults (W.view w.new).disk_faults (ReadsAs (knows self.old) header.now (W.view w.old))) }
+        ensures looks { LooksOn (knows self.old) (knows self.new) header.now (used self.old) (used self.new) (held self.old) (held self.new) (cells self.old) (cells self.new) (W.view w.old) (W.view w.new) };
+
+    /// The data block at a position of the node with this id, and how many it has; `None` where there is no such node.
+    fn data_block(
+        &mut self,
+        alloc: Global,
+        w: &mut W,
+        header: &Header,
+        nid: Nid,
+        position: usize,
+    ) -> Result<Option<NodeBlock>, KeepStop>
+        ensures block { IfOk result (λ block. Tells (ReadsAs (knows self.old) header.now (W.view w.old)) (λ N. block ≡ block_in position (node_at N nid.bits))) }
         ensures stops { IfErr result (KeepStops true (W.view w.old).disk_faults (W.view w.new).disk_faults (ReadsAs (knows self.old) header.now (W.view w.old))) }
         ensures looks { LooksOn (knows self.old) (knows self.new) header.now (used self.old) (used self.new) (held self.old) (held self.new) (cells self.old) (cells self.new) (W.view w.old) (W.view w.new) };
 

@@ -7,9 +7,9 @@ ghost use Rattle.staged_nodes.specs.Looking.{Looks};
 ghost use Rattle.staged_nodes.specs.Staging.{IsNextBelow, IsNextPut, LiesOver, Rises, Slots as Kept};
 
 use crate::around::AroundStaged;
-use crate::slots::{Slots, copied, copied_content, is_gone};
+use crate::slots::{Slots, copied, copied_block, copied_content, is_gone};
 use crate::staging::{StagedReady, Staging};
-use node_port::{Changes, Counts, KeepStop, Keeper, NodeReader, NodeRec, PrepareStop};
+use node_port::{Changes, Counts, KeepStop, Keeper, NodeBlock, NodeReader, NodeRec, PrepareStop};
 use pst_base::Nid;
 use pst_outside::{Failed, Outside};
 use std::alloc::Global;
@@ -146,6 +146,22 @@ impl<'a, W: Outside, K: NodeReader<W>, P: AroundStaged> NodeReader<W> for Staged
         match self.staging.find(nid) {
             Some(node) => Ok(copied_content(alloc, node)?),
             None => self.keeper.get_content(alloc, w, nid),
+        }
+    }
+
+    fn data_block(
+        &mut self,
+        alloc: Global,
+        w: &mut W,
+        nid: Nid,
+        position: usize,
+    ) -> Result<Option<NodeBlock>, KeepStop> {
+        if self.done.is_some() {
+            return Err(KeepStop::Memory);
+        }
+        match self.staging.find(nid) {
+            Some(node) => Ok(copied_block(alloc, node, position)?),
+            None => self.keeper.data_block(alloc, w, nid, position),
         }
     }
 }

@@ -3,11 +3,11 @@ ghost use Rattle.std.specs.Prelude.{◌≡◌, ◌↔◌, ℕ, Some, IsSome, IfO
 ghost use Rattle.std.specs.Ordering.{nat_cmp};
 ghost use Rattle.std.specs.BTreeMap as tree;
 ghost use Rattle.staged_nodes.specs.Staged.{Staged, with_changes};
-ghost use Rattle.node_port.specs.Nodes.{IsAfter, Nodes, changed, content_of};
+ghost use Rattle.node_port.specs.Nodes.{IsAfter, Nodes, block_in, changed, content_of};
 ghost use Rattle.staged_nodes.specs.Staging.{HasChanges, HasSlots, IsAbove, IsGone, IsNextFull, IsNextPut, IsNextSlot, LiesOver, SameChanges, change_at};
 ghost use Rattle.staged_nodes.specs.declared.slots.Slot.TheVariants.{Changed};
 
-use node_port::NodeRec;
+use node_port::{NodeBlock, NodeRec};
 use pst_base::{Nid, Subs};
 use std::alloc::{AllocError, Global};
 use std::collections::BTreeMap;
@@ -56,6 +56,20 @@ pub(crate) fn copied_content(
             blocks: node.blocks.copy(alloc)?,
             subs: Subs::new(alloc),
         })),
+        None => Ok(None),
+    }
+}
+
+/// A data block of a node, and how many it has.
+pub(crate) fn copied_block(
+    alloc: Global,
+    node: &Option<NodeRec>,
+    position: usize,
+) -> Result<Option<NodeBlock>, AllocError>
+    ensures { IfOk result (λ block. block ≡ block_in position node.now) }
+{
+    match node {
+        Some(node) => Ok(Some(node.data_block(alloc, position)?)),
         None => Ok(None),
     }
 }

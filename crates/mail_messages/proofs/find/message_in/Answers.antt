@@ -1,22 +1,11 @@
-use Rattle.std.proofs.Common.{◌≡◌, ◌==◌, arith, false, not, true}
-use Rattle.pst_base.specs.Ids.{kind_of}
-use Rattle.std.proofs.lemmas.Bool.Decides.{nat_tests}
-use Rattle.mail_tree.specs.Messages.{message_in}
-use Rattle.mail_messages.specs.Pieces.{listed_message, message_below}
-use Rattle.mail_draft.proofs.DeskCalls.{answers_exit, answers_then, passing, refusing}
+use Rattle.mail_tree.specs.Changing.{message_at, nothing}
+use Rattle.mail_draft.proofs.DeskCalls.{answers_exit, answers_then}
+use Rattle.mail_messages.proofs.Calls.{answers_same}
+use Rattle.mail_messages.proofs.FoundLaws.{there}
 use Rattle.mail_messages.proofs.find.message_in.Goals as goal
 
-pub returns-then-kind-ne4-clause-answer : goal.returns-then-kind-ne4-clause-answer
-unfolding message_in message_below listed_message
-returns-then-kind-ne4-clause-answer g c =
-    let other : not (kind_of c.args.message.bits == 4) ≡ true = grind (arith, nat_tests) in refusing _ _ other
-
-pub returns-in_err-folder-clause-answer : goal.returns-in_err-folder-clause-answer
-unfolding message_in message_below listed_message
-returns-in_err-folder-clause-answer g c =
-    let own : not (kind_of c.args.message.bits == 4) ≡ false = grind (arith, nat_tests) in passing _ _ own (answers_exit _ c.in_err-folder.ensures.answer c.from_residual.ensures.1)
+pub returns-in_err-check_there-clause-answer : goal.returns-in_err-check_there-clause-answer
+returns-in_err-check_there-clause-answer g c = answers_same (λ T D. there T c.args.message.bits) (answers_exit (λ T D u. message_at T nothing c.args.message.bits) c.in_err-check_there.ensures.answer c.from_residual.ensures.1)
 
 pub returns-clause-answer : goal.returns-clause-answer
-unfolding message_in message_below listed_message
-returns-clause-answer g c =
-    let own : not (kind_of c.args.message.bits == 4) ≡ false = grind (arith, nat_tests) in passing _ _ own (answers_then _ c.in_ok-folder.ensures.answer c.in_ok-folder.ensures.reads c.message_below.ensures.answer)
+returns-clause-answer g c = answers_same (λ T D. there T c.args.message.bits) (answers_then (λ T D u. message_at T nothing c.args.message.bits) c.in_ok-check_there.ensures.answer c.in_ok-check_there.ensures.reads c.message_before.ensures.answer)

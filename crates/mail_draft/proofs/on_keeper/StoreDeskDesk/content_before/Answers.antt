@@ -1,6 +1,6 @@
 use Rattle.std.proofs.Common.{refl}
 use Rattle.mail_draft.proofs.Looking.{looks_then, shown_still}
-use Rattle.mail_folders.proofs.on_keeper.StoreDeskFolderDesk.content_before.Goals as goal
+use Rattle.mail_draft.proofs.on_keeper.StoreDeskDesk.content_before.Goals as goal
 
 pub returns-clause-reads : goal.returns-clause-reads
 returns-clause-reads g c =
