@@ -69,8 +69,8 @@ unfolding value_in value_at
 value-there T m tag =
     let told : Mes → Answer Outcome = λ M. found Property (value_of tag M.props) >>= λ v. Ok (unchanged T (replied (Value v))) in
     same-after (is_there T m) (λ u. value_at T m tag >>= λ r. Ok (unchanged T r)) (λ u. message_at T nothing m >>= told) (λ u.
-        joined (message_at T nothing m) (λ M. value_reply tag M.props) (λ r. Ok (unchanged T r)) told (λ M.
-            joined (found Property (value_of tag M.props)) (λ v. Ok (replied (Value v))) (λ r. Ok (unchanged T r)) (λ v. Ok (unchanged T (replied (Value v)))) (λ v. refl)))
+    joined (message_at T nothing m) (λ M. value_reply tag M.props) (λ r. Ok (unchanged T r)) told (λ M.
+    joined (found Property (value_of tag M.props)) (λ v. Ok (replied (Value v))) (λ r. Ok (unchanged T r)) (λ v. Ok (unchanged T (replied (Value v)))) (λ v. refl)))
     ∙ sym (joined (is_there T m) (λ u. message_at T nothing m) told (λ u. message_at T nothing m >>= told) (λ u. refl)) ∙ ap (λ a. a >>= told) (there T m)
 
 found_at : (T : Tree) (m : ℕ) (M : Mes) → message_in T m ≡ Ok M → message_at T nothing m ≡ Ok M
