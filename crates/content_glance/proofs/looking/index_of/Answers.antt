@@ -1,4 +1,4 @@
-use Rattle.std.proofs.Common.{◌≡◌, ◌∙◌, ℕ, List, Some, sym, ap}
+use Rattle.std.proofs.Common.{◌≡◌, ◌∙◌, Some, sym, ap}
 use Rattle.std.specs.Option.{option_copied}
 use Rattle.heap_edit.specs.Known.{blocks_now}
 use Rattle.bth_tree.proofs.OptionLaws.{some-injective}

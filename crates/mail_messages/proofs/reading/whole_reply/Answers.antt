@@ -1,4 +1,3 @@
-use Rattle.std.proofs.Common.{◌∙◌, List, ap}
 use Rattle.mapi_values.specs.Messages.{Mes}
 use Rattle.mail_draft.proofs.DeskCalls.{answers_exit, answers_of}
 use Rattle.mail_messages.specs.Parts.{value_reply}

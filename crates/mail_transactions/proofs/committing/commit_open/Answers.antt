@@ -1,4 +1,4 @@
-use Rattle.std.proofs.Common.{Some, ap, refl}
+use Rattle.std.proofs.Common.{Some, ap}
 use Rattle.node_port.specs.Pins.{Pins}
 use Rattle.line_server.specs.declared.spoken.Spoken.TheVariants as spoken_as
 use Rattle.session_lines.specs.declared.line.TransactionLine.TheVariants.{Commit}

@@ -5,7 +5,7 @@ use Rattle.staged_store.specs.pinned_session.store_session.Carrying.{CarriesOut}
 use Rattle.staged_store.specs.pinned_session.store_session.Disks.{Effects, effects_of, medium}
 use Rattle.staged_store.proofs.store_session_laws.Carry.{its_medium, quiet_leaves}
 use Rattle.staged_store.proofs.store_session_laws.mail_draft_laws.Looking.{untouched_same}
-use Rattle.mail_transactions.specs.Opening.{inside, outside}
+use Rattle.mail_transactions.specs.Opening.{inside}
 use Rattle.mail_transactions.specs.Run.{SaysTo}
 use Rattle.mail_transactions.specs.Stands.{Stands, StandsIn, StandsCommitted}
 use Rattle.mail_transactions.specs.State.{State}

@@ -1,4 +1,4 @@
-use Rattle.std.proofs.Common.{None, Some, refl, subst, sym}
+use Rattle.std.proofs.Common.{None, Some, subst, sym}
 use Rattle.node_port.specs.Pins.{Pins}
 use Rattle.line_server.specs.declared.spoken.Spoken.TheVariants as spoken_as
 use Rattle.session_lines.specs.declared.line.TransactionLine.TheVariants.{Rollback}
