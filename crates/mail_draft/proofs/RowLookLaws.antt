@@ -1,11 +1,11 @@
 -- What some blocks of a table's node tell of its rows is so of the tree.
-use Rattle.std.proofs.Common.{◌≡◌, ℕ, Bool, is_some, length, slice_get, List, [], ◌∷◌, Option, None, Some, Result, Ok, Err, refl, sym, ap, ◌∙◌, subst}
+use Rattle.std.proofs.Common.{◌≡◌, ℕ, Bool, is_some, List, Option, None, Some, Ok, refl, sym, subst}
 use Rattle.std.proofs.lemmas.Option.{same_Some}
 use Rattle.mapi_values.specs.Tables.{find_row}
 use Rattle.node_port.specs.Nodes.{block_in, counted}
 use Rattle.node_port.specs.declared.node.NodeBlock.{NodeBlock}
 use Rattle.node_port.specs.declared.node.NodeRec.{NodeRec}
-use Rattle.content_glance.specs.heap_edit.Known.{AreKnown, Known, blocks_now}
+use Rattle.content_glance.specs.heap_edit.Known.{Known}
 use Rattle.content_glance.specs.Rows.{TellsKnown}
 use Rattle.mail_objects.specs.Forms.{Tbl}
 use Rattle.mail_objects.specs.Objects.{ShowsTable}
