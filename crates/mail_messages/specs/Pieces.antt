@@ -1,14 +1,10 @@
 -- The ends of the commands on messages, on a message that was found.
-use Rattle.std.specs.Prelude.{ℕ, not, None, Some}
-use Rattle.std.specs.Option.{is_some}
-use Rattle.command_text.specs.declared.reply.CommandRefusal.TheVariants.{Object}
+use Rattle.std.specs.Prelude.{ℕ, None, Some}
 use Rattle.command_text.specs.declared.reply.LastLine.TheVariants.{Done}
 use Rattle.mapi_values.specs.Messages.{Mes}
-use Rattle.mapi_values.specs.Tables.{find_row}
 use Rattle.mail_objects.specs.declared.object.Object.TheVariants as objects
-use Rattle.mail_tree.specs.Places.{find_place, is_plain}
 use Rattle.mail_tree.specs.Tree.{Tree}
-use Rattle.mail_tree.specs.Changing.{Answer, Changed, ◌>>=◌, add_shown, contents, drop_shown, found, message_at, nothing, put_shown, refused_if, table_at, with_object}
+use Rattle.mail_tree.specs.Changing.{Answer, Changed, ◌>>=◌, add_shown, contents, drop_shown, found, nothing, put_shown, with_object}
 use Rattle.mail_tree.specs.Settling.{settled}
 use Rattle.mail_tree.specs.Folders.{Outcome, changing, replied}
 use Rattle.mail_tree.specs.Messages.{in_folder}
