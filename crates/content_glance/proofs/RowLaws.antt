@@ -9,7 +9,7 @@ use Rattle.mapi_values.specs.declared.column.Column.{Column}
 use Rattle.mapi_values.specs.Tables.{Tab, find_row}
 use Rattle.mapi_values.specs.Properties.{ascend_from}
 use Rattle.mapi_values.specs.Values.{Val}
-use Rattle.heap_edit.specs.Known.{AreKnown, Known, Reads, blocks_now}
+use Rattle.heap_edit.specs.Known.{Known, Reads, blocks_now}
 use Rattle.heap_on_node.specs.Heap.{IsHeap, item}
 use Rattle.index_edit.specs.Rows.{as_number}
 use Rattle.bth_tree.specs.Records.{entry_of}
@@ -19,7 +19,7 @@ use Rattle.node_values.specs.Subnodes.{data_of}
 use Rattle.mail_objects.specs.table_context.Context.{IsTableContext, table_in, table_of}
 use Rattle.mail_objects.specs.table_context.Header.{columns_of, ends_in, index_in, matrix_in, names_index, size_in}
 use Rattle.mail_objects.specs.table_context.Rows.{cells_of, others, raw_rows, row_in, row_of, rows_of, shows_id, used}
-use Rattle.content_glance.specs.Rows.{TellsCount, TellsKnown, TellsRow}
+use Rattle.content_glance.specs.Rows.{NamesIndex, TellsCount, TellsKnown, TellsRow}
 use Rattle.content_glance.proofs.EntryLaws.{any-bth}
 
 -- a row's bytes have its record's id
@@ -147,7 +147,7 @@ number-some None = refl
 number-some (Some x) = refl
 
 -- what the row index tells of a row is so of the table
-pub tells-known : (h : Known) (id index : ℕ) (entry : Option ℕ) (has : Bool) → ((old : List (List ℕ)) → AreKnown h old → (subs : List Flat) (t : Tab) → (c : IsTableContext (blocks_now h old) subs t) → index ≡ index_in c.head)
+pub tells-known : (h : Known) (id index : ℕ) (entry : Option ℕ) (has : Bool) → NamesIndex h index
     → ((was : List (List ℕ)) (get : ℕ → Option (List ℕ)) → Reads h was get → (recs : List (ℕ × List ℕ)) → bth get index 4 4 ≡ Some recs → entry ≡ as_number (entry_of id recs)) → has ≡ is_some entry → TellsKnown h id has
 tells-known h id index entry has at found is = λ old known subs t c.
     let get : ℕ → Option (List ℕ) = item (blocks_now h old) in

@@ -1,12 +1,8 @@
 //! Which rows a table has, as far as some blocks of its node tell.
-ghost use Rattle.std.specs.Prelude.{◌≡◌, ℕ, List, IfOk};
-ghost use Rattle.pst_base.specs.Flat.{Flat};
+ghost use Rattle.std.specs.Prelude.{ℕ, List, IfOk};
 ghost use Rattle.heap_on_node.specs.Heap.{IsHeap, IsStart};
-ghost use Rattle.mapi_values.specs.Tables.{Tab};
 ghost use Rattle.heap_edit.specs.Known.{AreKnown, blocks_now};
-ghost use Rattle.mail_objects.specs.table_context.Context.{IsTableContext};
-ghost use Rattle.mail_objects.specs.table_context.Header.{index_in};
-ghost use Rattle.content_glance.specs.Rows.{TellsKnown};
+ghost use Rattle.content_glance.specs.Rows.{NamesIndex, TellsKnown};
 
 use heap_edit::{HeapStop, KnownHeap};
 use index_edit::{IndexStop, find_entry};
@@ -43,7 +39,7 @@ fn root_of(heap: &KnownHeap) -> Result<u32, Untold>
 
 /// The heap id of the row index that a table's header names ([MS-PST] 2.3.4.1).
 fn index_of(heap: &KnownHeap) -> Result<u32, Untold>
-    ensures { IfOk result (λ index. (old : List (List ℕ)) → AreKnown heap.now old → (subs : List Flat) (t : Tab) → (c : IsTableContext (blocks_now heap.now old) subs t) → index ≡ index_in c.head) }
+    ensures { IfOk result (NamesIndex heap.now) }
 {
     let root = root_of(heap)?;
     let head = match heap.find(root) {
