@@ -1,19 +1,14 @@
 //! How many messages rows name.
-ghost use Rattle.std.specs.Prelude.{◌≡◌, ◌≤◌, ◌<◌, ◌+◌, IfErr};
-ghost use Rattle.mail_tree.specs.Knowing.{Knows};
-ghost use Rattle.mail_tree.specs.Tree.{Shown, Tree};
-ghost use Rattle.mail_draft.specs.Answers.{IsCaused, Looks, Says};
-ghost use Rattle.mail_draft.specs.Drafts.{changed_of};
+ghost use Rattle.std.specs.Prelude.{◌≡◌, ◌≤◌, ◌<◌, ◌+◌};
+ghost use Rattle.mail_draft.specs.Sight.{Answers, Reads};
 ghost use Rattle.search_results.specs.Counting.{flag_at, found_at, kept_flag, message_told, none_if_refused, pair_of, tally, with_flag};
 
-use mail_draft::{Draft, Stop, flag_of};
-use mail_messages::message_in;
+use crate::desk::SearchDesk;
+use mail_draft::{Stop, flag_of};
+use mail_folders::FolderDesk;
+use mail_messages::on_desk::message_in;
 use mail_objects::{Mail, Object};
-use mail_tree::{Known, Places};
-use node_port::NodeReader;
 use pst_base::Nid;
-use pst_outside::Outside;
-use std::alloc::Global;
 
 /// How many messages there are, and how many of them weren't read. Contracts see `pair_of` it.
 #[derive(Clone, Copy, Debug, PartialEq, Eq)]
@@ -34,18 +29,11 @@ fn none_if_refused(stop: Stop) -> Result<Option<Mail>, Stop>
 
 /// The message at an id, or `None` where the tree has none there: a node may stand there that no folder lists.
 #[tactic(auto, using(crate::proofs::FlagLaws::found_ok, crate::proofs::FlagLaws::found_stop))]
-fn found_message<W: Outside, K: NodeReader<W>>(
-    alloc: Global,
-    keeper: &mut K,
-    w: &mut W,
-    places: &Places,
-    nid: Nid,
-) -> Result<Option<Mail>, Stop>
-    ensures answer { (T : Tree) → Shown (K.holds keeper.old (W.view w.old)) (K.last keeper.old) T → T.places ≡ places.now → Says (λ m. m) (found_at T nid.bits) result }
-    ensures looks { Looks (K.holds keeper.old (W.view w.old)) (K.holds keeper.new (W.view w.new)) (K.last keeper.old) (K.last keeper.new) (K.room keeper.old) (K.room keeper.new) (W.view w.old) (W.view w.new) }
-    ensures cause { IfErr result (IsCaused K.has_disk (W.view w.old).disk_faults (W.view w.new).disk_faults) }
+fn found_message<D: FolderDesk>(desk: &mut D, nid: Nid) -> Result<Option<Mail>, Stop>
+    ensures reads { Reads (D.view desk.old) (D.view desk.new) result }
+    ensures answer { Answers (D.view desk.old) (λ m. m) (λ T c. found_at T nid.bits) result }
 {
-    match message_in(alloc, keeper, w, places, nid) {
+    match message_in(desk, nid) {
         Ok(mail) => Ok(Some(mail)),
         Err(stop) => none_if_refused(stop),
     }
@@ -53,77 +41,48 @@ fn found_message<W: Outside, K: NodeReader<W>>(
 
 /// Whether the tree has a message at an id. The nodes are asked only where nothing is known of it.
 #[tactic(auto, using(crate::proofs::FlagLaws::known_told, crate::proofs::FlagLaws::told_found, crate::proofs::FlagLaws::told_stop))]
-pub fn is_message<W: Outside, K: NodeReader<W>>(
-    alloc: Global,
-    keeper: &mut K,
-    w: &mut W,
-    known: &Known,
-    nid: Nid,
-) -> Result<bool, Stop>
-    ensures answer { (T : Tree) → Shown (K.holds keeper.old (W.view w.old)) (K.last keeper.old) T → Knows T known.now → Says (λ b. b) (message_told T nid.bits) result }
-    ensures looks { Looks (K.holds keeper.old (W.view w.old)) (K.holds keeper.new (W.view w.new)) (K.last keeper.old) (K.last keeper.new) (K.room keeper.old) (K.room keeper.new) (W.view w.old) (W.view w.new) }
-    ensures cause { IfErr result (IsCaused K.has_disk (W.view w.old).disk_faults (W.view w.new).disk_faults) }
+pub fn is_message<D: FolderDesk>(desk: &mut D, nid: Nid) -> Result<bool, Stop>
+    ensures reads { Reads (D.view desk.old) (D.view desk.new) result }
+    ensures answer { Answers (D.view desk.old) (λ b. b) (λ T c. message_told T nid.bits) result }
 {
-    if known.flags.get(nid.bits).is_some() {
+    if desk.flags().get(nid.bits).is_some() {
         return Ok(true);
     }
-    let found = found_message(alloc, keeper, w, &known.places, nid)?;
+    let found = found_message(desk, nid)?;
     Ok(found.is_some())
 }
 
 /// Whether the message at an id is unread, or `None` where the tree has none there.
 #[tactic(auto, using(crate::proofs::FlagLaws::flag_found, crate::proofs::FlagLaws::flag_stop))]
-fn read_flag<W: Outside, K: NodeReader<W>>(
-    alloc: Global,
-    keeper: &mut K,
-    w: &mut W,
-    places: &Places,
-    nid: Nid,
-) -> Result<Option<bool>, Stop>
-    ensures answer { (T : Tree) → Shown (K.holds keeper.old (W.view w.old)) (K.last keeper.old) T → T.places ≡ places.now → Says (λ f. f) (kept_flag T nid.bits) result }
-    ensures looks { Looks (K.holds keeper.old (W.view w.old)) (K.holds keeper.new (W.view w.new)) (K.last keeper.old) (K.last keeper.new) (K.room keeper.old) (K.room keeper.new) (W.view w.old) (W.view w.new) }
-    ensures cause { IfErr result (IsCaused K.has_disk (W.view w.old).disk_faults (W.view w.new).disk_faults) }
+fn read_flag<D: FolderDesk>(desk: &mut D, nid: Nid) -> Result<Option<bool>, Stop>
+    ensures reads { Reads (D.view desk.old) (D.view desk.new) result }
+    ensures answer { Answers (D.view desk.old) (λ f. f) (λ T c. kept_flag T nid.bits) result }
 {
-    match found_message(alloc, keeper, w, places, nid)? {
+    match found_message(desk, nid)? {
         Some(mail) => Ok(flag_of(&Some(Object::Message(mail)))),
         None => Ok(None),
     }
 }
 
 /// Whether the message that the nodes have at an id is unread, or `None` where the tree has none there. The nodes are asked only where nothing is known of it.
-fn kept_flag<W: Outside, K: NodeReader<W>>(
-    alloc: Global,
-    keeper: &mut K,
-    w: &mut W,
-    known: &Known,
-    nid: Nid,
-) -> Result<Option<bool>, Stop>
-    ensures answer { (T : Tree) → Shown (K.holds keeper.old (W.view w.old)) (K.last keeper.old) T → Knows T known.now → Says (λ f. f) (kept_flag T nid.bits) result }
-    ensures looks { Looks (K.holds keeper.old (W.view w.old)) (K.holds keeper.new (W.view w.new)) (K.last keeper.old) (K.last keeper.new) (K.room keeper.old) (K.room keeper.new) (W.view w.old) (W.view w.new) }
-    ensures cause { IfErr result (IsCaused K.has_disk (W.view w.old).disk_faults (W.view w.new).disk_faults) }
+fn kept_flag<D: FolderDesk>(desk: &mut D, nid: Nid) -> Result<Option<bool>, Stop>
+    ensures reads { Reads (D.view desk.old) (D.view desk.new) result }
+    ensures answer { Answers (D.view desk.old) (λ f. f) (λ T c. kept_flag T nid.bits) result }
 {
-    match known.flags.get(nid.bits) {
+    match desk.flags().get(nid.bits) {
         Some(unread) => Ok(Some(unread)),
-        None => read_flag(alloc, keeper, w, &known.places, nid),
+        None => read_flag(desk, nid),
     }
 }
 
 /// Whether the message at an id is unread, or `None` where nothing stands there.
-fn flag_at<W: Outside, K: NodeReader<W>>(
-    alloc: Global,
-    keeper: &mut K,
-    w: &mut W,
-    draft: &Draft,
-    known: &Known,
-    nid: Nid,
-) -> Result<Option<bool>, Stop>
-    ensures answer { (T : Tree) → Shown (K.holds keeper.old (W.view w.old)) (K.last keeper.old) T → Knows T known.now → Says (λ f. f) (flag_at T (changed_of draft.now) nid.bits) result }
-    ensures looks { Looks (K.holds keeper.old (W.view w.old)) (K.holds keeper.new (W.view w.new)) (K.last keeper.old) (K.last keeper.new) (K.room keeper.old) (K.room keeper.new) (W.view w.old) (W.view w.new) }
-    ensures cause { IfErr result (IsCaused K.has_disk (W.view w.old).disk_faults (W.view w.new).disk_faults) }
+fn flag_at<D: SearchDesk>(desk: &mut D, nid: Nid) -> Result<Option<bool>, Stop>
+    ensures reads { Reads (D.view desk.old) (D.view desk.new) result }
+    ensures answer { Answers (D.view desk.old) (λ f. f) (λ T c. flag_at T c nid.bits) result }
 {
-    match draft.get(nid) {
+    match desk.drafted(nid) {
         Some(object) => Ok(flag_of(object)),
-        None => kept_flag(alloc, keeper, w, known, nid),
+        None => kept_flag(desk, nid),
     }
 }
 
@@ -149,24 +108,16 @@ fn with_flag(count: Tally, flag: Option<bool>) -> Tally
 }
 
 /// How many messages stand at these ids, and how many of them weren't read.
-pub(crate) fn tallied<W: Outside, K: NodeReader<W>>(
-    alloc: Global,
-    keeper: &mut K,
-    w: &mut W,
-    draft: &Draft,
-    known: &Known,
-    ids: &[u32],
-) -> Result<Tally, Stop>
-    ensures answer { (T : Tree) → Shown (K.holds keeper.old (W.view w.old)) (K.last keeper.old) T → Knows T known.now → Says pair_of (tally T (changed_of draft.now) ids.now) result }
-    ensures looks { Looks (K.holds keeper.old (W.view w.old)) (K.holds keeper.new (W.view w.new)) (K.last keeper.old) (K.last keeper.new) (K.room keeper.old) (K.room keeper.new) (W.view w.old) (W.view w.new) }
-    ensures cause { IfErr result (IsCaused K.has_disk (W.view w.old).disk_faults (W.view w.new).disk_faults) }
+pub(crate) fn tallied<D: SearchDesk>(desk: &mut D, ids: &[u32]) -> Result<Tally, Stop>
+    ensures reads { Reads (D.view desk.old) (D.view desk.new) result }
+    ensures answer { Answers (D.view desk.old) pair_of (λ T c. tally T c ids.now) result }
 {
     let mut count = Tally {
         messages: 0,
         unread: 0,
     };
     for id in ids {
-        let flag = flag_at(alloc, keeper, w, draft, known, Nid { bits: *id })?;
+        let flag = flag_at(desk, Nid { bits: *id })?;
         count = with_flag(count, flag);
     }
     Ok(count)

@@ -1,34 +1,25 @@
 //! The messages within a folder that moves.
-ghost use Rattle.std.specs.Prelude.{◌≡◌, IfErr};
+ghost use Rattle.std.specs.Prelude.{◌≡◌};
 ghost use Rattle.mail_tree.specs.Places.{is_plain};
-ghost use Rattle.mail_tree.specs.Tree.{Shown, Tree};
-ghost use Rattle.mail_draft.specs.Answers.{IsCaused, Looks, Says};
+ghost use Rattle.mail_draft.specs.Sight.{Answers, Reads};
 ghost use Rattle.mail_searches.specs.Touching.{carried};
 ghost use Rattle.search_results.specs.Moving.{carried_along, carried_one, carried_in, joined, stands_directly};
 
-use crate::before::{message_before, message_ids_before};
+use crate::desk::SearchDesk;
 use crate::touched::TouchedMessage;
-use mail_draft::{Stop, contents};
+use mail_draft::{Desk, Stop, contents};
+use mail_folders::FolderDesk;
 use mail_tree::{FolderPlace, Places, Sort};
-use node_port::NodeReader;
 use pst_base::Nid;
-use pst_outside::Outside;
-use std::alloc::Global;
 
 /// A message that stays as it is, while the folder in which it stands moves.
-fn carried_one<W: Outside, K: NodeReader<W>>(
-    alloc: Global,
-    keeper: &mut K,
-    w: &mut W,
-    id: u32,
-) -> Result<TouchedMessage, Stop>
-    ensures answer { (T : Tree) → Shown (K.holds keeper.old (W.view w.old)) (K.last keeper.old) T → Says (λ t. t) (carried_one T id) result }
-    ensures looks { Looks (K.holds keeper.old (W.view w.old)) (K.holds keeper.new (W.view w.new)) (K.last keeper.old) (K.last keeper.new) (K.room keeper.old) (K.room keeper.new) (W.view w.old) (W.view w.new) }
-    ensures cause { IfErr result (IsCaused K.has_disk (W.view w.old).disk_faults (W.view w.new).disk_faults) }
+fn carried_one<D: SearchDesk>(desk: &mut D, id: u32) -> Result<TouchedMessage, Stop>
+    ensures reads { Reads (D.view desk.old) (D.view desk.new) result }
+    ensures answer { Answers (D.view desk.old) (λ t. t) (λ T c. carried_one T id) result }
 {
     let nid = Nid { bits: id };
-    let mail = message_before(alloc, keeper, w, nid)?;
-    let old = mail.copy(alloc)?;
+    let mail = desk.message_before(nid)?;
+    let old = mail.copy(desk.alloc())?;
     Ok(TouchedMessage {
         nid,
         old: Some(old),
@@ -38,19 +29,13 @@ fn carried_one<W: Outside, K: NodeReader<W>>(
 }
 
 /// Messages that stay as they are, while the folder in which they stand moves.
-fn carried<W: Outside, K: NodeReader<W>>(
-    alloc: Global,
-    keeper: &mut K,
-    w: &mut W,
-    ids: &[u32],
-) -> Result<Vec<TouchedMessage>, Stop>
-    ensures answer { (T : Tree) → Shown (K.holds keeper.old (W.view w.old)) (K.last keeper.old) T → Says (λ ts. ts.items) (carried T ids.now) result }
-    ensures looks { Looks (K.holds keeper.old (W.view w.old)) (K.holds keeper.new (W.view w.new)) (K.last keeper.old) (K.last keeper.new) (K.room keeper.old) (K.room keeper.new) (W.view w.old) (W.view w.new) }
-    ensures cause { IfErr result (IsCaused K.has_disk (W.view w.old).disk_faults (W.view w.new).disk_faults) }
+fn carried<D: SearchDesk>(desk: &mut D, ids: &[u32]) -> Result<Vec<TouchedMessage>, Stop>
+    ensures reads { Reads (D.view desk.old) (D.view desk.new) result }
+    ensures answer { Answers (D.view desk.old) (λ ts. ts.items) (λ T c. carried T ids.now) result }
 {
-    let mut touches = Vec::new(alloc);
+    let mut touches = Vec::new(desk.alloc());
     for id in ids {
-        let touch = carried_one(alloc, keeper, w, *id)?;
+        let touch = carried_one(desk, *id)?;
         touches.push(touch)?;
     }
     Ok(touches)
@@ -67,43 +52,36 @@ fn is_plain(place: &FolderPlace) -> bool
 }
 
 /// The messages of a folder, if that is plain and stands within the one that moves.
-fn carried_in<W: Outside, K: NodeReader<W>>(
-    alloc: Global,
-    keeper: &mut K,
-    w: &mut W,
-    places: &Places,
+fn carried_in<D: SearchDesk>(
+    desk: &mut D,
     folder: Nid,
     place: FolderPlace,
 ) -> Result<Vec<TouchedMessage>, Stop>
-    ensures answer { (T : Tree) → Shown (K.holds keeper.old (W.view w.old)) (K.last keeper.old) T → T.places ≡ places.now → Says (λ ts. ts.items) (carried_in T folder.bits place) result }
-    ensures looks { Looks (K.holds keeper.old (W.view w.old)) (K.holds keeper.new (W.view w.new)) (K.last keeper.old) (K.last keeper.new) (K.room keeper.old) (K.room keeper.new) (W.view w.old) (W.view w.new) }
-    ensures cause { IfErr result (IsCaused K.has_disk (W.view w.old).disk_faults (W.view w.new).disk_faults) }
+    ensures reads { Reads (D.view desk.old) (D.view desk.new) result }
+    ensures answer { Answers (D.view desk.old) (λ ts. ts.items) (λ T c. carried_in T folder.bits place) result }
 {
     if !is_plain(&place) {
-        return Ok(Vec::new(alloc));
+        return Ok(Vec::new(desk.alloc()));
     }
-    if !places.is_within(alloc, folder, place.nid)? {
-        return Ok(Vec::new(alloc));
+    if !desk.places().is_within(desk.alloc(), folder, place.nid)? {
+        return Ok(Vec::new(desk.alloc()));
     }
-    let ids = message_ids_before(alloc, keeper, w, contents(place.nid))?;
-    carried(alloc, keeper, w, ids.as_slice())
+    let ids = desk.message_ids_before(contents(place.nid))?;
+    carried(desk, ids.as_slice())
 }
 
-/// The messages in those folders that are plain and stand within the one that moves.
-fn messages_below<W: Outside, K: NodeReader<W>>(
-    alloc: Global,
-    keeper: &mut K,
-    w: &mut W,
+/// The messages in those of these folders that are plain and stand within the one that moves.
+fn messages_below<D: SearchDesk>(
+    desk: &mut D,
     places: &Places,
     folder: Nid,
 ) -> Result<Vec<TouchedMessage>, Stop>
-    ensures answer { (T : Tree) → Shown (K.holds keeper.old (W.view w.old)) (K.last keeper.old) T → T.places ≡ places.now → Says (λ ts. ts.items) (joined (carried_in T folder.bits) T.places) result }
-    ensures looks { Looks (K.holds keeper.old (W.view w.old)) (K.holds keeper.new (W.view w.new)) (K.last keeper.old) (K.last keeper.new) (K.room keeper.old) (K.room keeper.new) (W.view w.old) (W.view w.new) }
-    ensures cause { IfErr result (IsCaused K.has_disk (W.view w.old).disk_faults (W.view w.new).disk_faults) }
+    ensures reads { Reads (D.view desk.old) (D.view desk.new) result }
+    ensures answer { Answers (D.view desk.old) (λ ts. ts.items) (λ T c. joined (carried_in T folder.bits) places.now) result }
 {
-    let mut touches = Vec::new(alloc);
+    let mut touches = Vec::new(desk.alloc());
     for place in places.as_slice() {
-        let mut more = carried_in(alloc, keeper, w, places, folder, *place)?;
+        let mut more = carried_in(desk, folder, *place)?;
         touches.append(&mut more)?;
     }
     Ok(touches)
@@ -120,20 +98,17 @@ fn stands_directly(places: &Places, folder: Nid, parent: Nid) -> bool
 }
 
 /// The messages within a folder that moves into that one. Where it stands there already, nothing moves.
-pub(crate) fn carried_along<W: Outside, K: NodeReader<W>>(
-    alloc: Global,
-    keeper: &mut K,
-    w: &mut W,
-    places: &Places,
+pub(crate) fn carried_along<D: SearchDesk>(
+    desk: &mut D,
     folder: Nid,
     parent: Nid,
 ) -> Result<Vec<TouchedMessage>, Stop>
-    ensures answer { (T : Tree) → Shown (K.holds keeper.old (W.view w.old)) (K.last keeper.old) T → T.places ≡ places.now → Says (λ ts. ts.items) (carried_along T folder.bits parent.bits) result }
-    ensures looks { Looks (K.holds keeper.old (W.view w.old)) (K.holds keeper.new (W.view w.new)) (K.last keeper.old) (K.last keeper.new) (K.room keeper.old) (K.room keeper.new) (W.view w.old) (W.view w.new) }
-    ensures cause { IfErr result (IsCaused K.has_disk (W.view w.old).disk_faults (W.view w.new).disk_faults) }
+    ensures reads { Reads (D.view desk.old) (D.view desk.new) result }
+    ensures answer { Answers (D.view desk.old) (λ ts. ts.items) (λ T c. carried_along T folder.bits parent.bits) result }
 {
-    if stands_directly(places, folder, parent) {
-        return Ok(Vec::new(alloc));
+    if stands_directly(desk.places(), folder, parent) {
+        return Ok(Vec::new(desk.alloc()));
     }
-    messages_below(alloc, keeper, w, places, folder)
+    let places = desk.places().copy(desk.alloc())?;
+    messages_below(desk, &places, folder)
 }
