@@ -299,6 +299,3 @@ module _ (T : Tree) where
         others = without_changed (entries i) T.others;
         last = stay.1 i;
       }
-
-  pub stays_unwritten : (c : Command) → IfOk (outcome T c) (StaysUnwritten T)
-  stays_unwritten c = if_so Right (StaysUnwritten T) (outcome T c) (right c) quiet

@@ -1,7 +1,6 @@
 -- What a store plans and commits.
-use Rattle.std.proofs.Common.{◌≡◌, ◌⊎◌, inl, inr, refl, ℕ, List, Option, None, Some, Result, Ok, Err, IfOk, ap, sym, subst, ◌∙◌}
+use Rattle.std.proofs.Common.{◌≡◌, ◌⊎◌, inl, inr, refl, ℕ, List, Option, Some, Result, Ok, Err, IfOk, sym, subst, ◌∙◌}
 use Rattle.std.specs.Result.{OnOk}
-use Rattle.command_text.specs.declared.reply.Reply.{Reply}
 use Rattle.node_port.specs.Nodes.{Nodes, changed}
 use Rattle.node_port.specs.Stops.{Room}
 use Rattle.node_port.specs.declared.node.NodeRec.{NodeRec}
@@ -12,11 +11,9 @@ use Rattle.mail_tree.specs.Changing.{Answer}
 use Rattle.mail_tree.specs.Folders.{Outcome}
 use Rattle.mail_tree.specs.Step.{after}
 use Rattle.mail_tree.specs.Tree.{Shown, Tree}
-use Rattle.mail_draft.specs.Answers.{Looks, Says}
-use Rattle.mail_draft.specs.declared.stop.Stop.{Stop}
-use Rattle.mail_draft.specs.declared.stop.Stop.TheVariants.{Refused, Fault, Changed, Memory}
+use Rattle.mail_draft.specs.Answers.{Looks}
 use Rattle.mail_draft.proofs.Looking.{shown_still}
-use Rattle.mail_store.specs.Planning.{Carries, Plans, SameKnown, ShowsTree, StandsFor, Stores, UnlessFault}
+use Rattle.mail_store.specs.Planning.{Carries, SameKnown, ShowsTree, StandsFor, Stores}
 
 -- what follows of what holds where a call succeeds
 pub on_ok : {A E P Q : Type 0} (r : Result A E) → OnOk r P → (P → Q) → OnOk r Q
@@ -40,28 +37,6 @@ applied (Err e) holds holds' last last' fits ready rests told made kept = tt
 pub of_answer : {A : Type 0} (P : A → Type 0) (answer : Answer A) (x : A) → IfOk answer P → answer ≡ Ok x → P x
 of_answer P (Ok y) x holds is = subst (λ a. IfOk a P) is holds
 of_answer P (Err e) x holds is = cc
-
--- what was planned of what an answer says was planned of the answer
-pub plans_said : {A P : Type 0} (view : A → Outcome) (room room' : Room) (plans : Outcome → P → Type 0) (answer : Answer Outcome) (oc : A) (result : Result P Stop)
-    → Says view answer (Ok oc) → room' ≡ room → (answer ≡ Ok (view oc) → Plans room' plans (Ok (view oc)) result) → Plans room plans answer result
-plans_said view room room' plans (Ok o) oc result says same planned =
-    subst (λ x. Plans room plans (Ok x) result) says (subst (λ r. Plans r plans (Ok (view oc)) result) same (planned (ap Ok (sym says))))
-plans_said view room room' plans (Err None) oc result says same planned = tt
-plans_said view room room' plans (Err (Some refusal)) oc result says same planned = absurd says
-
--- what was planned was done
-pub does_planned : {P : Type 0} (room : Room) (plans : Outcome → P → Type 0) (does : Outcome → Reply → Type 0) (answer : Answer Outcome) (planned : P) (reply : Reply)
-    → Plans room plans answer (Ok planned) → ((o : Outcome) → plans o planned → does o reply) → Plans room does answer (Ok reply)
-does_planned room plans does (Ok o) planned reply said then = (then o said.0, said.1)
-does_planned room plans does (Err None) planned reply said then = tt
-does_planned room plans does (Err (Some refusal)) planned reply said then = said
-
--- it is so after each stop
-pub unless_fault : {P : Type 0} (stop : Stop) → P → UnlessFault P stop
-unless_fault (Refused refusal) p = p
-unless_fault Fault p = tt
-unless_fault (Changed ib stored computed) p = p
-unless_fault Memory p = p
 
 -- a store that was only looked at has its tree still
 pub stores_still : {holds holds' : Nodes → Type 0} {last last' : List ℕ} {room room' : Room} {v w : World} (known known' : Known) (T : Tree)

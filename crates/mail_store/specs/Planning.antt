@@ -91,15 +91,3 @@ Plans room plans (Ok o) (Err stop) = IsHindered room o.changed stop
 Plans room plans (Err (Some refusal)) (Ok planned) = ⊥
 Plans room plans (Err (Some refusal)) (Err stop) = IsRefusal refusal stop
 Plans room plans (Err None) result = Unit {0}
-
--- A command was done on a store: its reply is that of what it came to, and if the world tells, the store has the tree after it.
-pub record Does (has : Tree → Type 0) (told : Type 0) (T : Tree) (o : Outcome) (reply : Reply) : Type 0 where
-  pub reply_is : reply ≡ o.reply
-  pub stands : told → has (after T o)
-
--- it is so after each stop but a fault of the disk
-abbrev pub UnlessFault : Type 0 → Stop → Type 0
-UnlessFault P (Refused refusal) = P
-UnlessFault P Fault = Unit {0}
-UnlessFault P (Changed ib stored computed) = P
-UnlessFault P Memory = P

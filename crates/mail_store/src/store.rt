@@ -3,20 +3,19 @@ ghost use Rattle.std.specs.Prelude.{◌≡◌, ◌⊎◌, ◌≤◌, ◌+◌, �
 ghost use Rattle.std.specs.Option.{ForSome};
 ghost use Rattle.pst_base.specs.declared.ids.Nid.{Nid as Id};
 ghost use Rattle.node_port.specs.declared.node.NodeRec.{NodeRec as Rec};
-ghost use Rattle.pst_outside.specs.Calls.{NeverFall, Rose, Untouched, Settled, LeavesOnly};
-ghost use Rattle.mail_tree.specs.Step.{after, outcome};
+ghost use Rattle.pst_outside.specs.Calls.{NeverFall, Rose, Settled, LeavesOnly};
+ghost use Rattle.mail_tree.specs.Step.{after};
 ghost use Rattle.mail_tree.specs.Tree.{Shown, Tree};
 ghost use Rattle.mail_tree.specs.Folders.{Outcome as Coming};
 ghost use Rattle.mail_draft.specs.Answers.{IsCaused, Looks};
 ghost use Rattle.mail_draft.specs.Drafts.{all_fit, changed_of};
 ghost use Rattle.mail_draft.specs.Outcomes.{last_after, outcome_of};
-ghost use Rattle.mail_store.specs.Planning.{Alters, Carries, ChangesNodes, cost_of, Does, IsHindered, Plans, PlansTo, SameKnown, StandsFor, StaysUnwritten, Stores, UnlessFault};
+ghost use Rattle.mail_store.specs.Planning.{Alters, Carries, ChangesNodes, cost_of, IsHindered, Plans, PlansTo, SameKnown, StandsFor, StaysUnwritten, Stores};
 ghost use Rattle.mail_store.specs.Space.{HasCells, HasRoom, WritesNodes};
 
-use crate::entry::outcome;
 use crate::knowing::{plan_flags, settle_known};
 use crate::planned::Planned;
-use command_text::{Command, Reply};
+use command_text::Reply;
 use mail_draft::{Draft, Outcome, Stop, finish, space_needed};
 use mail_tree::Known;
 use node_port::{Changes, Counts, Keeper, Saver};
@@ -116,24 +115,6 @@ pub fn plan_outcome<W: Outside, K: Keeper<W>>(
     }
 }
 
-/// Plans a command: what it answers, and what is to be changed for it. Nothing changes. Refused as the command is refused, and, where it writes, where the file has no room (`Full`) or no numbers (`Ids`) left.
-pub fn plan<W: Outside, K: Keeper<W>>(
-    alloc: Global,
-    store: &mut Store<K>,
-    w: &mut W,
-    command: &Command,
-) -> Result<Planned<K::Ready>, Stop>
-    ensures answer { (T : Tree) → Stores (K.holds store.old.keeper (W.view w.old)) (K.last store.old.keeper) store.old.known T
-        → Plans (K.room store.old.keeper) (λ o planned. PlansTo (K.fits store.new.keeper (W.view w.new)) T o planned.change planned.places planned.flags.items planned.reply) (outcome T command.now) result }
-    ensures fits { IfOk result (λ planned. ForSome planned.change (λ ready. (after : List ℕ) × (cs : List (Id × Option Rec)) × K.fits store.new.keeper (W.view w.new) ready after cs)) }
-    ensures known { SameKnown store.old.known store.new.known }
-    ensures looks { Looks (K.holds store.old.keeper (W.view w.old)) (K.holds store.new.keeper (W.view w.new)) (K.last store.old.keeper) (K.last store.new.keeper) (K.room store.old.keeper) (K.room store.new.keeper) (W.view w.old) (W.view w.new) }
-    ensures cause { IfErr result (IsCaused K.has_disk (W.view w.old).disk_faults (W.view w.new).disk_faults) }
-{
-    let outcome = outcome(alloc, &mut store.keeper, w, &store.known, command)?;
-    plan_outcome(alloc, store, w, outcome)
-}
-
 /// Makes the changes that were planned, if any.
 fn apply_change<W: Outside, K: Keeper<W>>(
     keeper: &mut K,
@@ -218,26 +199,4 @@ pub fn save<W: Outside, K: Saver<W>>(store: &mut Store<K>, w: &mut W) -> Result<
     ensures counts { NeverFall (W.view w.old) (W.view w.new) }
 {
     store.keeper.save(w)
-}
-
-/// Carries out a command: plans it, makes its changes, and gives its reply. Refused as the command is refused, and, where it writes, where the file has no room (`Full`) or no numbers (`Ids`) left. `Fault` comes where the disk failed, `Memory` where there was no memory, and `Changed` where something isn't as it was found before. An `Err` changes nothing, but for a `Fault`, after which the nodes may be those before or after the command, or neither.
-pub fn do_command<W: Outside, K: Keeper<W>>(
-    alloc: Global,
-    store: &mut Store<K>,
-    w: &mut W,
-    command: &Command,
-) -> Result<Reply, Stop>
-    ensures answer { (T : Tree) → Stores (K.holds store.old.keeper (W.view w.old)) (K.last store.old.keeper) store.old.known T
-        → Plans (K.room store.old.keeper) (Does (Stores (K.holds store.new.keeper (W.view w.new)) (K.last store.new.keeper) store.new.known) (((W.view w.old).tells → K.rests (W.view w.old).here) × (K.has_disk ≡ true → (W.view w.new).tells)) T) (outcome T command.now) result }
-    ensures stays { IfErr result (UnlessFault ((T : Tree) → Stores (K.holds store.old.keeper (W.view w.old)) (K.last store.old.keeper) store.old.known T
-        → Stores (K.holds store.new.keeper (W.view w.new)) (K.last store.new.keeper) store.new.known T)) }
-    ensures untouched { IfErr result (UnlessFault (Untouched (W.view w.old) (W.view w.new))) }
-    ensures cause { IfErr result (IsCaused K.has_disk (W.view w.old).disk_faults (W.view w.new).disk_faults) }
-    ensures counts { NeverFall (W.view w.old) (W.view w.new) }
-{
-    let planned = plan(alloc, store, w, command)?;
-    match commit(store, w, planned) {
-        Ok(reply) => Ok(reply),
-        Err(_) => Err(Stop::Fault),
-    }
 }

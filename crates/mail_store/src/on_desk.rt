@@ -1,2 +1,0 @@
-//! The commands over a desk.
-pub use crate::commands::outcome;
