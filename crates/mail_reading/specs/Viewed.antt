@@ -1,10 +1,12 @@
 -- What a view shows of a tree.
-use Rattle.std.specs.Prelude.{ℕ, List, [], ◌∷◌, ◌++◌, Ok, if◌then◌else◌}
+use Rattle.std.specs.Prelude.{ℕ, List, [], ◌∷◌, ◌++◌, Result, Ok, if◌then◌else◌}
 use Rattle.std.specs.Option.{is_some}
 use Rattle.mapi_values.specs.Values.{Val}
 use Rattle.mail_objects.specs.Forms.{Tbl}
 use Rattle.mail_tree.specs.Changing.{Answer, ◌>>=◌, as_message, contents, nothing, table_at}
 use Rattle.mail_tree.specs.Tree.{Tree, object_at}
+use Rattle.search_folders.specs.mail_draft.Answers.{Says}
+use Rattle.search_folders.specs.mail_draft.declared.stop.Stop.{Stop}
 use Rattle.search_folders.specs.mail_folders.Pieces.{plain_in}
 use Rattle.search_folders.specs.search_results.Counting.{message_told}
 use Rattle.mail_searches.specs.Relisting.{unless_unclear}
@@ -40,3 +42,7 @@ listing_of X f = contents_in X f >>= λ t. listed_ids X.tree t.table.rows >>= λ
 -- the same as it is read
 abbrev pub listing_view : Listing → Tbl × List ℕ
 listing_view l = (l.table, l.ids.items)
+
+-- of each tree with searches that there is, the listing is what a view of the folder shows
+abbrev pub ListsRows : (Searching → Type 0) → ℕ → Result Listing Stop → Type 0
+ListsRows has folder result = (X : Searching) → has X → Says listing_view (listing_of X folder) result

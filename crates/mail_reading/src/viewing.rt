@@ -1,12 +1,14 @@
 //! What a view shows: the table of a folder, and which messages its rows name.
 ghost use Rattle.std.specs.Prelude.{◌≡◌, IfErr};
 ghost use Rattle.mail_tree.specs.Knowing.{Knows};
-ghost use Rattle.mail_tree.specs.Tree.{Shown, Tree};
+ghost use Rattle.mail_tree.specs.Tree.{Shown};
 ghost use Rattle.search_folders.specs.mail_draft.Answers.{IsCaused, Looks, Says};
+ghost use Rattle.search_folders.specs.mail_draft.Sight.{Answers, Reads};
 ghost use Rattle.mail_searches.specs.Searches.{results};
 ghost use Rattle.mail_searches.specs.Searching.{Searching};
 ghost use Rattle.search_folders.specs.Comings.{KnowsSearches};
-ghost use Rattle.mail_reading.specs.Viewed.{contents_in, listed_ids, listing_of, listing_view, plain_contents, with_named};
+ghost use Rattle.search_folders.specs.Showing.{ShowsAmong};
+ghost use Rattle.mail_reading.specs.Viewed.{ListsRows, contents_in, listed_ids, listing_of, listing_view, plain_contents, with_named};
 
 use mail_objects::TableNode;
 use mail_searches::{KnownSearches, OwnFolders};
@@ -15,8 +17,8 @@ use mapi_values::Props;
 use node_port::NodeReader;
 use pst_base::{Nid, make_nid};
 use pst_outside::Outside;
-use search_folders::mail_draft::{Stop, contents};
-use search_folders::mail_folders::{plain_in, table_in};
+use search_folders::mail_draft::{Desk, Draft, Seen, Stop, StoreDesk, contents};
+use search_folders::mail_folders::{FolderDesk, plain_in};
 use search_folders::search_results::is_message;
 use std::alloc::Global;
 
@@ -35,83 +37,81 @@ fn results(search: Nid) -> Nid
 }
 
 /// The contents of a plain folder.
-fn plain_contents<W: Outside, K: NodeReader<W>>(
-    alloc: Global,
-    keeper: &mut K,
-    w: &mut W,
-    known: &Known,
-    folder: Nid,
-) -> Result<TableNode, Stop>
-    ensures answer { (T : Tree) → Shown (K.holds keeper.old (W.view w.old)) (K.last keeper.old) T → Knows T known.now → Says (λ t. t) (plain_contents T folder.bits) result }
-    ensures looks { Looks (K.holds keeper.old (W.view w.old)) (K.holds keeper.new (W.view w.new)) (K.last keeper.old) (K.last keeper.new) (K.room keeper.old) (K.room keeper.new) (W.view w.old) (W.view w.new) }
-    ensures cause { IfErr result (IsCaused K.has_disk (W.view w.old).disk_faults (W.view w.new).disk_faults) }
+fn plain_contents<D: Desk>(desk: &mut D, folder: Nid) -> Result<TableNode, Stop>
+    ensures reads { Reads (D.view desk.old) (D.view desk.new) result }
+    ensures answer { Answers (D.view desk.old) (λ t. t) (λ T c. plain_contents T folder.bits) result }
 {
-    plain_in(&known.places, folder)?;
-    table_in(alloc, keeper, w, contents(folder))
+    plain_in(desk.places(), folder)?;
+    desk.table_before(contents(folder))
 }
 
 /// The table that lists the messages of a folder: the list of an own search, the contents of a plain folder. The refusals: `Object`, and `Reserved` of a search folder of another program.
 #[tactic(auto, unfolding(crate::specs::Viewed::contents_in))]
-fn contents_in<W: Outside, K: NodeReader<W>>(
-    alloc: Global,
-    keeper: &mut K,
-    w: &mut W,
-    known: &Known,
-    own: &OwnFolders,
-    folder: Nid,
-) -> Result<TableNode, Stop>
-    ensures answer { (X : Searching) → Shown (K.holds keeper.old (W.view w.old)) (K.last keeper.old) X.tree → Knows X.tree known.now → X.own ≡ own.now → Says (λ t. t) (contents_in X folder.bits) result }
-    ensures looks { Looks (K.holds keeper.old (W.view w.old)) (K.holds keeper.new (W.view w.new)) (K.last keeper.old) (K.last keeper.new) (K.room keeper.old) (K.room keeper.new) (W.view w.old) (W.view w.new) }
-    ensures cause { IfErr result (IsCaused K.has_disk (W.view w.old).disk_faults (W.view w.new).disk_faults) }
+fn contents_in<D: Desk>(desk: &mut D, own: &OwnFolders, folder: Nid) -> Result<TableNode, Stop>
+    ensures reads { Reads (D.view desk.old) (D.view desk.new) result }
+    ensures answer { (X : Searching) → (D.view desk.old).shows X.tree → X.own ≡ own.now → Says (λ t. t) (contents_in X folder.bits) result }
 {
     if own.contains(folder) {
-        table_in(alloc, keeper, w, results(folder))
+        desk.table_before(results(folder))
     } else {
-        plain_contents(alloc, keeper, w, known, folder)
+        plain_contents(desk, folder)
     }
 }
 
 /// The ids so far, with that of a message, if there is one. The ids are lost with an `Err`.
 #[tactic(auto, unfolding(crate::specs::Viewed::with_named))]
-fn with_named<W: Outside, K: NodeReader<W>>(
-    alloc: Global,
-    keeper: &mut K,
-    w: &mut W,
-    known: &Known,
-    mut ids: Vec<u32>,
-    id: u32,
-) -> Result<Vec<u32>, Stop>
-    ensures answer { (T : Tree) → Shown (K.holds keeper.old (W.view w.old)) (K.last keeper.old) T → Knows T known.now → Says (λ more. more.items) (with_named T ids.items id) result }
-    ensures looks { Looks (K.holds keeper.old (W.view w.old)) (K.holds keeper.new (W.view w.new)) (K.last keeper.old) (K.last keeper.new) (K.room keeper.old) (K.room keeper.new) (W.view w.old) (W.view w.new) }
-    ensures cause { IfErr result (IsCaused K.has_disk (W.view w.old).disk_faults (W.view w.new).disk_faults) }
+fn with_named<D: FolderDesk>(desk: &mut D, mut ids: Vec<u32>, id: u32) -> Result<Vec<u32>, Stop>
+    ensures reads { Reads (D.view desk.old) (D.view desk.new) result }
+    ensures answer { Answers (D.view desk.old) (λ more. more.items) (λ T c. with_named T ids.items id) result }
 {
-    if is_message(alloc, keeper, w, known, Nid { bits: id })? {
+    if is_message(desk, Nid { bits: id })? {
         ids.push(id)?;
     }
     Ok(ids)
 }
 
 /// The ids of the messages that rows name.
-fn listed_ids<W: Outside, K: NodeReader<W>>(
-    alloc: Global,
-    keeper: &mut K,
-    w: &mut W,
-    known: &Known,
-    rows: &[(u32, Props)],
-) -> Result<Vec<u32>, Stop>
-    ensures answer { (T : Tree) → Shown (K.holds keeper.old (W.view w.old)) (K.last keeper.old) T → Knows T known.now → Says (λ ids. ids.items) (listed_ids T rows.now) result }
-    ensures looks { Looks (K.holds keeper.old (W.view w.old)) (K.holds keeper.new (W.view w.new)) (K.last keeper.old) (K.last keeper.new) (K.room keeper.old) (K.room keeper.new) (W.view w.old) (W.view w.new) }
-    ensures cause { IfErr result (IsCaused K.has_disk (W.view w.old).disk_faults (W.view w.new).disk_faults) }
+fn listed_ids<D: FolderDesk>(desk: &mut D, rows: &[(u32, Props)]) -> Result<Vec<u32>, Stop>
+    ensures reads { Reads (D.view desk.old) (D.view desk.new) result }
+    ensures answer { Answers (D.view desk.old) (λ ids. ids.items) (λ T c. listed_ids T rows.now) result }
 {
-    let mut ids = Vec::new(alloc);
+    let mut ids = Vec::new(desk.alloc());
     for row in rows {
-        ids = with_named(alloc, keeper, w, known, ids, row.0)?;
+        ids = with_named(desk, ids, row.0)?;
     }
     Ok(ids)
 }
 
-/// What a view of a folder shows: its table as it is now, and which of its rows name messages. The refusals: `Object`, and `Reserved` of a search folder of another program.
+/// What a view of a folder shows, on a desk.
 #[tactic(auto, unfolding(crate::specs::Viewed::listing_of))]
+fn rows_on_desk<D: FolderDesk>(
+    desk: &mut D,
+    searches: &KnownSearches,
+    folder: Nid,
+) -> Result<Listing, Stop>
+    ensures reads { Reads (D.view desk.old) (D.view desk.new) result }
+    ensures answer { (X : Searching) → (D.view desk.old).shows X.tree → KnowsSearches X searches.now → Says listing_view (listing_of X folder.bits) result }
+{
+    let table = contents_in(desk, &searches.own, folder)?;
+    let ids = listed_ids(desk, table.table().rows())?;
+    Ok(Listing { table, ids })
+}
+
+/// The same on a desk over a keeper.
+fn rows_on_keeper<W: Outside, K: NodeReader<W>>(
+    desk: &mut StoreDesk<'_, '_, '_, '_, '_, '_, W, K>,
+    searches: &KnownSearches,
+    folder: Nid,
+) -> Result<Listing, Stop>
+    ensures names { (desk.new.keeper.ghost_name ≡ desk.old.keeper.ghost_name) × (desk.new.world.ghost_name ≡ desk.old.world.ghost_name) × (desk.new.seen.ghost_name ≡ desk.old.seen.ghost_name) × (desk.new.draft.ghost_name ≡ desk.old.draft.ghost_name) }
+    ensures answer { ListsRows (ShowsAmong (K.holds desk.old.keeper.now (W.view desk.old.world.now)) (K.last desk.old.keeper.now) desk.old.places.now desk.old.flags.now desk.old.seen.now searches.now) folder.bits result }
+    ensures looks { Looks (K.holds desk.old.keeper.now (W.view desk.old.world.now)) (K.holds desk.new.keeper.now (W.view desk.new.world.now)) (K.last desk.old.keeper.now) (K.last desk.new.keeper.now) (K.room desk.old.keeper.now) (K.room desk.new.keeper.now) (W.view desk.old.world.now) (W.view desk.new.world.now) }
+    ensures cause { IfErr result (IsCaused K.has_disk (W.view desk.old.world.now).disk_faults (W.view desk.new.world.now).disk_faults) }
+{
+    rows_on_desk(desk, searches, folder)
+}
+
+/// What a view of a folder shows: its table as it is now, and which of its rows name messages. The refusals: `Object`, and `Reserved` of a search folder of another program.
 pub fn list_rows<W: Outside, K: NodeReader<W>>(
     alloc: Global,
     keeper: &mut K,
@@ -124,7 +124,16 @@ pub fn list_rows<W: Outside, K: NodeReader<W>>(
     ensures looks { Looks (K.holds keeper.old (W.view w.old)) (K.holds keeper.new (W.view w.new)) (K.last keeper.old) (K.last keeper.new) (K.room keeper.old) (K.room keeper.new) (W.view w.old) (W.view w.new) }
     ensures cause { IfErr result (IsCaused K.has_disk (W.view w.old).disk_faults (W.view w.new).disk_faults) }
 {
-    let table = contents_in(alloc, keeper, w, known, &searches.own, folder)?;
-    let ids = listed_ids(alloc, keeper, w, known, table.table().rows())?;
-    Ok(Listing { table, ids })
+    let mut seen = Seen::new(alloc);
+    let mut draft = Draft::new(alloc);
+    let mut desk = StoreDesk {
+        keeper,
+        world: w,
+        places: &known.places,
+        flags: &known.flags,
+        seen: &mut seen,
+        draft: &mut draft,
+        alloc,
+    };
+    rows_on_keeper(&mut desk, searches, folder)
 }

@@ -6,13 +6,13 @@ ghost use Rattle.store_session.specs.mail_draft.Answers.{IsCaused, Says};
 ghost use Rattle.mail_reading.specs.Asked.{asked};
 ghost use Rattle.mail_searches.specs.Searching.{Searching};
 ghost use Rattle.pinned_views.specs.Telling.{KeepsTold};
-ghost use Rattle.mail_reading.specs.search_folders.Comings.{coming_of};
+ghost use Rattle.mail_reading.specs.search_folders.Comings.{comes_to};
 ghost use Rattle.pinned_session.specs.Holding.{TellsTree};
 
 use crate::pins::PinView;
 use command_text::Command;
 use mail_reading::ask;
-use mail_reading::search_folders::Coming;
+use mail_reading::search_folders::SearchOutcome;
 use node_port::Pinner;
 use pinned_views::{Around, PinReader};
 use pst_outside::Outside;
@@ -27,11 +27,11 @@ fn ask_under<P: Around, W: Outside, K: Pinner<W>>(
     world: &mut W,
     view: &PinView,
     command: &Command,
-) -> (K, Result<Coming, Stop>)
+) -> (K, Result<SearchOutcome, Stop>)
     requires held { (N : Nodes) → P.held N → K.holds keeper (W.view world.old) N }
     requires told { KeepsTold P.told (K.pinned keeper (W.view world.old)) }
     requires counted { K.last keeper ≡ P.last }
-    ensures answer { (N : Nodes) (X : Searching) → K.holds keeper (W.view world.old) N → TellsTree (K.pinned keeper (W.view world.old) view.now.number) view.now.counts.last view.now.known view.now.searches X → Says (coming_of X) (asked X command.now) result.1 }
+    ensures answer { (N : Nodes) (X : Searching) → K.holds keeper (W.view world.old) N → TellsTree (K.pinned keeper (W.view world.old) view.now.number) view.now.counts.last view.now.known view.now.searches X → Says (comes_to X) (asked X command.now) result.1 }
     ensures stays { (N : Nodes) (X : Searching) → K.holds keeper (W.view world.old) N → TellsTree (K.pinned keeper (W.view world.old) view.now.number) view.now.counts.last view.now.known view.now.searches X
         → ((M : Nodes) → P.held M → K.holds result.0 (W.view world.new) M) × KeepsTold P.told (K.pinned result.0 (W.view world.new)) × (K.last result.0 ≡ P.last) }
     ensures room { K.room result.0 ≡ K.room keeper }
@@ -63,8 +63,8 @@ pub(crate) fn ask_keeping<W: Outside, K: Pinner<W>>(
     world: &mut W,
     view: &PinView,
     command: &Command,
-) -> (K, Result<Coming, Stop>)
-    ensures answer { (N : Nodes) (X : Searching) → K.holds keeper (W.view world.old) N → TellsTree (K.pinned keeper (W.view world.old) view.now.number) view.now.counts.last view.now.known view.now.searches X → Says (coming_of X) (asked X command.now) result.1 }
+) -> (K, Result<SearchOutcome, Stop>)
+    ensures answer { (N : Nodes) (X : Searching) → K.holds keeper (W.view world.old) N → TellsTree (K.pinned keeper (W.view world.old) view.now.number) view.now.counts.last view.now.known view.now.searches X → Says (comes_to X) (asked X command.now) result.1 }
     ensures stays { (N : Nodes) (X : Searching) → K.holds keeper (W.view world.old) N → TellsTree (K.pinned keeper (W.view world.old) view.now.number) view.now.counts.last view.now.known view.now.searches X
         → ((M : Nodes) → K.holds keeper (W.view world.old) M → K.holds result.0 (W.view world.new) M) × KeepsTold (K.pinned keeper (W.view world.old)) (K.pinned result.0 (W.view world.new)) × (K.last result.0 ≡ K.last keeper) }
     ensures room { K.room result.0 ≡ K.room keeper }

@@ -1,14 +1,17 @@
 //! What mending a search comes to.
 ghost use Rattle.std.specs.Prelude.{◌≡◌, IfErr};
+ghost use Rattle.mail_tree.specs.Changing.{nothing};
 ghost use Rattle.mail_tree.specs.Knowing.{Knows};
-ghost use Rattle.mail_tree.specs.Tree.{Shown, Tree};
+ghost use Rattle.mail_tree.specs.Tree.{Shown};
 ghost use Rattle.mail_tree.specs.Whole.{IsWhole};
 ghost use Rattle.store_session.specs.mail_draft.Answers.{IsCaused, Looks, Says};
 ghost use Rattle.store_session.specs.mail_draft.Drafts.{changed_of};
+ghost use Rattle.store_session.specs.mail_draft.Sight.{Changes, Drafts};
 ghost use Rattle.mail_searches.specs.Searching.{Searching};
 ghost use Rattle.store_session.specs.search_folders.Comings.{KnowsSearches};
+ghost use Rattle.store_session.specs.search_folders.Showing.{ShowsAmong};
 ghost use Rattle.search_mending.specs.Mending.{mended_search, mending_with, with_list};
-ghost use Rattle.search_mends.specs.Mendings.{mending_of};
+ghost use Rattle.search_mends.specs.Mendings.{ComesMended, ComesToMend, mending_of};
 
 use crate::listing::list_of_any;
 use crate::touching::touched_if;
@@ -21,9 +24,11 @@ use pst_base::{Ledger, Nid, Steps};
 use pst_outside::Outside;
 use search_obj::Criteria;
 use std::alloc::Global;
-use store_session::mail_draft::{Draft, Outcome, Stop, changing};
+use std::mem::replace;
+use store_session::mail_draft::on_desk::changing;
+use store_session::mail_draft::{Coming, Desk, Draft, Outcome, Seen, Stop, StoreDesk};
 use store_session::search_folders::criteria_at;
-use store_session::search_results::with_results;
+use store_session::search_results::{SearchDesk, with_results};
 
 /// What mending a search comes to: whether its list was stale, whether its criteria object was of the first version, and what is changed. The searches stay what they are. Contracts see `mending_of` it.
 #[derive(Debug, Drop)]
@@ -33,47 +38,91 @@ pub struct SearchMending {
     pub outcome: Outcome,
 }
 
-/// A draft in which the list of a search is this table, if one is given: the search is counted anew, and the row that shows it is in order.
-fn with_list<W: Outside, K: NodeReader<W>>(
-    alloc: Global,
-    keeper: &mut K,
-    w: &mut W,
-    known: &Known,
-    search: Nid,
-    list: Option<TableNode>,
-    draft: Draft,
-) -> Result<Draft, Stop>
-    ensures answer { (T : Tree) → Shown (K.holds keeper.old (W.view w.old)) (K.last keeper.old) T → Knows T known.now → Says changed_of (with_list T search.bits list (changed_of draft)) result }
-    ensures looks { Looks (K.holds keeper.old (W.view w.old)) (K.holds keeper.new (W.view w.new)) (K.last keeper.old) (K.last keeper.new) (K.room keeper.old) (K.room keeper.new) (W.view w.old) (W.view w.new) }
-    ensures cause { IfErr result (IsCaused K.has_disk (W.view w.old).disk_faults (W.view w.new).disk_faults) }
+/// The same beside what is changed. Contracts see `mending_beside` it.
+#[derive(Debug, Drop)]
+pub(crate) struct MendingBeside {
+    pub(crate) stale: bool,
+    pub(crate) first: bool,
+    pub(crate) coming: Coming,
+}
+
+/// Makes the list of a search this table, if one is given: the search is counted anew, and the row that shows it is in order.
+fn with_list<D: SearchDesk>(desk: &mut D, search: Nid, list: Option<TableNode>) -> Result<(), Stop>
+    ensures drafts { Drafts (D.view desk.old) (D.view desk.new) result }
+    ensures answer { Changes (D.view desk.old) (D.view desk.new) (λ T. with_list T search.bits list) result }
 {
     match list {
-        Some(table) => with_results(alloc, keeper, w, draft, known, search, table),
-        None => Ok(draft),
+        Some(table) => with_results(desk, search, table),
+        None => Ok(()),
     }
 }
 
 /// What mending a search comes to that is to get this list, if it is to get one, and whose criteria object and criteria are given. Where it is mended all its nodes are written, also those that stay as they are. Refused where what is written passes a limit.
-fn mending_with<W: Outside, K: NodeReader<W>>(
-    alloc: Global,
-    keeper: &mut K,
-    w: &mut W,
-    known: &Known,
+fn mending_with<D: SearchDesk>(
+    desk: &mut D,
     search: Nid,
     list: Option<TableNode>,
     context: Context,
     criteria: Criteria,
-) -> Result<SearchMending, Stop>
-    ensures answer { (X : Searching) → Shown (K.holds keeper.old (W.view w.old)) (K.last keeper.old) X.tree → Knows X.tree known.now → Says (mending_of X) (mending_with X search.bits list (context, criteria)) result }
-    ensures looks { Looks (K.holds keeper.old (W.view w.old)) (K.holds keeper.new (W.view w.new)) (K.last keeper.old) (K.last keeper.new) (K.room keeper.old) (K.room keeper.new) (W.view w.old) (W.view w.new) }
-    ensures cause { IfErr result (IsCaused K.has_disk (W.view w.old).disk_faults (W.view w.new).disk_faults) }
+) -> Result<MendingBeside, Stop>
+    requires fresh { (D.view desk.old).changed ≡ nothing }
+    ensures drafts { Drafts (D.view desk.old) (D.view desk.new) result }
+    ensures answer { ComesMended (D.view desk.old) (D.view desk.new) (λ X. Unit {0}) (λ X. mending_with X search.bits list (context, criteria)) result }
 {
     let stale = list.is_some();
     let first = is_first(&criteria);
-    let turned = turned(alloc, search, context, criteria)?;
-    let listed = with_list(alloc, keeper, w, known, search, list, turned)?;
-    let draft = touched_if(alloc, keeper, w, listed, search, stale || first)?;
-    let outcome = changing(alloc, keeper, w, draft)?;
+    turned(desk, search, context, criteria)?;
+    with_list(desk, search, list)?;
+    touched_if(desk, search, stale || first)?;
+    let coming = changing(desk)?;
+    Ok(MendingBeside {
+        stale,
+        first,
+        coming,
+    })
+}
+
+/// What mending the search of an own search folder comes to, on a desk.
+fn mended<D: SearchDesk, L: Ledger>(
+    desk: &mut D,
+    searches: &KnownSearches,
+    search: Nid,
+    steps: &mut Steps<L>,
+) -> Result<MendingBeside, Stop>
+    requires fresh { (D.view desk.old).changed ≡ nothing }
+    ensures drafts { Drafts (D.view desk.old) (D.view desk.new) result }
+    ensures answer { ComesMended (D.view desk.old) (D.view desk.new) (λ X. KnowsSearches X searches.now × IsWhole X.tree) (λ X. mended_search X search.bits) result }
+{
+    let list = list_of_any(desk, &searches.searches, search, steps)?;
+    let (context, criteria) = criteria_at(desk, search)?;
+    mending_with(desk, search, list, context, criteria)
+}
+
+/// The same on a desk over a keeper, whose draft is taken.
+fn taken<W: Outside, K: NodeReader<W>, L: Ledger>(
+    desk: &mut StoreDesk<'_, '_, '_, '_, '_, '_, W, K>,
+    searches: &KnownSearches,
+    search: Nid,
+    steps: &mut Steps<L>,
+) -> Result<SearchMending, Stop>
+    requires fresh { changed_of desk.old.draft.now ≡ nothing }
+    ensures names { (desk.new.keeper.ghost_name ≡ desk.old.keeper.ghost_name) × (desk.new.world.ghost_name ≡ desk.old.world.ghost_name) × (desk.new.seen.ghost_name ≡ desk.old.seen.ghost_name) × (desk.new.draft.ghost_name ≡ desk.old.draft.ghost_name) }
+    ensures answer { ComesToMend (ShowsAmong (K.holds desk.old.keeper.now (W.view desk.old.world.now)) (K.last desk.old.keeper.now) desk.old.places.now desk.old.flags.now desk.old.seen.now searches.now) search.bits result }
+    ensures looks { Looks (K.holds desk.old.keeper.now (W.view desk.old.world.now)) (K.holds desk.new.keeper.now (W.view desk.new.world.now)) (K.last desk.old.keeper.now) (K.last desk.new.keeper.now) (K.room desk.old.keeper.now) (K.room desk.new.keeper.now) (W.view desk.old.world.now) (W.view desk.new.world.now) }
+    ensures cause { IfErr result (IsCaused K.has_disk (W.view desk.old.world.now).disk_faults (W.view desk.new.world.now).disk_faults) }
+{
+    let MendingBeside {
+        stale,
+        first,
+        coming,
+    } = mended(desk, searches, search, steps)?;
+    let draft = replace(desk.draft, Draft::new(desk.alloc));
+    let outcome = Outcome {
+        draft,
+        places: coming.places,
+        last: coming.last,
+        reply: coming.reply,
+    };
     Ok(SearchMending {
         stale,
         first,
@@ -95,15 +144,16 @@ pub fn mending<W: Outside, K: NodeReader<W>, L: Ledger>(
     ensures looks { Looks (K.holds keeper.old (W.view w.old)) (K.holds keeper.new (W.view w.new)) (K.last keeper.old) (K.last keeper.new) (K.room keeper.old) (K.room keeper.new) (W.view w.old) (W.view w.new) }
     ensures cause { IfErr result (IsCaused K.has_disk (W.view w.old).disk_faults (W.view w.new).disk_faults) }
 {
-    let list = list_of_any(
-        alloc,
+    let mut seen = Seen::new(alloc);
+    let mut draft = Draft::new(alloc);
+    let mut desk = StoreDesk {
         keeper,
-        w,
-        &known.places,
-        &searches.searches,
-        search,
-        steps,
-    )?;
-    let (context, criteria) = criteria_at(alloc, keeper, w, search)?;
-    mending_with(alloc, keeper, w, known, search, list, context, criteria)
+        world: w,
+        places: &known.places,
+        flags: &known.flags,
+        seen: &mut seen,
+        draft: &mut draft,
+        alloc,
+    };
+    taken(&mut desk, searches, search, steps)
 }

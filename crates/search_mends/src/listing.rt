@@ -1,24 +1,19 @@
 //! The list of a search, made anew where it is wrong.
-ghost use Rattle.std.specs.Prelude.{◌≡◌, ◌==◌, [], IfErr, IfOk, nat_eq, option_copied};
+ghost use Rattle.std.specs.Prelude.{◌≡◌, ◌==◌, [], IfOk, nat_eq, option_copied};
 ghost use Rattle.std.specs.Cmp.Lexicographic.{pointwise};
 ghost use Rattle.mapi_values.specs.Tables.{IsTable};
-ghost use Rattle.mail_tree.specs.Tree.{Shown, Tree};
-ghost use Rattle.mail_tree.specs.Whole.{IsWhole};
-ghost use Rattle.store_session.specs.mail_draft.Answers.{IsCaused, Looks, Says};
+ghost use Rattle.store_session.specs.mail_draft.Sight.{Answers, Reads};
 ghost use Rattle.mail_searches.specs.Building.{built_rows};
 ghost use Rattle.mail_searches.specs.Searches.{find_search, row_ids, search_id};
 ghost use Rattle.search_mending.specs.Mending.{list_if_wrong, list_of_any, or_stood, with_other_rows, with_stood};
+ghost use Rattle.search_mends.specs.Mendings.{AnswersWhole};
 
 use mail_objects::TableNode;
 use mail_searches::{OwnSearch, Searches};
-use mail_tree::Places;
 use mapi_values::{Props, Table};
-use node_port::NodeReader;
 use pst_base::{Ledger, Nid, Steps};
-use pst_outside::Outside;
 use std::alloc::{AllocError, Global};
-use store_session::mail_draft::Stop;
-use store_session::mail_folders::table_in;
+use store_session::mail_draft::{Desk, Stop};
 use store_session::search_folders::find_below;
 use store_session::search_results::results_table;
 
@@ -51,22 +46,18 @@ fn without_rows(alloc: Global, table: &Table) -> Result<Table, AllocError>
 }
 
 /// A table with the columns of this one and the rows that the search is to have.
-fn build<W: Outside, K: NodeReader<W>, L: Ledger>(
-    alloc: Global,
-    keeper: &mut K,
-    w: &mut W,
-    places: &Places,
+fn build<D: Desk, L: Ledger>(
+    desk: &mut D,
     search: &OwnSearch,
     stood: &Table,
     steps: &mut Steps<L>,
 ) -> Result<Table, Stop>
-    ensures answer { (T : Tree) → Shown (K.holds keeper.old (W.view w.old)) (K.last keeper.old) T → T.places ≡ places.now → Says (λ t. t.rows) (built_rows T search.now stood.now.columns) result }
+    ensures reads { Reads (D.view desk.old) (D.view desk.new) result }
+    ensures answer { Answers (D.view desk.old) (λ t. t.rows) (λ T c. built_rows T search.now stood.now.columns) result }
     ensures columns { IfOk result (λ t. t.columns ≡ stood.now.columns) }
-    ensures looks { Looks (K.holds keeper.old (W.view w.old)) (K.holds keeper.new (W.view w.new)) (K.last keeper.old) (K.last keeper.new) (K.room keeper.old) (K.room keeper.new) (W.view w.old) (W.view w.new) }
-    ensures cause { IfErr result (IsCaused K.has_disk (W.view w.old).disk_faults (W.view w.new).disk_faults) }
 {
-    let mut table = without_rows(alloc, stood)?;
-    find_below(alloc, keeper, w, places, search, &mut table, steps)?;
+    let mut table = without_rows(desk.alloc(), stood)?;
+    find_below(desk, search, &mut table, steps)?;
     Ok(table)
 }
 
@@ -140,47 +131,39 @@ fn with_built(alloc: Global, node: TableNode, built: &Table) -> Result<TableNode
 
 /// The list of a search made anew, if the search runs and its list has other rows than filtering all messages gives. Rows that stay keep their cells.
 #[tactic(auto, unfolding(search_mending::specs::Mending::list_if_wrong, search_mending::specs::Mending::list_anew))]
-fn list_if_wrong<W: Outside, K: NodeReader<W>, L: Ledger>(
-    alloc: Global,
-    keeper: &mut K,
-    w: &mut W,
-    places: &Places,
+fn list_if_wrong<D: Desk, L: Ledger>(
+    desk: &mut D,
     search: &OwnSearch,
     steps: &mut Steps<L>,
 ) -> Result<Option<TableNode>, Stop>
-    ensures answer { (T : Tree) → Shown (K.holds keeper.old (W.view w.old)) (K.last keeper.old) T → T.places ≡ places.now → IsWhole T → Says (λ list. list) (list_if_wrong T search.now) result }
-    ensures looks { Looks (K.holds keeper.old (W.view w.old)) (K.holds keeper.new (W.view w.new)) (K.last keeper.old) (K.last keeper.new) (K.room keeper.old) (K.room keeper.new) (W.view w.old) (W.view w.new) }
-    ensures cause { IfErr result (IsCaused K.has_disk (W.view w.old).disk_faults (W.view w.new).disk_faults) }
+    ensures reads { Reads (D.view desk.old) (D.view desk.new) result }
+    ensures answer { AnswersWhole (D.view desk.old) (λ T. list_if_wrong T search.now) result }
 {
     if !search.runs() {
         return Ok(None);
     }
-    let node = table_in(alloc, keeper, w, results_table(search.nid))?;
-    let built = build(alloc, keeper, w, places, search, node.table(), steps)?;
-    let same = have_same_ids(alloc, node.table(), &built)?;
+    let node = desk.table_before(results_table(search.nid))?;
+    let built = build(desk, search, node.table(), steps)?;
+    let same = have_same_ids(desk.alloc(), node.table(), &built)?;
     if same {
         return Ok(None);
     }
-    let list = with_built(alloc, node, &built)?;
+    let list = with_built(desk.alloc(), node, &built)?;
     Ok(Some(list))
 }
 
 /// The same of the search of a folder, if it has criteria.
-pub(crate) fn list_of_any<W: Outside, K: NodeReader<W>, L: Ledger>(
-    alloc: Global,
-    keeper: &mut K,
-    w: &mut W,
-    places: &Places,
+pub(crate) fn list_of_any<D: Desk, L: Ledger>(
+    desk: &mut D,
     searches: &Searches,
     search: Nid,
     steps: &mut Steps<L>,
 ) -> Result<Option<TableNode>, Stop>
-    ensures answer { (T : Tree) → Shown (K.holds keeper.old (W.view w.old)) (K.last keeper.old) T → T.places ≡ places.now → IsWhole T → Says (λ list. list) (list_of_any T (find_search search.bits searches.now)) result }
-    ensures looks { Looks (K.holds keeper.old (W.view w.old)) (K.holds keeper.new (W.view w.new)) (K.last keeper.old) (K.last keeper.new) (K.room keeper.old) (K.room keeper.new) (W.view w.old) (W.view w.new) }
-    ensures cause { IfErr result (IsCaused K.has_disk (W.view w.old).disk_faults (W.view w.new).disk_faults) }
+    ensures reads { Reads (D.view desk.old) (D.view desk.new) result }
+    ensures answer { AnswersWhole (D.view desk.old) (λ T. list_of_any T (find_search search.bits searches.now)) result }
 {
     match find_search(searches, search) {
-        Some(found) => list_if_wrong(alloc, keeper, w, places, found, steps),
+        Some(found) => list_if_wrong(desk, found, steps),
         None => Ok(None),
     }
 }

@@ -1,23 +1,30 @@
 -- What a command comes to with the lists of searches behind it.
 use Rattle.std.proofs.Common.{◌≡◌, ◌∙◌, ◌≤◌, ◌+◌, ℕ, List, None, Some, Ok, Err, Result, ap, refl, subst, sym}
 use Rattle.command_text.specs.declared.command.Command.{Command}
-use Rattle.mail_tree.specs.Changing.{Answer, ◌>>=◌}
-use Rattle.mail_tree.specs.Folders.{Outcome as Comes}
+use Rattle.mail_tree.specs.Changing.{Answer, Changed, ◌>>=◌}
+use Rattle.mail_tree.specs.Folders.{Outcome}
 use Rattle.mail_tree.specs.Step.{outcome as outcome_in_tree}
+use Rattle.mail_tree.specs.Tree.{Tree}
 use Rattle.mail_draft.proofs.Passes.{stop_says, then_says}
 use Rattle.mail_draft.specs.Answers.{Says}
-use Rattle.mail_draft.specs.Outcomes.{outcome_of}
-use Rattle.mail_draft.specs.declared.outcome.Outcome.{Outcome}
+use Rattle.mail_draft.specs.Desks.{Comes, coming_of as coming_in_tree}
+use Rattle.mail_draft.specs.Sight.{Drafts, Sight}
+use Rattle.mail_draft.specs.declared.coming.Coming.{Coming as ComingInTree}
 use Rattle.mail_draft.specs.declared.stop.Stop.{Stop}
 use Rattle.mail_searches.specs.Asking.{work_of}
+use Rattle.mail_searches.specs.Criteria as defined
 use Rattle.mail_searches.specs.Criteria.{staying}
 use Rattle.mail_searches.specs.Relisting.{Touch, around}
 use Rattle.mail_searches.specs.Searches.{Search}
 use Rattle.mail_searches.specs.Searching.{Searching}
 use Rattle.mail_searches.specs.Step.{concluded, plain_outcome}
 use Rattle.mail_searches.specs.Touching.{touched}
-use Rattle.search_folders.specs.Comings.{coming_of}
+use Rattle.mail_searches.specs.declared.known.KnownSearches.{KnownSearches}
+use Rattle.search_folders.specs.Comings.{ComesAmong, KnowsSearches, coming_of}
+use Rattle.search_folders.specs.Pieces.{stays_after}
 use Rattle.search_folders.specs.declared.coming.Coming.{Coming}
+use Rattle.search_folders.specs.search_results.Concluding.{AsksTouched, Concludes}
+use Rattle.search_store.specs.Planning.{AsksAlone, shows_among}
 
 -- what a call gives goes into the next step, which may hang on that it was given
 then_given : {A B C D : Type 0} (view : B → A) (view' : D → C) (answer : Answer A) (f : A → Answer C) (y : B) (r : Result D Stop)
@@ -26,28 +33,56 @@ then_given view view' (Ok x) f y r said next = subst (λ z. Says view' (f z) r) 
 then_given view view' (Err None) f y r said next = tt
 then_given view view' (Err (Some refusal)) f y r said next = absurd said
 
-module _ (X : Searching) (c : Command) (oc : Outcome) (known : List Search) (same : X.searches ≡ known) (said : Says (outcome_of X.tree) (outcome_in_tree X.tree c) (Ok oc)) where
+-- the searches stay what they are
+abbrev Stays : ComingInTree → Coming → Type 0
+Stays tree made = (X : Searching) (D : Changed) → staying X (coming_in_tree X.tree D tree) ≡ Ok (coming_of X D made)
+
+module _ {A : Type 0} {old new : Sight A} (known : KnownSearches) (step : Tree → Answer Outcome) where
+  pub stays_well : (tree : ComingInTree) (made : Coming) → Stays tree made → Comes old new (λ T D. step T) (Ok tree) → ComesAmong old new known (λ X. stays_after X (step X.tree)) (Ok made)
+  stays_well tree made stays comes = record {
+    says = λ X s knows. then_says (coming_in_tree X.tree new.changed) (coming_of X new.changed) (step X.tree) (staying X) tree (Ok made) (comes.says X.tree s)
+        (subst (λ (a : Answer defined.Coming). Says (coming_of X new.changed) a (Ok made)) (sym (stays X new.changed)) refl);
+    fits = comes.fits;
+  }
+
+  pub stays_stop : (stop : Stop) → Comes old new (λ T D. step T) (Err stop) → ComesAmong old new known (λ X. stays_after X (step X.tree)) (Err stop)
+  stays_stop stop comes = record {
+    says = λ X s knows. stop_says (coming_in_tree X.tree new.changed) (coming_of X new.changed) (step X.tree) (staying X) stop (comes.says X.tree s);
+    fits = tt;
+  }
+
+module _ {A : Type 0} {old mid new : Sight A} (known : KnownSearches) (c : Command) (coming : ComingInTree) (first : Comes old mid (λ T D. outcome_in_tree T c) (Ok coming)) (drafts : Drafts {R = ComingInTree} old mid (Ok coming)) where
   -- both steps
-  joined : (r : Result Outcome Stop) → (outcome_in_tree X.tree c ≡ Ok (outcome_of X.tree oc) → Says (outcome_of X.tree) (concluded X.tree known c (outcome_of X.tree oc)) r)
-      → Says (outcome_of X.tree) (outcome_in_tree X.tree c >>= concluded X.tree X.searches c) r
-  joined r concludes = then_given (outcome_of X.tree) (outcome_of X.tree) (outcome_in_tree X.tree c) (concluded X.tree X.searches c) oc r said
-      (λ is. subst (λ ss. Says (outcome_of X.tree) (concluded X.tree ss c (outcome_of X.tree oc)) r) (sym same) (concludes is))
+  joined : (r : Result ComingInTree Stop) → Concludes mid new known.searches c coming r → (X : Searching) → old.shows X.tree → KnowsSearches X known
+      → Says (coming_in_tree X.tree new.changed) (outcome_in_tree X.tree c >>= concluded X.tree X.searches c) r
+  joined r concludes X s knows =
+      then_given (coming_in_tree X.tree mid.changed) (coming_in_tree X.tree new.changed) (outcome_in_tree X.tree c) (concluded X.tree X.searches c) coming r (first.says X.tree s)
+      (λ is. subst (λ (ss : List Search). Says (coming_in_tree X.tree new.changed) (concluded X.tree ss c (coming_in_tree X.tree mid.changed coming)) r) (sym knows.searches) (concludes.says X.tree (drafts.shows X.tree s) is))
 
-  pub follows_well : (z : Outcome) → (outcome_in_tree X.tree c ≡ Ok (outcome_of X.tree oc) → Says (outcome_of X.tree) (concluded X.tree known c (outcome_of X.tree oc)) (Ok z))
-      → Says (coming_of X) (plain_outcome X c) (Ok (record { outcome = z; own = None; searches = None }))
-  follows_well z concludes =
-      let coming : Coming = record { outcome = z; own = None; searches = None } in
-      then_says (outcome_of X.tree) (coming_of X) (outcome_in_tree X.tree c >>= concluded X.tree X.searches c) (staying X) z (Ok coming) (joined (Ok z) concludes) refl
+  pub follows_well : (tree : ComingInTree) (made : Coming) → Stays tree made → Concludes mid new known.searches c coming (Ok tree) → ComesAmong old new known (λ X. plain_outcome X c) (Ok made)
+  follows_well tree made stays concludes = record {
+    says = λ X s knows.
+        then_says (coming_in_tree X.tree new.changed) (coming_of X new.changed) (outcome_in_tree X.tree c >>= concluded X.tree X.searches c) (staying X) tree (Ok made) (joined (Ok tree) concludes X s knows)
+        (subst (λ (a : Answer defined.Coming). Says (coming_of X new.changed) a (Ok made)) (sym (stays X new.changed)) refl);
+    fits = concludes.fits;
+  }
 
-  pub follows_stop : (stop : Stop) → (outcome_in_tree X.tree c ≡ Ok (outcome_of X.tree oc) → Says (outcome_of X.tree) (concluded X.tree known c (outcome_of X.tree oc)) (Err stop))
-      → Says (coming_of X) (plain_outcome X c) (Err stop)
-  follows_stop stop concludes = stop_says (outcome_of X.tree) (coming_of X) (outcome_in_tree X.tree c >>= concluded X.tree X.searches c) (staying X) stop (joined (Err stop) concludes)
+  pub follows_stop : (stop : Stop) → Concludes mid new known.searches c coming (Err stop) → ComesAmong old new known (λ X. plain_outcome X c) (Err stop)
+  follows_stop stop concludes = record {
+    says = λ X s knows. stop_says (coming_in_tree X.tree new.changed) (coming_of X new.changed) (outcome_in_tree X.tree c >>= concluded X.tree X.searches c) (staying X) stop (joined (Err stop) concludes X s knows);
+    fits = tt;
+  }
 
   -- the steps are those of the messages that are touched
-  pub follows_most : (now old : ℕ)
-      → (outcome_in_tree X.tree c ≡ Ok (outcome_of X.tree oc) → (ts : List Touch) → touched X.tree c (outcome_of X.tree oc) ≡ Ok ts → now ≤ old + work_of (around X.tree (outcome_of X.tree oc)) ts known)
-      → (o : Comes) (ts : List Touch) → outcome_in_tree X.tree c ≡ Ok o → touched X.tree c o ≡ Ok ts → now ≤ old + work_of (around X.tree o) ts X.searches
-  follows_most now old most o ts is touches =
-      let one : outcome_of X.tree oc ≡ o = subst (λ a. Says (outcome_of X.tree) a (Ok oc)) is said in
-      let bound = most (is ∙ ap Ok (sym one)) ts (subst (λ x. touched X.tree c x ≡ Ok ts) (sym one) touches) in
-      subst (λ x. now ≤ old + work_of (around X.tree x) ts X.searches) one (subst (λ ss. now ≤ old + work_of (around X.tree (outcome_of X.tree oc)) ts ss) (sym same) bound)
+  pub follows_asks : (before after : ℕ) → AsksTouched mid known.searches c coming before after → AsksAlone (shows_among old known) c before after
+  follows_asks before after asks = record {
+    most = λ X there o ts is touches.
+        let one : coming_in_tree X.tree mid.changed coming ≡ o = subst (λ (a : Answer Outcome). Says (coming_in_tree X.tree mid.changed) a (Ok coming)) is (first.says X.tree there.0) in
+        let bound = asks.most X.tree (drafts.shows X.tree there.0) (is ∙ ap Ok (sym one)) ts (subst (λ (x : Outcome). touched X.tree c x ≡ Ok ts) (sym one) touches) in
+        subst (λ (x : Outcome). after ≤ before + work_of (around X.tree x) ts X.searches) one
+        (subst (λ (ss : List Search). after ≤ before + work_of (around X.tree (coming_in_tree X.tree mid.changed coming)) ts ss) (sym there.1.searches) bound);
+  }
+
+-- no step was made
+pub asks_nothing : (has : Searching → Type 0) (c : Command) (before after : ℕ) → after ≡ before → AsksAlone has c before after
+asks_nothing has c before after same = record { most = λ X there o ts is touches. omega (arith, same) }

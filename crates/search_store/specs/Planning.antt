@@ -1,17 +1,23 @@
 -- What a store with searches stands for, and what it plans.
-use Rattle.std.specs.Prelude.{ℕ, Bool, true, false, List, None, Some, Result, Ok, Err}
+use Rattle.std.specs.Prelude.{◌≡◌, ◌≤◌, ◌+◌, ℕ, Bool, true, false, List, None, Some, Result, Ok, Err}
 use Rattle.command_text.specs.declared.command.Command.{Command}
 use Rattle.command_text.specs.declared.command.Command.TheVariants.{ListFolder, MakeSearch, SetCriteria, GetCriteria}
 use Rattle.node_port.specs.Nodes.{Nodes}
 use Rattle.node_port.specs.Stops.{Room}
 use Rattle.mail_tree.specs.declared.known.Known.{Known}
 use Rattle.mail_tree.specs.Changing.{Answer}
+use Rattle.mail_tree.specs.Folders.{Outcome}
+use Rattle.mail_tree.specs.Step as tree
 use Rattle.mail_draft.specs.Answers.{IsRefusal}
+use Rattle.mail_draft.specs.Sight.{Sight}
 use Rattle.mail_draft.specs.declared.stop.Stop.{Stop}
 use Rattle.mail_store.specs.Planning.{IsHindered, Stores}
 use Rattle.mail_store.specs.Space.{HasRoom}
+use Rattle.mail_searches.specs.Asking.{work_of}
 use Rattle.mail_searches.specs.Criteria.{Coming}
+use Rattle.mail_searches.specs.Relisting.{Touch, around}
 use Rattle.mail_searches.specs.Searching.{Searching}
+use Rattle.mail_searches.specs.Touching.{touched}
 use Rattle.mail_searches.specs.declared.known.KnownSearches.{KnownSearches}
 use Rattle.search_folders.specs.Comings.{KnowsSearches}
 
@@ -35,3 +41,11 @@ follows (SetCriteria search flags scope restriction) = false
 follows (GetCriteria search) = false
 follows (ListFolder folder) = false
 follows other = true
+
+-- the desk shows the tree, and these are its searches
+abbrev pub shows_among : {A : Type 0} → Sight A → KnownSearches → Searching → Type 0
+shows_among desk known X = desk.shows X.tree × KnowsSearches X known
+
+-- Of each tree with searches that there is, each running search asks its restriction of the messages that the command touches alone, as they were and as they are.
+pub record AsksAlone (has : Searching → Type 0) (command : Command) (before after : ℕ) : Type 0 where
+  pub most : (X : Searching) → has X → (o : Outcome) (ts : List Touch) → tree.outcome X.tree command ≡ Ok o → touched X.tree command o ≡ Ok ts → after ≤ before + work_of (around X.tree o) ts X.searches

@@ -1,128 +1,117 @@
-//! Each command, by its name.
-ghost use Rattle.std.specs.Prelude.{◌≡◌, ◌≤◌, ◌+◌, List, Ok, IfErr, true};
-ghost use Rattle.mail_tree.specs.Folders.{Outcome as Comes};
-ghost use Rattle.mail_tree.specs.Knowing.{Knows};
-ghost use Rattle.mail_tree.specs.Step.{outcome as outcome_in_tree};
-ghost use Rattle.mail_tree.specs.Tree.{Shown};
-ghost use Rattle.mail_draft.specs.Answers.{IsCaused, Looks, Says};
-ghost use Rattle.mail_searches.specs.Asking.{work_of};
-ghost use Rattle.mail_searches.specs.Relisting.{Touch, around};
-ghost use Rattle.mail_searches.specs.Searching.{Searching};
+//! Each command, by its name, over a desk.
+ghost use Rattle.std.specs.Prelude.{◌≡◌, true};
+ghost use Rattle.mail_tree.specs.Changing.{nothing};
+ghost use Rattle.mail_draft.specs.Sight.{Drafts};
+ghost use Rattle.mail_searches.specs.Moving.{moved_search, renamed_search};
 ghost use Rattle.mail_searches.specs.Step.{outcome, plain_outcome};
-ghost use Rattle.mail_searches.specs.Touching.{touched};
-ghost use Rattle.search_folders.specs.Comings.{KnowsSearches, coming_of};
-ghost use Rattle.search_store.specs.Planning.{follows};
+ghost use Rattle.search_folders.specs.Comings.{ComesAmong};
+ghost use Rattle.search_folders.specs.Pieces.{stays_after};
+ghost use Rattle.search_store.specs.Planning.{AsksAlone, follows, shows_among};
 
 use command_text::Command;
-use mail_draft::Stop;
+use mail_draft::{CountingDesk, Stop};
 use mail_searches::KnownSearches;
 use mail_store::outcome as outcome_in_tree;
-use mail_tree::Known;
-use node_port::Keeper;
-use pst_base::{Ledger, Steps};
-use pst_outside::Outside;
-use search_folders::search_results::conclude;
+use mapi_values::Units;
+use pst_base::{Ledger, Nid, Steps};
+use search_folders::mail_folders::FolderMakingDesk;
+use search_folders::search_results::{SearchDesk, conclude};
 use search_folders::{
     Coming, get_criteria, list_folder, make_search, move_search, remove_search, rename_search,
     set_criteria,
 };
-use std::alloc::Global;
 
 /// What a command that knows no searches comes to: what it comes to in the tree, with what it changes in the lists of searches.
-fn follow<W: Outside, K: Keeper<W>, L: Ledger>(
-    alloc: Global,
-    keeper: &mut K,
-    w: &mut W,
-    known: &Known,
+fn follow<D: SearchDesk + FolderMakingDesk + CountingDesk, L: Ledger>(
+    desk: &mut D,
     searches: &KnownSearches,
     command: &Command,
     steps: &mut Steps<L>,
 ) -> Result<Coming, Stop>
-    ensures answer { (X : Searching) → Shown (K.holds keeper.old (W.view w.old)) (K.last keeper.old) X.tree → Knows X.tree known.now → KnowsSearches X searches.now → Says (coming_of X) (plain_outcome X command.now) result }
-    ensures most { (X : Searching) → Shown (K.holds keeper.old (W.view w.old)) (K.last keeper.old) X.tree → Knows X.tree known.now → KnowsSearches X searches.now → (o : Comes) (ts : List Touch) → outcome_in_tree X.tree command.now ≡ Ok o → touched X.tree command.now o ≡ Ok ts → steps.new ≤ steps.old + work_of (around X.tree o) ts X.searches }
-    ensures looks { Looks (K.holds keeper.old (W.view w.old)) (K.holds keeper.new (W.view w.new)) (K.last keeper.old) (K.last keeper.new) (K.room keeper.old) (K.room keeper.new) (W.view w.old) (W.view w.new) }
-    ensures cause { IfErr result (IsCaused K.has_disk (W.view w.old).disk_faults (W.view w.new).disk_faults) }
+    requires fresh { (D.view desk.old).changed ≡ nothing }
+    ensures drafts { Drafts (D.view desk.old) (D.view desk.new) result }
+    ensures answer { ComesAmong (D.view desk.old) (D.view desk.new) searches.now (λ X. plain_outcome X command.now) result }
+    ensures asks { AsksAlone (shows_among (D.view desk.old) searches.now) command.now steps.old steps.new }
 {
-    let outcome = outcome_in_tree(alloc, keeper, w, known, command)?;
-    let outcome = conclude(
-        alloc,
-        keeper,
-        w,
-        known,
-        &searches.searches,
-        command,
-        outcome,
-        steps,
-    )?;
-    Ok(Coming {
-        outcome,
-        own: None,
-        searches: None,
-    })
+    let coming = outcome_in_tree(desk, command)?;
+    let tree = conclude(desk, &searches.searches, command, coming, steps)?;
+    Ok(Coming::staying(tree))
+}
+
+/// Gives an own search folder another name.
+fn rename_own<D: SearchDesk>(
+    desk: &mut D,
+    _searches: &KnownSearches,
+    search: Nid,
+    name: &Units,
+) -> Result<Coming, Stop>
+    requires fresh { (D.view desk.old).changed ≡ nothing }
+    ensures drafts { Drafts (D.view desk.old) (D.view desk.new) result }
+    ensures answer { ComesAmong (D.view desk.old) (D.view desk.new) _searches.now (λ X. stays_after X (renamed_search X.tree search.bits name.now)) result }
+{
+    let tree = rename_search(desk, search, name)?;
+    Ok(Coming::staying(tree))
+}
+
+/// Moves an own search folder into a parent.
+fn move_own<D: SearchDesk>(
+    desk: &mut D,
+    _searches: &KnownSearches,
+    search: Nid,
+    parent: Nid,
+) -> Result<Coming, Stop>
+    requires fresh { (D.view desk.old).changed ≡ nothing }
+    ensures drafts { Drafts (D.view desk.old) (D.view desk.new) result }
+    ensures answer { ComesAmong (D.view desk.old) (D.view desk.new) _searches.now (λ X. stays_after X (moved_search X.tree search.bits parent.bits)) result }
+{
+    let tree = move_search(desk, search, parent)?;
+    Ok(Coming::staying(tree))
 }
 
 /// What a command comes to, or why it is refused.
 #[tactic(auto, unfolding(mail_searches::specs::Step::outcome))]
-pub(crate) fn outcome<W: Outside, K: Keeper<W>, L: Ledger>(
-    alloc: Global,
-    keeper: &mut K,
-    w: &mut W,
-    known: &Known,
+pub(crate) fn outcome<D: SearchDesk + FolderMakingDesk + CountingDesk, L: Ledger>(
+    desk: &mut D,
     searches: &KnownSearches,
     command: &Command,
     steps: &mut Steps<L>,
 ) -> Result<Coming, Stop>
-    ensures answer { (X : Searching) → Shown (K.holds keeper.old (W.view w.old)) (K.last keeper.old) X.tree → Knows X.tree known.now → KnowsSearches X searches.now → Says (coming_of X) (outcome X command.now) result }
-    ensures most { (X : Searching) → Shown (K.holds keeper.old (W.view w.old)) (K.last keeper.old) X.tree → Knows X.tree known.now → KnowsSearches X searches.now → (o : Comes) (ts : List Touch) → follows command.now ≡ true → outcome_in_tree X.tree command.now ≡ Ok o → touched X.tree command.now o ≡ Ok ts → steps.new ≤ steps.old + work_of (around X.tree o) ts X.searches }
-    ensures looks { Looks (K.holds keeper.old (W.view w.old)) (K.holds keeper.new (W.view w.new)) (K.last keeper.old) (K.last keeper.new) (K.room keeper.old) (K.room keeper.new) (W.view w.old) (W.view w.new) }
-    ensures cause { IfErr result (IsCaused K.has_disk (W.view w.old).disk_faults (W.view w.new).disk_faults) }
+    requires fresh { (D.view desk.old).changed ≡ nothing }
+    ensures drafts { Drafts (D.view desk.old) (D.view desk.new) result }
+    ensures answer { ComesAmong (D.view desk.old) (D.view desk.new) searches.now (λ X. outcome X command.now) result }
+    ensures asks { follows command.now ≡ true → AsksAlone (shows_among (D.view desk.old) searches.now) command.now steps.old steps.new }
 {
     match command {
-        Command::MakeSearch { parent, name } => {
-            make_search(alloc, keeper, w, known, searches, *parent, name)
-        }
+        Command::MakeSearch { parent, name } => make_search(desk, searches, *parent, name),
         Command::SetCriteria {
             search,
             flags,
             scope,
             restriction,
-        } => set_criteria(
-            alloc,
-            keeper,
-            w,
-            known,
-            searches,
-            *search,
-            *flags,
-            scope,
-            restriction,
-            steps,
-        ),
-        Command::GetCriteria { search } => {
-            get_criteria(alloc, keeper, w, known, searches, *search)
-        }
+        } => set_criteria(desk, searches, *search, *flags, scope, restriction, steps),
+        Command::GetCriteria { search } => get_criteria(desk, searches, *search),
         Command::RenameFolder { folder, name } => {
             if searches.own.contains(*folder) {
-                rename_search(alloc, keeper, w, known, *folder, name)
+                rename_own(desk, searches, *folder, name)
             } else {
-                follow(alloc, keeper, w, known, searches, command, steps)
+                follow(desk, searches, command, steps)
             }
         }
         Command::MoveFolder { folder, parent } => {
             if searches.own.contains(*folder) {
-                move_search(alloc, keeper, w, known, *folder, *parent)
+                move_own(desk, searches, *folder, *parent)
             } else {
-                follow(alloc, keeper, w, known, searches, command, steps)
+                follow(desk, searches, command, steps)
             }
         }
         Command::RemoveFolder { folder } => {
             if searches.own.contains(*folder) {
-                remove_search(alloc, keeper, w, known, searches, *folder)
+                remove_search(desk, searches, *folder)
             } else {
-                follow(alloc, keeper, w, known, searches, command, steps)
+                follow(desk, searches, command, steps)
             }
         }
-        Command::ListFolder { folder } => list_folder(alloc, keeper, w, known, searches, *folder),
+        Command::ListFolder { folder } => list_folder(desk, searches, *folder),
         Command::MakeFolder { .. }
         | Command::NewMessage { .. }
         | Command::SetProperty { .. }
@@ -141,6 +130,6 @@ pub(crate) fn outcome<W: Outside, K: Keeper<W>, L: Ledger>(
         | Command::FetchData { .. }
         | Command::NameProperty { .. }
         | Command::Save
-        | Command::Quit => follow(alloc, keeper, w, known, searches, command, steps),
+        | Command::Quit => follow(desk, searches, command, steps),
     }
 }

@@ -6,6 +6,7 @@
 #![tactic(auto)]
 
 mod commands;
+mod entry;
 mod planned;
 mod store;
 

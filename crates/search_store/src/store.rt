@@ -17,7 +17,7 @@ ghost use Rattle.mail_tree.specs.Step.{outcome as outcome_in_tree};
 ghost use Rattle.search_folders.specs.Comings.{new_or_old};
 ghost use Rattle.search_store.specs.Planning.{PlansComing, StoresSearches, follows};
 
-use crate::commands::outcome;
+use crate::entry::outcome;
 use crate::planned::PlannedSearch;
 use command_text::{Command, Reply};
 use mail_draft::Stop;
@@ -26,7 +26,7 @@ use mail_store::{Store, commit as commit_tree, plan_outcome, save as save_tree};
 use node_port::{Keeper, Saver};
 use pst_base::{Ledger, Steps};
 use pst_outside::{Failed, Outside};
-use search_folders::Coming;
+use search_folders::SearchOutcome;
 use std::alloc::Global;
 
 /// A store with its searches.
@@ -55,7 +55,7 @@ pub fn plan<W: Outside, K: Keeper<W>, L: Ledger>(
     ensures most { (X : Searching) (o : Comes) (ts : List Touch) → StoresSearches (K.holds store.old.store.keeper (W.view w.old)) (K.last store.old.store.keeper) store.old.store.known store.old.searches X
         → follows command.now ≡ true → outcome_in_tree X.tree command.now ≡ Ok o → touched X.tree command.now o ≡ Ok ts → steps.new ≤ steps.old + work_of (around X.tree o) ts X.searches }
 {
-    let Coming {
+    let SearchOutcome {
         outcome,
         own,
         searches,

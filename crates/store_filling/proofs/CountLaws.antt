@@ -19,8 +19,8 @@ use Rattle.mail_searches.specs.Criteria as defined
 use Rattle.mail_searches.specs.Searching.{Searching}
 use Rattle.mail_searches.specs.Step.{outcome}
 use Rattle.mail_searches.specs.declared.known.KnownSearches.{KnownSearches}
-use Rattle.mail_reading.specs.search_folders.Comings.{coming_of}
-use Rattle.mail_reading.specs.search_folders.declared.coming.Coming.{Coming}
+use Rattle.mail_reading.specs.search_folders.Comings.{comes_to}
+use Rattle.mail_reading.specs.search_folders.declared.outcome.SearchOutcome.{SearchOutcome}
 use Rattle.search_lists.specs.Order.{InOrder}
 use Rattle.store_session.specs.search_store.Planning.{StoresSearches}
 use Rattle.store_session.specs.Carrying.{Has}
@@ -30,15 +30,15 @@ use Rattle.store_filling.specs.declared.counting.FillCounts.{FillCounts}
 use Rattle.store_filling.proofs.Commits.{not_formless}
 
 module _ (tidy : Bool) (X : Searching) (folder : Nid) (order : InOrder tidy X) where
-  listed : (x : Answer defined.Coming) → outcome X (ListFolder folder) ≡ x → (coming : Coming) → Says (coming_of X) x (Ok coming) → ListsSo X folder (Ok coming.outcome.reply.lines)
+  listed : (x : Answer defined.Coming) → outcome X (ListFolder folder) ≡ x → (coming : SearchOutcome) → Says (comes_to X) x (Ok coming) → ListsSo X folder (Ok coming.outcome.reply.lines)
   listed (Ok o) e coming said = (o, e, ap (λ (k : defined.Coming). k.outcome.reply.lines) said)
   listed (Err (Some refusal)) e coming said = absurd said
   listed (Err None) e coming said = absurd (not_formless tidy X (ListFolder folder) order e)
 
-  pub lists_lines : (coming : Coming) → Says (coming_of X) (outcome X (ListFolder folder)) (Ok coming) → ListsSo X folder (Ok coming.outcome.reply.lines)
+  pub lists_lines : (coming : SearchOutcome) → Says (comes_to X) (outcome X (ListFolder folder)) (Ok coming) → ListsSo X folder (Ok coming.outcome.reply.lines)
   lists_lines coming said = listed (outcome X (ListFolder folder)) refl coming said
 
-  unlisted : (x : Answer defined.Coming) → outcome X (ListFolder folder) ≡ x → (stop : Stop) → Says (coming_of X) x (Err stop) → ListsSo X folder (Err stop)
+  unlisted : (x : Answer defined.Coming) → outcome X (ListFolder folder) ≡ x → (stop : Stop) → Says (comes_to X) x (Err stop) → ListsSo X folder (Err stop)
   unlisted (Ok o) e (stops.Refused refusal) said = absurd said
   unlisted (Err (Some q)) e (stops.Refused refusal) said = e ∙ ap (λ y. Err (Some y)) (sym said)
   unlisted (Err None) e (stops.Refused refusal) said = absurd (not_formless tidy X (ListFolder folder) order e)
@@ -48,7 +48,7 @@ module _ (tidy : Bool) (X : Searching) (folder : Nid) (order : InOrder tidy X) w
   unlisted (Err None) e (stops.Changed ib stored computed) said = not_formless tidy X (ListFolder folder) order e
   unlisted x e stops.Memory said = tt
 
-  pub lists_none : (stop : Stop) → Says (coming_of X) (outcome X (ListFolder folder)) (Err stop) → ListsSo X folder (Err stop)
+  pub lists_none : (stop : Stop) → Says (comes_to X) (outcome X (ListFolder folder)) (Err stop) → ListsSo X folder (Err stop)
   lists_none stop said = unlisted (outcome X (ListFolder folder)) refl stop said
 
 -- a call that only looks leaves what a store has

@@ -3,7 +3,7 @@ use Rattle.store_session.proofs.mail_draft_laws.Looking.{untouched_same}
 use Rattle.store_session.specs.mail_draft.Answers.{Says}
 use Rattle.mail_reading.specs.Asked.{asked}
 use Rattle.mail_reading.proofs.Answered.{asked_given, asked_stop}
-use Rattle.mail_reading.specs.search_folders.Comings.{coming_of}
+use Rattle.mail_reading.specs.search_folders.Comings.{comes_to}
 use Rattle.node_port.specs.Pins.{Pins}
 use Rattle.store_session.specs.Disks.{Effects, effects_of}
 use Rattle.store_session.proofs.Carry.{its_medium, quiet_leaves, same_medium}
@@ -41,7 +41,7 @@ returns-in-Ok-clause-carries g c = λ found tidy S h tells.
     let view = subst (λ x. IsView (g.K.NodeReader.pinned c.args.pinned.store.store.keeper v) x at.2.0) (sym c.index.ensures) at.2.2 in
     let s = h.store.stores.tree.shown in
     let stays = done.stays s.nodes X s.held view.tells in
-    let given = asked_given (coming_of X) X c.args.command.now view.tells.whole view.tells.are c.in-Ok.coming (subst (λ r. Says (coming_of X) (asked X c.args.command.now) r) c.in-Ok.is (done.answer s.nodes X s.held view.tells)) in
+    let given = asked_given (comes_to X) X c.args.command.now view.tells.whole view.tells.are c.in-Ok.coming (subst (λ r. Says (comes_to X) (asked X c.args.command.now) r) c.in-Ok.is (done.answer s.nodes X s.held view.tells)) in
     at_replies effects room S v w (λ t. same_medium v w (done.same.stays.here t) done.same.stays.written) (λ (Z : Sitting). Sits g.W.Outside.view g.K.NodeReader.holds g.K.NodeReader.last g.K.NodeReader.pinned g.K.NodeReader.room g.K.Keeper.rests (record { store = record { store = record { keeper = c.ask_keeping-keeper.result.0; known = c.args.pinned.store.store.known }; searches = c.args.pinned.store.searches }; given = c.args.pinned.given; pins = c.args.pinned.pins; views = c.args.pinned.views }) c.ask_keeping-keeper.new.world found tidy Z) stands c.args.pin c.args.command.now
     (sitting_same S h (λ store. has_mapped tidy S.now stays.0 stays.2 done.same store) (ap (λ r. r.found) done.room) stays.1 (ap (λ r. r.pins) done.room))
     (quiet_leaves stands S S h.store.settled done.same here) X (tree_named S c.args.pin at.0 at.2.0 at.1 at.2.1) c.reply_spoken.result c.in-Ok.coming.outcome.reply given.1 c.reply_spoken.ensures
@@ -60,7 +60,7 @@ returns-in-Err-clause-carries g c = λ found tidy S h tells.
     let view = subst (λ x. IsView (g.K.NodeReader.pinned c.args.pinned.store.store.keeper v) x at.2.0) (sym c.index.ensures) at.2.2 in
     let s = h.store.stores.tree.shown in
     let stays = done.stays s.nodes X s.held view.tells in
-    let given = asked_stop (coming_of X) X c.args.command.now view.tells.whole view.tells.are c.in-Err.stop (subst (λ r. Says (coming_of X) (asked X c.args.command.now) r) c.in-Err.is (done.answer s.nodes X s.held view.tells)) in
+    let given = asked_stop (comes_to X) X c.args.command.now view.tells.whole view.tells.are c.in-Err.stop (subst (λ r. Says (comes_to X) (asked X c.args.command.now) r) c.in-Err.is (done.answer s.nodes X s.held view.tells)) in
     at_stops effects room S v w (λ t. same_medium v w (done.same.stays.here t) done.same.stays.written) (λ (Z : Sitting). Sits g.W.Outside.view g.K.NodeReader.holds g.K.NodeReader.last g.K.NodeReader.pinned g.K.NodeReader.room g.K.Keeper.rests (record { store = record { store = record { keeper = c.ask_keeping-keeper.result.0; known = c.args.pinned.store.store.known }; searches = c.args.pinned.store.searches }; given = c.args.pinned.given; pins = c.args.pinned.pins; views = c.args.pinned.views }) c.ask_keeping-keeper.new.world found tidy Z) stands c.args.pin c.args.command.now
     (sitting_same S h (λ store. has_mapped tidy S.now stays.0 stays.2 done.same store) (ap (λ r. r.found) done.room) stays.1 (ap (λ r. r.pins) done.room))
     (quiet_leaves stands S S h.store.settled done.same here) X (tree_named S c.args.pin at.0 at.2.0 at.1 at.2.1) c.in-Err.stop c.stopped.result c.stopped.ensures given (refused_step X c.args.command.now c.requires.only)
