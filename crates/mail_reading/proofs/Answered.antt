@@ -7,20 +7,22 @@ use Rattle.command_text.specs.declared.command.Command.{Command}
 use Rattle.command_text.specs.declared.command.Command.TheVariants.{MakeFolder, RenameFolder, MoveFolder, RemoveFolder, ListFolder, NewMessage, SetProperty, UnsetProperty, GetProperty, ListProperties, MoveMessage, CopyMessage, RemoveMessage, AddRecipient, RemoveRecipient, AddAttachment, AppendData, RemoveAttachment, FetchData, NameProperty, Save, Quit, MakeSearch, SetCriteria, GetCriteria, SetEmbedded}
 use Rattle.command_text.specs.declared.reply.CommandRefusal.TheVariants.{Line}
 use Rattle.command_text.specs.declared.reply.LastLine.TheVariants as last
-use Rattle.mail_tree.specs.Changing.{Answer, ◌>>=◌}
+use Rattle.mail_tree.specs.Changing.{Answer, Changed, ◌>>=◌}
 use Rattle.mail_tree.specs.Folders.{replied}
 use Rattle.mail_tree.specs.Whole.{Fine, IsWhole}
 use Rattle.search_folders.proofs.mail_draft_laws.Passes.{stop_says, then_says}
 use Rattle.search_folders.specs.mail_draft.Answers.{Says}
-use Rattle.search_folders.specs.mail_draft.Outcomes.{outcome_of}
-use Rattle.search_folders.specs.mail_draft.declared.outcome.Outcome.{Outcome as Planned}
+use Rattle.search_folders.specs.mail_draft.Desks.{Comes, coming_of as coming_in_tree}
+use Rattle.search_folders.specs.mail_draft.Sight.{Sight}
+use Rattle.search_folders.specs.mail_draft.declared.coming.Coming.{Coming as ComingInTree}
 use Rattle.search_folders.specs.mail_draft.declared.stop.Stop.{Stop}
-use Rattle.search_folders.specs.mail_draft.declared.stop.Stop.TheVariants.{Refused, Fault, Changed, Memory}
+use Rattle.search_folders.specs.mail_draft.declared.stop.Stop.TheVariants.{Refused, Fault, Changed as ChangedThere, Memory}
 use Rattle.mail_searches.specs.Criteria.{Coming, staying}
 use Rattle.mail_searches.specs.Searching.{AreSearches, Searching}
+use Rattle.mail_searches.specs.declared.known.KnownSearches.{KnownSearches}
 use Rattle.mail_searches.specs.Step.{after, outcome, step, stepped}
 use Rattle.mail_tree.specs.Step.{outcome as tree_outcome}
-use Rattle.search_folders.specs.Comings.{coming_of}
+use Rattle.search_folders.specs.Comings.{ComesAmong, coming_of}
 use Rattle.search_folders.specs.declared.coming.Coming.{Coming as Made}
 use Rattle.mail_reading.specs.Asked.{asked, read, reads}
 use Rattle.mail_reading.proofs.ReadLaws.{plain_reads, reads_leave}
@@ -61,14 +63,23 @@ module _ (X : Searching) where
   asked_read (SetCriteria search flags scope restriction) other = refl
   asked_read Save other = refl
 
-  pub read_given : (c : Command) → IsOther c → (o : Planned) (r : Made) → Says (outcome_of X.tree) (read X.tree c) (Ok o) → staying X (outcome_of X.tree o) ≡ Ok (coming_of X r) → Says (coming_of X) (asked X c) (Ok r)
-  read_given c other o r said is =
-      subst (λ a. Says (coming_of X) a (Ok r)) (sym (asked_read c other))
-      (then_says (outcome_of X.tree) (coming_of X) (read X.tree c) (staying X) o (Ok r) said (subst (λ (a : Answer Coming). Says (coming_of X) a (Ok r)) (sym is) refl))
+-- what it gives is what is asked
+pub asked_well : {A : Type 0} {old new : Sight A} (known : KnownSearches) (c : Command) → IsOther c → (tree : ComingInTree) (made : Made) → ((X : Searching) (D : Changed) → staying X (coming_in_tree X.tree D tree) ≡ Ok (coming_of X D made))
+    → Comes old new (λ T D. read T c) (Ok tree) → ComesAmong old new known (λ X. asked X c) (Ok made)
+asked_well {new = new} known c other tree made stays comes = record {
+  says = λ X s knows. subst (λ (a : Answer Coming). Says (coming_of X new.changed) a (Ok made)) (sym (asked_read X c other))
+      (then_says (coming_in_tree X.tree new.changed) (coming_of X new.changed) (read X.tree c) (staying X) tree (Ok made) (comes.says X.tree s)
+      (subst (λ (a : Answer Coming). Says (coming_of X new.changed) a (Ok made)) (sym (stays X new.changed)) refl));
+  fits = comes.fits;
+}
 
-  pub read_stop : (c : Command) → IsOther c → (stop : Stop) → Says {B = Planned} (outcome_of X.tree) (read X.tree c) (Err stop) → Says {B = Made} (coming_of X) (asked X c) (Err stop)
-  read_stop c other stop said =
-      subst (λ a. Says {B = Made} (coming_of X) a (Err stop)) (sym (asked_read c other)) (stop_says (outcome_of X.tree) (coming_of X) (read X.tree c) (staying X) stop said)
+-- and its stop is that of what is asked
+pub asked_stops : {A : Type 0} {old new : Sight A} (known : KnownSearches) (c : Command) → IsOther c → (stop : Stop) → Comes old new (λ T D. read T c) (Err stop) → ComesAmong old new known (λ X. asked X c) (Err stop)
+asked_stops {new = new} known c other stop comes = record {
+  says = λ X s knows. subst (λ (a : Answer Coming). Says {B = Made} (coming_of X new.changed) a (Err stop)) (sym (asked_read X c other))
+      (stop_says (coming_in_tree X.tree new.changed) (coming_of X new.changed) (read X.tree c) (staying X) stop (comes.says X.tree s));
+  fits = tt;
+}
 
 -- ---- and it is the reply of the step
 
@@ -76,7 +87,7 @@ module _ (X : Searching) where
 abbrev pub StopAnswers : Searching → Command → Stop → Type 0
 StopAnswers X c (Refused refusal) = ((reads c ≡ true) × (step X c ≡ Some (X, replied (last.Refused refusal)))) ⊎ ((reads c ≡ false) × (refusal ≡ Line))
 StopAnswers X c Fault = Unit {0}
-StopAnswers X c (Changed ib stored computed) = ⊥
+StopAnswers X c (ChangedThere ib stored computed) = ⊥
 StopAnswers X c Memory = Unit {0}
 
 module _ {B : Type 0} (view : B → Coming) (X : Searching) (c : Command) where
@@ -88,11 +99,11 @@ module _ {B : Type 0} (view : B → Coming) (X : Searching) (c : Command) where
   kept : (a : Answer Coming) → outcome X c ≡ a → reads c ≡ true → Fine a (λ o. after X o ≡ X) → (stop : Stop) → Says view a (Err stop) → StopAnswers X c stop
   kept (Ok x) e read fine (Refused refusal) is = absurd is
   kept (Ok x) e read fine Fault is = tt
-  kept (Ok x) e read fine (Changed ib stored computed) is = is
+  kept (Ok x) e read fine (ChangedThere ib stored computed) is = is
   kept (Ok x) e read fine Memory is = tt
   kept (Err (Some r)) e read fine (Refused refusal) is = inl (read, ap (stepped X) e ∙ ap (λ g. Some (X, replied (last.Refused g))) (sym is))
   kept (Err (Some r)) e read fine Fault is = tt
-  kept (Err (Some r)) e read fine (Changed ib stored computed) is = is
+  kept (Err (Some r)) e read fine (ChangedThere ib stored computed) is = is
   kept (Err (Some r)) e read fine Memory is = tt
   kept (Err None) e read fine stop is = absurd fine
 
@@ -100,7 +111,7 @@ module _ {B : Type 0} (view : B → Coming) (X : Searching) (c : Command) where
   no_line : (stop : Stop) → reads c ≡ false → Says view (Err (Some Line)) (Err stop) → StopAnswers X c stop
   no_line (Refused refusal) other is = inr (other, is)
   no_line Fault other is = tt
-  no_line (Changed ib stored computed) other is = is
+  no_line (ChangedThere ib stored computed) other is = is
   no_line Memory other is = tt
 
   module _ (whole : IsWhole X.tree) (are : AreSearches X) where

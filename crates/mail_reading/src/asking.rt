@@ -8,7 +8,8 @@ ghost use Rattle.search_folders.specs.mail_draft.Drafts.{changed_of};
 ghost use Rattle.search_folders.specs.mail_draft.Sight.{Reads};
 ghost use Rattle.mail_searches.specs.Searching.{Searching};
 ghost use Rattle.search_folders.specs.Comings.{ComesAmong, KnowsSearches, comes_to};
-ghost use Rattle.search_folders.specs.Showing.{ComesTo, ShowsAmong};
+ghost use Rattle.search_folders.specs.Among.{ComesTo, among};
+ghost use Rattle.search_folders.specs.mail_draft.Showing.{Showing};
 ghost use Rattle.mail_reading.specs.Asked.{asked};
 
 use crate::reading::read;
@@ -52,7 +53,7 @@ fn taken<W: Outside, K: NodeReader<W>>(
 ) -> Result<SearchOutcome, Stop>
     requires fresh { changed_of desk.old.draft.now ≡ nothing }
     ensures names { (desk.new.keeper.ghost_name ≡ desk.old.keeper.ghost_name) × (desk.new.world.ghost_name ≡ desk.old.world.ghost_name) × (desk.new.seen.ghost_name ≡ desk.old.seen.ghost_name) × (desk.new.draft.ghost_name ≡ desk.old.draft.ghost_name) }
-    ensures answer { ComesTo (ShowsAmong (K.holds desk.old.keeper.now (W.view desk.old.world.now)) (K.last desk.old.keeper.now) desk.old.places.now desk.old.flags.now desk.old.seen.now searches.now) (λ X. asked X command.now) result }
+    ensures answer { ComesTo (among (Showing (K.holds desk.old.keeper.now (W.view desk.old.world.now)) (K.last desk.old.keeper.now) desk.old.places.now desk.old.flags.now desk.old.seen.now) searches.now) (λ X. asked X command.now) result }
     ensures looks { Looks (K.holds desk.old.keeper.now (W.view desk.old.world.now)) (K.holds desk.new.keeper.now (W.view desk.new.world.now)) (K.last desk.old.keeper.now) (K.last desk.new.keeper.now) (K.room desk.old.keeper.now) (K.room desk.new.keeper.now) (W.view desk.old.world.now) (W.view desk.new.world.now) }
     ensures cause { IfErr result (IsCaused K.has_disk (W.view desk.old.world.now).disk_faults (W.view desk.new.world.now).disk_faults) }
 {

@@ -7,7 +7,8 @@ ghost use Rattle.search_folders.specs.mail_draft.Sight.{Answers, Reads};
 ghost use Rattle.mail_searches.specs.Searches.{results};
 ghost use Rattle.mail_searches.specs.Searching.{Searching};
 ghost use Rattle.search_folders.specs.Comings.{KnowsSearches};
-ghost use Rattle.search_folders.specs.Showing.{ShowsAmong};
+ghost use Rattle.search_folders.specs.Among.{among};
+ghost use Rattle.search_folders.specs.mail_draft.Showing.{Showing};
 ghost use Rattle.mail_reading.specs.Viewed.{ListsRows, contents_in, listed_ids, listing_of, listing_view, plain_contents, with_named};
 
 use mail_objects::TableNode;
@@ -104,7 +105,7 @@ fn rows_on_keeper<W: Outside, K: NodeReader<W>>(
     folder: Nid,
 ) -> Result<Listing, Stop>
     ensures names { (desk.new.keeper.ghost_name ≡ desk.old.keeper.ghost_name) × (desk.new.world.ghost_name ≡ desk.old.world.ghost_name) × (desk.new.seen.ghost_name ≡ desk.old.seen.ghost_name) × (desk.new.draft.ghost_name ≡ desk.old.draft.ghost_name) }
-    ensures answer { ListsRows (ShowsAmong (K.holds desk.old.keeper.now (W.view desk.old.world.now)) (K.last desk.old.keeper.now) desk.old.places.now desk.old.flags.now desk.old.seen.now searches.now) folder.bits result }
+    ensures answer { ListsRows (among (Showing (K.holds desk.old.keeper.now (W.view desk.old.world.now)) (K.last desk.old.keeper.now) desk.old.places.now desk.old.flags.now desk.old.seen.now) searches.now) folder.bits result }
     ensures looks { Looks (K.holds desk.old.keeper.now (W.view desk.old.world.now)) (K.holds desk.new.keeper.now (W.view desk.new.world.now)) (K.last desk.old.keeper.now) (K.last desk.new.keeper.now) (K.room desk.old.keeper.now) (K.room desk.new.keeper.now) (W.view desk.old.world.now) (W.view desk.new.world.now) }
     ensures cause { IfErr result (IsCaused K.has_disk (W.view desk.old.world.now).disk_faults (W.view desk.new.world.now).disk_faults) }
 {

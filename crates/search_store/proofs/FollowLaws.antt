@@ -1,30 +1,26 @@
 -- What a command comes to with the lists of searches behind it.
-use Rattle.std.proofs.Common.{◌≡◌, ◌∙◌, ◌≤◌, ◌+◌, ℕ, List, None, Some, Ok, Err, Result, ap, refl, subst, sym}
+use Rattle.std.proofs.Common.{◌≡◌, List, None, Some, Ok, Err, Result, ap, refl, subst, sym}
 use Rattle.command_text.specs.declared.command.Command.{Command}
 use Rattle.mail_tree.specs.Changing.{Answer, Changed, ◌>>=◌}
 use Rattle.mail_tree.specs.Folders.{Outcome}
 use Rattle.mail_tree.specs.Step.{outcome as outcome_in_tree}
 use Rattle.mail_tree.specs.Tree.{Tree}
-use Rattle.mail_draft.proofs.Passes.{stop_says, then_says}
+use Rattle.mail_draft.proofs.Passes.{then_says}
 use Rattle.mail_draft.specs.Answers.{Says}
 use Rattle.mail_draft.specs.Desks.{Comes, coming_of as coming_in_tree}
 use Rattle.mail_draft.specs.Sight.{Drafts, Sight}
 use Rattle.mail_draft.specs.declared.coming.Coming.{Coming as ComingInTree}
 use Rattle.mail_draft.specs.declared.stop.Stop.{Stop}
-use Rattle.mail_searches.specs.Asking.{work_of}
 use Rattle.mail_searches.specs.Criteria as defined
 use Rattle.mail_searches.specs.Criteria.{staying}
-use Rattle.mail_searches.specs.Relisting.{Touch, around}
 use Rattle.mail_searches.specs.Searches.{Search}
 use Rattle.mail_searches.specs.Searching.{Searching}
 use Rattle.mail_searches.specs.Step.{concluded, plain_outcome}
-use Rattle.mail_searches.specs.Touching.{touched}
 use Rattle.mail_searches.specs.declared.known.KnownSearches.{KnownSearches}
 use Rattle.search_folders.specs.Comings.{ComesAmong, KnowsSearches, coming_of}
 use Rattle.search_folders.specs.Pieces.{stays_after}
 use Rattle.search_folders.specs.declared.coming.Coming.{Coming}
-use Rattle.search_folders.specs.search_results.Concluding.{AsksTouched, Concludes}
-use Rattle.search_store.specs.Planning.{AsksAlone, shows_among}
+use Rattle.search_folders.specs.search_results.Concluding.{Concludes}
 
 -- what a call gives goes into the next step, which may hang on that it was given
 then_given : {A B C D : Type 0} (view : B → A) (view' : D → C) (answer : Answer A) (f : A → Answer C) (y : B) (r : Result D Stop)
@@ -45,44 +41,18 @@ module _ {A : Type 0} {old new : Sight A} (known : KnownSearches) (step : Tree �
     fits = comes.fits;
   }
 
-  pub stays_stop : (stop : Stop) → Comes old new (λ T D. step T) (Err stop) → ComesAmong old new known (λ X. stays_after X (step X.tree)) (Err stop)
-  stays_stop stop comes = record {
-    says = λ X s knows. stop_says (coming_in_tree X.tree new.changed) (coming_of X new.changed) (step X.tree) (staying X) stop (comes.says X.tree s);
-    fits = tt;
-  }
-
-module _ {A : Type 0} {old mid new : Sight A} (known : KnownSearches) (c : Command) (coming : ComingInTree) (first : Comes old mid (λ T D. outcome_in_tree T c) (Ok coming)) (drafts : Drafts {R = ComingInTree} old mid (Ok coming)) where
+module _ {A : Type 0} {old mid : Sight A} (known : KnownSearches) (c : Command) (coming : ComingInTree) (first : Comes old mid (λ T D. outcome_in_tree T c) (Ok coming)) (drafts : Drafts {R = ComingInTree} old mid (Ok coming)) where
   -- both steps
-  joined : (r : Result ComingInTree Stop) → Concludes mid new known.searches c coming r → (X : Searching) → old.shows X.tree → KnowsSearches X known
+  joined : {new : Sight A} (r : Result ComingInTree Stop) → Concludes mid new known.searches c coming r → (X : Searching) → old.shows X.tree → KnowsSearches X known
       → Says (coming_in_tree X.tree new.changed) (outcome_in_tree X.tree c >>= concluded X.tree X.searches c) r
-  joined r concludes X s knows =
+  joined {new} r concludes X s knows =
       then_given (coming_in_tree X.tree mid.changed) (coming_in_tree X.tree new.changed) (outcome_in_tree X.tree c) (concluded X.tree X.searches c) coming r (first.says X.tree s)
       (λ is. subst (λ (ss : List Search). Says (coming_in_tree X.tree new.changed) (concluded X.tree ss c (coming_in_tree X.tree mid.changed coming)) r) (sym knows.searches) (concludes.says X.tree (drafts.shows X.tree s) is))
 
-  pub follows_well : (tree : ComingInTree) (made : Coming) → Stays tree made → Concludes mid new known.searches c coming (Ok tree) → ComesAmong old new known (λ X. plain_outcome X c) (Ok made)
-  follows_well tree made stays concludes = record {
+  pub follows_well : {new : Sight A} (tree : ComingInTree) (made : Coming) → Stays tree made → Concludes mid new known.searches c coming (Ok tree) → ComesAmong old new known (λ X. plain_outcome X c) (Ok made)
+  follows_well {new} tree made stays concludes = record {
     says = λ X s knows.
         then_says (coming_in_tree X.tree new.changed) (coming_of X new.changed) (outcome_in_tree X.tree c >>= concluded X.tree X.searches c) (staying X) tree (Ok made) (joined (Ok tree) concludes X s knows)
         (subst (λ (a : Answer defined.Coming). Says (coming_of X new.changed) a (Ok made)) (sym (stays X new.changed)) refl);
     fits = concludes.fits;
   }
-
-  pub follows_stop : (stop : Stop) → Concludes mid new known.searches c coming (Err stop) → ComesAmong old new known (λ X. plain_outcome X c) (Err stop)
-  follows_stop stop concludes = record {
-    says = λ X s knows. stop_says (coming_in_tree X.tree new.changed) (coming_of X new.changed) (outcome_in_tree X.tree c >>= concluded X.tree X.searches c) (staying X) stop (joined (Err stop) concludes X s knows);
-    fits = tt;
-  }
-
-  -- the steps are those of the messages that are touched
-  pub follows_asks : (before after : ℕ) → AsksTouched mid known.searches c coming before after → AsksAlone (shows_among old known) c before after
-  follows_asks before after asks = record {
-    most = λ X there o ts is touches.
-        let one : coming_in_tree X.tree mid.changed coming ≡ o = subst (λ (a : Answer Outcome). Says (coming_in_tree X.tree mid.changed) a (Ok coming)) is (first.says X.tree there.0) in
-        let bound = asks.most X.tree (drafts.shows X.tree there.0) (is ∙ ap Ok (sym one)) ts (subst (λ (x : Outcome). touched X.tree c x ≡ Ok ts) (sym one) touches) in
-        subst (λ (x : Outcome). after ≤ before + work_of (around X.tree x) ts X.searches) one
-        (subst (λ (ss : List Search). after ≤ before + work_of (around X.tree (coming_in_tree X.tree mid.changed coming)) ts ss) (sym there.1.searches) bound);
-  }
-
--- no step was made
-pub asks_nothing : (has : Searching → Type 0) (c : Command) (before after : ℕ) → after ≡ before → AsksAlone has c before after
-asks_nothing has c before after same = record { most = λ X there o ts is touches. omega (arith, same) }

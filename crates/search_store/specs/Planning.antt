@@ -9,7 +9,6 @@ use Rattle.mail_tree.specs.Changing.{Answer}
 use Rattle.mail_tree.specs.Folders.{Outcome}
 use Rattle.mail_tree.specs.Step as tree
 use Rattle.mail_draft.specs.Answers.{IsRefusal}
-use Rattle.mail_draft.specs.Sight.{Sight}
 use Rattle.mail_draft.specs.declared.stop.Stop.{Stop}
 use Rattle.mail_store.specs.Planning.{IsHindered, Stores}
 use Rattle.mail_store.specs.Space.{HasRoom}
@@ -41,10 +40,6 @@ follows (SetCriteria search flags scope restriction) = false
 follows (GetCriteria search) = false
 follows (ListFolder folder) = false
 follows other = true
-
--- the desk shows the tree, and these are its searches
-abbrev pub shows_among : {A : Type 0} → Sight A → KnownSearches → Searching → Type 0
-shows_among desk known X = desk.shows X.tree × KnowsSearches X known
 
 -- Of each tree with searches that there is, each running search asks its restriction of the messages that the command touches alone, as they were and as they are.
 pub record AsksAlone (has : Searching → Type 0) (command : Command) (before after : ℕ) : Type 0 where

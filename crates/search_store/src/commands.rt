@@ -4,9 +4,10 @@ ghost use Rattle.mail_tree.specs.Changing.{nothing};
 ghost use Rattle.mail_draft.specs.Sight.{Drafts};
 ghost use Rattle.mail_searches.specs.Moving.{moved_search, renamed_search};
 ghost use Rattle.mail_searches.specs.Step.{outcome, plain_outcome};
+ghost use Rattle.search_folders.specs.Among.{among};
 ghost use Rattle.search_folders.specs.Comings.{ComesAmong};
 ghost use Rattle.search_folders.specs.Pieces.{stays_after};
-ghost use Rattle.search_store.specs.Planning.{AsksAlone, follows, shows_among};
+ghost use Rattle.search_store.specs.Planning.{AsksAlone, follows};
 
 use command_text::Command;
 use mail_draft::{CountingDesk, Stop};
@@ -31,7 +32,7 @@ fn follow<D: SearchDesk + FolderMakingDesk + CountingDesk, L: Ledger>(
     requires fresh { (D.view desk.old).changed ≡ nothing }
     ensures drafts { Drafts (D.view desk.old) (D.view desk.new) result }
     ensures answer { ComesAmong (D.view desk.old) (D.view desk.new) searches.now (λ X. plain_outcome X command.now) result }
-    ensures asks { AsksAlone (shows_among (D.view desk.old) searches.now) command.now steps.old steps.new }
+    ensures asks { AsksAlone (among (D.view desk.old).shows searches.now) command.now steps.old steps.new }
 {
     let coming = outcome_in_tree(desk, command)?;
     let tree = conclude(desk, &searches.searches, command, coming, steps)?;
@@ -79,7 +80,7 @@ pub(crate) fn outcome<D: SearchDesk + FolderMakingDesk + CountingDesk, L: Ledger
     requires fresh { (D.view desk.old).changed ≡ nothing }
     ensures drafts { Drafts (D.view desk.old) (D.view desk.new) result }
     ensures answer { ComesAmong (D.view desk.old) (D.view desk.new) searches.now (λ X. outcome X command.now) result }
-    ensures asks { follows command.now ≡ true → AsksAlone (shows_among (D.view desk.old) searches.now) command.now steps.old steps.new }
+    ensures asks { follows command.now ≡ true → AsksAlone (among (D.view desk.old).shows searches.now) command.now steps.old steps.new }
 {
     match command {
         Command::MakeSearch { parent, name } => make_search(desk, searches, *parent, name),

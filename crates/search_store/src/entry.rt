@@ -4,7 +4,8 @@ ghost use Rattle.mail_tree.specs.Changing.{nothing};
 ghost use Rattle.mail_draft.specs.Answers.{IsCaused, Looks};
 ghost use Rattle.mail_draft.specs.Drafts.{changed_of};
 ghost use Rattle.mail_searches.specs.Step.{outcome};
-ghost use Rattle.search_folders.specs.Showing.{ComesTo, ShowsAmong};
+ghost use Rattle.search_folders.specs.Among.{ComesTo, among};
+ghost use Rattle.mail_draft.specs.Showing.{Showing};
 ghost use Rattle.search_store.specs.Planning.{AsksAlone, StoresSearches, follows};
 
 use crate::commands;
@@ -28,8 +29,8 @@ fn taken<W: Outside, K: Keeper<W>, L: Ledger>(
 ) -> Result<SearchOutcome, Stop>
     requires fresh { changed_of desk.old.draft.now ≡ nothing }
     ensures names { (desk.new.keeper.ghost_name ≡ desk.old.keeper.ghost_name) × (desk.new.world.ghost_name ≡ desk.old.world.ghost_name) × (desk.new.seen.ghost_name ≡ desk.old.seen.ghost_name) × (desk.new.draft.ghost_name ≡ desk.old.draft.ghost_name) }
-    ensures answer { ComesTo (ShowsAmong (K.holds desk.old.keeper.now (W.view desk.old.world.now)) (K.last desk.old.keeper.now) desk.old.places.now desk.old.flags.now desk.old.seen.now searches.now) (λ X. outcome X command.now) result }
-    ensures asks { follows command.now ≡ true → AsksAlone (ShowsAmong (K.holds desk.old.keeper.now (W.view desk.old.world.now)) (K.last desk.old.keeper.now) desk.old.places.now desk.old.flags.now desk.old.seen.now searches.now) command.now steps.old steps.new }
+    ensures answer { ComesTo (among (Showing (K.holds desk.old.keeper.now (W.view desk.old.world.now)) (K.last desk.old.keeper.now) desk.old.places.now desk.old.flags.now desk.old.seen.now) searches.now) (λ X. outcome X command.now) result }
+    ensures asks { follows command.now ≡ true → AsksAlone (among (Showing (K.holds desk.old.keeper.now (W.view desk.old.world.now)) (K.last desk.old.keeper.now) desk.old.places.now desk.old.flags.now desk.old.seen.now) searches.now) command.now steps.old steps.new }
     ensures looks { Looks (K.holds desk.old.keeper.now (W.view desk.old.world.now)) (K.holds desk.new.keeper.now (W.view desk.new.world.now)) (K.last desk.old.keeper.now) (K.last desk.new.keeper.now) (K.room desk.old.keeper.now) (K.room desk.new.keeper.now) (W.view desk.old.world.now) (W.view desk.new.world.now) }
     ensures cause { IfErr result (IsCaused K.has_disk (W.view desk.old.world.now).disk_faults (W.view desk.new.world.now).disk_faults) }
 {

@@ -3,7 +3,7 @@ use Rattle.command_text.specs.declared.reply.LastLine.TheVariants.{Done}
 use Rattle.mail_tree.specs.Folders.{replied}
 use Rattle.mail_reading.proofs.mail_draft_laws.DeskCalls.{comes_unchanged}
 use Rattle.mail_reading.specs.Asked.{read}
-use Rattle.mail_reading.proofs.reading.read_on_desk.Goals as goal
+use Rattle.mail_reading.proofs.reading.read.Goals as goal
 
 pub returns-in-Quit-clause-answer : goal.returns-in-Quit-clause-answer
 unfolding read
