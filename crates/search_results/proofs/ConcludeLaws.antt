@@ -1,30 +1,34 @@
 -- What a command comes to where there are searches.
-use Rattle.std.proofs.Common.{◌≡◌, ◌≤◌, ◌+◌, ℕ, ◌&&◌, length, Bool, true, false, List, [], ◌∷◌, ◌++◌, Option, None, Some, Result, Ok, Err, refl, sym, ap, ◌∙◌, subst, if◌then◌else◌}
+use Rattle.std.proofs.Common.{◌≡◌, ◌≤◌, ◌+◌, ℕ, ◌&&◌, length, Bool, true, false, List, [], ◌∷◌, ◌++◌, Option, None, Some, Result, Ok, Err, refl, sym, ◌∙◌, subst, if◌then◌else◌}
+use Rattle.std.specs.Global.{Vec}
+use Rattle.std.specs.Result.{IsErrAnd}
 use Rattle.mail_tree.specs.declared.places.FolderPlace.{FolderPlace}
 use Rattle.command_text.specs.declared.command.Command.{Command}
-use Rattle.pst_base.specs.declared.ids.Nid.{Nid}
-use Rattle.mail_tree.specs.Changing.{Answer, Changed, ◌>>=◌, contents, known, message_at, nothing, table_at, within_limits}
-use Rattle.mail_tree.specs.Folders.{Outcome, made_id}
+use Rattle.mail_tree.specs.Changing.{Answer, Changed, ◌>>=◌, contents, known, message_at, nothing, table_at}
+use Rattle.mail_tree.specs.Folders.{Outcome}
 use Rattle.mail_tree.specs.Places.{is_plain, is_within, place_id}
 use Rattle.mail_tree.specs.Settling.{message_ids}
 use Rattle.mail_tree.specs.Tree.{Tree}
-use Rattle.mail_draft.specs.declared.draft.Draft.{Draft}
-use Rattle.mail_draft.specs.declared.outcome.Outcome.{Outcome as Came}
+use Rattle.mail_draft.specs.declared.coming.Coming.{Coming}
 use Rattle.mail_draft.specs.declared.stop.Stop.{Stop}
 use Rattle.mail_draft.specs.Answers.{Says}
-use Rattle.mail_draft.specs.Drafts.{changed_of}
-use Rattle.mail_draft.specs.Outcomes.{outcome_of, places_after}
-use Rattle.mail_draft.proofs.Passes.{no_matter, stop_says}
-use Rattle.mail_searches.specs.Asking.{places_around, work_of}
+use Rattle.mail_draft.specs.Desks.{Comes, coming_of}
+use Rattle.mail_draft.specs.Sight.{IsAbout, Reads, Sight}
+use Rattle.mail_draft.proofs.DeskCalls.{comes_as, comes_at, no_ok}
+use Rattle.mail_draft.proofs.Passes.{stop_says, then_says}
+use Rattle.mail_searches.specs.Asking.{work_of}
 use Rattle.mail_searches.specs.Relisting.{Around, Touch, around, settled_searches, with_searches}
 use Rattle.mail_searches.specs.Searches.{Search}
 use Rattle.mail_searches.specs.Step.{concluded, if_within}
 use Rattle.mail_searches.specs.Touching.{carried, messages_below, stands_in, touched}
 use Rattle.search_results.specs.declared.forms.TouchForm.{TouchForm}
 use Rattle.search_results.specs.declared.forms.TouchForm.TheVariants as forms
-use Rattle.search_results.specs.Concluding.{settled_within}
+use Rattle.search_results.specs.Concluding.{AsksTouched, Concludes, settled_within}
 use Rattle.search_results.specs.Forms.{form_of, touched_by}
+use Rattle.search_results.specs.Touched.{TouchedBy}
 use Rattle.search_results.proofs.FormLaws.{touched_is}
+use Rattle.search_results.proofs.JoinLaws.{stopped}
+use Rattle.search_results.proofs.Steps.{comes_after}
 
 -- there is an answer, or something isn't of its form: nothing is refused
 abbrev Unrefused : {A : Type 0} → Answer A → Type 0
@@ -68,7 +72,7 @@ module _ (T : Tree) where
   touched_never c o = subst Unrefused (sym (touched_is T c o)) (by_form (form_of c) o)
 
   -- where there are no searches, only the limits are looked at
-  pub idle : {E : Type 0} (view : E → Outcome) (ss : List Search) (c : Command) (o : Outcome) (r : Result E Stop) → ss ≡ [] → Says view (if_within T o) r → Says view (concluded T ss c o) r
+  idle : {E : Type 0} (view : E → Outcome) (ss : List Search) (c : Command) (o : Outcome) (r : Result E Stop) → ss ≡ [] → Says view (if_within T o) r → Says view (concluded T ss c o) r
   unfolding concluded
   idle {E} view ss c o r none h = rw none (pick (touched T c o) (touched_never c o))
     where
@@ -78,7 +82,7 @@ module _ (T : Tree) where
       pick (Err (Some refusal)) never = absurd never
 
   -- with the touched messages, the lists follow them
-  pub follows : {E : Type 0} (view : E → Outcome) (ss : List Search) (c : Command) (o : Outcome) (r : Result E Stop) → Says view (touched T c o >>= λ ts. with_searches T ss ts o >>= if_within T) r → Says view (concluded T ss c o) r
+  follows : {E : Type 0} (view : E → Outcome) (ss : List Search) (c : Command) (o : Outcome) (r : Result E Stop) → Says view (touched T c o >>= λ ts. with_searches T ss ts o >>= if_within T) r → Says view (concluded T ss c o) r
   unfolding concluded
   follows view ss c o r h = pick (touched T c o) h
     where
@@ -87,55 +91,19 @@ module _ (T : Tree) where
       pick (Err e) said = said
 
   -- the touched messages that were read are all
-  pub same_touched : {E : Type 0} (view : E → List Touch) (c : Command) (o : Outcome) (ts : List Touch) (y : E) → touched T c o ≡ Ok ts → Says view (touched T c o) (Ok y) → view y ≡ ts
+  same_touched : {E : Type 0} (view : E → List Touch) (c : Command) (o : Outcome) (ts : List Touch) (y : E) → touched T c o ≡ Ok ts → Says view (touched T c o) (Ok y) → view y ≡ ts
   same_touched view c o ts y e h = subst (λ (a : Answer (List Touch)). Says view a (Ok y)) e h
 
--- where folders stood and stand, as it is known
-pub same_around : (T : Tree) (old new : List FolderPlace) (o : Came) → T.places ≡ old → new ≡ places_after old o.places → places_around old new ≡ around T (outcome_of T o)
-same_around T old new o e same = ap (places_around old) same ∙ ap (λ p. places_around p (places_after p o.places)) (sym e)
-
--- what keeps to the limits, where this is the id of the object that was made
-pub if_fits : {E : Type 0} (T : Tree) (view : E → Outcome) (o : Outcome) (new : Option Nid) (y : E) → new ≡ made_id o.reply.last → Says (λ u. u) (within_limits T new o.changed) (Ok tt) → view y ≡ o → Says view (if_within T o) (Ok y)
-if_fits {E} T view o new y made h e = pick (within_limits T (made_id o.reply.last) o.changed) (subst (λ (n : Option Nid). Says {B = Unit {0}} (λ (u : Unit {0}). u) (within_limits T n o.changed) (Ok tt)) made h)
+-- all searches are settled, and what is then written keeps to the limits
+pub settles_within : {A : Type 0} {old new : Sight A} {result : Result Coming Stop} (ss : List Search) (ts : List Touch) (coming : Coming)
+    → Comes old new (λ T D. settled_searches T (around T (coming_of T D coming)) ts ss D >>= λ E. if_within T (coming_of T E coming)) result
+    → Comes old new (λ T D. settled_within T ss ts (coming_of T D coming)) result
+settles_within {result = result} ss ts coming h = comes_as (λ T D view said. pick T D view (settled_searches T (around T (coming_of T D coming)) ts ss D) said) h
   where
-    pick : (a : Answer (Unit {0})) → Says (λ u. u) a (Ok tt) → Says view (a >>= λ u. Ok o) (Ok y)
-    pick (Ok u) said = e
-    pick (Err None) said = tt
-    pick (Err (Some refusal)) said = absurd said
-
--- what passes one
-pub if_passes : {E : Type 0} (T : Tree) (view : E → Outcome) (o : Outcome) (new : Option Nid) (stop : Stop) → new ≡ made_id o.reply.last → Says {A = Unit {0}} {B = Unit {0}} (λ u. u) (within_limits T new o.changed) (Err stop) → Says view (if_within T o) (Err stop)
-if_passes T view o new stop made h = stop_says {B = Unit {0}} (λ u. u) view (within_limits T (made_id o.reply.last) o.changed) (λ u. Ok o) stop
-    (subst (λ (n : Option Nid). Says {A = Unit {0}} {B = Unit {0}} (λ u. u) (within_limits T n o.changed) (Err stop)) made h)
-
-module _ (T : Tree) (ss : List Search) (ts : List Touch) (o : Outcome) where
-  -- a search can't be settled
-  pub within_stops : {E : Type 0} (view : E → Outcome) (d : Around) (stop : Stop) → d ≡ around T o → Says {B = Draft} changed_of (settled_searches T d ts ss o.changed) (Err stop) → Says view (settled_within T ss ts o) (Err stop)
-  within_stops {E} view d stop e h = pick (settled_searches T (around T o) ts ss o.changed) (subst (λ (x : Around). Says {B = Draft} changed_of (settled_searches T x ts ss o.changed) (Err stop)) e h)
-    where
-      pick : (a : Answer Changed) → Says {B = Draft} changed_of a (Err stop) → Says view ((a >>= λ D. Ok (record o { changed = D })) >>= if_within T) (Err stop)
-      pick (Ok D) said = no_matter view (if_within T (record o { changed = D })) stop said
-      pick (Err None) said = tt
-      pick (Err (Some refusal)) said = said
-
-  -- all are settled
-  pub within_goes : {E : Type 0} (view : E → Outcome) (d : Around) (settled : Draft) (r : Result E Stop) → d ≡ around T o → Says changed_of (settled_searches T d ts ss o.changed) (Ok settled)
-      → Says view (if_within T (record o { changed = changed_of settled })) r → Says view (settled_within T ss ts o) r
-  within_goes {E} view d settled r e h after = pick (settled_searches T (around T o) ts ss o.changed) (subst (λ (x : Around). Says changed_of (settled_searches T x ts ss o.changed) (Ok settled)) e h)
-    where
-      pick : (a : Answer Changed) → Says changed_of a (Ok settled) → Says view ((a >>= λ D. Ok (record o { changed = D })) >>= if_within T) r
-      pick (Ok D) said = subst (λ (x : Changed). Says view (if_within T (record o { changed = x })) r) said after
-      pick (Err None) said = tt
-      pick (Err (Some refusal)) said = absurd said
-
-  -- all are settled, and what is then written keeps to the limits
-  pub within_fits : {E : Type 0} (view : E → Outcome) (d : Around) (settled : Draft) (new : Option Nid) (y : E) → d ≡ around T o → Says changed_of (settled_searches T d ts ss o.changed) (Ok settled)
-      → new ≡ made_id o.reply.last → Says (λ u. u) (within_limits T new (changed_of settled)) (Ok tt) → view y ≡ record o { changed = changed_of settled } → Says view (settled_within T ss ts o) (Ok y)
-  within_fits view d settled new y e h made fits is = within_goes view d settled (Ok y) e h (if_fits T view (record o { changed = changed_of settled }) new y made fits is)
-
--- the same places, the same work
-pub more_work : (ts : List Touch) (ss : List Search) (d e : Around) (old new : ℕ) → d ≡ e → new ≤ old + work_of d ts ss → new ≤ old + work_of e ts ss
-more_work ts ss d e old new same h = subst (λ (x : Around). new ≤ old + work_of x ts ss) same h
+    pick : (T : Tree) (D : Changed) (view : Coming → Outcome) (a : Answer Changed) → Says view (a >>= λ E. if_within T (coming_of T E coming)) result
+        → Says view ((a >>= λ E. Ok (record (coming_of T D coming) { changed = E })) >>= if_within T) result
+    pick T D view (Ok E) said = said
+    pick T D view (Err e) said = said
 
 -- nothing is left of a list of no length
 pub none_there : {A : Type 0} (xs : List A) → length xs ≡ 0 → xs ≡ []
@@ -143,5 +111,37 @@ none_there [] e = refl
 none_there (x ∷ xs) e = cc
 
 -- the same messages and searches, the same work
-pub work_for : (d : Around) (ss ss' : List Search) (ts ts' : List Touch) (old new : ℕ) → ts ≡ ts' → ss' ≡ ss → new ≤ old + work_of d ts ss' → new ≤ old + work_of d ts' ss
+work_for : (d : Around) (ss ss' : List Search) (ts ts' : List Touch) (old new : ℕ) → ts ≡ ts' → ss' ≡ ss → new ≤ old + work_of d ts ss' → new ≤ old + work_of d ts' ss
 work_for d ss ss' ts ts' old new e f h = subst (λ (x : List Touch). new ≤ old + work_of d x ss) e (subst (λ (x : List Search). new ≤ old + work_of d ts x) f h)
+
+module _ {A : Type 0} {old : Sight A} {ss : List Search} {command : Command} {coming : Coming} where
+  -- without searches
+  pub concludes_idle : {new : Sight A} {result : Result Coming Stop} → ss ≡ [] → Comes old new (λ T D. if_within T (coming_of T D coming)) result → Concludes old new ss command coming result
+  concludes_idle {new} {result} none h = record { says = λ T s comes. idle T (coming_of T new.changed) ss command _ result none (h.says T s); fits = h.fits }
+
+  -- the touched messages were read, and lists follow them
+  pub concludes_then : {mid new : Sight A} {result : Result Coming Stop} {ss' : List Search} {touches : Vec Touch} {ts : List Touch} → TouchedBy old command coming (Ok touches) → Reads {R = Vec Touch} old mid (Ok touches)
+      → ss' ≡ ss → ts ≡ touches.items → Comes mid new (λ T D. settled_within T ss' ts (coming_of T D coming)) result → Concludes old new ss command coming result
+  concludes_then {mid} {new} {result} {ss'} {touches} {ts} touched reads same items h =
+      let came = comes_at (λ xs T D. settled_within T ss xs (coming_of T D coming)) items (comes_at (λ xs T D. settled_within T xs ts (coming_of T D coming)) same h) in
+      let after = comes_after reads came in
+      record {
+        says = λ T s comes. follows T (coming_of T new.changed) ss command _ result
+            (then_says (λ ts. ts.items) (coming_of T new.changed) _ (λ ts. settled_within T ss ts (coming_of T old.changed coming)) touches result (touched.says T s comes) (after.says T s));
+        fits = h.fits;
+      }
+
+  -- so many restrictions were reached
+  pub asks_then : {mid : Sight A} {ss' : List Search} {touches : Vec Touch} {ts : List Touch} {before after : ℕ} → TouchedBy old command coming (Ok touches) → Reads {R = Vec Touch} old mid (Ok touches) → ss' ≡ ss → ts ≡ touches.items
+      → IsAbout mid (λ T. after ≤ before + work_of (around T (coming_of T mid.changed coming)) ts ss') → AsksTouched old ss command coming before after
+  asks_then {mid} {ss'} {touches} {ts} {before} {after} touched reads same items h = record {
+    most = λ T s comes all is. work_for (around T (coming_of T mid.changed coming)) ss ss' ts all before after (items ∙ same_touched T (λ x. x.items) command _ all touches is (touched.says T s comes)) same (h T (reads.shows T s));
+  }
+
+  -- they couldn't be read
+  pub concludes_exit : {new : Sight A} {result : Result Coming Stop} {stop : Stop} → TouchedBy old command coming (Err stop) → IsErrAnd result (λ e. e ≡ stop) → Concludes old new ss command coming result
+  concludes_exit {new} {result} {stop} touched is = record {
+    says = λ T s comes. follows T (coming_of T new.changed) ss command _ result
+        (stopped (coming_of T new.changed) _ stop result is (stop_says {B = Vec Touch} (λ ts. ts.items) (coming_of T new.changed) _ (λ ts. settled_within T ss ts (coming_of T old.changed coming)) stop (touched.says T s comes)));
+    fits = no_ok _ _ result is;
+  }

@@ -11,12 +11,12 @@ use Rattle.mail_tree.specs.Changing.{Answer, Changed, ◌>>=◌, as_message, kno
 use Rattle.mail_tree.specs.Settling.{with_context}
 use Rattle.mail_tree.specs.Tree.{Tree}
 use Rattle.mail_tree.specs.Values.{is_read, with_counts}
-use Rattle.mail_draft.specs.declared.draft.Draft.{Draft}
 use Rattle.mail_draft.specs.declared.stop.Stop.{Stop}
-use Rattle.mail_draft.specs.Drafts.{changed_of}
 use Rattle.mail_draft.specs.Answers.{Says}
+use Rattle.mail_draft.specs.Sight.{Changes, Sight}
+use Rattle.mail_draft.proofs.DeskCalls.{changes_at}
 use Rattle.mail_draft.proofs.Passes.{stop_says}
-use Rattle.mail_searches.specs.Relisting.{before_those, counted_search, is_unclear, named, unless_unclear, unread}
+use Rattle.mail_searches.specs.Relisting.{before_those, is_unclear, named, unless_unclear, unread}
 use Rattle.mail_searches.specs.Searches.{results, row_ids}
 use Rattle.search_results.specs.Counting.{flag_at, pair_of, tally, with_flag}
 use Rattle.search_results.specs.declared.counting.Tally.{Tally}
@@ -107,7 +107,7 @@ abbrev pub counted_of : ℕ → Changed → Ctx → ℕ × ℕ → Answer Change
 counted_of s D c n = Ok (with_context s c (with_counts n.0 n.1 false c.props) D)
 
 -- what comes of the count comes of the rows
-pub from_tally : {E : Type 0} (view : E → Changed) (T : Tree) (D : Changed) (s : ℕ) (c : Ctx) (ids : List ℕ) (rows : List (ℕ × List Val)) (r : Result E Stop) → ids ≡ row_ids rows
+from_tally : {E : Type 0} (view : E → Changed) (T : Tree) (D : Changed) (s : ℕ) (c : Ctx) (ids : List ℕ) (rows : List (ℕ × List Val)) (r : Result E Stop) → ids ≡ row_ids rows
     → Says view (tally T D ids >>= counted_of s D c) r
     → Says view (unless_unclear T D rows >>= λ u. Ok (with_context s c (with_counts (length (named T D rows)) (length (unread (named T D rows))) false c.props) D)) r
 from_tally view T D s c ids rows r same h = pick (unless_unclear T D rows) (subst (λ a. Says view (a >>= counted_of s D c) r) (ap (tally T D) same ∙ tally_is T D rows) h)
@@ -117,16 +117,17 @@ from_tally view T D s c ids rows r same h = pick (unless_unclear T D rows) (subs
     pick (Ok u) h = h
     pick (Err e) h = h
 
+pub counts_rows : {A R : Type 0} {old new : Sight A} {r : Result R Stop} (s : ℕ) (c : Ctx) (ids : List ℕ) (rows : List (ℕ × List Val)) → ids ≡ row_ids rows
+    → Changes old new (λ T D. tally T D ids >>= counted_of s D c) r
+    → Changes old new (λ T D. unless_unclear T D rows >>= λ u. Ok (with_context s c (with_counts (length (named T D rows)) (length (unread (named T D rows))) false c.props) D)) r
+counts_rows {old = old} {new = new} {r = r} s c ids rows same h = record { says = λ T shown. from_tally (λ w. new.changed) T old.changed s c ids rows r same (h.says T shown) }
+
 -- a search that was counted
-pub counted_put : (s : ℕ) (c : Ctx) (n : ℕ × ℕ) (messages unread : ℕ) (old props : List Val) (D D' : Changed) → (messages, unread) ≡ n → old ≡ c.props → props ≡ with_counts messages unread false old
-    → D' ≡ with_context s c props D → D' ≡ with_context s c (with_counts n.0 n.1 false c.props) D
-counted_put s c n messages unread old props D D' pair same counts put =
-    put ∙ ap (λ p. with_context s c p D) (counts ∙ ap (with_counts messages unread false) same ∙ ap (λ (k : ℕ × ℕ). with_counts k.0 k.1 false c.props) pair)
+pub counted_put : {A R : Type 0} {old new : Sight A} {r : Result R Stop} (s : ℕ) (c : Ctx) (messages unread : ℕ) {first props : List Val} → first ≡ c.props → props ≡ with_counts messages unread false first
+    → Changes old new (λ T D. Ok (with_context s c props D)) r → Changes old new (λ T D. counted_of s D c (messages, unread)) r
+counted_put s c messages unread same counts h = changes_at (λ p T D. Ok (with_context s c p D)) (counts ∙ ap (with_counts messages unread false) same) h
 
 -- a search's table is put
-pub put_list : (s q : ℕ) (t : Tbl) (D D' : Changed) → q ≡ results s → D' ≡ with_object q (Some (Table t)) D → D' ≡ with_object (results s) (Some (with_rows t.table.rows t)) D
-put_list s q t D D' e put = put ∙ ap (λ x. with_object x (Some (Table t)) D) e
-
--- the same search is counted after the same changes
-pub counts_same : (T : Tree) (s : ℕ) (rows : List (ℕ × List Val)) (D D' : Changed) (r : Result Draft Stop) → D ≡ D' → Says changed_of (counted_search T s rows D) r → Says changed_of (counted_search T s rows D') r
-counts_same T s rows D D' r e h = subst (λ (x : Changed). Says changed_of (counted_search T s rows x) r) e h
+pub put_list : {A R : Type 0} {old new : Sight A} {r : Result R Stop} {q : ℕ} (s : ℕ) (t : Tbl) → q ≡ results s
+    → Changes old new (λ T D. Ok (with_object q (Some (Table t)) D)) r → Changes old new (λ T D. Ok (with_object (results s) (Some (with_rows t.table.rows t)) D)) r
+put_list s t e h = changes_at (λ q T D. Ok (with_object q (Some (Table t)) D)) e h

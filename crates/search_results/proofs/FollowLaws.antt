@@ -1,5 +1,5 @@
 -- How many restrictions are reached, search by search.
-use Rattle.std.proofs.Common.{◌≡◌, ◌<◌, ℕ, ◌+◌, true, false, List, [], ◌∷◌, length, drop, get_or, drop-cons, add-one, arith, refl, sym, ap, subst, inl, inr}
+use Rattle.std.proofs.Common.{◌≡◌, ◌<◌, ◌≤◌, ℕ, ◌+◌, true, false, List, [], ◌∷◌, length, drop, get_or, drop-cons, add-one, arith, refl, sym, ap, subst, inl, inr}
 use Rattle.std.proofs.lemmas.Bool.{cases_Bool}
 use Rattle.mail_searches.specs.Asking.{work_among, work_of}
 use Rattle.mail_searches.specs.Relisting.{Around, Touch}
@@ -30,3 +30,7 @@ module _ (d : Around) where
   pub work_from : (ts : List Touch) (ss : List Search) (i : ℕ) (s : Search) → i < length ss → s ≡ get_or ss i s → work_of d ts (drop i ss) ≡ work_of d ts (s ∷ []) + work_of d ts (drop (i + 1) ss)
   work_from ts ss i s h is =
       subst (λ (x : Search). work_of d ts (drop i ss) ≡ work_of d ts (x ∷ []) + work_of d ts (drop (i + 1) ss)) (sym is) (rw (add-one, drop-cons ss i s h) (work_split ts (get_or ss i s) _))
+
+-- the same places, the same work
+pub more_by : (s : Search) (ts : List Touch) (old new : ℕ) {d e : Around} → d ≡ e → new ≤ old + work_by d s ts → new ≤ old + work_by e s ts
+more_by s ts old new same h = subst (λ (x : Around). new ≤ old + work_by x s ts) same h

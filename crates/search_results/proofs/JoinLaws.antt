@@ -125,7 +125,7 @@ stop_again view view' (Ok x) stop h = h
 stop_again view view' (Err None) stop h = tt
 stop_again view view' (Err (Some refusal)) stop h = h
 
--- the places of the tree are those that are known
-pub all_below : {D : Type 0} (view : D → List Touch) (T : Tree) (f : ℕ) (places : List FolderPlace) (r : Result D Stop) → T.places ≡ places
-    → Says view (joined (carried_in T f) places) r → Says view (joined (carried_in T f) T.places) r
-all_below view T f places r same h = subst (λ ps. Says view (joined (carried_in T f) ps) r) (sym same) h
+-- these are the folders
+pub all_below : {D : Type 0} (view : D → List Touch) (T : Tree) (f : ℕ) {ps places : List FolderPlace} (r : Result D Stop) → ps ≡ places
+    → Says view (joined (carried_in T f) ps) r → Says view (joined (carried_in T f) places) r
+all_below view T f r same h = subst (λ x. Says view (joined (carried_in T f) x) r) same h

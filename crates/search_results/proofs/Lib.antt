@@ -5,4 +5,6 @@ pub mod FollowLaws
 pub mod FormLaws
 pub mod JoinLaws
 pub mod RelistLaws
+pub mod Steps
 pub mod StoodLaws
+pub mod TouchLaws

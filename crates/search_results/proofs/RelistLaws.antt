@@ -1,7 +1,8 @@
 -- The list of a search after messages were touched.
-use Rattle.std.proofs.Common.{◌≡◌, ◌<◌, ◌≤◌, ℕ, zero, suc, min, arith, ◌+◌, Bool, true, false, List, [], ◌∷◌, length, drop, get_or, drop-cons, add-one, map, Result, Ok, Err, refl, sym, ap, ◌∙◌, subst, if◌then◌else◌}
+use Rattle.std.proofs.Common.{◌≡◌, ◌<◌, ◌≤◌, ℕ, zero, suc, min, arith, ◌+◌, Bool, true, false, List, [], ◌∷◌, length, drop, get_or, drop-cons, add-one, map, Option, Result, Ok, Err, IfOk, refl, sym, ap, ◌∙◌, subst, if◌then◌else◌}
 use Rattle.std.proofs.lemmas.List.{drop_all}
 use Rattle.std.specs.List.{list_any}
+use Rattle.std.specs.Result.{IsErrAnd}
 use Rattle.pst_base.specs.Flat.{Flat}
 use Rattle.mapi_values.specs.Tables.{Tab}
 use Rattle.mapi_values.specs.Values.{Val}
@@ -10,14 +11,28 @@ use Rattle.live_search.specs.declared.touching.Delta.{Delta}
 use Rattle.mail_objects.specs.Forms.{Tbl}
 use Rattle.mail_tree.specs.Changing.{Answer, Changed, ◌>>=◌, table_at}
 use Rattle.mail_tree.specs.Tree.{Tree}
-use Rattle.mail_draft.specs.declared.draft.Draft.{Draft}
+use Rattle.mail_tree.specs.declared.places.FolderPlace.{FolderPlace}
 use Rattle.mail_draft.specs.declared.stop.Stop.{Stop}
 use Rattle.mail_draft.specs.Answers.{Says}
-use Rattle.mail_draft.specs.Drafts.{changed_of}
+use Rattle.mail_draft.specs.Outcomes.{places_after}
+use Rattle.mail_draft.specs.Sight.{Answers, Changes, IsAbout, Sight}
 use Rattle.mail_draft.proofs.Passes.{stop_says, then_says}
+use Rattle.mail_searches.specs.Asking.{places_around}
 use Rattle.mail_searches.specs.Relisting.{Around, Touch, by_delta, is_gone, props_of, relisted, settled_search, settled_searches, takes_row, with_results}
 use Rattle.mail_searches.specs.Searches.{Search, results, runs}
-use Rattle.search_results.specs.Following.{changes_at, delta_at, drop_gone, relisted_by, with_list, without_gone}
+use Rattle.search_results.proofs.JoinLaws.{stopped}
+use Rattle.search_results.specs.Following.{around_move, changes_at, delta_at, drop_gone, relisted_by, with_list, without_gone}
+
+-- where folders stood and stand, as it is known
+pub known_around : (T : Tree) (new : Option (List FolderPlace)) {before after : List FolderPlace} → T.places ≡ before → after ≡ places_after before new
+    → places_around before after ≡ around_move T new
+known_around T new {before} same e = ap (places_around before) e ∙ ap (λ p. places_around p (places_after p new)) (sym same)
+
+-- so what is said of it is said of each tree that is shown
+pub known_of : {A X E : Type 0} (desk : Sight A) (P : X → Around → Type 0) (new : Option (List FolderPlace)) {before after : List FolderPlace} (r : Result X E) → IsAbout desk (λ T. T.places ≡ before) → after ≡ places_after before new
+    → IfOk r (λ x. P x (places_around before after)) → IfOk r (λ x. IsAbout desk (λ T. P x (around_move T new)))
+known_of desk P new (Ok x) known e h = λ T shown. subst (P x) (known_around T new (known T shown) e) h
+known_of desk P new (Err stop) known e h = tt
 
 -- tables with the same parts are the same
 abbrev tab_of : List Column → List ℕ → List (ℕ × List Val) → List Flat → Tab
@@ -60,73 +75,74 @@ module _ (T : Tree) (d : Around) (ts : List Touch) (s : Search) (D : Changed) wh
   unfolding with_results
   same_results rows t = refl
 
-  -- how a search is settled whose rows change
-  abbrev Relists : (Draft → Changed) → Result Draft Stop → Tbl → Type 0
-  Relists view r t = Says view (with_results T s.nid (relisted d s t.table.columns ts t.table.rows) t D) r
+module _ {E : Type 0} (T : Tree) (d : Around) (ts : List Touch) (s : Search) (D : Changed) (view : E → Changed) (r : Result E Stop) where
+  relists : (rows : List (ℕ × List Val)) (node list : Tbl) → rows ≡ relisted d s node.table.columns ts node.table.rows → list ≡ with_list rows node
+      → Says view (with_results T s.nid list.table.rows list D) r → Says view (with_results T s.nid (relisted d s node.table.columns ts node.table.rows) node D) r
+  relists rows node list same e h =
+      subst (λ (x : List (ℕ × List Val)). Says view (with_results T s.nid x node D) r) same
+      (subst (λ (a : Answer Changed). Says view a r) (same_results T d ts s D rows node)
+      (subst (λ (l : Tbl). Says view (with_results T s.nid l.table.rows l D) r) e h))
 
-  relists : (rows : List (ℕ × List Val)) (node list : Tbl) (r : Result Draft Stop) → rows ≡ relisted d s node.table.columns ts node.table.rows → list ≡ with_list rows node
-      → Says changed_of (with_results T s.nid list.table.rows list D) r → Relists changed_of r node
-  relists rows node list r same e h =
-      subst (λ (x : List (ℕ × List Val)). Says changed_of (with_results T s.nid x node D) r) same
-      (subst (λ (a : Answer Changed). Says changed_of a r) (same_results rows node)
-      (subst (λ (l : Tbl). Says changed_of (with_results T s.nid l.table.rows l D) r) e h))
-
-  pub settles_running : (node list : Tbl) (deltas : List Delta) (r : Result Draft Stop) → runs s ≡ true → list_any (changes_at d s) ts ≡ true → Says (λ t. t) (table_at T D (results s.nid)) (Ok node)
-      → deltas ≡ map (delta_at d s) ts → list ≡ with_list (relisted_by node.table.columns ts deltas node.table.rows) node → Says changed_of (with_results T s.nid list.table.rows list D) r → Says changed_of (settled_search T d ts s D) r
+  pub settles_running : (node list : Tbl) (deltas : List Delta) → runs s ≡ true → list_any (changes_at d s) ts ≡ true → Says (λ (t : Tbl). t) (table_at T D (results s.nid)) (Ok node)
+      → deltas ≡ map (delta_at d s) ts → list ≡ with_list (relisted_by node.table.columns ts deltas node.table.rows) node → Says view (with_results T s.nid list.table.rows list D) r → Says view (settled_search T d ts s D) r
   unfolding settled_search
-  settles_running node list deltas r run change table same e h =
-      rw (run, change) (then_says (λ t. t) changed_of (table_at T D (results s.nid)) _ node r table
-      (relists (relisted_by node.table.columns ts deltas node.table.rows) node list r
+  settles_running node list deltas run change table same e h =
+      rw (run, change) (then_says (λ (t : Tbl). t) view (table_at T D (results s.nid)) _ node r table
+      (relists (relisted_by node.table.columns ts deltas node.table.rows) node list
       (ap (λ x. relisted_by node.table.columns ts x node.table.rows) same ∙ by_deltas d s node.table.columns ts node.table.rows run) e h))
 
-  pub settles_halted : (node list : Tbl) (r : Result Draft Stop) → runs s ≡ false → list_any is_gone ts ≡ true → Says (λ t. t) (table_at T D (results s.nid)) (Ok node) → takes_row node.table.rows ts ≡ true
-      → list ≡ with_list (without_gone ts node.table.rows) node → Says changed_of (with_results T s.nid list.table.rows list D) r → Says changed_of (settled_search T d ts s D) r
+  pub settles_halted : (node list : Tbl) → runs s ≡ false → list_any is_gone ts ≡ true → Says (λ (t : Tbl). t) (table_at T D (results s.nid)) (Ok node) → takes_row node.table.rows ts ≡ true
+      → list ≡ with_list (without_gone ts node.table.rows) node → Says view (with_results T s.nid list.table.rows list D) r → Says view (settled_search T d ts s D) r
   unfolding settled_search
-  settles_halted node list r run gone table takes e h =
-      rw (run, gone) (then_says (λ t. t) changed_of (table_at T D (results s.nid)) _ node r table
-      (rw takes (relists (without_gone ts node.table.rows) node list r (by_gone d s node.table.columns ts node.table.rows run) e h)))
+  settles_halted node list run gone table takes e h =
+      rw (run, gone) (then_says (λ (t : Tbl). t) view (table_at T D (results s.nid)) _ node r table
+      (rw takes (relists (without_gone ts node.table.rows) node list (by_gone d s node.table.columns ts node.table.rows run) e h)))
 
-  -- no row changes
-  pub stays_running : (draft : Draft) → D ≡ changed_of draft → runs s ≡ true → list_any (changes_at d s) ts ≡ false → Says changed_of (settled_search T d ts s D) (Ok draft)
+-- no row changes, or the table can't be read
+module _ {A R : Type 0} {old new : Sight A} (d : Tree → Around) (ts : List Touch) (s : Search) where
+  pub stays_running : (y : R) → IsAbout old (λ T. list_any (changes_at (d T) s) ts ≡ false) → runs s ≡ true → new.changed ≡ old.changed → Changes old new (λ T. settled_search T (d T) ts s) (Ok y)
   unfolding settled_search
-  stays_running draft e run change = rw (run, change) (sym e)
+  stays_running y change run same = record { says = λ T shown. rw (run, change T shown) same }
 
-  pub stays_halted : (draft : Draft) → D ≡ changed_of draft → runs s ≡ false → list_any is_gone ts ≡ false → Says changed_of (settled_search T d ts s D) (Ok draft)
+  pub stays_halted : (y : R) → list_any is_gone ts ≡ false → runs s ≡ false → new.changed ≡ old.changed → Changes old new (λ T. settled_search T (d T) ts s) (Ok y)
   unfolding settled_search
-  stays_halted draft e run gone = rw (run, gone) (sym e)
+  stays_halted y gone run same = record { says = λ T shown. rw (run, gone) same }
 
-  pub keeps_halted : (draft : Draft) (node : Tbl) → D ≡ changed_of draft → runs s ≡ false → list_any is_gone ts ≡ true → Says (λ t. t) (table_at T D (results s.nid)) (Ok node) → takes_row node.table.rows ts ≡ false
-      → Says changed_of (settled_search T d ts s D) (Ok draft)
+  pub keeps_halted : (y : R) (node : Tbl) → runs s ≡ false → list_any is_gone ts ≡ true → Answers old (λ (t : Tbl). t) (λ T D. table_at T D (results s.nid)) (Ok node) → takes_row node.table.rows ts ≡ false
+      → new.changed ≡ old.changed → Changes old new (λ T. settled_search T (d T) ts s) (Ok y)
   unfolding settled_search
-  keeps_halted draft node e run gone table takes =
-      rw (run, gone) (then_says (λ t. t) changed_of (table_at T D (results s.nid)) _ node (Ok draft) table (rw takes (sym e)))
+  keeps_halted y node run gone table takes same = record {
+    says = λ T shown. rw (run, gone) (then_says {D = R} (λ (t : Tbl). t) (λ w. new.changed) (table_at T old.changed (results s.nid)) _ node (Ok y) (table.says T shown) (rw takes same));
+  }
 
-  -- the table can't be read
-  pub stops_running : (stop : Stop) → runs s ≡ true → list_any (changes_at d s) ts ≡ true → Says {B = Tbl} (λ t. t) (table_at T D (results s.nid)) (Err stop) → Says {B = Draft} changed_of (settled_search T d ts s D) (Err stop)
+  pub stops_running : {stop : Stop} (r : Result R Stop) → IsAbout old (λ T. list_any (changes_at (d T) s) ts ≡ true) → runs s ≡ true → Answers {Y = Tbl} old (λ t. t) (λ T D. table_at T D (results s.nid)) (Err stop)
+      → IsErrAnd r (λ e. e ≡ stop) → Changes old new (λ T. settled_search T (d T) ts s) r
   unfolding settled_search
-  stops_running stop run change table = rw (run, change) (stop_says {B = Tbl} {D = Draft} (λ t. t) changed_of (table_at T D (results s.nid)) _ stop table)
+  stops_running {stop} r change run table is = record {
+    says = λ T shown. rw (run, change T shown) (stopped (λ (w : R). new.changed) _ stop r is (stop_says {B = Tbl} {D = R} (λ t. t) (λ w. new.changed) (table_at T old.changed (results s.nid)) _ stop (table.says T shown)));
+  }
 
-  pub stops_halted : (stop : Stop) → runs s ≡ false → list_any is_gone ts ≡ true → Says {B = Tbl} (λ t. t) (table_at T D (results s.nid)) (Err stop) → Says {B = Draft} changed_of (settled_search T d ts s D) (Err stop)
+  pub stops_halted : {stop : Stop} (r : Result R Stop) → list_any is_gone ts ≡ true → runs s ≡ false → Answers {Y = Tbl} old (λ t. t) (λ T D. table_at T D (results s.nid)) (Err stop)
+      → IsErrAnd r (λ e. e ≡ stop) → Changes old new (λ T. settled_search T (d T) ts s) r
   unfolding settled_search
-  stops_halted stop run gone table = rw (run, gone) (stop_says {B = Tbl} {D = Draft} (λ t. t) changed_of (table_at T D (results s.nid)) _ stop table)
+  stops_halted {stop} r gone run table is = record {
+    says = λ T shown. rw (run, gone) (stopped (λ (w : R). new.changed) _ stop r is (stop_says {B = Tbl} {D = R} (λ t. t) (λ w. new.changed) (table_at T old.changed (results s.nid)) _ stop (table.says T shown)));
+  }
 
 -- a search and those behind it
-pub settled_on : (T : Tree) (d : Around) (ts : List Touch) (ss : List Search) (i : ℕ) (s : Search) (D : Changed) → i < length ss → s ≡ get_or ss i s
+settled_on : (T : Tree) (d : Around) (ts : List Touch) (ss : List Search) (i : ℕ) (s : Search) (D : Changed) → i < length ss → s ≡ get_or ss i s
     → settled_searches T d ts (drop i ss) D ≡ (settled_search T d ts s D >>= settled_searches T d ts (drop (i + 1) ss))
 settled_on T d ts ss i s D h is = subst (λ (x : Search). settled_searches T d ts (drop i ss) D ≡ (settled_search T d ts x D >>= settled_searches T d ts (drop (i + 1) ss))) (sym is) (rw (add-one, drop-cons ss i s h) refl)
 
-pub settled_end : (T : Tree) (d : Around) (ts : List Touch) (ss : List Search) (i : ℕ) (D : Changed) → length ss ≤ i → settled_searches T d ts (drop i ss) D ≡ Ok D
-settled_end T d ts ss i D past = rw (drop_all i ss past) refl
-
 -- searches are settled one after the other
-module _ (T : Tree) (d : Around) (ts : List Touch) (ss : List Search) (i : ℕ) (s : Search) (D : Changed) where
-  pub settled_stops : (stop : Stop) → i < length ss → s ≡ get_or ss i s → Says {B = Draft} changed_of (settled_search T d ts s D) (Err stop) → Says {B = Draft} changed_of (settled_searches T d ts (drop i ss) D) (Err stop)
-  settled_stops stop h is said = rw (settled_on T d ts ss i s D h is) (stop_says {B = Draft} {D = Draft} changed_of changed_of (settled_search T d ts s D) (settled_searches T d ts (drop (i + 1) ss)) stop said)
+module _ {E : Type 0} (T : Tree) (d : Around) (ts : List Touch) (ss : List Search) (i : ℕ) (s : Search) (D : Changed) where
+  pub settled_stops : {F : Type 0} (view : E → Changed) (view' : F → Changed) (stop : Stop) → i < length ss → s ≡ get_or ss i s → Says view (settled_search T d ts s D) (Err stop) → Says view' (settled_searches T d ts (drop i ss) D) (Err stop)
+  settled_stops view view' stop h is said = rw (settled_on T d ts ss i s D h is) (stop_says view view' (settled_search T d ts s D) (settled_searches T d ts (drop (i + 1) ss)) stop said)
 
-  pub settled_goes : (draft : Draft) (r : Result Draft Stop) → i < length ss → s ≡ get_or ss i s → Says changed_of (settled_search T d ts s D) (Ok draft)
-      → Says changed_of (settled_searches T d ts (drop (i + 1) ss) (changed_of draft)) r → Says changed_of (settled_searches T d ts (drop i ss) D) r
-  settled_goes draft r h is said after = rw (settled_on T d ts ss i s D h is) (then_says changed_of changed_of (settled_search T d ts s D) (settled_searches T d ts (drop (i + 1) ss)) draft r said after)
+  pub settled_goes : {F : Type 0} (view : E → Changed) (view' : F → Changed) (y : E) (r : Result F Stop) → i < length ss → s ≡ get_or ss i s → Says view (settled_search T d ts s D) (Ok y)
+      → Says view' (settled_searches T d ts (drop (i + 1) ss) (view y)) r → Says view' (settled_searches T d ts (drop i ss) D) r
+  settled_goes view view' y r h is said after = rw (settled_on T d ts ss i s D h is) (then_says view view' (settled_search T d ts s D) (settled_searches T d ts (drop (i + 1) ss)) y r said after)
 
 -- all are settled
-pub settled_all : (T : Tree) (d : Around) (ts : List Touch) (ss : List Search) (i : ℕ) (draft : Draft) → length ss ≤ i → Says changed_of (settled_searches T d ts (drop i ss) (changed_of draft)) (Ok draft)
-settled_all T d ts ss i draft past = rw (settled_end T d ts ss i (changed_of draft) past) refl
+pub settled_all : {E : Type 0} (T : Tree) (d : Around) (ts : List Touch) (ss : List Search) (i : ℕ) (D : Changed) (y : E) → length ss ≤ i → Says (λ (z : E). D) (settled_searches T d ts (drop i ss) D) (Ok y)
+settled_all T d ts ss i D y past = rw (drop_all i ss past) refl

@@ -1,5 +1,5 @@
 -- How the messages are counted that rows name.
-use Rattle.std.specs.Prelude.{ℕ, ◌+◌, ◌&&◌, Bool, List, [], ◌∷◌, Option, None, Some, Result, Ok, Err, if◌then◌else◌}
+use Rattle.std.specs.Prelude.{ℕ, ◌+◌, Bool, List, [], ◌∷◌, Option, None, Some, Result, Ok, Err, if◌then◌else◌}
 use Rattle.std.specs.Option.{is_some}
 use Rattle.mail_tree.specs.Changing.{Answer, Changed as Changes, ◌>>=◌, as_message, now_at}
 use Rattle.mail_tree.specs.Tree.{Tree, object_at}

@@ -1,14 +1,21 @@
 -- What becomes of touched messages in the list of a running search.
-use Rattle.std.specs.Prelude.{ℕ, ◌+◌, Bool, List, [], ◌∷◌, if◌then◌else◌}
+use Rattle.std.specs.Prelude.{ℕ, ◌+◌, Bool, List, [], ◌∷◌, Option, if◌then◌else◌}
 use Rattle.mapi_values.specs.Tables.{drop_row}
 use Rattle.mapi_values.specs.Values.{Val}
 use Rattle.mapi_values.specs.declared.column.Column.{Column}
 use Rattle.mail_objects.specs.Forms.{Tbl}
 use Rattle.live_search.specs.Touching.{delta}
 use Rattle.live_search.specs.declared.touching.Delta.{Delta}
-use Rattle.mail_searches.specs.Asking.{work_in}
+use Rattle.mail_draft.specs.Outcomes.{places_after}
+use Rattle.mail_tree.specs.Tree.{Tree}
+use Rattle.mail_tree.specs.declared.places.FolderPlace.{FolderPlace}
+use Rattle.mail_searches.specs.Asking.{places_around, work_in}
 use Rattle.mail_searches.specs.Relisting.{Around, Touch, by_delta, changes_row, is, is_gone, props_of, was}
 use Rattle.mail_searches.specs.Searches.{Search}
+
+-- where folders stood before a command, and where they stand after it, where this says how they moved, if they did
+abbrev pub around_move : Tree → Option (List FolderPlace) → Around
+around_move T new = places_around T.places (places_after T.places new)
 
 -- what becomes of a touched message in the list of a search
 abbrev pub delta_at : Around → Search → Touch → Delta

@@ -3,3 +3,4 @@ pub mod Counting
 pub mod Following
 pub mod Forms
 pub mod Moving
+pub mod Touched

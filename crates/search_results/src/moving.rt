@@ -8,7 +8,6 @@ ghost use Rattle.search_results.specs.Moving.{carried_along, carried_one, carrie
 use crate::desk::SearchDesk;
 use crate::touched::TouchedMessage;
 use mail_draft::{Desk, Stop, contents};
-use mail_folders::FolderDesk;
 use mail_tree::{FolderPlace, Places, Sort};
 use pst_base::Nid;
 

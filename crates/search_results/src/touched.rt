@@ -1,13 +1,11 @@
 //! The messages that a command touches.
-ghost use Rattle.std.specs.Prelude.{◌≡◌, ◌∷◌, [], IfErr, IfOk, Ok, true, is_some, option_copied};
-ghost use Rattle.mail_tree.specs.Changing.{as_message};
-ghost use Rattle.mail_tree.specs.Step.{outcome as outcome_in_tree};
+ghost use Rattle.std.specs.Prelude.{◌≡◌, IfErr, IfOk, option_copied};
+ghost use Rattle.mail_tree.specs.Changing.{as_message, now_at};
 ghost use Rattle.mail_tree.specs.Tree.{object_at};
-ghost use Rattle.mail_draft.specs.Answers.{IsCalm, Says};
-ghost use Rattle.mail_draft.specs.Desks.{coming_of};
+ghost use Rattle.mail_draft.specs.Answers.{IsCalm};
 ghost use Rattle.mail_draft.specs.Sight.{IsAbout, Reads};
-ghost use Rattle.mail_searches.specs.Touching.{made, touch_at, touched};
-ghost use Rattle.search_results.specs.Forms.{IsNew};
+ghost use Rattle.search_results.specs.Touched.{TouchedBy, Touches, touch_after};
+ghost use Rattle.search_results.specs.declared.forms.TouchForm.TheVariants as forms;
 
 use crate::desk::SearchDesk;
 use crate::forms::{TouchForm, form_of};
@@ -63,7 +61,7 @@ fn new_message<D: SearchDesk>(
     nid: Nid,
     old: &Option<Mail>,
 ) -> Result<Option<Mail>, AllocError>
-    ensures { IfOk result (λ new. IsAbout (D.view desk.now) (λ T. (coming : Coming) → as_message (object_at T nid.bits) ≡ old.now → new ≡ (touch_at T (coming_of T (D.view desk.now).changed coming) nid.bits).new)) }
+    ensures { IfOk result (λ new. IsAbout (D.view desk.now) (λ T. as_message (object_at T nid.bits) ≡ old.now → new ≡ as_message (now_at T (D.view desk.now).changed nid.bits))) }
 {
     match desk.drafted(nid) {
         Some(object) => copied(desk.alloc(), as_message(object)),
@@ -77,7 +75,7 @@ fn touch_at<D: SearchDesk>(
     nid: Nid,
     old: Option<Mail>,
 ) -> Result<TouchedMessage, AllocError>
-    ensures { IfOk result (λ t. IsAbout (D.view desk.now) (λ T. (coming : Coming) → as_message (object_at T nid.bits) ≡ old → t ≡ touch_at T (coming_of T (D.view desk.now).changed coming) nid.bits)) }
+    ensures { IfOk result (λ t. IsAbout (D.view desk.now) (λ T. as_message (object_at T nid.bits) ≡ old → t ≡ touch_after T (D.view desk.now).changed nid.bits)) }
 {
     let new = new_message(desk, nid, &old)?;
     Ok(TouchedMessage {
@@ -90,7 +88,7 @@ fn touch_at<D: SearchDesk>(
 
 /// The message that a command made, by its reply. It wasn't there before.
 fn made<D: SearchDesk>(desk: &D, coming: &Coming) -> Result<Vec<TouchedMessage>, Stop>
-    ensures answer { IsAbout (D.view desk.now) (λ T. IsNew T coming.now.reply.last → Says (λ ts. ts.items) (Ok (made T (coming_of T (D.view desk.now).changed coming.now) coming.now.reply.last)) result) }
+    ensures answer { Touches (D.view desk.now) forms.Made coming.now result }
     ensures cause { IfErr result IsCalm }
 {
     match &coming.reply.last {
@@ -105,7 +103,7 @@ fn made<D: SearchDesk>(desk: &D, coming: &Coming) -> Result<Vec<TouchedMessage>,
 /// The message with this id, which was there before.
 fn touched_message<D: SearchDesk>(desk: &mut D, nid: Nid) -> Result<Vec<TouchedMessage>, Stop>
     ensures reads { Reads (D.view desk.old) (D.view desk.new) result }
-    ensures answer { IsAbout (D.view desk.old) (λ T. (coming : Coming) → is_some (as_message (object_at T nid.bits)) ≡ true → Says (λ ts. ts.items) (Ok (touch_at T (coming_of T (D.view desk.old).changed coming) nid.bits ∷ [])) result) }
+    ensures answer { (coming : Coming) → Touches (D.view desk.old) (forms.Message nid) coming result }
 {
     let old = desk.message_before(nid)?;
     let touch = touch_at(desk, nid, Some(old))?;
@@ -119,7 +117,7 @@ pub(crate) fn touched<D: SearchDesk>(
     coming: &Coming,
 ) -> Result<Vec<TouchedMessage>, Stop>
     ensures reads { Reads (D.view desk.old) (D.view desk.new) result }
-    ensures answer { IsAbout (D.view desk.old) (λ T. outcome_in_tree T command.now ≡ Ok (coming_of T (D.view desk.old).changed coming.now) → Says (λ ts. ts.items) (touched T command.now (coming_of T (D.view desk.old).changed coming.now)) result) }
+    ensures answer { TouchedBy (D.view desk.old) command.now coming.now result }
 {
     match form_of(command) {
         TouchForm::Nothing => Ok(Vec::new(desk.alloc())),

@@ -1,25 +1,27 @@
 use Rattle.std.proofs.Common.{◌∙◌, ap}
-use Rattle.std.proofs.lemmas.Result.{err_from_is_err_and}
-use Rattle.mail_searches.specs.Relisting.{with_results}
+use Rattle.mail_tree.specs.Changing.{◌>>=◌}
+use Rattle.mail_tree.specs.Settling.{mirrored}
+use Rattle.mail_draft.proofs.DeskCalls.{both_change, first_exits}
+use Rattle.mail_searches.specs.Relisting.{counted_search, with_results}
 use Rattle.mail_searches.specs.Searches.{row_ids}
-use Rattle.mail_draft.proofs.Looking.{shown_still}
-use Rattle.mail_draft.proofs.Passes.{stop_says, then_says}
-use Rattle.search_results.proofs.CountLaws.{counts_same, put_list}
+use Rattle.search_results.proofs.CountLaws.{put_list}
 use Rattle.search_results.proofs.results.with_results.Goals as goal
 
-pub returns-in_err-counted-clause-answer : goal.returns-in_err-counted-clause-answer
+pub returns-in_err-put-clause-answer : goal.returns-in_err-put-clause-answer
 unfolding with_results
-returns-in_err-counted-clause-answer g c =
-    let p = err_from_is_err_and c.from_residual-in_err-counted.result c.from_residual-in_err-counted.ensures.1 in
-    let t = c.args.table in let s = c.args.search.bits in
-    rw (p.1, p.2) (λ T shown are.
-    stop_says _ _ _ _ _ (counts_same T s t.table.rows _ _ _ (put_list s _ t _ _ c.results_table.ensures c.in_ok-put.ensures)
-    (c.in_err-counted.ensures.answer T t.table.rows shown are (c.as_slice.ensures.value ∙ c.in_ok-ids.ensures ∙ ap (λ x. row_ids x.rows) c.table-2.ensures.table))))
+returns-in_err-put-clause-answer g c = first_exits (λ T D. counted_search T c.args.search.bits c.args.table.table.rows D >>= mirrored T c.args.search.bits) (put_list c.args.search.bits c.args.table c.results_table.ensures c.in_err-put.ensures.answer) c.from_residual-in_err-put.ensures.1
+
+pub returns-in_err-counted_search-clause-answer : goal.returns-in_err-counted_search-clause-answer
+unfolding with_results
+returns-in_err-counted_search-clause-answer g c =
+    let t = c.args.table in
+    both_change _ (put_list c.args.search.bits t c.results_table.ensures c.in_ok-put.ensures.answer) c.in_ok-put.ensures.drafts
+    (first_exits _ (c.in_err-counted_search.ensures.answer t.table.rows (c.as_slice.ensures.value ∙ c.in_ok-ids.ensures ∙ ap (λ x. row_ids x.rows) c.table-2.ensures.table)) c.from_residual-in_err-counted_search.ensures.1)
 
 pub returns-clause-answer : goal.returns-clause-answer
 unfolding with_results
-returns-clause-answer g c = λ T shown are.
-    let t = c.args.table in let s = c.args.search.bits in
-    then_says _ _ _ _ _ _ (counts_same T s t.table.rows _ _ _ (put_list s _ t _ _ c.results_table.ensures c.in_ok-put.ensures)
-    (c.in_ok-counted.ensures.answer T t.table.rows shown are (c.as_slice.ensures.value ∙ c.in_ok-ids.ensures ∙ ap (λ x. row_ids x.rows) c.table-2.ensures.table)))
-    (c.mirrored.ensures.answer T (shown_still T c.in_ok-counted.ensures.looks shown))
+returns-clause-answer g c =
+    let t = c.args.table in
+    both_change _ (put_list c.args.search.bits t c.results_table.ensures c.in_ok-put.ensures.answer) c.in_ok-put.ensures.drafts
+    (both_change _ (c.in_ok-counted_search.ensures.answer t.table.rows (c.as_slice.ensures.value ∙ c.in_ok-ids.ensures ∙ ap (λ x. row_ids x.rows) c.table-2.ensures.table)) c.in_ok-counted_search.ensures.drafts
+    c.mirror.ensures.answer)
