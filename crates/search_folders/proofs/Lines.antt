@@ -10,13 +10,12 @@ use Rattle.command_text.specs.declared.reply.DataLine.{DataLine}
 use Rattle.command_text.specs.declared.reply.DataLine.TheVariants as lines
 use Rattle.mail_objects.specs.declared.object.Object.{Object}
 use Rattle.mail_objects.specs.declared.object.Object.TheVariants.{Context, Table, Message, Bare}
-use Rattle.node_port.specs.Nodes.{Nodes, node_at}
-use Rattle.node_port.specs.declared.node.NodeRec.{NodeRec}
 use Rattle.mail_tree.specs.Changing.{Answer, ◌>>=◌, as_message, known, nothing, now_at}
 use Rattle.mail_tree.specs.Folders.{Outcome, listed, listing, nid, unchanged}
-use Rattle.mail_tree.specs.Tree.{Shown, StandsAt, Tree, object_at}
+use Rattle.mail_tree.specs.Tree.{Tree, object_at}
 use Rattle.mail_tree.specs.Values.{number_of, text_of}
 use Rattle.mail_draft.specs.Answers.{Says}
+use Rattle.mail_draft.specs.Sight.{AreOwn}
 use Rattle.mail_draft.specs.declared.stop.Stop.{Stop}
 use Rattle.mail_draft.proofs.Passes.{stop_says, then_says}
 use Rattle.mail_folders.specs.Pieces.{line_of_message}
@@ -39,13 +38,12 @@ unclear_is : (T : Tree) (q : ℕ) → is_unclear T nothing q ≡ is_untold T q
 unclear_is T q = rw (nothing_put q) refl
 
 -- a message tells its own id
-own_id : (q : ℕ) (n : Option NodeRec) (o : Option Object) (other : Option NodeRec) (M : Mes) → StandsAt q n o other → as_message o ≡ Some M → M.nid ≡ q
-own_id q n None other M stands is = cc
-own_id q n (Some (Context c)) other M stands is = cc
-own_id q n (Some (Table t)) other M stands is = cc
-own_id q n (Some (Bare parent)) other M stands is = cc
-own_id q n (Some (Message m)) other M stands is =
-    let same : m ≡ M = cc in ap (λ (x : Mes). x.nid) (sym same) ∙ stands.1.2.message.id
+own_id : (o : Option Object) (q : ℕ) (M : Mes) → ((m : Mes) → o ≡ Some (Message m) → m.nid ≡ q) → as_message o ≡ Some M → M.nid ≡ q
+own_id None q M own is = cc
+own_id (Some (Context c)) q M own is = cc
+own_id (Some (Table t)) q M own is = cc
+own_id (Some (Bare parent)) q M own is = cc
+own_id (Some (Message m)) q M own is = let same : m ≡ M = cc in ap (λ (x : Mes). x.nid) (sym same) ∙ own m refl
 
 -- the lines so far, where this is the message and it can be told whether it is one
 abbrev line_by : List DataLine → Bool → Option Mes → Answer (List DataLine)
@@ -84,12 +82,12 @@ stop_by view before q true message stop there said = tt
 stop_by view before q false None stop there said = cc
 stop_by view before q false (Some M) stop there said = said
 
-pub one_line : {D : Type 0} {holds : Nodes → Type 0} {last : List ℕ} (view : D → List DataLine) (T : Tree) (s : Shown holds last T) (before : List DataLine) (q : ℕ) (line : DataLine) (out : D) → Says (λ b. b) (message_told T q) (Ok true)
+pub one_line : {D : Type 0} (view : D → List DataLine) (T : Tree) (own : AreOwn T) (before : List DataLine) (q : ℕ) (line : DataLine) (out : D) → Says (λ b. b) (message_told T q) (Ok true)
     → Says (λ l. l) (line_of_message T q) (Ok line) → view out ≡ before ++ (line ∷ []) → Says view (named_line T before q) (Ok out)
 unfolding line_of_message
-one_line view T s before q line out there said is =
+one_line view T own before q line out there said is =
     rw (line_is T before q)
-    (by_message view before q (is_untold T q) (as_message (object_at T q)) line out (λ M here. own_id q (node_at s.nodes q) (object_at T q) (node_at T.others q) M (s.at q) here) there (rw (same_message T q) at said) is)
+    (by_message view before q (is_untold T q) (as_message (object_at T q)) line out (λ M here. own_id (object_at T q) q M (own q) here) there (rw (same_message T q) at said) is)
 
 pub line_stops : {D : Type 0} (view : D → List DataLine) (T : Tree) (before : List DataLine) (q : ℕ) (stop : Stop) → Says (λ b. b) (message_told T q) (Ok true)
     → Says {A = DataLine} {B = DataLine} (λ l. l) (line_of_message T q) (Err stop) → Says view (named_line T before q) (Err stop)
