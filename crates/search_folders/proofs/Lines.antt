@@ -25,7 +25,7 @@ use Rattle.mail_searches.specs.Relisting.{before_those, is_unclear, is_untold, n
 use Rattle.mail_searches.specs.Searching.{Searching, is_own}
 use Rattle.mail_searches.specs.Step.{listing_in}
 use Rattle.search_results.specs.Counting.{message_told}
-use Rattle.search_folders.specs.Pieces.{named_line, named_lines}
+use Rattle.search_folders.specs.Pieces.{listing_where, named_line, named_lines}
 
 -- what stands there before anything is changed
 nothing_put : (q : ℕ) → finmap.get nothing.objects q ≡ None
@@ -149,8 +149,16 @@ search_stops items view T rows stop said =
     (stop_says items view (unless_unclear T nothing rows >>= λ u. Ok (map message_line (named T nothing rows))) (λ all. Ok (unchanged T (listed all))) stop first)
 
 -- what is listed of a folder that is no own search folder
-pub lists_folder : {D : Type 0} (view : D → Outcome) (X : Searching) (f : ℕ) (own : List ℕ) (y : D) (result : Result D Stop) → X.own ≡ own → is_own own f ≡ false → Says view (listing X.tree f) (Ok y)
-    → Says view (Ok (record (view y) { reply = marked own (view y).reply })) result → Says view (listing_in X f) result
-unfolding listing_in
-lists_folder view X f own y result same other first last =
-    rw (same, other) (then_says view view (listing X.tree f) (λ o. Ok (record o { reply = marked own o.reply })) y result first last)
+pub lists_folder : {D : Type 0} (view : D → Outcome) (T : Tree) (f : ℕ) (own : List ℕ) (y : D) (result : Result D Stop) → is_own own f ≡ false → Says view (listing T f) (Ok y)
+    → Says view (Ok (record (view y) { reply = marked own (view y).reply })) result → Says view (listing_where T own f) result
+unfolding listing_where
+lists_folder view T f own y result other first last = rw other (then_says view view (listing T f) (λ o. Ok (record o { reply = marked own o.reply })) y result first last)
+
+pub listing_stops : {D E : Type 0} (view : D → Outcome) (view' : E → Outcome) (T : Tree) (f : ℕ) (own : List ℕ) (stop : Stop) → is_own own f ≡ false → Says view (listing T f) (Err stop) → Says view' (listing_where T own f) (Err stop)
+unfolding listing_where
+listing_stops view view' T f own stop other first = rw other (stop_says view view' (listing T f) (λ o. Ok (record o { reply = marked own o.reply })) stop first)
+
+-- where the own search folders are those that are known
+pub listing_says : {D : Type 0} (view : D → Outcome) (X : Searching) (f : ℕ) (own : List ℕ) (result : Result D Stop) → X.own ≡ own → Says view (listing_where X.tree own f) result → Says view (listing_in X f) result
+unfolding listing_where listing_in
+listing_says view X f own result same said = rw same said
