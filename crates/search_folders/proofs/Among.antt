@@ -59,22 +59,6 @@ pub among_exit : {A X Y : Type 0} {old new : Sight A} {known : KnownSearches} {v
     → Answers old view step (Err stop) → IsErrAnd result (λ e. e ≡ stop) → ComesAmong old new known (λ X. step X.tree old.changed >>= f X) result
 among_exit {old = old} {view = view} {step = step} {stop = stop} f first is = among_stops view (λ X. step X.tree old.changed) stop f (λ X s k. first.says X.tree s) is
 
--- what comes in the tree is what comes, with the searches beside it
-pub comes_among : {A : Type 0} {old new : Sight A} {known : KnownSearches} {step : Tree → Changed → Answer Outcome} {coming : tree.Coming} {result : Coming} (f : Searching → Outcome → defined.Coming)
-    → Comes old new step (Ok coming) → ((X : Searching) → KnowsSearches X known → coming_of X new.changed result ≡ f X (desks.coming_of X.tree new.changed coming))
-    → ComesAmong old new known (λ X. step X.tree old.changed >>= λ o. Ok (f X o)) (Ok result)
-comes_among {old = old} {new = new} {step = step} {coming = coming} {result = result} f a same = record {
-  says = λ X s k. then_says (desks.coming_of X.tree new.changed) (coming_of X new.changed) (step X.tree old.changed) (λ o. Ok (f X o)) coming (Ok result) (a.says X.tree s) (same X k);
-  fits = a.fits;
-}
-
-pub comes_among_exit : {A : Type 0} {old new : Sight A} {known : KnownSearches} {step : Tree → Changed → Answer Outcome} {stop : Stop} {result : Result Coming Stop} (f : Searching → Outcome → Answer defined.Coming)
-    → Comes old new step (Err stop) → IsErrAnd result (λ e. e ≡ stop) → ComesAmong old new known (λ X. step X.tree old.changed >>= f X) result
-comes_among_exit {old = old} {new = new} {step = step} {stop = stop} {result = result} f a is = record {
-  says = λ X s k. stopped (coming_of X new.changed) (step X.tree old.changed >>= f X) stop result is (stop_says (desks.coming_of X.tree new.changed) (coming_of X new.changed) (step X.tree old.changed) (f X) stop (a.says X.tree s));
-  fits = no_ok _ _ result is;
-}
-
 -- the same by another way to what comes, where it is known of the searches
 pub among_as : {A : Type 0} {old new : Sight A} {known : KnownSearches} {step step' : Searching → Answer defined.Coming} {result : Result Coming Stop}
     → ((X : Searching) → KnowsSearches X known → (view : Coming → defined.Coming) → Says view (step X) result → Says view (step' X) result) → ComesAmong old new known step result → ComesAmong old new known step' result

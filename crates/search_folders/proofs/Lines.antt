@@ -1,5 +1,5 @@
 -- The lines of the messages that rows name.
-use Rattle.std.proofs.Common.{◌≡◌, ℕ, ◌+◌, ◌<◌, suc, List, [], ◌∷◌, ◌++◌, append_assoc, ap, sym, subst, ◌∙◌, map, length, get_or, drop, drop-cons, add-one, inl, inr, if◌then◌else◌, Option, None, Some, is_some, Result, Ok, Err, Bool, true, false, ◌&&◌, refl, ◌||◌}
+use Rattle.std.proofs.Common.{◌≡◌, ℕ, ◌+◌, ◌<◌, suc, List, [], ◌∷◌, ◌++◌, append_assoc, ap, sym, subst, ◌∙◌, map, length, get_or, drop, drop-cons, add-one, inl, inr, if◌then◌else◌, Option, None, Some, is_some, Result, Ok, Err, Bool, true, false, refl}
 use Rattle.std.proofs.lemmas.Bool.{cases_Bool}
 use Rattle.std.proofs.lemmas.List.{append-nil}
 use Rattle.std.specs.Ordering.{nat_cmp}
@@ -153,10 +153,6 @@ pub lists_folder : {D : Type 0} (view : D → Outcome) (T : Tree) (f : ℕ) (own
     → Says view (Ok (record (view y) { reply = marked own (view y).reply })) result → Says view (listing_where T own f) result
 unfolding listing_where
 lists_folder view T f own y result other first last = rw other (then_says view view (listing T f) (λ o. Ok (record o { reply = marked own o.reply })) y result first last)
-
-pub listing_stops : {D E : Type 0} (view : D → Outcome) (view' : E → Outcome) (T : Tree) (f : ℕ) (own : List ℕ) (stop : Stop) → is_own own f ≡ false → Says view (listing T f) (Err stop) → Says view' (listing_where T own f) (Err stop)
-unfolding listing_where
-listing_stops view view' T f own stop other first = rw other (stop_says view view' (listing T f) (λ o. Ok (record o { reply = marked own o.reply })) stop first)
 
 -- where the own search folders are those that are known
 pub listing_says : {D : Type 0} (view : D → Outcome) (X : Searching) (f : ℕ) (own : List ℕ) (result : Result D Stop) → X.own ≡ own → Says view (listing_where X.tree own f) result → Says view (listing_in X f) result

@@ -10,7 +10,7 @@ use Rattle.mail_tree.specs.Ids.{new_id}
 use Rattle.mail_tree.specs.declared.places.FolderPlace.{FolderPlace}
 use Rattle.mail_tree.specs.Places.{children, is_deep}
 use Rattle.mail_tree.specs.Tree.{Tree}
-use Rattle.mail_draft.specs.Answers.{IsNoMatter, Says}
+use Rattle.mail_draft.specs.Answers.{Says}
 use Rattle.mail_draft.specs.Sight.{Answers, Sight}
 use Rattle.mail_draft.specs.declared.stop.Stop.{Stop}
 use Rattle.mail_folders.specs.Pieces.{plain_in}
@@ -63,6 +63,3 @@ made_says view X parent name result said =
 -- the index that was given
 pub index_given : (T : Tree) (n : ℕ) → unless_listless T ≡ Ok tt → Says {B = ℕ} (λ k. k) (unless_listless T >>= λ u. Ok (next_search_index T)) (Ok n) → n ≡ next_search_index T
 index_given T n e said = rw e at said
-
-pub index_stops : (T : Tree) (stop : Stop) → unless_listless T ≡ Ok tt → Says {A = ℕ} {B = ℕ} (λ k. k) (unless_listless T >>= λ u. Ok (next_search_index T)) (Err stop) → IsNoMatter stop
-index_stops T stop e said = rw e at said

@@ -1,5 +1,5 @@
 -- What criteria that a search gets come to, step by step.
-use Rattle.std.proofs.Common.{◌≡◌, ℕ, Bool, true, List, Option, Some, Result, Ok, Err, sym, ap, subst, ◌∙◌}
+use Rattle.std.proofs.Common.{◌≡◌, ℕ, Bool, true, List, Option, Some, Result, Ok, Err, sym, subst}
 use Rattle.command_text.specs.declared.reply.CommandRefusal.{CommandRefusal}
 use Rattle.command_text.specs.declared.reply.CommandRefusal.TheVariants.{Criteria, Flags}
 use Rattle.command_text.specs.declared.reply.LastLine.TheVariants.{Done}
@@ -94,13 +94,6 @@ pub replies_on : {B D : Type 0} (changed : B → Changed) (view : D → Outcome)
     → Says view (built_unless stopped X.tree search E >>= replying X.tree (overfills X.searches (put_key search_id search X.searches)) (replied Done)) result
 replies_on changed view X search stopped E before after reason built result old new why first then =
     rw old (then_says changed view (built_unless stopped X.tree search E) (replying X.tree (overfills before (put_key search_id search before)) (replied Done)) built result first (rw (why, new) at then))
-
-abbrev comes : Searching → Outcome → List Search → Coming
-comes X o searches = record { outcome = o; own = X.own; searches = searches }
-
--- the search came among those that there were
-pub comes_among : (X : Searching) (o : Outcome) (search : Search) (before after : List Search) → X.searches ≡ before → after ≡ put_key search_id search before → comes X o after ≡ comes X o (put_key search_id search X.searches)
-comes_among X o search before after old new = ap (comes X o) (new ∙ ap (put_key search_id search) (sym old))
 
 -- the folder is one of the own search folders that are known
 pub other_among : {D : Type 0} (view : D → Unit {0}) (X : Searching) (s : ℕ) (own : List ℕ) (result : Result D Stop) → X.own ≡ own → Says view (unless_among X.tree own s) result → Says view (unless_other X s) result

@@ -12,7 +12,7 @@ ghost use Rattle.search_folders.specs.Pieces.{listing_where, named_line, named_l
 
 use crate::coming::Coming;
 use command_text::{DataLine, DataLines, Reply};
-use mail_draft::{Desk, Stop};
+use mail_draft::Stop;
 use mail_folders::on_desk::line_of_message;
 use mail_folders::{FolderDesk, listed};
 use mail_searches::{KnownSearches, OwnFolders};

@@ -1,25 +1,9 @@
 use Rattle.std.proofs.Common.{[], ap, ◌∙◌, refl}
 use Rattle.mapi_values.specs.Tables.{Tab}
 use Rattle.mail_draft.proofs.DeskCalls.{reads_then}
-use Rattle.mail_folders.proofs.Steps.{stopped}
 use Rattle.mail_searches.specs.Searches.{Search}
-use Rattle.search_folders.proofs.Built.{built_on, rows_stop, table_stops}
+use Rattle.search_folders.proofs.Built.{built_on}
 use Rattle.search_folders.proofs.building.built.Goals as goal
-
-pub returns-in_err-node-clause-answer : goal.returns-in_err-node-clause-answer
-returns-in_err-node-clause-answer g c = record {
-  says = λ T s. stopped _ _ _ _ c.from_residual.ensures.1 (table_stops _ T c.args.search.now _ _ (g.D.Desk.view c.args.desk.now).changed _ (ap (λ (x : Search). x.nid) c.search.view_is) c.results_table.ensures (c.in_err-node.ensures.answer.says T s));
-}
-
-pub returns-in_err-find_below-clause-answer : goal.returns-in_err-find_below-clause-answer
-returns-in_err-find_below-clause-answer g c =
-    let none = c.without_rows-table.ensures ∙ ap (λ (t : Tab). record t { rows = [] }) c.into_table.ensures.table in
-    record {
-      says = λ T s.
-          stopped _ _ _ _ c.from_residual-in_err-find_below.ensures.1
-          (rows_stop _ T c.args.search.now _ T.places _ (g.D.Desk.view c.args.desk.now).changed _ _ _ _ (ap (λ (x : Search). x.nid) c.search.view_is) refl c.results_table.ensures (c.in_ok-node.ensures.answer.says T s) none
-          (c.in_err-find_below.ensures.answer.says T (c.in_ok-node.ensures.reads.shows T s)));
-    }
 
 pub returns-clause-answer : goal.returns-clause-answer
 returns-clause-answer g c =

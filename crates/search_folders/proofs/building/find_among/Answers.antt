@@ -1,7 +1,7 @@
 use Rattle.std.proofs.Common.{ap, ◌∙◌}
 use Rattle.mapi_values.specs.Tables.{Tab}
 use Rattle.mail_draft.proofs.DeskCalls.{reads_then}
-use Rattle.mail_draft.proofs.DeskLoops.{reads_exit, reads_ok}
+use Rattle.mail_draft.proofs.DeskLoops.{reads_ok}
 use Rattle.mail_folders.proofs.Steps.{stopped}
 use Rattle.search_folders.proofs.Built.{message_on, message_stops}
 use Rattle.search_folders.proofs.building.find_among.Goals as goal
@@ -13,9 +13,6 @@ returns-in_err-find_at-clause-answer g c =
       says = λ T s. I.rest T s _ _ (stopped _ _ stop _ c.from_residual.ensures.1
           (message_stops _ _ T _ _ _ _ _ _ stop c.loop-message-test.true (c.in_err-find_at.ensures.answer.says T (I.reads.shows T s))));
     }
-
-pub returns-in_err-find_at-clause-reads : goal.returns-in_err-find_at-clause-reads
-returns-in_err-find_at-clause-reads g c = reads_exit _ (reads_then c.loop-message.invariant.reads c.in_err-find_at.ensures.reads) c.from_residual.ensures.1
 
 pub loop-message-preserved : goal.loop-message-preserved
 loop-message-preserved g c =

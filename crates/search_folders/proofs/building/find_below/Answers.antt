@@ -1,17 +1,10 @@
-use Rattle.std.proofs.Common.{ap, ◌∙◌, refl, sym}
+use Rattle.std.proofs.Common.{ap, ◌∙◌}
 use Rattle.mapi_values.specs.Tables.{Tab}
 use Rattle.mail_draft.proofs.DeskCalls.{reads_then}
-use Rattle.mail_draft.proofs.DeskLoops.{reads_exit, reads_none, reads_ok}
+use Rattle.mail_draft.proofs.DeskLoops.{reads_ok}
 use Rattle.mail_folders.proofs.Steps.{stopped}
-use Rattle.search_folders.proofs.Built.{folder_on, folder_stops, same_folders}
+use Rattle.search_folders.proofs.Built.{folder_on, folder_stops}
 use Rattle.search_folders.proofs.building.find_below.Goals as goal
-
-pub loop-place-init : goal.loop-place-init
-loop-place-init g c = record {
-  reads = reads_none _;
-  same = refl;
-  rest = λ T s rows result says. same_folders _ T c.args.search.now _ _ _ _ result (c.as_slice-place-items.ensures ∙ c.in_ok-places.ensures ∙ sym (c.places.ensures T s)) says;
-}
 
 pub returns-in_err-find_in-clause-answer : goal.returns-in_err-find_in-clause-answer
 returns-in_err-find_in-clause-answer g c =
@@ -20,9 +13,6 @@ returns-in_err-find_in-clause-answer g c =
       says = λ T s. I.rest T s _ _ (stopped _ _ stop _ c.from_residual-in_err-find_in.ensures.1
           (folder_stops _ _ T _ _ _ _ _ _ stop c.loop-place-test.true (c.in_err-find_in.ensures.answer.says T (I.reads.shows T s))));
     }
-
-pub returns-in_err-find_in-clause-reads : goal.returns-in_err-find_in-clause-reads
-returns-in_err-find_in-clause-reads g c = reads_exit _ (reads_then c.loop-place.invariant.reads c.in_err-find_in.ensures.reads) c.from_residual-in_err-find_in.ensures.1
 
 pub loop-place-preserved : goal.loop-place-preserved
 loop-place-preserved g c =

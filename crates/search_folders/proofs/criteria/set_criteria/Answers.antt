@@ -3,11 +3,6 @@ use Rattle.search_folders.proofs.Set.{given_says, other_among}
 use Rattle.search_folders.specs.Givens.{given_of}
 use Rattle.search_folders.proofs.criteria.set_criteria.Goals as goal
 
-pub returns-in_err-unless_among-clause-answer : goal.returns-in_err-unless_among-clause-answer
-returns-in_err-unless_among-clause-answer g c =
-    among_as (λ X k view said. given_says view X _ _ _ _ _ said)
-    (among_stops (λ (u : Unit {0}). u) _ _ _ (λ X s k. other_among _ X _ _ _ k.own (c.in_err-unless_among.ensures.answer X.tree (c.places.ensures X.tree s))) c.from_residual.ensures.1)
-
 pub returns-in_err-given-clause-answer : goal.returns-in_err-given-clause-answer
 returns-in_err-given-clause-answer g c =
     among_as (λ X k view said. given_says view X _ _ _ _ _ said)

@@ -2,7 +2,7 @@ use Rattle.std.proofs.Common.{◌+◌, Ok, drop, max, subst}
 use Rattle.mail_tree.specs.Changing.{◌>>=◌}
 use Rattle.mail_draft.specs.Answers.{Says}
 use Rattle.mail_draft.proofs.DeskCalls.{reads_then}
-use Rattle.mail_draft.proofs.DeskLoops.{reads_exit, reads_ok}
+use Rattle.mail_draft.proofs.DeskLoops.{reads_ok}
 use Rattle.mail_folders.proofs.Steps.{stopped}
 use Rattle.search_folders.proofs.IndexLaws.{greatest_goes, greatest_stops}
 use Rattle.search_folders.specs.Pieces.{greatest_among}
@@ -15,9 +15,6 @@ returns-in_err-index-clause-answer g c =
       says = λ T s. I.rest T s _ (stopped _ _ stop _ c.from_residual.ensures.1 (greatest_stops T _ _ _ _ stop c.loop-place-test.true (c.in_err-index.ensures.answer.says T (I.reads.shows T s))));
     }
 
-pub returns-in_err-index-clause-reads : goal.returns-in_err-index-clause-reads
-returns-in_err-index-clause-reads g c = reads_exit _ (reads_then c.loop-place.invariant.reads c.in_err-index.ensures.reads) c.from_residual.ensures.1
-
 pub loop-place-preserved : goal.loop-place-preserved
 loop-place-preserved g c =
     let I = c.loop-place.invariant in let i = c.loop-place.place-index in let ps = c.args.places.now in
@@ -26,6 +23,3 @@ loop-place-preserved g c =
       rest = λ T s result says. I.rest T s result (greatest_goes T _ _ _ _ _ result c.loop-place-test.true (c.in_ok-index.ensures.answer.says T (I.reads.shows T s))
           (subst (λ n. Says (λ k. k) (greatest_among T (drop (i + 1) ps) >>= λ m. Ok (max n m)) result) c.max-greatest.ensures says));
     }
-
-pub returns-clause-reads : goal.returns-clause-reads
-returns-clause-reads g c = reads_ok _ c.loop-place.invariant.reads

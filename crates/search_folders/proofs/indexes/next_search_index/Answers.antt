@@ -2,16 +2,10 @@ use Rattle.std.proofs.Common.{◌≡◌, ℕ, ◌+◌, ◌∙◌, List, Ok, arit
 use Rattle.mail_tree.specs.declared.places.FolderPlace.{FolderPlace}
 use Rattle.mail_draft.specs.Answers.{Says}
 use Rattle.mail_draft.proofs.DeskCalls.{as_at}
-use Rattle.mail_draft.proofs.Passes.{no_matter}
 use Rattle.mail_folders.proofs.Steps.{stopped}
 use Rattle.search_folders.specs.Pieces.{greatest_among, search_index}
 use Rattle.search_folders.proofs.IndexLaws.{follows_all, follows_stop}
 use Rattle.search_folders.proofs.indexes.next_search_index.Goals as goal
-
-pub returns-in_err-after_nodes-clause-answer : goal.returns-in_err-after_nodes-clause-answer
-returns-in_err-after_nodes-clause-answer g c = record {
-  says = λ T s. stopped (λ n. n) (search_index T) _ _ c.from_residual.ensures.1 (no_matter {B = ℕ} (λ n. n) (search_index T) _ (c.in_err-after_nodes.ensures.answer.says T s));
-}
 
 pub returns-in_err-listed-clause-answer : goal.returns-in_err-listed-clause-answer
 returns-in_err-listed-clause-answer g c = record {

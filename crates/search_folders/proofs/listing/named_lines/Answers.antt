@@ -1,7 +1,7 @@
 use Rattle.std.specs.Global.{Vec}
 use Rattle.command_text.specs.declared.reply.DataLine.{DataLine}
 use Rattle.mail_draft.proofs.DeskCalls.{reads_then}
-use Rattle.mail_draft.proofs.DeskLoops.{reads_exit, reads_ok}
+use Rattle.mail_draft.proofs.DeskLoops.{reads_ok}
 use Rattle.mail_folders.proofs.Steps.{stopped}
 use Rattle.search_folders.proofs.Lines.{lines_on, lines_stop}
 use Rattle.search_folders.proofs.listing.named_lines.Goals as goal
@@ -14,9 +14,6 @@ returns-in_err-lines-clause-answer g c =
           (lines_stop (λ (lines : Vec DataLine). lines.items) T _ c.args.rows.now c.loop-row.row-index c.row-item.result stop c.loop-row-test.true c.row-item.is (c.in_err-lines.ensures.answer.says T (I.reads.shows T s))));
     }
 
-pub returns-in_err-lines-clause-reads : goal.returns-in_err-lines-clause-reads
-returns-in_err-lines-clause-reads g c = reads_exit _ (reads_then c.loop-row.invariant.reads c.in_err-lines.ensures.reads) c.from_residual.ensures.1
-
 pub loop-row-preserved : goal.loop-row-preserved
 loop-row-preserved g c =
     let I = c.loop-row.invariant in
@@ -25,6 +22,3 @@ loop-row-preserved g c =
       rest = λ T s result says. I.rest T s result
           (lines_on (λ (lines : Vec DataLine). lines.items) T _ c.args.rows.now c.loop-row.row-index c.row-item.result c.in_ok-lines.lines result c.loop-row-test.true c.row-item.is (c.in_ok-lines.ensures.answer.says T (I.reads.shows T s)) says);
     }
-
-pub returns-clause-reads : goal.returns-clause-reads
-returns-clause-reads g c = reads_ok _ c.loop-row.invariant.reads

@@ -1,23 +1,15 @@
-use Rattle.std.proofs.Common.{Ok, ap}
-use Rattle.mail_tree.specs.Changing.{◌>>=◌}
+use Rattle.std.proofs.Common.{ap}
 use Rattle.mail_draft.specs.Desks as tree
 use Rattle.mail_draft.proofs.DeskCalls.{reads_then}
-use Rattle.mail_draft.proofs.Passes.{no_matter, stop_says, then_says}
-use Rattle.mail_searches.specs.Criteria.{making_search, next_search_index}
+use Rattle.mail_draft.proofs.Passes.{stop_says, then_says}
+use Rattle.mail_searches.specs.Criteria.{making_search}
 use Rattle.search_folders.specs.Comings.{coming_of}
-use Rattle.search_folders.proofs.Made.{index_given, index_stops, made_by, made_says}
+use Rattle.search_folders.proofs.Made.{index_given, made_says}
 use Rattle.search_folders.proofs.Among.{among_exits}
 use Rattle.search_folders.proofs.making.make_search.Goals as goal
 
 pub returns-in_err-unless_refused-clause-answer : goal.returns-in_err-unless_refused-clause-answer
 returns-in_err-unless_refused-clause-answer g c = among_exits _ _ (λ X s m. made_says _ X _ _ _ (λ e. stop_says _ _ _ _ _ (c.in_err-unless_refused.ensures.answer.says X.tree s))) c.from_residual.ensures.1
-
-pub returns-in_err-index-clause-answer : goal.returns-in_err-index-clause-answer
-returns-in_err-index-clause-answer g c = among_exits _ _ (λ X s m.
-    let next = next_search_index X.tree in
-    let after = making_search X.tree c.args.parent.bits c.args.name.now next >>= λ o. Ok (made_by X next o) in
-    made_says _ X _ _ _ (λ e. then_says _ _ _ _ _ _ (c.in_ok-unless_refused.ensures.answer.says X.tree s)
-    (no_matter (coming_of X (g.D.Desk.view c.next_search_index.new.desk).changed) after _ (index_stops X.tree _ e (c.in_err-index.ensures.answer.says X.tree (c.in_ok-unless_refused.ensures.reads.shows X.tree s)))))) c.from_residual-in_err-index.ensures.1
 
 pub returns-in_err-tree-clause-answer : goal.returns-in_err-tree-clause-answer
 returns-in_err-tree-clause-answer g c = among_exits _ _ (λ X s m.

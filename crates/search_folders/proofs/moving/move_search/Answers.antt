@@ -1,4 +1,4 @@
-use Rattle.std.proofs.Common.{◌∙◌, ◌==◌, List, Ok, false}
+use Rattle.std.proofs.Common.{◌∙◌, ◌==◌, List, false}
 use Rattle.std.proofs.lemmas.Bool.{eq-eqb, ne_eqb}
 use Rattle.mapi_values.specs.Characters.{folded}
 use Rattle.command_text.specs.declared.reply.CommandRefusal.TheVariants.{Cycle, Limit}
