@@ -9,7 +9,7 @@ use mail_draft::{Coming, Desk, Stop};
 use mail_tree::Places;
 
 /// What changes come to once folders stand at these places. Refused where they pass a limit.
-pub(crate) fn moving<D: Desk>(desk: &mut D, places: Places) -> Result<Coming, Stop>
+pub fn moving<D: Desk>(desk: &mut D, places: Places) -> Result<Coming, Stop>
     ensures reads { Reads (D.view desk.old) (D.view desk.new) result }
     ensures answer { Comes (D.view desk.old) (D.view desk.new) (λ T. moving T places (replied Done)) result }
 {

@@ -1,7 +1,6 @@
 -- How the list of a search is built, step by step.
-use Rattle.std.proofs.Common.{◌≡◌, ℕ, ◌+◌, ◌<◌, suc, List, [], ◌∷◌, length, get_or, drop, drop-cons, add-one, Result, Ok, Err, Bool, true, false, refl, ap, subst, ◌∙◌, inl, inr}
+use Rattle.std.proofs.Common.{◌≡◌, ℕ, ◌+◌, ◌<◌, suc, List, [], ◌∷◌, length, get_or, drop, drop-cons, add-one, Result, Ok, Err, refl, ap, subst, ◌∙◌, inl, inr}
 use Rattle.std.proofs.lemmas.Bool.{cases_Bool}
-use Rattle.mapi_values.specs.Messages.{Mes}
 use Rattle.mapi_values.specs.Tables.{Tab}
 use Rattle.mapi_values.specs.Values.{Val}
 use Rattle.mapi_values.specs.declared.column.Column.{Column}
@@ -39,31 +38,6 @@ message_stops one view T s columns ms i d rows stop h first =
     rw (drop-cons ms i d) (regroup view (message_at T nothing (get_or ms i d)) (λ M. Ok (with_found s columns (get_or ms i d) M rows)) (found_among T s columns (drop (suc i) ms)) (Err stop)
     (stop_says one view (found_at T s columns (get_or ms i d) rows) (found_among T s columns (drop (suc i) ms)) stop first))
 
--- the message at an id
-pub found_on : {D : Type 0} (view : D → Rows) (T : Tree) (s : Search) (m : ℕ) (columns : List Column) (M N : Mes) (rows : Rows) (result : Result D Stop) → Says {B = Mes} (λ x. x) (message_at T nothing m) (Ok M) → N ≡ M
-    → Says view (Ok (with_found s columns m N rows)) result → Says view (found_at T s columns m rows) result
-unfolding found_at
-found_on view T s m columns M N rows result first same then = then_says (λ x. x) view (message_at T nothing m) (λ x. Ok (with_found s columns m x rows)) M result first (rw same at then)
-
--- ---- a folder
-
--- the search doesn't look there
-pub not_looked : (T : Tree) (s : Search) (columns : List Column) (f : ℕ) (places : List FolderPlace) (looks : Bool) (rows : Rows) → T.places ≡ places → looks ≡ in_scope places s f → looks ≡ false
-    → Says {B = Unit {0}} (λ u. rows) (found_in T s columns f rows) (Ok tt)
-unfolding found_in
-not_looked T s columns f places looks rows p is not = rw (p, ← is, not) refl
-
--- it looks there
-pub looked : {D : Type 0} (view : D → Rows) (T : Tree) (s : Search) (columns : List Column) (f : ℕ) (places : List FolderPlace) (looks : Bool) (rows : Rows) (result : Result D Stop) → T.places ≡ places → looks ≡ in_scope places s f → looks ≡ true
-    → Says view (table_at T nothing (contents f) >>= λ t. found_among T s columns (message_ids t.table) rows) result → Says view (found_in T s columns f rows) result
-unfolding found_in
-looked view T s columns f places looks rows result p is does says = rw (p, ← is, does) says
-
--- the messages of the folder's table
-pub among_on : {D : Type 0} (view : D → Rows) (T : Tree) (s : Search) (columns : List Column) (ms : List ℕ) (t u : Tab) (rows : Rows) (result : Result D Stop) → u ≡ t → ms ≡ message_ids u
-    → Says view (found_among T s columns ms rows) result → Says view (found_among T s columns (message_ids t) rows) result
-among_on view T s columns ms t u rows result same are says = rw (are, same) at says
-
 -- ---- a folder after another
 
 -- one folder first
@@ -91,11 +65,6 @@ folder_stops one view T s columns ps i d rows stop h first =
     rw (drop-cons ps i d, folder_first T s columns (get_or ps i d) (drop (suc i) ps) rows)
     (stop_says one view (found_in T s columns (place_id (get_or ps i d)) rows) (found_below T s columns (drop (suc i) ps)) stop first)
 
--- the same folders
-pub same_folders : {D : Type 0} (view : D → Rows) (T : Tree) (s : Search) (columns : List Column) (rows : Rows) (ps qs : List FolderPlace) (result : Result D Stop) → ps ≡ qs
-    → Says view (found_below T s columns ps rows) result → Says view (found_below T s columns qs rows) result
-same_folders view T s columns rows ps qs result e said = rw e at said
-
 -- ---- the whole
 
 -- two tables that differ in their rows alone
@@ -122,18 +91,3 @@ built_on view T s f places n E t node empty table result its p there first none 
     then_says (λ t. t) view (table_at T E (results s.nid)) (λ t. built_rows T s t.table.columns >>= λ rows. with_results T s.nid rows t E) t result (subst (λ q. Says {B = Tbl} (λ t. t) (table_at T E q) (Ok t)) (there ∙ ap results its) first)
     (then_says (λ (u : Unit {0}). table.rows) view (built_rows T s t.table.columns) (λ rows. with_results T s.nid rows t E) tt result found
     (results_on view T s.nid table.rows t node E result above alike (subst (λ (x : Tab). Says view (with_results T s.nid x.rows node E) result) here (subst (λ i. Says view (with_results T i node.table.rows node E) result) its then))))
-
--- no rows can be found
-pub rows_stop : {D : Type 0} (view : D → Changed) (T : Tree) (s : Search) (f : ℕ) (places : List FolderPlace) (n : ℕ) (E : Changed) (t : Tbl) (empty : Tab) (rows : Rows) (stop : Stop) → f ≡ s.nid → T.places ≡ places → n ≡ results f
-    → Says {B = Tbl} (λ t. t) (table_at T E n) (Ok t) → empty ≡ record t.table { rows = [] } → Says {B = Unit {0}} (λ u. rows) (found_below T s empty.columns places empty.rows) (Err stop)
-    → Says view (built T s E) (Err stop)
-unfolding built
-rows_stop view T s f places n E t empty rows stop its p there first none said =
-    let found : Says {B = Unit {0}} (λ u. rows) (built_rows T s t.table.columns) (Err stop) = rw (none, ← p) at said in
-    then_says (λ t. t) view (table_at T E (results s.nid)) (λ t. built_rows T s t.table.columns >>= λ rows. with_results T s.nid rows t E) t (Err stop) (subst (λ q. Says {B = Tbl} (λ t. t) (table_at T E q) (Ok t)) (there ∙ ap results its) first)
-    (stop_says (λ (u : Unit {0}). rows) view (built_rows T s t.table.columns) (λ rows. with_results T s.nid rows t E) stop found)
-
--- there is no list
-pub table_stops : {D : Type 0} (view : D → Changed) (T : Tree) (s : Search) (f n : ℕ) (E : Changed) (stop : Stop) → f ≡ s.nid → n ≡ results f → Says {B = Tbl} (λ t. t) (table_at T E n) (Err stop) → Says view (built T s E) (Err stop)
-unfolding built
-table_stops view T s f n E stop its there first = stop_says (λ t. t) view (table_at T E (results s.nid)) (λ t. built_rows T s t.table.columns >>= λ rows. with_results T s.nid rows t E) stop (subst (λ q. Says {B = Tbl} (λ t. t) (table_at T E q) (Err stop)) (there ∙ ap results its) first)

@@ -1,3 +1,4 @@
+pub mod Among
 pub mod Lines
 pub mod IndexLaws
 pub mod Made

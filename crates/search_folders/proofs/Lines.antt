@@ -1,5 +1,5 @@
 -- The lines of the messages that rows name.
-use Rattle.std.proofs.Common.{◌≡◌, ℕ, ◌+◌, ◌<◌, suc, List, [], ◌∷◌, ◌++◌, append_assoc, ap, sym, subst, ◌∙◌, map, length, get_or, drop, drop-cons, add-one, inl, inr, if◌then◌else◌, Option, None, Some, is_some, Result, Ok, Err, Bool, true, false, ◌&&◌, refl, ◌||◌}
+use Rattle.std.proofs.Common.{◌≡◌, ℕ, ◌+◌, ◌<◌, suc, List, [], ◌∷◌, ◌++◌, append_assoc, ap, sym, subst, ◌∙◌, map, length, get_or, drop, drop-cons, add-one, inl, inr, if◌then◌else◌, Option, None, Some, is_some, Result, Ok, Err, Bool, true, false, refl}
 use Rattle.std.proofs.lemmas.Bool.{cases_Bool}
 use Rattle.std.proofs.lemmas.List.{append-nil}
 use Rattle.std.specs.Ordering.{nat_cmp}
@@ -10,13 +10,12 @@ use Rattle.command_text.specs.declared.reply.DataLine.{DataLine}
 use Rattle.command_text.specs.declared.reply.DataLine.TheVariants as lines
 use Rattle.mail_objects.specs.declared.object.Object.{Object}
 use Rattle.mail_objects.specs.declared.object.Object.TheVariants.{Context, Table, Message, Bare}
-use Rattle.node_port.specs.Nodes.{Nodes, node_at}
-use Rattle.node_port.specs.declared.node.NodeRec.{NodeRec}
 use Rattle.mail_tree.specs.Changing.{Answer, ◌>>=◌, as_message, known, nothing, now_at}
 use Rattle.mail_tree.specs.Folders.{Outcome, listed, listing, nid, unchanged}
-use Rattle.mail_tree.specs.Tree.{Shown, StandsAt, Tree, object_at}
+use Rattle.mail_tree.specs.Tree.{Tree, object_at}
 use Rattle.mail_tree.specs.Values.{number_of, text_of}
 use Rattle.mail_draft.specs.Answers.{Says}
+use Rattle.mail_draft.specs.Sight.{AreOwn}
 use Rattle.mail_draft.specs.declared.stop.Stop.{Stop}
 use Rattle.mail_draft.proofs.Passes.{stop_says, then_says}
 use Rattle.mail_folders.specs.Pieces.{line_of_message}
@@ -26,7 +25,7 @@ use Rattle.mail_searches.specs.Relisting.{before_those, is_unclear, is_untold, n
 use Rattle.mail_searches.specs.Searching.{Searching, is_own}
 use Rattle.mail_searches.specs.Step.{listing_in}
 use Rattle.search_results.specs.Counting.{message_told}
-use Rattle.search_folders.specs.Pieces.{named_line, named_lines}
+use Rattle.search_folders.specs.Pieces.{listing_where, named_line, named_lines}
 
 -- what stands there before anything is changed
 nothing_put : (q : ℕ) → finmap.get nothing.objects q ≡ None
@@ -39,13 +38,12 @@ unclear_is : (T : Tree) (q : ℕ) → is_unclear T nothing q ≡ is_untold T q
 unclear_is T q = rw (nothing_put q) refl
 
 -- a message tells its own id
-own_id : (q : ℕ) (n : Option NodeRec) (o : Option Object) (other : Option NodeRec) (M : Mes) → StandsAt q n o other → as_message o ≡ Some M → M.nid ≡ q
-own_id q n None other M stands is = cc
-own_id q n (Some (Context c)) other M stands is = cc
-own_id q n (Some (Table t)) other M stands is = cc
-own_id q n (Some (Bare parent)) other M stands is = cc
-own_id q n (Some (Message m)) other M stands is =
-    let same : m ≡ M = cc in ap (λ (x : Mes). x.nid) (sym same) ∙ stands.1.2.message.id
+own_id : (o : Option Object) (q : ℕ) (M : Mes) → ((m : Mes) → o ≡ Some (Message m) → m.nid ≡ q) → as_message o ≡ Some M → M.nid ≡ q
+own_id None q M own is = cc
+own_id (Some (Context c)) q M own is = cc
+own_id (Some (Table t)) q M own is = cc
+own_id (Some (Bare parent)) q M own is = cc
+own_id (Some (Message m)) q M own is = let same : m ≡ M = cc in ap (λ (x : Mes). x.nid) (sym same) ∙ own m refl
 
 -- the lines so far, where this is the message and it can be told whether it is one
 abbrev line_by : List DataLine → Bool → Option Mes → Answer (List DataLine)
@@ -84,12 +82,12 @@ stop_by view before q true message stop there said = tt
 stop_by view before q false None stop there said = cc
 stop_by view before q false (Some M) stop there said = said
 
-pub one_line : {D : Type 0} {holds : Nodes → Type 0} {last : List ℕ} (view : D → List DataLine) (T : Tree) (s : Shown holds last T) (before : List DataLine) (q : ℕ) (line : DataLine) (out : D) → Says (λ b. b) (message_told T q) (Ok true)
+pub one_line : {D : Type 0} (view : D → List DataLine) (T : Tree) (own : AreOwn T) (before : List DataLine) (q : ℕ) (line : DataLine) (out : D) → Says (λ b. b) (message_told T q) (Ok true)
     → Says (λ l. l) (line_of_message T q) (Ok line) → view out ≡ before ++ (line ∷ []) → Says view (named_line T before q) (Ok out)
 unfolding line_of_message
-one_line view T s before q line out there said is =
+one_line view T own before q line out there said is =
     rw (line_is T before q)
-    (by_message view before q (is_untold T q) (as_message (object_at T q)) line out (λ M here. own_id q (node_at s.nodes q) (object_at T q) (node_at T.others q) M (s.at q) here) there (rw (same_message T q) at said) is)
+    (by_message view before q (is_untold T q) (as_message (object_at T q)) line out (λ M here. own_id (object_at T q) q M (own q) here) there (rw (same_message T q) at said) is)
 
 pub line_stops : {D : Type 0} (view : D → List DataLine) (T : Tree) (before : List DataLine) (q : ℕ) (stop : Stop) → Says (λ b. b) (message_told T q) (Ok true)
     → Says {A = DataLine} {B = DataLine} (λ l. l) (line_of_message T q) (Err stop) → Says view (named_line T before q) (Err stop)
@@ -151,8 +149,12 @@ search_stops items view T rows stop said =
     (stop_says items view (unless_unclear T nothing rows >>= λ u. Ok (map message_line (named T nothing rows))) (λ all. Ok (unchanged T (listed all))) stop first)
 
 -- what is listed of a folder that is no own search folder
-pub lists_folder : {D : Type 0} (view : D → Outcome) (X : Searching) (f : ℕ) (own : List ℕ) (y : D) (result : Result D Stop) → X.own ≡ own → is_own own f ≡ false → Says view (listing X.tree f) (Ok y)
-    → Says view (Ok (record (view y) { reply = marked own (view y).reply })) result → Says view (listing_in X f) result
-unfolding listing_in
-lists_folder view X f own y result same other first last =
-    rw (same, other) (then_says view view (listing X.tree f) (λ o. Ok (record o { reply = marked own o.reply })) y result first last)
+pub lists_folder : {D : Type 0} (view : D → Outcome) (T : Tree) (f : ℕ) (own : List ℕ) (y : D) (result : Result D Stop) → is_own own f ≡ false → Says view (listing T f) (Ok y)
+    → Says view (Ok (record (view y) { reply = marked own (view y).reply })) result → Says view (listing_where T own f) result
+unfolding listing_where
+lists_folder view T f own y result other first last = rw other (then_says view view (listing T f) (λ o. Ok (record o { reply = marked own o.reply })) y result first last)
+
+-- where the own search folders are those that are known
+pub listing_says : {D : Type 0} (view : D → Outcome) (X : Searching) (f : ℕ) (own : List ℕ) (result : Result D Stop) → X.own ≡ own → Says view (listing_where X.tree own f) result → Says view (listing_in X f) result
+unfolding listing_where listing_in
+listing_says view X f own result same said = rw same said

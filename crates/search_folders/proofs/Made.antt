@@ -7,13 +7,22 @@ use Rattle.mapi_values.specs.Keyed.{put_key}
 use Rattle.mail_tree.specs.Changing.{Answer, ◌>>=◌, hierarchy, known, refused_if}
 use Rattle.mail_tree.specs.Folders.{Outcome, folder_in, unless_full, unless_named, unless_plain}
 use Rattle.mail_tree.specs.Ids.{new_id}
+use Rattle.mail_tree.specs.declared.places.FolderPlace.{FolderPlace}
 use Rattle.mail_tree.specs.Places.{children, is_deep}
 use Rattle.mail_tree.specs.Tree.{Tree}
-use Rattle.mail_draft.specs.Answers.{IsNoMatter, Says}
+use Rattle.mail_draft.specs.Answers.{Says}
+use Rattle.mail_draft.specs.Sight.{Answers, Sight}
 use Rattle.mail_draft.specs.declared.stop.Stop.{Stop}
+use Rattle.mail_folders.specs.Pieces.{plain_in}
+use Rattle.mail_folders.proofs.Steps.{from_plain}
 use Rattle.mail_searches.specs.Criteria.{Coming, has_list, made_search, making_search, making_search_in, next_search_index, unless_listless}
 use Rattle.mail_searches.specs.Searching.{Searching}
 use Rattle.search_folders.specs.Pieces.{unless_refused}
+
+-- what is answered after a plain folder
+pub answers_plain : {A E R : Type 0} {desk : Sight A} {view : R → E} {result : Result R Stop} (f : ℕ) (g : Tree → FolderPlace → Answer E)
+    → Answers desk view (λ T D. plain_in T f >>= g T) result → Answers desk view (λ T D. folder_in T f >>= λ p. unless_plain p >>= λ u. g T p) result
+answers_plain {view = view} {result = result} f g a = record { says = λ T s. from_plain view T f (g T) result (a.says T s) }
 
 grouped_last : {B C D E F : Type 0} (b : Answer B) (c : Answer C) (d : Answer D) (e : Answer E) (f : Answer F) → (b >>= λ u. c >>= λ v. d >>= λ w. e >>= λ x. f) ≡ ((b >>= λ u. c >>= λ v. d >>= λ w. e) >>= λ x. f)
 grouped_last (Err r) c d e f = refl
@@ -54,6 +63,3 @@ made_says view X parent name result said =
 -- the index that was given
 pub index_given : (T : Tree) (n : ℕ) → unless_listless T ≡ Ok tt → Says {B = ℕ} (λ k. k) (unless_listless T >>= λ u. Ok (next_search_index T)) (Ok n) → n ≡ next_search_index T
 index_given T n e said = rw e at said
-
-pub index_stops : (T : Tree) (stop : Stop) → unless_listless T ≡ Ok tt → Says {A = ℕ} {B = ℕ} (λ k. k) (unless_listless T >>= λ u. Ok (next_search_index T)) (Err stop) → IsNoMatter stop
-index_stops T stop e said = rw e at said

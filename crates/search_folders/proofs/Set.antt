@@ -1,5 +1,5 @@
 -- What criteria that a search gets come to, step by step.
-use Rattle.std.proofs.Common.{◌≡◌, ℕ, Bool, true, List, Option, Some, Result, Ok, Err, sym, ap, subst, ◌∙◌}
+use Rattle.std.proofs.Common.{◌≡◌, ℕ, Bool, true, List, Option, Some, Result, Ok, Err, sym, subst}
 use Rattle.command_text.specs.declared.reply.CommandRefusal.{CommandRefusal}
 use Rattle.command_text.specs.declared.reply.CommandRefusal.TheVariants.{Criteria, Flags}
 use Rattle.command_text.specs.declared.reply.LastLine.TheVariants.{Done}
@@ -11,20 +11,18 @@ use Rattle.search_obj.specs.Objects as object
 use Rattle.search_obj.specs.Writing.{written}
 use Rattle.mail_objects.specs.Forms.{Ctx}
 use Rattle.mail_tree.specs.Changing.{Answer, Changed, ◌>>=◌, context_at, found, known, nothing}
-use Rattle.mail_tree.specs.Folders.{Outcome, replied, replying}
+use Rattle.mail_tree.specs.Folders.{Outcome, replied, replying, unchanged}
 use Rattle.mail_tree.specs.Settling.{with_context}
 use Rattle.mail_tree.specs.Tree.{Tree}
 use Rattle.mail_draft.specs.Answers.{Says}
-use Rattle.mail_draft.specs.Drafts.{changed_of}
-use Rattle.mail_draft.specs.declared.draft.Draft.{Draft}
 use Rattle.mail_draft.specs.declared.stop.Stop.{Stop}
 use Rattle.mail_draft.proofs.Passes.{then_says}
-use Rattle.mail_searches.specs.Criteria.{Coming, built_unless, can_hold, criteria_in, given_criteria, given_restriction, given_scope, overfills, setting_criteria, unless_other, with_criteria}
+use Rattle.mail_searches.specs.Criteria.{Coming, built_unless, can_hold, criteria_in, criteria_line, given_criteria, given_restriction, given_scope, overfills, setting_criteria, told_criteria, unless_other, with_criteria}
 use Rattle.mail_searches.specs.Searches.{Search, criteria_node, search_id, search_of}
 use Rattle.mail_searches.specs.Searching.{Searching}
 use Rattle.mail_searches.proofs.HoldLaws.{written_holds}
 use Rattle.search_folders.specs.Givens.{Gift, criteria_after, given_all}
-use Rattle.search_folders.specs.Pieces.{criteria_at, setting}
+use Rattle.search_folders.specs.Pieces.{criteria_at, setting, told_where, unless_among}
 
 abbrev both : Ctx → Crit → Answer (Ctx × Crit)
 both c k = Ok (c, k)
@@ -90,16 +88,20 @@ set_on view X s c k set E own stopped result e says put is stops then =
     subst (λ (o : Option CritSet). Says view (known o >>= setting_criteria X s c k) result) (sym e) rest
 
 -- the reply, after the list was built
-pub replies_on : {D : Type 0} (view : D → Outcome) (X : Searching) (search : Search) (stopped : Bool) (E : Changed) (before after : List Search) (reason : Option CommandRefusal) (draft : Draft) (result : Result D Stop)
+pub replies_on : {B D : Type 0} (changed : B → Changed) (view : D → Outcome) (X : Searching) (search : Search) (stopped : Bool) (E : Changed) (before after : List Search) (reason : Option CommandRefusal) (built : B) (result : Result D Stop)
     → X.searches ≡ before → after ≡ put_key search_id search before → reason ≡ overfills before after
-    → Says changed_of (built_unless stopped X.tree search E) (Ok draft) → Says view (replying X.tree reason (replied Done) (changed_of draft)) result
+    → Says changed (built_unless stopped X.tree search E) (Ok built) → Says view (replying X.tree reason (replied Done) (changed built)) result
     → Says view (built_unless stopped X.tree search E >>= replying X.tree (overfills X.searches (put_key search_id search X.searches)) (replied Done)) result
-replies_on view X search stopped E before after reason draft result old new why built then =
-    rw old (then_says changed_of view (built_unless stopped X.tree search E) (replying X.tree (overfills before (put_key search_id search before)) (replied Done)) draft result built (rw (why, new) at then))
+replies_on changed view X search stopped E before after reason built result old new why first then =
+    rw old (then_says changed view (built_unless stopped X.tree search E) (replying X.tree (overfills before (put_key search_id search before)) (replied Done)) built result first (rw (why, new) at then))
 
-abbrev comes : Searching → Outcome → List Search → Coming
-comes X o searches = record { outcome = o; own = X.own; searches = searches }
+-- the folder is one of the own search folders that are known
+pub other_among : {D : Type 0} (view : D → Unit {0}) (X : Searching) (s : ℕ) (own : List ℕ) (result : Result D Stop) → X.own ≡ own → Says view (unless_among X.tree own s) result → Says view (unless_other X s) result
+other_among view X s own result same said = rw same said
 
--- the search came among those that there were
-pub comes_among : (X : Searching) (o : Outcome) (search : Search) (before after : List Search) → X.searches ≡ before → after ≡ put_key search_id search before → comes X o after ≡ comes X o (put_key search_id search X.searches)
-comes_among X o search before after old new = ap (comes X o) (new ∙ ap (put_key search_id search) (sym old))
+-- what was set of a search, where the own search folders are those that are known
+pub told_says : {D : Type 0} (view : D → Outcome) (X : Searching) (s : ℕ) (own : List ℕ) (result : Result D Stop) → X.own ≡ own → Says view (told_where X.tree own s) result → Says view (told_criteria X s) result
+unfolding told_where told_criteria
+told_says view X s own result same said =
+    follows view (unless_other X s) (λ u. criteria_at X.tree s >>= λ p. Ok (unchanged X.tree (replied (criteria_line p.1.set)))) _ result
+    (λ u. from_criteria view X.tree s (λ (c : Ctx) (k : Crit). Ok (unchanged X.tree (replied (criteria_line k.set)))) result) (rw (← same) at said)

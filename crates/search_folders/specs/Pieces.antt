@@ -1,27 +1,30 @@
 -- The commands on search folders, part by part.
-use Rattle.std.specs.Prelude.{ℕ, ◌/◌, ◌%◌, ◌==◌, ◌&&◌, ◌++◌, Bool, false, max, nat_le, List, [], ◌∷◌, map, None, Ok, Err, if◌then◌else◌}
+use Rattle.std.specs.Prelude.{ℕ, ◌/◌, ◌%◌, ◌==◌, ◌&&◌, ◌++◌, Bool, false, max, nat_le, not, List, [], ◌∷◌, map, None, Some, Ok, Err, if◌then◌else◌}
 use Rattle.mapi_values.specs.Characters.{folded}
 use Rattle.mapi_values.specs.Keyed.{put_key}
 use Rattle.mapi_values.specs.Values.{Val}
 use Rattle.mapi_values.specs.declared.column.Column.{Column}
-use Rattle.command_text.specs.declared.reply.CommandRefusal.TheVariants.{Limit}
+use Rattle.command_text.specs.declared.reply.CommandRefusal.TheVariants.{Limit, Reserved}
 use Rattle.command_text.specs.declared.reply.DataLine.{DataLine}
 use Rattle.command_text.specs.declared.reply.LastLine.TheVariants.{Done}
 use Rattle.command_text.specs.declared.reply.Limit.TheVariants.{Depth}
 use Rattle.mail_objects.specs.Forms.{Ctx}
+use Rattle.mail_objects.specs.declared.object.Object.TheVariants.{Bare, Table}
 use Rattle.mail_tree.specs.declared.places.FolderPlace.{FolderPlace}
-use Rattle.mail_tree.specs.Changing.{Answer, Changed, ◌>>=◌, as_message, contents, context_at, hierarchy, message_at, nothing, now_at, refused_if, table_at}
-use Rattle.mail_tree.specs.Folders.{Outcome, folder_in, replied, replying, unless_full, unless_named, unless_plain}
+use Rattle.mail_tree.specs.Changing.{Answer, Changed, ◌>>=◌, add_shown, as_message, contents, context_at, hierarchy, message_at, nothing, now_at, refused_if, table_at, with_object}
+use Rattle.mail_tree.specs.Columns.{contents_table}
+use Rattle.mail_tree.specs.Folders.{Outcome, folder_in, listing, nid, replied, replying, unchanged, unless_full, unless_named, unless_plain}
 use Rattle.mail_tree.specs.Ids.{LAST_INDEX}
 use Rattle.mail_tree.specs.Places.{children, is_deep, is_plain, place_id}
-use Rattle.mail_tree.specs.Settling.{message_ids}
+use Rattle.mail_tree.specs.Settling.{message_ids, settled}
 use Rattle.mail_tree.specs.Tree.{Tree}
+use Rattle.mail_tree.specs.Values.{folder_props}
 use Rattle.search_obj.specs.Crits.{Crit}
 use Rattle.mail_searches.specs.Building.{found_among, with_found}
-use Rattle.mail_searches.specs.Criteria.{Coming, built_unless, criteria_in, message_line, next_search_index, overfills, staying, unless_listless}
+use Rattle.mail_searches.specs.Criteria.{Coming, built_unless, criteria_in, criteria_line, marked, message_line, next_search_index, no_criteria, overfills, search_listing, staying, unless_listless, with_search}
 use Rattle.mail_searches.specs.Relisting.{before_those, is_unclear}
-use Rattle.mail_searches.specs.Searches.{Search, criteria_node, in_scope, search_id}
-use Rattle.mail_searches.specs.Searching.{Searching}
+use Rattle.mail_searches.specs.Searches.{Search, criteria_node, in_scope, results, search_id, updates}
+use Rattle.mail_searches.specs.Searching.{Searching, is_own}
 
 -- the lines so far, with that of the message that a row of this id names, if it names one
 unfoldable pub named_line : Tree → List DataLine → ℕ → Answer (List DataLine)
@@ -79,3 +82,27 @@ stays_after X a = a >>= staying X
 -- the index of the next search, if each plain folder has its table of folders
 abbrev pub search_index : Tree → Answer ℕ
 search_index T = unless_listless T >>= λ u. Ok (next_search_index T)
+
+-- the folder isn't one of these own search folders
+abbrev pub unless_among : Tree → List ℕ → ℕ → Answer (Unit {0})
+unless_among T own s = folder_in T s >>= λ p. refused_if (not (is_own own s)) Reserved
+
+-- what was set of a search, where these search folders are own
+unfoldable pub told_where : Tree → List ℕ → ℕ → Answer Outcome
+told_where T own s = unless_among T own s >>= λ u. criteria_at T s >>= λ p. Ok (unchanged T (replied (criteria_line p.1.set)))
+
+-- what is listed of a folder, where these search folders are own
+unfoldable pub listing_where : Tree → List ℕ → ℕ → Answer Outcome
+listing_where T own f = if is_own own f then search_listing T f else (listing T f >>= λ o. Ok (record o { reply = marked own o.reply }))
+
+-- the nodes that a new search has beside its folder
+abbrev pub with_nodes : ℕ → Changed → Changed
+with_nodes s D = with_object (results s) (Some (Table contents_table)) (with_object (criteria_node s) (Some no_criteria) (with_object (updates s) (Some (Bare (nid 0))) D))
+
+-- the nodes of a new search, and its row
+abbrev pub adding_search : Tree → ℕ → ℕ → List ℕ → Changed → Answer Changed
+adding_search T s parent name D = add_shown T (hierarchy parent) s (folder_props name) (with_search s parent name D)
+
+-- the nodes of a new search and its row, with its parent counted anew, where the folders then stand at these places
+unfoldable pub added_search : Tree → ℕ → ℕ → List ℕ → List FolderPlace → Answer Changed
+added_search T s parent name places = adding_search T s parent name nothing >>= settled T places parent

@@ -1,8 +1,8 @@
 //! The commands on search folders.
 //!
-//! Promises: `make_search`, `set_criteria`, `get_criteria`, `list_folder`, `rename_search`, `move_search` and `remove_search` give what the definitions say of `mksearch`, `criteria`, `getcriteria`, `ls`, `rename`, `mvdir` and `rmdir` where there are searches.
+//! Promises: `make_search`, `set_criteria`, `get_criteria`, `list_folder`, `rename_search`, `move_search` and `remove_search` give what the definitions say of `mksearch`, `criteria`, `getcriteria`, `ls`, `rename`, `mvdir` and `rmdir` where there are searches, of every tree that the desk shows; what changes stands in the desk's draft.
 //!
-//! Leaves to others: what the definitions mean (`mail_searches`), and how lists follow messages (`search_results`).
+//! Leaves to others: what the definitions mean (`mail_searches`), how lists follow messages (`search_results`), and carrying the changes out.
 #![tactic(auto)]
 
 mod building;
@@ -14,6 +14,7 @@ mod listing;
 mod making;
 mod moving;
 mod nodes;
+mod outcome;
 mod places;
 mod telling;
 
@@ -25,5 +26,6 @@ pub use mail_draft;
 pub use mail_folders;
 pub use making::make_search;
 pub use moving::{move_search, remove_search, rename_search};
+pub use outcome::SearchOutcome;
 pub use search_results;
 pub use telling::{criteria_at, get_criteria};

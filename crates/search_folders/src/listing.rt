@@ -1,141 +1,115 @@
 //! `ls` where there are searches.
-ghost use Rattle.std.specs.Prelude.{◌≡◌, [], map, IfErr, IfOk};
+ghost use Rattle.std.specs.Prelude.{◌≡◌, [], map, IfOk};
 ghost use Rattle.command_text.specs.declared.reply.DataLine.TheVariants.{Foreign};
-ghost use Rattle.mail_tree.specs.Knowing.{Knows};
-ghost use Rattle.mail_tree.specs.Tree.{Shown, Tree};
-ghost use Rattle.mail_draft.specs.Answers.{IsCaused, Looks, Says};
-ghost use Rattle.mail_draft.specs.Outcomes.{outcome_of};
-ghost use Rattle.mail_searches.specs.Searching.{Searching};
-ghost use Rattle.search_folders.specs.Comings.{KnowsSearches, coming_of};
-ghost use Rattle.search_folders.specs.Pieces.{named_line, named_lines, stays_after};
+ghost use Rattle.mail_tree.specs.Changing.{Changed, nothing};
+ghost use Rattle.mail_tree.specs.Tree.{Tree};
+ghost use Rattle.mail_draft.specs.Desks.{Comes, coming_of};
+ghost use Rattle.mail_draft.specs.Sight.{Answers, Reads};
 ghost use Rattle.mail_searches.specs.Criteria.{marked, marked_line, search_listing};
 ghost use Rattle.mail_searches.specs.Step.{listing_in};
+ghost use Rattle.search_folders.specs.Comings.{ComesAmong};
+ghost use Rattle.search_folders.specs.Pieces.{listing_where, named_line, named_lines, stays_after};
 
 use crate::coming::Coming;
-use crate::nodes::results;
 use command_text::{DataLine, DataLines, Reply};
-use mail_draft::{Outcome, Stop};
-use mail_folders::{line_of_message, listed, table_in};
+use mail_draft::Stop;
+use mail_folders::on_desk::line_of_message;
+use mail_folders::{FolderDesk, listed};
 use mail_searches::{KnownSearches, OwnFolders};
-use mail_tree::Known;
 use mapi_values::{Props, Units};
-use node_port::NodeReader;
 use pst_base::Nid;
-use pst_outside::Outside;
-use search_results::is_message;
+use search_results::{is_message, results_table};
 use std::alloc::{AllocError, Global};
 
 /// Lists what is in a folder: of an own search folder the messages that its rows name, and in any other one own search folders as such. The refusal: `Object`.
-pub fn list_folder<W: Outside, K: NodeReader<W>>(
-    alloc: Global,
-    keeper: &mut K,
-    w: &mut W,
-    known: &Known,
+pub fn list_folder<D: FolderDesk>(
+    desk: &mut D,
     searches: &KnownSearches,
     folder: Nid,
 ) -> Result<Coming, Stop>
-    ensures answer { (X : Searching) → Shown (K.holds keeper.old (W.view w.old)) (K.last keeper.old) X.tree → Knows X.tree known.now → KnowsSearches X searches.now → Says (coming_of X) (stays_after X (listing_in X folder.bits)) result }
-    ensures looks { Looks (K.holds keeper.old (W.view w.old)) (K.holds keeper.new (W.view w.new)) (K.last keeper.old) (K.last keeper.new) (K.room keeper.old) (K.room keeper.new) (W.view w.old) (W.view w.new) }
-    ensures cause { IfErr result (IsCaused K.has_disk (W.view w.old).disk_faults (W.view w.new).disk_faults) }
+    requires fresh { (D.view desk.old).changed ≡ nothing }
+    ensures reads { Reads (D.view desk.old) (D.view desk.new) result }
+    ensures answer { ComesAmong (D.view desk.old) (D.view desk.new) searches.now (λ X. stays_after X (listing_in X folder.bits)) result }
 {
-    let outcome = listing_in(alloc, keeper, w, known, &searches.own, folder)?;
-    Ok(Coming::staying(outcome))
+    let tree = listing_where(desk, &searches.own, folder)?;
+    Ok(Coming::staying(tree))
 }
 
 /// What is listed of a folder, where these search folders are own.
-#[tactic(auto, unfolding(mail_searches::specs::Step::listing_in))]
-fn listing_in<W: Outside, K: NodeReader<W>>(
-    alloc: Global,
-    keeper: &mut K,
-    w: &mut W,
-    known: &Known,
+#[tactic(auto, unfolding(crate::specs::Pieces::listing_where))]
+fn listing_where<D: FolderDesk>(
+    desk: &mut D,
     own: &OwnFolders,
     folder: Nid,
-) -> Result<Outcome, Stop>
-    ensures answer { (X : Searching) → Shown (K.holds keeper.old (W.view w.old)) (K.last keeper.old) X.tree → Knows X.tree known.now → X.own ≡ own.now → Says (outcome_of X.tree) (listing_in X folder.bits) result }
-    ensures looks { Looks (K.holds keeper.old (W.view w.old)) (K.holds keeper.new (W.view w.new)) (K.last keeper.old) (K.last keeper.new) (K.room keeper.old) (K.room keeper.new) (W.view w.old) (W.view w.new) }
-    ensures cause { IfErr result (IsCaused K.has_disk (W.view w.old).disk_faults (W.view w.new).disk_faults) }
+) -> Result<mail_draft::Coming, Stop>
+    requires fresh { (D.view desk.old).changed ≡ nothing }
+    ensures reads { Reads (D.view desk.old) (D.view desk.new) result }
+    ensures answer { Comes (D.view desk.old) (D.view desk.new) (λ T c. listing_where T own.now folder.bits) result }
 {
     if own.contains(folder) {
-        return search_listing(alloc, keeper, w, known, folder);
+        return search_listing(desk, folder);
     }
-    let outcome = mail_folders::list_folder(alloc, keeper, w, &known.places, folder)?;
-    Ok(with_marks(alloc, own, outcome)?)
+    let listing = mail_folders::on_desk::list_folder(desk, folder)?;
+    Ok(with_marks(desk.alloc(), own, listing)?)
 }
 
 /// What is listed of a search: the messages that its rows name.
 #[tactic(auto, unfolding(mail_searches::specs::Criteria::search_listing))]
-fn search_listing<W: Outside, K: NodeReader<W>>(
-    alloc: Global,
-    keeper: &mut K,
-    w: &mut W,
-    known: &Known,
-    search: Nid,
-) -> Result<Outcome, Stop>
-    ensures answer { (T : Tree) → Shown (K.holds keeper.old (W.view w.old)) (K.last keeper.old) T → Knows T known.now → Says (outcome_of T) (search_listing T search.bits) result }
-    ensures looks { Looks (K.holds keeper.old (W.view w.old)) (K.holds keeper.new (W.view w.new)) (K.last keeper.old) (K.last keeper.new) (K.room keeper.old) (K.room keeper.new) (W.view w.old) (W.view w.new) }
-    ensures cause { IfErr result (IsCaused K.has_disk (W.view w.old).disk_faults (W.view w.new).disk_faults) }
+fn search_listing<D: FolderDesk>(desk: &mut D, search: Nid) -> Result<mail_draft::Coming, Stop>
+    requires fresh { (D.view desk.old).changed ≡ nothing }
+    ensures reads { Reads (D.view desk.old) (D.view desk.new) result }
+    ensures answer { Comes (D.view desk.old) (D.view desk.new) (λ T c. search_listing T search.bits) result }
 {
-    let node = table_in(alloc, keeper, w, results(search))?;
-    let lines = named_lines(alloc, keeper, w, known, node.table().rows())?;
-    Ok(Outcome::unchanged(alloc, listed(lines)))
+    let node = desk.table_before(results_table(search))?;
+    let lines = named_lines(desk, node.table().rows())?;
+    Ok(mail_draft::Coming::replied(listed(lines)))
 }
 
 /// The lines of the messages that these rows name.
-fn named_lines<W: Outside, K: NodeReader<W>>(
-    alloc: Global,
-    keeper: &mut K,
-    w: &mut W,
-    known: &Known,
-    rows: &[(u32, Props)],
-) -> Result<Vec<DataLine>, Stop>
-    ensures answer { (T : Tree) → Shown (K.holds keeper.old (W.view w.old)) (K.last keeper.old) T → Knows T known.now → Says (λ lines. lines.items) (named_lines T [] rows.now) result }
-    ensures looks { Looks (K.holds keeper.old (W.view w.old)) (K.holds keeper.new (W.view w.new)) (K.last keeper.old) (K.last keeper.new) (K.room keeper.old) (K.room keeper.new) (W.view w.old) (W.view w.new) }
-    ensures cause { IfErr result (IsCaused K.has_disk (W.view w.old).disk_faults (W.view w.new).disk_faults) }
+fn named_lines<D: FolderDesk>(desk: &mut D, rows: &[(u32, Props)]) -> Result<Vec<DataLine>, Stop>
+    ensures reads { Reads (D.view desk.old) (D.view desk.new) result }
+    ensures answer { Answers (D.view desk.old) (λ lines. lines.items) (λ T c. named_lines T [] rows.now) result }
 {
-    let mut lines = Vec::new(alloc);
+    let mut lines = Vec::new(desk.alloc());
     for row in rows {
-        lines = named_line(alloc, keeper, w, known, lines, Nid { bits: row.0 })?;
+        lines = named_line(desk, lines, Nid { bits: row.0 })?;
     }
     Ok(lines)
 }
 
 /// The lines so far, with that of the message with this id, if there is one. The lines are lost with an `Err`.
 #[tactic(auto, unfolding(crate::specs::Pieces::named_line))]
-fn named_line<W: Outside, K: NodeReader<W>>(
-    alloc: Global,
-    keeper: &mut K,
-    w: &mut W,
-    known: &Known,
-    lines: Vec<DataLine>,
+fn named_line<D: FolderDesk>(
+    desk: &mut D,
+    mut lines: Vec<DataLine>,
     id: Nid,
 ) -> Result<Vec<DataLine>, Stop>
-    ensures answer { (T : Tree) → Shown (K.holds keeper.old (W.view w.old)) (K.last keeper.old) T → Knows T known.now → Says (λ lines. lines.items) (named_line T lines.items id.bits) result }
-    ensures looks { Looks (K.holds keeper.old (W.view w.old)) (K.holds keeper.new (W.view w.new)) (K.last keeper.old) (K.last keeper.new) (K.room keeper.old) (K.room keeper.new) (W.view w.old) (W.view w.new) }
-    ensures cause { IfErr result (IsCaused K.has_disk (W.view w.old).disk_faults (W.view w.new).disk_faults) }
+    ensures reads { Reads (D.view desk.old) (D.view desk.new) result }
+    ensures answer { Answers (D.view desk.old) (λ lines. lines.items) (λ T c. named_line T lines.items id.bits) result }
 {
-    if !is_message(alloc, keeper, w, known, id)? {
+    if !is_message(desk, id)? {
         return Ok(lines);
     }
-    let line = line_of_message(alloc, keeper, w, id.bits)?;
-    let mut lines = lines;
+    let line = line_of_message(desk, id.bits)?;
     lines.push(line)?;
     Ok(lines)
 }
 
 /// What a listing comes to, with own search folders as such.
-fn with_marks(alloc: Global, own: &OwnFolders, outcome: Outcome) -> Result<Outcome, AllocError>
-    ensures { IfOk result (λ o. (T : Tree) → outcome_of T o ≡ record (outcome_of T outcome) { reply = marked own.now outcome.reply }) }
+fn with_marks(
+    alloc: Global,
+    own: &OwnFolders,
+    listing: mail_draft::Coming,
+) -> Result<mail_draft::Coming, AllocError>
+    ensures { IfOk result (λ c. (T : Tree) (D : Changed) → coming_of T D c ≡ record (coming_of T D listing) { reply = marked own.now listing.reply }) }
 {
-    let Outcome {
-        draft,
+    let mail_draft::Coming {
         places,
         last,
         reply,
-    } = outcome;
+    } = listing;
     let reply = marked(alloc, own, reply)?;
-    Ok(Outcome {
-        draft,
+    Ok(mail_draft::Coming {
         places,
         last,
         reply,

@@ -1,6 +1,6 @@
-//! The ids of a search folder's nodes.
+//! The ids of a search folder's nodes, beside that of its list.
 ghost use Rattle.std.specs.Prelude.{◌≡◌};
-ghost use Rattle.mail_searches.specs.Searches.{criteria_node, results, updates};
+ghost use Rattle.mail_searches.specs.Searches.{criteria_node, updates};
 
 use pst_base::{Nid, make_nid};
 
@@ -16,11 +16,4 @@ pub(crate) fn criteria_node(search: Nid) -> Nid
     ensures { result.bits ≡ criteria_node search.bits }
 {
     make_nid(0x07, search.index())
-}
-
-/// The table of what a search lists.
-pub(crate) fn results(search: Nid) -> Nid
-    ensures { result.bits ≡ results search.bits }
-{
-    make_nid(0x10, search.index())
 }

@@ -1,76 +1,68 @@
 //! `getcriteria`, and the criteria that stand.
 ghost use Rattle.std.specs.Prelude.{◌≡◌, ◌<◌, ◌^◌, ℕ, List, get_or, length, None, Some, IfErr, IfOk};
-ghost use Rattle.mail_tree.specs.Changing.{known};
-ghost use Rattle.mail_tree.specs.Knowing.{Knows};
-ghost use Rattle.mail_tree.specs.Tree.{Shown, Tree};
+ghost use Rattle.mail_tree.specs.Changing.{known, nothing};
+ghost use Rattle.mail_tree.specs.Tree.{Tree};
 ghost use Rattle.mail_tree.specs.Values.{bytes_of};
 ghost use Rattle.search_obj.specs.Objects.{IsFaulty};
 ghost use Rattle.mail_draft.specs.declared.stop.Stop.TheVariants.{Changed};
-ghost use Rattle.mail_draft.specs.Answers.{IsCalm, IsCaused, Looks, Says};
-ghost use Rattle.mail_draft.specs.Outcomes.{outcome_of};
+ghost use Rattle.mail_draft.specs.Answers.{IsCalm, Says};
+ghost use Rattle.mail_draft.specs.Desks.{Comes};
+ghost use Rattle.mail_draft.specs.Sight.{Answers, Reads};
+ghost use Rattle.mail_searches.specs.Criteria.{criteria_line, told_criteria};
 ghost use Rattle.mail_searches.specs.Searches.{criteria_of};
-ghost use Rattle.mail_searches.specs.Searching.{Searching};
-ghost use Rattle.search_folders.specs.Comings.{KnowsSearches, coming_of};
-ghost use Rattle.search_folders.specs.Pieces.{criteria_at, stays_after};
-ghost use Rattle.mail_searches.specs.Criteria.{criteria_line, told_criteria, unless_other};
+ghost use Rattle.search_folders.specs.Comings.{ComesAmong};
+ghost use Rattle.search_folders.specs.Pieces.{criteria_at, stays_after, told_where, unless_among};
 
 use crate::coming::Coming;
 use crate::nodes::criteria_node;
 use command_text::{CommandRefusal, LastLine, Reply, Scope};
-use mail_draft::{Outcome, Stop, bytes_of};
-use mail_folders::{context_in, folder_in};
+use mail_draft::{Desk, Stop, bytes_of};
+use mail_folders::folder_in;
 use mail_objects::Context;
 use mail_searches::{KnownSearches, OwnFolders};
-use mail_tree::{Known, Places};
+use mail_tree::Places;
 use mapi_values::Props;
 use mapi_values::tags::PTYP_BINARY;
-use node_port::NodeReader;
 use pst_base::{MemOr, Nid};
-use pst_outside::Outside;
 use restr_codec::write;
 use search_obj::{Criteria, CriteriaSet, SEARCH_RESTRICTION, SEARCH_SCOPE, read_search};
 use std::alloc::{AllocError, Global};
 
 /// Tells what was set of a search. The refusals: `Object`, `Reserved`.
-pub fn get_criteria<W: Outside, K: NodeReader<W>>(
-    alloc: Global,
-    keeper: &mut K,
-    w: &mut W,
-    known: &Known,
+pub fn get_criteria<D: Desk>(
+    desk: &mut D,
     searches: &KnownSearches,
     search: Nid,
 ) -> Result<Coming, Stop>
-    ensures answer { (X : Searching) → Shown (K.holds keeper.old (W.view w.old)) (K.last keeper.old) X.tree → Knows X.tree known.now → KnowsSearches X searches.now → Says (coming_of X) (stays_after X (told_criteria X search.bits)) result }
-    ensures looks { Looks (K.holds keeper.old (W.view w.old)) (K.holds keeper.new (W.view w.new)) (K.last keeper.old) (K.last keeper.new) (K.room keeper.old) (K.room keeper.new) (W.view w.old) (W.view w.new) }
-    ensures cause { IfErr result (IsCaused K.has_disk (W.view w.old).disk_faults (W.view w.new).disk_faults) }
+    requires fresh { (D.view desk.old).changed ≡ nothing }
+    ensures reads { Reads (D.view desk.old) (D.view desk.new) result }
+    ensures answer { ComesAmong (D.view desk.old) (D.view desk.new) searches.now (λ X. stays_after X (told_criteria X search.bits)) result }
 {
-    let outcome = told_criteria(alloc, keeper, w, &known.places, &searches.own, search)?;
-    Ok(Coming::staying(outcome))
+    let tree = told_where(desk, &searches.own, search)?;
+    Ok(Coming::staying(tree))
 }
 
-/// What was set of a search, as a reply tells it.
-#[tactic(auto, unfolding(mail_searches::specs::Criteria::told_criteria))]
-fn told_criteria<W: Outside, K: NodeReader<W>>(
-    alloc: Global,
-    keeper: &mut K,
-    w: &mut W,
-    places: &Places,
+/// What was set of a search, as a reply tells it, where these search folders are own.
+#[tactic(auto, unfolding(crate::specs::Pieces::told_where))]
+fn told_where<D: Desk>(
+    desk: &mut D,
     own: &OwnFolders,
     search: Nid,
-) -> Result<Outcome, Stop>
-    ensures answer { (X : Searching) → Shown (K.holds keeper.old (W.view w.old)) (K.last keeper.old) X.tree → X.tree.places ≡ places.now → X.own ≡ own.now → Says (outcome_of X.tree) (told_criteria X search.bits) result }
-    ensures looks { Looks (K.holds keeper.old (W.view w.old)) (K.holds keeper.new (W.view w.new)) (K.last keeper.old) (K.last keeper.new) (K.room keeper.old) (K.room keeper.new) (W.view w.old) (W.view w.new) }
-    ensures cause { IfErr result (IsCaused K.has_disk (W.view w.old).disk_faults (W.view w.new).disk_faults) }
+) -> Result<mail_draft::Coming, Stop>
+    requires fresh { (D.view desk.old).changed ≡ nothing }
+    ensures reads { Reads (D.view desk.old) (D.view desk.new) result }
+    ensures answer { Comes (D.view desk.old) (D.view desk.new) (λ T c. told_where T own.now search.bits) result }
 {
-    unless_other(places, own, search)?;
-    let (_, criteria) = criteria_at(alloc, keeper, w, search)?;
-    let last = criteria_line(alloc, criteria.set)?;
-    Ok(Outcome::unchanged(alloc, Reply::without_data(alloc, last)))
+    unless_among(desk.places(), own, search)?;
+    let (_, criteria) = criteria_at(desk, search)?;
+    let last = criteria_line(desk.alloc(), criteria.set)?;
+    let reply = Reply::without_data(desk.alloc(), last);
+    Ok(mail_draft::Coming::replied(reply))
 }
 
 /// Refused where a folder isn't there, or isn't one of these own search folders.
-pub(crate) fn unless_other(places: &Places, own: &OwnFolders, search: Nid) -> Result<(), Stop>
-    ensures answer { (X : Searching) → X.tree.places ≡ places.now → X.own ≡ own.now → Says (λ u. u) (unless_other X search.bits) result }
+pub(crate) fn unless_among(places: &Places, own: &OwnFolders, search: Nid) -> Result<(), Stop>
+    ensures answer { (T : Tree) → T.places ≡ places.now → Says (λ u. u) (unless_among T own.now search.bits) result }
     ensures calm { IfErr result IsCalm }
 {
     let _place = folder_in(places, search)?;
@@ -80,20 +72,14 @@ pub(crate) fn unless_other(places: &Places, own: &OwnFolders, search: Nid) -> Re
     Ok(())
 }
 
-/// The criteria object of an own search folder, and the criteria that it says. `Stop::Refused` where the object isn't there or isn't one of this program, `Stop::Memory` where no memory is left, else as the keeper stops.
+/// The criteria object of an own search folder, and the criteria that it says. `Stop::Refused` where the object isn't there or isn't one of this program, `Stop::Memory` where no memory is left, else as the desk stops.
 #[tactic(auto, unfolding(crate::specs::Pieces::criteria_at))]
-pub fn criteria_at<W: Outside, K: NodeReader<W>>(
-    alloc: Global,
-    keeper: &mut K,
-    w: &mut W,
-    search: Nid,
-) -> Result<(Context, Criteria), Stop>
-    ensures answer { (T : Tree) → Shown (K.holds keeper.old (W.view w.old)) (K.last keeper.old) T → Says (λ p. (p.0, p.1)) (criteria_at T search.bits) result }
-    ensures looks { Looks (K.holds keeper.old (W.view w.old)) (K.holds keeper.new (W.view w.new)) (K.last keeper.old) (K.last keeper.new) (K.room keeper.old) (K.room keeper.new) (W.view w.old) (W.view w.new) }
-    ensures cause { IfErr result (IsCaused K.has_disk (W.view w.old).disk_faults (W.view w.new).disk_faults) }
+pub fn criteria_at<D: Desk>(desk: &mut D, search: Nid) -> Result<(Context, Criteria), Stop>
+    ensures reads { Reads (D.view desk.old) (D.view desk.new) result }
+    ensures answer { Answers (D.view desk.old) (λ p. (p.0, p.1)) (λ T c. criteria_at T search.bits) result }
 {
-    let context = context_in(alloc, keeper, w, criteria_node(search))?;
-    let criteria = criteria_in(alloc, context.props())?;
+    let context = desk.context_before(criteria_node(search))?;
+    let criteria = criteria_in(desk.alloc(), context.props())?;
     Ok((context, criteria))
 }
 

@@ -1,38 +1,29 @@
-use Rattle.std.proofs.Common.{◌∙◌, sym}
+use Rattle.std.proofs.Common.{◌∙◌, ℕ, List, ap, sym}
 use Rattle.mapi_values.specs.Keyed.{put_key}
-use Rattle.mail_tree.specs.Ids.{new_id}
+use Rattle.mail_tree.specs.declared.places.FolderPlace.{FolderPlace}
+use Rattle.mail_tree.specs.Changing.{◌>>=◌}
 use Rattle.mail_tree.specs.Places.{place_id}
-use Rattle.mail_tree.specs.Settling.{settled}
 use Rattle.mail_tree.specs.Folders.{making}
+use Rattle.mail_draft.proofs.DeskCalls.{changes_come, changes_come_exit}
+use Rattle.mail_folders.proofs.Calls.{comes_known}
 use Rattle.mail_searches.specs.Criteria.{making_search, search_place}
-use Rattle.mail_draft.proofs.Looking.{looks_then, shown_still}
-use Rattle.mail_folders.proofs.Steps.{in_turn, stopped, stops_first, stops_second}
+use Rattle.search_folders.specs.Pieces.{added_search}
 use Rattle.search_folders.proofs.making.making_search.Goals as goal
 
-pub returns-in_err-with_row-clause-answer : goal.returns-in_err-with_row-clause-answer
-unfolding making_search
-returns-in_err-with_row-clause-answer g c = λ T s k.
-    let places = put_key place_id (search_place (new_id 3 c.args.index) c.args.parent.bits) T.places in
-    let row = rw c.new_id-search.ensures at (c.in_err-with_row.ensures.answer T s) in
-    stopped _ _ _ _ c.from_residual-in_err-with_row.ensures.1
-    (stops_first _ _ (settled T places c.args.parent.bits) (making T places 3 c.args.index) _ row)
-
-pub returns-in_err-draft-clause-answer : goal.returns-in_err-draft-clause-answer
-unfolding making_search
-returns-in_err-draft-clause-answer g c = λ T s k.
-    let places = put_key place_id (search_place (new_id 3 c.args.index) c.args.parent.bits) T.places in
-    let after = rw (c.new_id-search.ensures, ← k.places) at c.in_ok-after.ensures in
-    let row = rw c.new_id-search.ensures at (c.in_ok-with_row.ensures.answer T s) in
-    stopped _ _ _ _ c.from_residual-in_err-draft.ensures.1
-    (stops_second _ _ (settled T places c.args.parent.bits) (making T places 3 c.args.index) _ _ row (rw after at (c.in_err-draft.ensures.answer T (shown_still T c.in_ok-with_row.ensures.looks s) k.flags)))
+pub returns-in_err-added_search-clause-answer : goal.returns-in_err-added_search-clause-answer
+unfolding making_search added_search
+returns-in_err-added_search-clause-answer g c =
+    let made = c.new_id-search.result.bits in let parent = c.args.parent.bits in let name = c.args.name.now in let after = c.in_ok-after.after in
+    comes_known c.places.ensures (λ T e D.
+    ap (λ (ps : List FolderPlace). added_search T made parent name ps >>= making T ps 3 c.args.index) (c.in_ok-after.ensures ∙ ap (put_key place_id (search_place made parent)) (sym e))
+    ∙ ap (λ (s : ℕ). added_search T s parent name (put_key place_id (search_place s parent) T.places) >>= making T (put_key place_id (search_place s parent) T.places) 3 c.args.index) c.new_id-search.ensures)
+    (changes_come_exit (λ T. making T after 3 c.args.index) c.in_err-added_search.ensures.answer c.from_residual-in_err-added_search.ensures.1)
 
 pub returns-clause-answer : goal.returns-clause-answer
-unfolding making_search
-returns-clause-answer g c = λ T s k.
-    let places = put_key place_id (search_place (new_id 3 c.args.index) c.args.parent.bits) T.places in
-    let after = rw (c.new_id-search.ensures, ← k.places) at c.in_ok-after.ensures in
-    let row = rw c.new_id-search.ensures at (c.in_ok-with_row.ensures.answer T s) in
-    let L = looks_then c.in_ok-with_row.ensures.looks c.in_ok-draft.ensures.looks in
-    let counters = (shown_still T L s).counters ∙ sym c.counts-counts.ensures in
-    in_turn _ _ (settled T places c.args.parent.bits) (making T places 3 c.args.index) _ _ _ row
-    (rw after at (c.in_ok-draft.ensures.answer T (shown_still T c.in_ok-with_row.ensures.looks s) k.flags)) (rw after at (c.making.ensures.answer T (shown_still T L s) counters))
+unfolding making_search added_search
+returns-clause-answer g c =
+    let made = c.new_id-search.result.bits in let parent = c.args.parent.bits in let name = c.args.name.now in let after = c.in_ok-after.after in
+    comes_known c.places.ensures (λ T e D.
+    ap (λ (ps : List FolderPlace). added_search T made parent name ps >>= making T ps 3 c.args.index) (c.in_ok-after.ensures ∙ ap (put_key place_id (search_place made parent)) (sym e))
+    ∙ ap (λ (s : ℕ). added_search T s parent name (put_key place_id (search_place s parent) T.places) >>= making T (put_key place_id (search_place s parent) T.places) 3 c.args.index) c.new_id-search.ensures)
+    (changes_come (λ T. making T after 3 c.args.index) c.in_ok-added_search.ensures.answer c.in_ok-added_search.ensures.drafts c.making.ensures.answer)
