@@ -1,4 +1,5 @@
 pub mod Comings
+pub mod Among
 pub mod Pieces
 pub mod Givens
 pub mod Moves
