@@ -1,91 +1,62 @@
 -- What mending a search comes to, step by step.
 use Rattle.std.proofs.Common.{◌≡◌, ◌∙◌, ◌⊎◌, ℕ, ◌||◌, Bool, true, false, Option, Result, Ok, Err, IfOk, is_some, inl, inr, subst, sym}
+use Rattle.std.specs.Result.{IsErrAnd}
 use Rattle.search_obj.specs.Crits.{Crit}
 use Rattle.command_text.specs.declared.reply.LastLine.TheVariants.{Done}
 use Rattle.mail_objects.specs.Forms.{Ctx, Tbl}
 use Rattle.mail_tree.specs.Changing.{Answer, Changed, ◌>>=◌}
 use Rattle.mail_tree.specs.Folders as tree
 use Rattle.mail_tree.specs.Folders.{changing, replied}
+use Rattle.mail_tree.specs.Tree.{Tree}
 use Rattle.store_session.specs.mail_draft.Answers.{Says}
-use Rattle.store_session.specs.mail_draft.Drafts.{changed_of}
-use Rattle.store_session.specs.mail_draft.Outcomes.{outcome_of}
-use Rattle.store_session.specs.mail_draft.declared.draft.Draft.{Draft}
-use Rattle.store_session.specs.mail_draft.declared.outcome.Outcome.{Outcome}
+use Rattle.store_session.specs.mail_draft.Desks.{Comes, coming_of}
+use Rattle.store_session.specs.mail_draft.Sight.{Sight}
 use Rattle.store_session.specs.mail_draft.declared.stop.Stop.{Stop}
+use Rattle.store_session.proofs.mail_draft_laws.DeskCalls.{no_ok}
 use Rattle.store_session.proofs.mail_draft_laws.Passes.{stop_says, then_says}
-use Rattle.store_session.proofs.mail_folders_laws.Steps.{in_turn, stops_first, stops_second}
+use Rattle.store_session.proofs.mail_folders_laws.Steps.{stopped}
 use Rattle.mail_searches.specs.Searches.{find_search}
 use Rattle.mail_searches.specs.Searching.{Searching}
 use Rattle.store_session.proofs.mail_store_laws.QuietLaws.{Right, if_any, if_then, quiet, then_changing}
 use Rattle.store_session.specs.mail_store.Planning.{StaysUnwritten}
 use Rattle.store_session.specs.search_folders.Pieces.{criteria_at}
 use Rattle.search_mending.specs.Mending.{Mending, is_first, list_of_any, mended_search, mending, mending_with, touched_if, turned, with_list}
-use Rattle.search_mends.specs.Mendings.{mending_of}
-use Rattle.search_mends.specs.declared.coming.SearchMending.{SearchMending}
+use Rattle.search_mends.specs.Mendings.{ComesMended, mending_beside}
+use Rattle.search_mends.specs.declared.coming.MendingBeside.{MendingBeside}
 
 -- the first of two, or else the other
 pub one_of_two : (a b either x y : Bool) → a ≡ x → b ≡ y → ((a ≡ true) × (either ≡ true)) ⊎ ((a ≡ false) × (either ≡ b)) → either ≡ (x || y)
 one_of_two a b either x y first second (inl this) = let on : x ≡ true = sym first ∙ this.0 in rw on this.1
 one_of_two a b either x y first second (inr other) = let off : x ≡ false = sym first ∙ other.0 in rw off (other.1 ∙ second)
 
-module _ (X : Searching) (f : ℕ) (list : Option Tbl) (c : Ctx) (k : Crit) where
-  abbrev made : tree.Outcome → Answer Mending
-  made o = Ok (mending X list k o)
+-- what comes of the changes of a mending
+abbrev pub mending_comes : ℕ → Option Tbl → Ctx → Crit → Bool → Tree → Answer tree.Outcome
+mending_comes f list c k b T = turned f c k >>= with_list T f list >>= touched_if b T f >>= changing T (replied Done)
 
-  -- what is changed in the nodes
-  abbrev changes : Answer Changed
-  changes = turned f c k >>= with_list X.tree f list
-
-  -- the search is mended
-  abbrev is_mended : Bool
-  is_mended = is_some list || is_first k.version
-
-  abbrev touch : Changed → Answer Changed
-  touch = touched_if is_mended X.tree f
-
-  changes_stop : (stop : Stop) → Says {B = Draft} changed_of changes (Err stop) → Says {B = SearchMending} (mending_of X) (mending_with X f list (c, k)) (Err stop)
+module _ {A : Type 0} {old new : Sight A} (f : ℕ) (list : Option Tbl) (c : Ctx) (k : Crit) (b : Bool) (is : b ≡ (is_some list || is_first k.version)) where
+  -- its searches stay what they are
+  pub mends_both : {m : MendingBeside} → Comes old new (λ T D. mending_comes f list c k b T) (Ok m.coming) → m.stale ≡ is_some list → m.first ≡ is_first k.version
+      → ComesMended old new (λ X. Unit {0}) (λ X. mending_with X f list (c, k)) (Ok m)
   unfolding mending_with
-  changes_stop stop first =
-      stop_says (outcome_of X.tree) (mending_of X) (changes >>= touch >>= changing X.tree (replied Done)) made stop (stops_first (outcome_of X.tree) changes touch (changing X.tree (replied Done)) stop first)
+  mends_both {m} comes stale first = record {
+    says = λ X s known.
+        then_says (coming_of X.tree new.changed) (mending_beside X new.changed) (mending_comes f list c k (is_some list || is_first k.version) X.tree) (λ o. Ok (mending X list k o)) m.coming (Ok m)
+        (subst (λ x. Says (coming_of X.tree new.changed) (mending_comes f list c k x X.tree) (Ok m.coming)) is (comes.says X.tree s))
+        (λ i. record { stale = stale i; first = first i; coming = record { outcome = coming_of X.tree new.changed m.coming; own = X.own; searches = X.searches } });
+    fits = comes.fits;
+  }
 
-  -- the object can't be turned
-  pub object_stops : (stop : Stop) → Says {B = Draft} changed_of (turned f c k) (Err stop) → Says {B = SearchMending} (mending_of X) (mending_with X f list (c, k)) (Err stop)
-  object_stops stop first = changes_stop stop (stop_says changed_of changed_of (turned f c k) (with_list X.tree f list) stop first)
-
-  -- the list can't be put
-  pub list_stops : (draft : Draft) (stop : Stop) → Says changed_of (turned f c k) (Ok draft) → Says {B = Draft} changed_of (with_list X.tree f list (changed_of draft)) (Err stop)
-      → Says {B = SearchMending} (mending_of X) (mending_with X f list (c, k)) (Err stop)
-  list_stops draft stop first second = changes_stop stop (then_says changed_of changed_of (turned f c k) (with_list X.tree f list) draft (Err stop) first second)
-
-  module _ (draft listed : Draft) (b : Bool) (first : Says changed_of (turned f c k) (Ok draft)) (second : Says changed_of (with_list X.tree f list (changed_of draft)) (Ok listed)) (is : b ≡ is_mended) where
-    changed : Says changed_of changes (Ok listed)
-    changed = then_says changed_of changed_of (turned f c k) (with_list X.tree f list) draft (Ok listed) first second
-
-    touched : (result : Result Draft Stop) → Says changed_of (touched_if b X.tree f (changed_of listed)) result → Says changed_of (touch (changed_of listed)) result
-    touched result third = subst (λ x. Says changed_of (touched_if x X.tree f (changed_of listed)) result) is third
-
-    -- the nodes can't be put
-    pub nodes_stop : (stop : Stop) → Says {B = Draft} changed_of (touched_if b X.tree f (changed_of listed)) (Err stop) → Says {B = SearchMending} (mending_of X) (mending_with X f list (c, k)) (Err stop)
-    unfolding mending_with
-    nodes_stop stop third =
-        stop_says (outcome_of X.tree) (mending_of X) (changes >>= touch >>= changing X.tree (replied Done)) made stop
-        (stops_second (outcome_of X.tree) changes touch (changing X.tree (replied Done)) listed stop changed (touched (Err stop) third))
-
-    -- a limit is passed
-    pub limit_stops : (both : Draft) (stop : Stop) → Says changed_of (touched_if b X.tree f (changed_of listed)) (Ok both)
-        → Says {B = Outcome} (outcome_of X.tree) (changing X.tree (replied Done) (changed_of both)) (Err stop) → Says {B = SearchMending} (mending_of X) (mending_with X f list (c, k)) (Err stop)
-    unfolding mending_with
-    limit_stops both stop third fourth =
-        stop_says (outcome_of X.tree) (mending_of X) (changes >>= touch >>= changing X.tree (replied Done)) made stop
-        (in_turn (outcome_of X.tree) changes touch (changing X.tree (replied Done)) listed both (Err stop) changed (touched (Ok both) third) fourth)
-
-    pub mends_both : (both : Draft) (m : SearchMending) → Says changed_of (touched_if b X.tree f (changed_of listed)) (Ok both)
-        → Says (outcome_of X.tree) (changing X.tree (replied Done) (changed_of both)) (Ok m.outcome) → m.stale ≡ is_some list → m.first ≡ is_first k.version → Says (mending_of X) (mending_with X f list (c, k)) (Ok m)
-    unfolding mending_with
-    mends_both both m third fourth stale old =
-        then_says (outcome_of X.tree) (mending_of X) (changes >>= touch >>= changing X.tree (replied Done)) made m.outcome (Ok m)
-        (in_turn (outcome_of X.tree) changes touch (changing X.tree (replied Done)) listed both (Ok m.outcome) changed (touched (Ok both) third) fourth)
-        (λ i. record { stale = stale i; first = old i; coming = record { outcome = outcome_of X.tree m.outcome; own = X.own; searches = X.searches } })
+  -- a stop is that of what comes of them
+  pub mended_exit : {stop : Stop} {result : Result MendingBeside Stop} → Comes old new (λ T D. mending_comes f list c k b T) (Err stop) → IsErrAnd result (λ e. e ≡ stop)
+      → ComesMended old new (λ X. Unit {0}) (λ X. mending_with X f list (c, k)) result
+  unfolding mending_with
+  mended_exit {stop} {result} comes err = record {
+    says = λ X s known.
+        stopped (mending_beside X new.changed) (mending_with X f list (c, k)) stop result err
+        (stop_says (coming_of X.tree new.changed) (mending_beside X new.changed) (mending_comes f list c k (is_some list || is_first k.version) X.tree) (λ o. Ok (mending X list k o)) stop
+        (subst (λ x. Says (coming_of X.tree new.changed) (mending_comes f list c k x X.tree) (Err stop)) is (comes.says X.tree s)));
+    fits = no_ok _ _ result err;
+  }
 
 -- a mending that writes no node leaves the tree
 pub stays_unwritten : (X : Searching) (f : ℕ) → IfOk (mended_search X f) (λ m. StaysUnwritten X.tree m.coming.outcome)

@@ -9,7 +9,8 @@ ghost use Rattle.store_session.specs.mail_draft.Drafts.{changed_of};
 ghost use Rattle.store_session.specs.mail_draft.Sight.{Changes, Drafts};
 ghost use Rattle.mail_searches.specs.Searching.{Searching};
 ghost use Rattle.store_session.specs.search_folders.Comings.{KnowsSearches};
-ghost use Rattle.store_session.specs.search_folders.Showing.{ShowsAmong};
+ghost use Rattle.store_session.specs.search_folders.Among.{among};
+ghost use Rattle.store_session.specs.mail_draft.Showing.{Showing};
 ghost use Rattle.search_mending.specs.Mending.{mended_search, mending_with, with_list};
 ghost use Rattle.search_mends.specs.Mendings.{ComesMended, ComesToMend, mending_of};
 
@@ -107,7 +108,7 @@ fn taken<W: Outside, K: NodeReader<W>, L: Ledger>(
 ) -> Result<SearchMending, Stop>
     requires fresh { changed_of desk.old.draft.now ≡ nothing }
     ensures names { (desk.new.keeper.ghost_name ≡ desk.old.keeper.ghost_name) × (desk.new.world.ghost_name ≡ desk.old.world.ghost_name) × (desk.new.seen.ghost_name ≡ desk.old.seen.ghost_name) × (desk.new.draft.ghost_name ≡ desk.old.draft.ghost_name) }
-    ensures answer { ComesToMend (ShowsAmong (K.holds desk.old.keeper.now (W.view desk.old.world.now)) (K.last desk.old.keeper.now) desk.old.places.now desk.old.flags.now desk.old.seen.now searches.now) search.bits result }
+    ensures answer { ComesToMend (among (Showing (K.holds desk.old.keeper.now (W.view desk.old.world.now)) (K.last desk.old.keeper.now) desk.old.places.now desk.old.flags.now desk.old.seen.now) searches.now) search.bits result }
     ensures looks { Looks (K.holds desk.old.keeper.now (W.view desk.old.world.now)) (K.holds desk.new.keeper.now (W.view desk.new.world.now)) (K.last desk.old.keeper.now) (K.last desk.new.keeper.now) (K.room desk.old.keeper.now) (K.room desk.new.keeper.now) (W.view desk.old.world.now) (W.view desk.new.world.now) }
     ensures cause { IfErr result (IsCaused K.has_disk (W.view desk.old.world.now).disk_faults (W.view desk.new.world.now).disk_faults) }
 {

@@ -35,5 +35,6 @@ pub(crate) fn turned<D: Desk>(
     if !is_first(&criteria) {
         return Ok(());
     }
-    saying(desk, search, context, &criteria.migrated())
+    saying(desk, search, context, &criteria.migrated())?;
+    Ok(())
 }

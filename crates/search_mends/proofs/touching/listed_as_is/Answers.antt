@@ -1,20 +1,16 @@
 use Rattle.std.proofs.Common.{◌∙◌, ap}
 use Rattle.mail_tree.specs.Changing.{hierarchy}
 use Rattle.mail_tree.specs.Settling.{table_as_is}
-use Rattle.store_session.specs.mail_draft.Drafts.{changed_of}
-use Rattle.store_session.proofs.mail_draft_laws.Looking.{shown_still}
-use Rattle.store_session.proofs.mail_draft_laws.Passes.{stop_says, then_says}
-use Rattle.store_session.proofs.mail_draft_laws.SettleLaws.{says_at}
-use Rattle.store_session.proofs.mail_folders_laws.Steps.{stopped}
+use Rattle.store_session.proofs.mail_draft_laws.DeskCalls.{changes_at, changes_exit, changes_then}
 use Rattle.search_mending.specs.Mending.{listed_as_is}
 use Rattle.search_mends.proofs.touching.listed_as_is.Goals as goal
 
 pub returns-in_err-context-clause-answer : goal.returns-in_err-context-clause-answer
 unfolding listed_as_is
-returns-in_err-context-clause-answer g c = λ T s. stopped _ _ _ _ c.from_residual.ensures.1 (stop_says _ _ _ _ _ (c.in_err-context.ensures.answer T s))
+returns-in_err-context-clause-answer g c = changes_exit _ c.in_err-context.ensures.answer c.from_residual.ensures.1
 
 pub returns-clause-answer : goal.returns-clause-answer
 unfolding listed_as_is
-returns-clause-answer g c = λ T s.
-    then_says _ _ _ _ _ _ (c.in_ok-context.ensures.answer T s)
-    (says_at changed_of (λ q. table_as_is T q (changed_of c.args.draft)) _ _ _ (c.hierarchy-table.ensures ∙ ap hierarchy c.parent.ensures) (c.table_as_is.ensures.answer T (shown_still T c.in_ok-context.ensures.looks s)))
+returns-clause-answer g c =
+    changes_then _ c.in_ok-context.ensures.answer c.in_ok-context.ensures.reads
+    (changes_at (λ q T. table_as_is T q) (c.hierarchy.ensures ∙ ap hierarchy c.parent.ensures) c.table_as_is.ensures.answer)

@@ -1,43 +1,34 @@
+use Rattle.std.proofs.Common.{refl}
 use Rattle.mail_tree.specs.Settling.{context_as_is, table_as_is}
-use Rattle.store_session.specs.mail_draft.Drafts.{changed_of}
-use Rattle.store_session.proofs.mail_draft_laws.Looking.{shown_still}
-use Rattle.store_session.proofs.mail_draft_laws.Passes.{stop_says, then_says}
-use Rattle.store_session.proofs.mail_draft_laws.SettleLaws.{says_at}
-use Rattle.store_session.proofs.mail_folders_laws.Steps.{stopped}
+use Rattle.store_session.proofs.mail_draft_laws.DeskCalls.{both_change, changes_at, drafts_then, first_exits}
 use Rattle.search_mending.specs.Mending.{search_as_is}
 use Rattle.search_mends.proofs.touching.search_as_is.Goals as goal
 
-pub returns-in_err-values-clause-answer : goal.returns-in_err-values-clause-answer
+pub returns-in_err-context_as_is-clause-answer : goal.returns-in_err-context_as_is-clause-answer
 unfolding search_as_is
-returns-in_err-values-clause-answer g c = λ T s.
-    stopped _ _ _ _ c.from_residual.ensures.1 (stop_says changed_of changed_of _ _ _ (stop_says changed_of changed_of _ _ _ (stop_says changed_of changed_of _ _ _ (c.in_err-values.ensures.answer T s))))
+returns-in_err-context_as_is-clause-answer g c =
+    first_exits {Y = Unit {0}} {mid = g.D.Desk.view c.args.desk.now} _
+    (first_exits {Y = Unit {0}} {mid = g.D.Desk.view c.args.desk.now} _ (first_exits _ c.in_err-context_as_is.ensures.answer refl) refl) c.from_residual.ensures.1
 
-pub returns-in_err-criteria-clause-answer : goal.returns-in_err-criteria-clause-answer
+pub returns-in_err-context_as_is-2-clause-answer : goal.returns-in_err-context_as_is-2-clause-answer
 unfolding search_as_is
-returns-in_err-criteria-clause-answer g c = λ T s.
-    stopped _ _ _ _ c.from_residual-in_err-criteria.ensures.1 (stop_says changed_of changed_of _ _ _ (stop_says changed_of changed_of _ _ _
-    (then_says changed_of changed_of _ _ _ _ (c.in_ok-values.ensures.answer T s)
-    (says_at changed_of (λ q. context_as_is T q (changed_of c.in_ok-values.values)) _ _ _ c.criteria_node-object.ensures (c.in_err-criteria.ensures.answer T (shown_still T c.in_ok-values.ensures.looks s))))))
+returns-in_err-context_as_is-2-clause-answer g c =
+    let first = c.in_ok-context_as_is.ensures in
+    first_exits {Y = Unit {0}} {mid = g.D.Desk.view c.args.desk.now} _
+    (first_exits _ (both_change _ first.answer first.drafts (changes_at (λ q T. context_as_is T q) c.criteria_node.ensures c.in_err-context_as_is-2.ensures.answer)) refl) c.from_residual-in_err-context_as_is-2.ensures.1
 
-pub returns-in_err-list-clause-answer : goal.returns-in_err-list-clause-answer
+pub returns-in_err-table_as_is-clause-answer : goal.returns-in_err-table_as_is-clause-answer
 unfolding search_as_is
-returns-in_err-list-clause-answer g c = λ T s.
-    let s2 = shown_still T c.in_ok-values.ensures.looks s in
-    let s3 = shown_still T c.in_ok-criteria.ensures.looks s2 in
-    stopped _ _ _ _ c.from_residual-in_err-list.ensures.1 (stop_says changed_of changed_of _ _ _
-    (then_says changed_of changed_of _ _ _ _
-    (then_says changed_of changed_of _ _ _ _ (c.in_ok-values.ensures.answer T s)
-    (says_at changed_of (λ q. context_as_is T q (changed_of c.in_ok-values.values)) _ _ _ c.criteria_node-object.ensures (c.in_ok-criteria.ensures.answer T s2)))
-    (says_at changed_of (λ q. table_as_is T q (changed_of c.in_ok-criteria.criteria)) _ _ _ c.results_table-table.ensures (c.in_err-list.ensures.answer T s3))))
+returns-in_err-table_as_is-clause-answer g c =
+    let first = c.in_ok-context_as_is.ensures in let second = c.in_ok-context_as_is-2.ensures in
+    first_exits _
+    (both_change _ (both_change _ first.answer first.drafts (changes_at (λ q T. context_as_is T q) c.criteria_node.ensures second.answer)) (drafts_then first.drafts second.drafts)
+    (changes_at (λ q T. table_as_is T q) c.results_table.ensures c.in_err-table_as_is.ensures.answer)) c.from_residual-in_err-table_as_is.ensures.1
 
 pub returns-clause-answer : goal.returns-clause-answer
 unfolding search_as_is
-returns-clause-answer g c = λ T s.
-    let s2 = shown_still T c.in_ok-values.ensures.looks s in
-    let s3 = shown_still T c.in_ok-criteria.ensures.looks s2 in
-    then_says changed_of changed_of _ _ _ _
-    (then_says changed_of changed_of _ _ _ _
-    (then_says changed_of changed_of _ _ _ _ (c.in_ok-values.ensures.answer T s)
-    (says_at changed_of (λ q. context_as_is T q (changed_of c.in_ok-values.values)) _ _ _ c.criteria_node-object.ensures (c.in_ok-criteria.ensures.answer T s2)))
-    (says_at changed_of (λ q. table_as_is T q (changed_of c.in_ok-criteria.criteria)) _ _ _ c.results_table-table.ensures (c.in_ok-list.ensures.answer T s3)))
-    (c.listed_as_is.ensures.answer T (shown_still T c.in_ok-list.ensures.looks s3))
+returns-clause-answer g c =
+    let first = c.in_ok-context_as_is.ensures in let second = c.in_ok-context_as_is-2.ensures in let third = c.in_ok-table_as_is.ensures in
+    both_change _
+    (both_change _ (both_change _ first.answer first.drafts (changes_at (λ q T. context_as_is T q) c.criteria_node.ensures second.answer)) (drafts_then first.drafts second.drafts)
+    (changes_at (λ q T. table_as_is T q) c.results_table.ensures third.answer)) (drafts_then (drafts_then first.drafts second.drafts) third.drafts) c.listed_as_is.ensures.answer
