@@ -4,7 +4,7 @@ use Rattle.std.specs.Result.{IsErrAnd}
 use Rattle.search_obj.specs.Crits.{Crit}
 use Rattle.command_text.specs.declared.reply.LastLine.TheVariants.{Done}
 use Rattle.mail_objects.specs.Forms.{Ctx, Tbl}
-use Rattle.mail_tree.specs.Changing.{Answer, Changed, ◌>>=◌}
+use Rattle.mail_tree.specs.Changing.{Answer, ◌>>=◌}
 use Rattle.mail_tree.specs.Folders as tree
 use Rattle.mail_tree.specs.Folders.{changing, replied}
 use Rattle.mail_tree.specs.Tree.{Tree}
