@@ -1,7 +1,7 @@
 -- The value of a column among values that ascend by id.
-use Rattle.std.proofs.Common.{◌≡◌, ◌∙◌, ◌≤◌, ◌<◌, ◌⊎◌, ◌==◌, ◌&&◌, ◌+◌, ◌%◌, ◌++◌, ◌∷◌, [], ℕ, suc, Bool, true, false, not, List, length, drop, get_or, Option, Some, None, refl, sym, ap, inl, inr, arith, if◌then◌else◌}
-use Rattle.std.specs.Prelude.{is_some, nat_le}
-use Rattle.std.specs.List.{flat_map, list_all, list_any}
+use Rattle.std.proofs.Common.{◌≡◌, ◌∙◌, ◌≤◌, ◌<◌, ◌⊎◌, ◌==◌, ◌&&◌, ◌+◌, ◌%◌, ◌++◌, ◌∷◌, [], ℕ, suc, Bool, true, false, not, List, length, drop, get_or, Option, Some, None, refl, sym, ap, inl, inr, arith}
+use Rattle.std.specs.Prelude.{nat_le}
+use Rattle.std.specs.List.{list_all, list_any}
 use Rattle.std.proofs.lemmas.List.{drop_more}
 use Rattle.std.proofs.lemmas.Bool.{and_parts, cases_Bool, eq-eqb, eqb-true, leb-true, ne_eqb, true≢false}
 use Rattle.bth_tree.proofs.OptionLaws.{none-some, some-injective}
@@ -11,7 +11,7 @@ use Rattle.mapi_values.specs.Columns.{has_column, in_cell, is_column, suits_cell
 use Rattle.mapi_values.specs.Properties.{ascend_from, find}
 use Rattle.mapi_values.specs.Tables.{value_suits}
 use Rattle.mapi_values.specs.Values.{Val}
-use Rattle.table_context.specs.Rows.{cell_names, has_cell, names, row_names, subnode}
+use Rattle.table_context.specs.Rows.{cell_names, has_cell, row_names, subnode}
 use Rattle.table_writer.proofs.FillLaws.{column-parts}
 use Rattle.row_edit.specs.Cells.{held, in_subnode, of_kind, pick}
 

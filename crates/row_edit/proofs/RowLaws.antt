@@ -1,18 +1,15 @@
 -- A row whose cells have what its values ask for reads as these values.
-use Rattle.std.proofs.Common.{◌≡◌, ◌∙◌, ◌≤◌, ◌<◌, ◌⊎◌, ◌==◌, ◌&&◌, ◌+◌, ◌*◌, ◌%◌, ◌++◌, ◌∷◌, [], ℕ, zero, suc, Bool, true, false, not, List, length, get_or, set, Option, Some, None, refl, sym, ap, subst, inl, inr, arith, if◌then◌else◌}
+use Rattle.std.proofs.Common.{◌≡◌, ◌∙◌, ◌≤◌, ◌<◌, ◌+◌, ◌*◌, ◌%◌, ◌∷◌, [], ℕ, suc, true, false, List, length, get_or, Option, Some, None, refl, sym, ap, inl, inr, arith}
 use Rattle.std.specs.Prelude.{is_some, nat_le}
-use Rattle.std.specs.List.{flat_map, list_all, list_any}
-use Rattle.std.specs.Option.{option_and_then}
-use Rattle.std.proofs.lemmas.Bool.{and_from, and_parts, cases_Bool, cases_lt, eq-eqb, eqb-true, leb-true, true≢false}
-use Rattle.bth_tree.specs.Making.{Keeps}
-use Rattle.bth_tree.proofs.OptionLaws.{none-some, some-injective}
+use Rattle.std.specs.List.{list_all}
+use Rattle.std.proofs.lemmas.Bool.{and_from, and_parts, cases_Bool, eq-eqb, leb-true, true≢false}
 use Rattle.pst_base.specs.Fields.{number_at}
 use Rattle.mapi_values.specs.declared.column.Column.{Column}
 use Rattle.mapi_values.specs.Columns.{has_column, in_cell, is_column, tag_number}
 use Rattle.mapi_values.specs.Keyed.{keys_ascend}
 use Rattle.mapi_values.specs.Properties.{all_fit, ascend_from}
 use Rattle.mapi_values.specs.Tables.{value_suits}
-use Rattle.mapi_values.specs.Values.{Val, fits, value_fits}
+use Rattle.mapi_values.specs.Values.{Val, value_fits}
 use Rattle.node_values.specs.Named.{named}
 use Rattle.table_context.specs.Rows.{cell_names, cell_of, cells_of, content, has_cell, names, row_names, row_of, shows_id, subnode}
 use Rattle.table_writer.specs.Filling.{Suited, no_column}

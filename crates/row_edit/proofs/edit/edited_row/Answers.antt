@@ -1,4 +1,4 @@
-use Rattle.std.proofs.Common.{◌≡◌, ◌-◌, ◌∙◌, ◌<◌, ℕ, List, Option, length, get_or, inl, inr, sym, subst, ap}
+use Rattle.std.proofs.Common.{◌-◌, ◌∙◌, ◌<◌, ℕ, List, length, get_or, inl, inr, sym, subst, ap}
 use Rattle.std.specs.List.{list_all, list_any}
 use Rattle.table_writer.specs.Filling.{no_column}
 use Rattle.row_edit.specs.Cells.{IsCell, in_subnode, is_short}

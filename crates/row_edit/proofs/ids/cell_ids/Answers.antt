@@ -1,6 +1,5 @@
-use Rattle.std.proofs.Common.{◌≡◌, ◌∙◌, ◌<◌, ◌+◌, ◌++◌, ◌∷◌, [], ℕ, List, Option, length, get_or, sym, ap, subst, arith}
+use Rattle.std.proofs.Common.{◌∙◌, ◌+◌, ℕ, List, length, get_or, sym, ap, subst}
 use Rattle.std.proofs.lemmas.List.{length_push}
-use Rattle.mapi_values.specs.declared.column.Column.{Column}
 use Rattle.table_writer.specs.Filling.{no_column}
 use Rattle.row_edit.specs.Edits.{Adds, NamesValue, NamesValues}
 use Rattle.row_edit.proofs.IdLaws.{keeping-more, names-step, on-err}

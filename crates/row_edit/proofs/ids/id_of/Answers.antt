@@ -1,4 +1,4 @@
-use Rattle.std.proofs.Common.{◌≡◌, ◌≢◌, ◌%◌, ℕ, List, Option, Some, sym, ap, subst, arith}
+use Rattle.std.proofs.Common.{arith}
 use Rattle.row_edit.proofs.IdLaws.{names-held, names-item, names-none, not-holds}
 use Rattle.row_edit.proofs.ids.id_of.Goals as goal
 use Rattle.row_edit.proofs.ids.id_of.Goals.{then-held-ne0+then-held-eq0+in-Ok-false, else-held-ne0, else-held-ne0-via-then-held-ne0+else-held-eq0, else-held-ne0-via-else-held-ne0}

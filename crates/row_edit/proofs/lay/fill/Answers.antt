@@ -1,7 +1,6 @@
-use Rattle.std.proofs.Common.{◌≡◌, ◌+◌, ℕ, arith, length, get_or, refl, sym, subst}
-use Rattle.mapi_values.specs.Columns.{lies}
+use Rattle.std.proofs.Common.{ℕ, arith, length, get_or, refl, subst}
 use Rattle.row_edit.specs.Cells.{FillsColumn}
-use Rattle.table_writer.specs.Filling.{Suited, no_column}
+use Rattle.table_writer.specs.Filling.{no_column}
 use Rattle.row_edit.proofs.FillLaws.{filled-step}
 use Rattle.row_edit.proofs.lay.fill.Goals as goal
 

@@ -1,10 +1,8 @@
-use Rattle.std.proofs.Common.{◌≡◌, ◌∙◌, ◌+◌, ◌-◌, ℕ, List, Some, None, length, get_or, set, true, false, refl, sym, ap, subst, arith}
+use Rattle.std.proofs.Common.{◌≡◌, ◌∙◌, ◌+◌, ℕ, List, Some, length, get_or, refl, sym, ap, subst, arith}
 use Rattle.byteorder.specs.Endian.{little_bytes}
-use Rattle.byteorder.specs.Numbers.{length-bytes_low_first}
 use Rattle.pst_base.specs.Fields.{replaced}
-use Rattle.mapi_values.specs.Columns.{cell_width, lies, suits_cell}
+use Rattle.mapi_values.specs.Columns.{cell_width, lies}
 use Rattle.mapi_values.specs.Tables.{value_suits}
-use Rattle.mapi_values.specs.Values.{Val}
 use Rattle.table_context.proofs.LayoutLaws.{all-at, lies-at}
 use Rattle.table_writer.specs.Filling.{no_column}
 use Rattle.table_writer.proofs.FillLaws.{column-parts}

@@ -1,4 +1,4 @@
-use Rattle.std.proofs.Common.{◌≡◌, ◌∙◌, ◌-◌, ◌*◌, ◌++◌, length, length-append, get_or, take, drop, subst, sym, ap, arith, ℕ, List, Bool, replicate, false}
+use Rattle.std.proofs.Common.{◌≡◌, ◌∙◌, ◌-◌, ◌*◌, ◌++◌, length, length-append, take, drop, ap, arith, ℕ, List, Bool, replicate, false}
 use Rattle.std.proofs.lemmas.List.{length-replicate, take_at}
 use Rattle.table_writer.specs.Bits.{bits}
 use Rattle.table_writer.proofs.RowFillLaws.{layout-rises, length-bits, suited}
