@@ -15,7 +15,9 @@ mod law;
 mod read;
 mod rows;
 
+pub use cells::has_cell;
 pub use fault::TcFault;
-pub use header::names_index;
+pub use header::{columns, ends, names_index};
 pub use law::one_table;
 pub use read::{TABLE_CONTEXT, read_tc};
+pub use rows::piece;

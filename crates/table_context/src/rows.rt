@@ -28,7 +28,7 @@ pub struct RawRow<'a> {
 
 /// Piece `n` of bytes that are cut into pieces of a size, if it is whole.
 #[tactic(auto, unfolding(crate::specs::Rows::piece))]
-fn piece(b: &[u8], size: usize, n: usize) -> Option<&[u8]>
+pub fn piece(b: &[u8], size: usize, n: usize) -> Option<&[u8]>
     requires size { size ≤ 8176 }
     requires n { n < 4294967296 }
     ensures { option_copied result ≡ piece size n b.now }

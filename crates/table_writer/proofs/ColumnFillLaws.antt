@@ -36,7 +36,7 @@ apart-rest [] i d a h = absurd (omega (arith, h))
 apart-rest (c ∷ cs) zero d a h = (and_parts (list_all (is_apart c) cs) (all_apart cs) a).0
 apart-rest (c ∷ cs) (suc i) d a h = apart-rest cs i d (and_parts (list_all (is_apart c) cs) (all_apart cs) a).1 (omega (arith, h))
 
-apart-two : (columns : List Column) (k i : ℕ) (d : Column) → all_apart columns ≡ true → k < i → i < length columns → is_apart (get_or columns k d) (get_or columns i d) ≡ true
+pub apart-two : (columns : List Column) (k i : ℕ) (d : Column) → all_apart columns ≡ true → k < i → i < length columns → is_apart (get_or columns k d) (get_or columns i d) ≡ true
 apart-two [] k i d a lt h = absurd (omega (arith, h))
 apart-two (c ∷ cs) zero zero d a lt h = absurd (omega (arith, lt))
 apart-two (c ∷ cs) zero (suc i) d a lt h = all-at (is_apart c) cs i d (and_parts (list_all (is_apart c) cs) (all_apart cs) a).0 (omega (arith, h))
@@ -98,10 +98,10 @@ other-column id kind c e ne =
     let f : (c.tag.id == id) ≡ false = ne_eqb c.tag.id id (λ z. absurd (true≢false (sym (eq-eqb id 0x67F2 (sym z ∙ e)) ∙ not-true (id == 0x67F2) ne))) in
     rw f refl
 
-bit-apart : (c d : Column) → is_apart c d ≡ true → c.bit ≡ d.bit → ⊥
+pub bit-apart : (c d : Column) → is_apart c d ≡ true → c.bit ≡ d.bit → ⊥
 bit-apart c d h e = true≢false (sym (eq-eqb c.bit d.bit e) ∙ (apart-parts c d h).0)
 
-id-placed : (third fourth : ℕ) (c : Column) → lies third fourth c ≡ true → is_column 0x67F2 0x0003 c ≡ true → (c.at ≡ 0) × (c.width ≡ 4)
+pub id-placed : (third fourth : ℕ) (c : Column) → lies third fourth c ≡ true → is_column 0x67F2 0x0003 c ≡ true → (c.at ≡ 0) × (c.width ≡ 4)
 unfolding is_placed
 id-placed third fourth c lc t =
     let l = lies-parts third fourth c lc in

@@ -100,7 +100,7 @@ apart-parts c d h =
     ] in
     (not-true (c.bit == d.bit) p.0, side)
 
-has-same : (from : ℕ) (row there : List ℕ) (c : Column) → is_set from there c.bit ≡ is_set from row c.bit → has_cell from there c ≡ has_cell from row c
+pub has-same : (from : ℕ) (row there : List ℕ) (c : Column) → is_set from there c.bit ≡ is_set from row c.bit → has_cell from there c ≡ has_cell from row c
 unfolding has_cell
 has-same from row there c e = ap (λ (b : Bool). not (c.tag.id == 0x67F2) && b) e
 

@@ -49,7 +49,7 @@ module _ (get get2 : ℕ → Option (List ℕ)) (sub sub2 : ℕ → Option (List
     | inr f ↦ rw f (cells-found third row cs vs (rw f at h))
   ]
 
-  row-found : (third : ℕ) (columns : List Column) (id : ℕ) (row : List ℕ) (r : ℕ × List Val) → row_of get sub third columns id row ≡ Some r → row_of get2 sub2 third columns id row ≡ Some r
+  pub row-found : (third : ℕ) (columns : List Column) (id : ℕ) (row : List ℕ) (r : ℕ × List Val) → row_of get sub third columns id row ≡ Some r → row_of get2 sub2 third columns id row ≡ Some r
   unfolding row_of
   row-found third columns id row r h = elim (cases_Bool (shows_id columns id row)) [
     | inl t ↦

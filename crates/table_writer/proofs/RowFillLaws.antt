@@ -65,7 +65,7 @@ filling-done old new third n columns id cells i j front marks f e =
 
 -- ---- the beginning: an empty row
 
-suit-parts : (columns : List Column) (cells : List Val) → cells_suit columns cells ≡ true → (ascend_from 0 cells ≡ true) × (all_fit cells ≡ true) × (list_all (value_suits columns) cells ≡ true)
+pub suit-parts : (columns : List Column) (cells : List Val) → cells_suit columns cells ≡ true → (ascend_from 0 cells ≡ true) × (all_fit cells ≡ true) × (list_all (value_suits columns) cells ≡ true)
 unfolding cells_suit
 suit-parts columns cells h =
     let a = and_parts (ascend_from 0 cells) (all_fit cells && list_all (value_suits columns) cells) h in
@@ -114,7 +114,7 @@ value-column columns cells k suit lt =
     let p = all-at (value_suits columns) cells k no_value suit lt in
     any-at (is_column (get_or cells k no_value).id (get_or cells k no_value).kind) columns (and_parts (has_column columns (get_or cells k no_value).id (get_or cells k no_value).kind) _ p).0
 
-no-mark : (n k : ℕ) → get_or (replicate n false) k false ≡ false
+pub no-mark : (n k : ℕ) → get_or (replicate n false) k false ≡ false
 no-mark n k = elim (cases_lt k n) [
   | inl low ↦ get_or-replicate n k false false low
   | inr high ↦ get_or_past (replicate n false) k false (omega (arith, high, length-replicate {A = Bool} n false))

@@ -82,7 +82,7 @@ pub names-without : (from : ℕ) (row : List ℕ) (c : Column) (cs : List Column
 unfolding cell_names
 names-without from row c cs f = rw f refl
 
-value-is : (c : Column) (v : Val) → v.id ≡ c.tag.id → v.kind ≡ c.tag.kind → fits v.kind (length v.bytes) ≡ true → value_in c v.bytes ≡ Some v
+pub value-is : (c : Column) (v : Val) → v.id ≡ c.tag.id → v.kind ≡ c.tag.kind → fits v.kind (length v.bytes) ≡ true → value_in c v.bytes ≡ Some v
 unfolding value_in
 value-is c v a b t =
     let u : fits c.tag.kind (length v.bytes) ≡ true = ap (λ (k : ℕ). fits k (length v.bytes)) (sym b) ∙ t in

@@ -10,5 +10,6 @@ mod value;
 mod woven;
 mod write;
 
+pub use row::{no_marks, push_bits, put, zeros};
 pub use table_context;
 pub use write::write_tc;

@@ -16,7 +16,7 @@ use pst_base::Bytes;
 use std::alloc::{AllocError, Global};
 
 /// Writes bytes at a place.
-fn put(row: &mut [u8], at: usize, bytes: &[u8])
+pub fn put(row: &mut [u8], at: usize, bytes: &[u8])
     requires { at + length bytes.now ≤ length row.old }
     ensures { row.new ≡ replaced at bytes.now row.old }
 {
@@ -48,7 +48,7 @@ fn octet(marks: &[bool], at: usize) -> u8
 }
 
 /// Writes so many bytes of existence bits at the end.
-fn push_bits(row: &mut Vec<u8>, marks: &[bool], count: usize) -> Result<(), AllocError>
+pub fn push_bits(row: &mut Vec<u8>, marks: &[bool], count: usize) -> Result<(), AllocError>
     requires { 8 * count ≤ length marks.now }
     ensures { OnOk result (row.new.items ≡ row.old.items ++ bits count 0 marks.now) }
 {
@@ -161,7 +161,7 @@ fn fill<'a>(
 }
 
 /// So many zeros, with room for more.
-fn zeros(alloc: Global, count: usize, room: usize) -> Result<Vec<u8>, AllocError>
+pub fn zeros(alloc: Global, count: usize, room: usize) -> Result<Vec<u8>, AllocError>
     ensures { IfOk result (λ row. row.items ≡ replicate count 0) }
 {
     let mut row = Vec::with_capacity(alloc, room)?;
@@ -170,7 +170,7 @@ fn zeros(alloc: Global, count: usize, room: usize) -> Result<Vec<u8>, AllocError
 }
 
 /// So many bits, none of them set.
-fn no_marks(alloc: Global, count: usize) -> Result<Vec<bool>, AllocError>
+pub fn no_marks(alloc: Global, count: usize) -> Result<Vec<bool>, AllocError>
     ensures { IfOk result (λ marks. marks.items ≡ replicate count false) }
 {
     let mut marks = Vec::new(alloc);
