@@ -28,7 +28,6 @@ mod seen;
 mod settle;
 mod space;
 mod stop;
-mod touch;
 mod unread;
 mod values;
 
@@ -39,20 +38,16 @@ pub use desk::{CountingDesk, Desk};
 pub use draft::Draft;
 pub use ending::finish;
 pub use flags::{flag_changes, flag_of};
-pub use glance::{content_at, glance_of, has_row, number_told, row_count, text_told};
-pub use ids::{new_id, next_index};
-pub use limits::{crowds_message, within_limits};
+pub use glance::{glance_of, number_told, text_told};
+pub use ids::new_id;
+pub use limits::crowds_message;
 pub use listed::{message_ids, message_ids_at};
 pub use on_keeper::StoreDesk;
 pub use outcome::Outcome;
-pub use outcomes::{changing, making, moving, replying};
 pub use read::{as_message, context_at, message_at, table_at};
-pub use rows::{add_shown, drop_shown, put_shown};
 pub use seen::Seen;
-pub use settle::{counted, mirrored, settled, with_context};
 pub use space::space_needed;
 pub use stop::Stop;
-pub use touch::touched;
 pub use values::{
     bytes_of, folded_name, is_read, name_of, number_of, put_number, put_text, put_time, put_truth,
     text_of, with_counts,

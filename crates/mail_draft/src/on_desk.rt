@@ -8,5 +8,5 @@ mod unread;
 
 pub use outcomes::{changing, making, replying};
 pub use rows::{add_shown, drop_shown, put_shown};
-pub use settle::{put_context, settled};
+pub use settle::{mirrored, put_context, settled, settled_at};
 pub use touch::touched;

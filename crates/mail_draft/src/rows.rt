@@ -5,14 +5,13 @@ ghost use Rattle.mail_tree.specs.Tree.{Shown, Tree};
 ghost use Rattle.mail_draft.specs.Answers.{IsCaused, Looks, Says};
 ghost use Rattle.mail_draft.specs.Drafts.{changed_of};
 ghost use Rattle.mail_objects.specs.declared.object.Object.{Object};
-ghost use Rattle.mail_tree.specs.Changing.{add_shown, as_table, drop_shown, overfills, put_shown, table_at, with_object};
+ghost use Rattle.mail_tree.specs.Changing.{as_table, overfills, table_at, with_object};
 
 use crate::draft::Draft;
 use crate::kept::kept_table;
 use crate::stop::Stop;
-use command_text::{CommandRefusal, Limit};
 use mail_objects::{Object, TableNode};
-use mapi_values::{Props, Table};
+use mapi_values::Table;
 use node_port::NodeReader;
 use pst_base::Nid;
 use pst_outside::Outside;
@@ -58,64 +57,4 @@ pub(crate) fn table_out<W: Outside, K: NodeReader<W>>(
         Some(node) => Ok((rest, node)),
         None => Err(Stop::formless()),
     }
-}
-
-/// Makes the row of an object in a table show it. The draft is lost with an `Err`.
-pub fn put_shown<W: Outside, K: NodeReader<W>>(
-    alloc: Global,
-    keeper: &mut K,
-    w: &mut W,
-    draft: Draft,
-    table: Nid,
-    id: Nid,
-    props: &Props,
-) -> Result<Draft, Stop>
-    ensures answer { (T : Tree) → Shown (K.holds keeper.old (W.view w.old)) (K.last keeper.old) T → Says changed_of (put_shown T table.bits id.bits props.now (changed_of draft)) result }
-    ensures looks { Looks (K.holds keeper.old (W.view w.old)) (K.holds keeper.new (W.view w.new)) (K.last keeper.old) (K.last keeper.new) (K.room keeper.old) (K.room keeper.new) (W.view w.old) (W.view w.new) }
-    ensures cause { IfErr result (IsCaused K.has_disk (W.view w.old).disk_faults (W.view w.new).disk_faults) }
-{
-    let (rest, node) = table_out(alloc, keeper, w, draft, table)?;
-    let shown = node.with_row(alloc, id.bits, props)?;
-    Ok(rest.with(table, Some(Object::Table(shown)))?)
-}
-
-/// Adds a row that shows an object to a table. Refused where the table would then have more than 100,000 rows, and more than before.
-pub fn add_shown<W: Outside, K: NodeReader<W>>(
-    alloc: Global,
-    keeper: &mut K,
-    w: &mut W,
-    draft: Draft,
-    table: Nid,
-    id: Nid,
-    props: &Props,
-) -> Result<Draft, Stop>
-    ensures answer { (T : Tree) → Shown (K.holds keeper.old (W.view w.old)) (K.last keeper.old) T → Says changed_of (add_shown T table.bits id.bits props.now (changed_of draft)) result }
-    ensures looks { Looks (K.holds keeper.old (W.view w.old)) (K.holds keeper.new (W.view w.new)) (K.last keeper.old) (K.last keeper.new) (K.room keeper.old) (K.room keeper.new) (W.view w.old) (W.view w.new) }
-    ensures cause { IfErr result (IsCaused K.has_disk (W.view w.old).disk_faults (W.view w.new).disk_faults) }
-{
-    let (rest, node) = table_out(alloc, keeper, w, draft, table)?;
-    let old_len = node.table().rows().len();
-    let shown = node.with_row(alloc, id.bits, props)?;
-    if overfills(old_len, shown.table()) {
-        return Err(Stop::Refused(CommandRefusal::Limit(Limit::Rows)));
-    }
-    Ok(rest.with(table, Some(Object::Table(shown)))?)
-}
-
-/// Takes a row out of a table.
-pub fn drop_shown<W: Outside, K: NodeReader<W>>(
-    alloc: Global,
-    keeper: &mut K,
-    w: &mut W,
-    draft: Draft,
-    table: Nid,
-    id: Nid,
-) -> Result<Draft, Stop>
-    ensures answer { (T : Tree) → Shown (K.holds keeper.old (W.view w.old)) (K.last keeper.old) T → Says changed_of (drop_shown T table.bits id.bits (changed_of draft)) result }
-    ensures looks { Looks (K.holds keeper.old (W.view w.old)) (K.holds keeper.new (W.view w.new)) (K.last keeper.old) (K.last keeper.new) (K.room keeper.old) (K.room keeper.new) (W.view w.old) (W.view w.new) }
-    ensures cause { IfErr result (IsCaused K.has_disk (W.view w.old).disk_faults (W.view w.new).disk_faults) }
-{
-    let (rest, node) = table_out(alloc, keeper, w, draft, table)?;
-    let shown = node.without_row(id.bits);
-    Ok(rest.with(table, Some(Object::Table(shown)))?)
 }

@@ -2,7 +2,6 @@
 ghost use Rattle.std.specs.Prelude.{◌≡◌, ◌≤◌, IfErr, if◌then◌else◌};
 ghost use Rattle.mail_tree.specs.Changing.{now_at};
 ghost use Rattle.mail_tree.specs.Flags.{AreFlags};
-ghost use Rattle.mail_tree.specs.Settling.{unread_among};
 ghost use Rattle.mail_tree.specs.Tree.{Shown, Tree, object_at};
 ghost use Rattle.mail_draft.specs.Answers.{IsCaused, Looks, Says};
 ghost use Rattle.mail_draft.specs.Drafts.{changed_of};
@@ -57,27 +56,6 @@ pub(crate) fn is_unread<W: Outside, K: NodeReader<W>>(
         Some(mail) => Ok(!is_read(&mail.message().props)),
         None => Err(Stop::formless()),
     }
-}
-
-/// How many of these messages are unread.
-pub fn unread_among<W: Outside, K: NodeReader<W>>(
-    alloc: Global,
-    keeper: &mut K,
-    w: &mut W,
-    draft: &Draft,
-    flags: &Flags,
-    ids: &[u32],
-) -> Result<u64, Stop>
-    ensures answer { (T : Tree) → Shown (K.holds keeper.old (W.view w.old)) (K.last keeper.old) T → AreFlags (object_at T) flags.now → Says (λ n. n) (unread_among T (changed_of draft.now) ids.now) result }
-    ensures looks { Looks (K.holds keeper.old (W.view w.old)) (K.holds keeper.new (W.view w.new)) (K.last keeper.old) (K.last keeper.new) (K.room keeper.old) (K.room keeper.new) (W.view w.old) (W.view w.new) }
-    ensures cause { IfErr result (IsCaused K.has_disk (W.view w.old).disk_faults (W.view w.new).disk_faults) }
-{
-    let mut unread = 0;
-    for id in ids {
-        let one_more = is_unread(alloc, keeper, w, draft, flags, Nid { bits: *id })?;
-        unread += one_if(one_more);
-    }
-    Ok(unread)
 }
 
 /// 1 where it holds, else 0.

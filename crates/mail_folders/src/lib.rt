@@ -1,13 +1,12 @@
 //! The commands on folders.
 //!
-//! Promises: each command of `on_desk` answers what the definition of its command in mail_tree says of every tree that the desk shows, and only looks at the nodes; what changes stands in the desk's draft. What `entry` has of them says the same of every tree that the nodes show.
+//! Promises: each command of `on_desk` answers what the definition of its command in mail_tree says of every tree that the desk shows, and only looks at the nodes; what changes stands in the desk's draft.
 //!
 //! Leaves to others: carrying the changes out.
 #![tactic(auto)]
 
 mod desk;
 mod ending;
-mod entry;
 mod finding;
 mod list;
 mod making;
@@ -22,10 +21,6 @@ mod renaming;
 mod standing;
 
 pub use desk::{FolderDesk, FolderMakingDesk};
-pub use entry::{
-    line_of_message, list_folder, moved_between, named_anew, unless_beside, unless_child_named,
-    unless_crowds_name, unless_full, unless_protected,
-};
 pub use finding::{folder_in, plain_in};
 pub use list::listed;
 pub use making::folder_props;

@@ -1,12 +1,11 @@
 //! What the commands on folders ask of the desk over a keeper.
 use crate::desk::{FolderDesk, FolderMakingDesk};
 use crate::reading::is_taken;
-use mail_draft::{Coming, CountingDesk, Draft, Stop, StoreDesk, mirrored, on_desk, settled};
+use mail_draft::{Coming, CountingDesk, Stop, StoreDesk, on_desk};
 use mail_tree::{Flags, Places};
 use node_port::{Keeper, NodeReader};
 use pst_base::Nid;
 use pst_outside::Outside;
-use std::mem::replace;
 
 /// The kinds of a folder's nodes.
 const FOLDER_KINDS: [u8; 4] = [0x02, 0x0D, 0x0E, 0x0F];
@@ -22,23 +21,11 @@ impl<'k, 'w, 'p, 'f, 's, 'd, W: Outside, K: NodeReader<W>> FolderDesk
     }
 
     fn mirror(&mut self, folder: Nid) -> Result<(), Stop> {
-        let draft = replace(self.draft, Draft::new(self.alloc));
-        *self.draft = mirrored(self.alloc, self.keeper, self.world, draft, folder)?;
-        Ok(())
+        on_desk::mirrored(self, folder)
     }
 
     fn settle(&mut self, places: &Places, folder: Nid) -> Result<(), Stop> {
-        let draft = replace(self.draft, Draft::new(self.alloc));
-        *self.draft = settled(
-            self.alloc,
-            self.keeper,
-            self.world,
-            draft,
-            self.flags,
-            places,
-            folder,
-        )?;
-        Ok(())
+        on_desk::settled_at(self, places, folder)
     }
 }
 

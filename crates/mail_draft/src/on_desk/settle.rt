@@ -13,7 +13,7 @@ use crate::settle::has_folders;
 use crate::stop::Stop;
 use crate::values::with_counts;
 use mail_objects::{Context, Object};
-use mail_tree::ROOT_FOLDER;
+use mail_tree::{Places, ROOT_FOLDER};
 use mapi_values::Props;
 use pst_base::Nid;
 
@@ -50,7 +50,7 @@ fn counted_with<D: Desk>(desk: &mut D, has_folders: bool, folder: Nid) -> Result
 }
 
 /// Makes the row of a folder in its parent's table show it. The root has none, and its own table of folders is put as it is.
-fn mirrored<D: Desk>(desk: &mut D, folder: Nid) -> Result<(), Stop>
+pub fn mirrored<D: Desk>(desk: &mut D, folder: Nid) -> Result<(), Stop>
     ensures drafts { Drafts (D.view desk.old) (D.view desk.new) result }
     ensures answer { Changes (D.view desk.old) (D.view desk.new) (λ T. mirrored T folder.bits) result }
 {
@@ -77,4 +77,12 @@ pub fn settled<D: Desk>(desk: &mut D, folder: Nid) -> Result<(), Stop>
 {
     let has_folders = has_folders(desk.places(), folder);
     settled_with(desk, has_folders, folder)
+}
+
+/// The same where the folders then stand at these places.
+pub fn settled_at<D: Desk>(desk: &mut D, places: &Places, folder: Nid) -> Result<(), Stop>
+    ensures drafts { Drafts (D.view desk.old) (D.view desk.new) result }
+    ensures answer { Changes (D.view desk.old) (D.view desk.new) (λ T. settled T places.now folder.bits) result }
+{
+    settled_with(desk, has_folders(places, folder), folder)
 }
